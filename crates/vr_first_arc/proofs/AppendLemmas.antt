@@ -12,7 +12,7 @@ use Rattle.vr_model.specs.tables.Numbers.{below}
 use Rattle.vr_model.specs.tables.Tables.{is_visit, arc_cost}
 use Rattle.vr_model.specs.routes.Routes.{route, holds, is_active, is_empty}
 use Rattle.vr_model.specs.routes.Rules.{is_open, is_route_open}
-use Rattle.vr_model.specs.first.Items.{items, first_node, unplaced}
+use Rattle.vr_model.specs.first.Items.{empty_lists, items, first_node, unplaced}
 use Rattle.vr_model.specs.first.Choosing.{better, least_by}
 use Rattle.vr_model.specs.first.PathCheapestArc.{appended, append_key, tail_node, next_appended, filled}
 use Rattle.vr_model.specs.tables.WellFormed.{IsWellFormed}
@@ -26,7 +26,7 @@ use Rattle.vr_model.proofs.tables.Ranges.{below-more}
 use Rattle.vr_model.proofs.routes.Lists.{visit_below}
 use Rattle.vr_rules.proofs.LocalOpenness.{is_open-local}
 use Rattle.vr_rules.proofs.LazyLeast.{IsBest, IsBest-none, IsBest-more}
-use Rattle.vr_rules.proofs.PlacingLemmas.{IsAdded, item-inactive, inactive-route, is_distinct-both, fits_beside-marks, built-visits, built-distinct}
+use Rattle.vr_rules.proofs.PlacingLemmas.{IsAdded, item-inactive, inactive-route, is_distinct-both, fits_beside-marks, built-count, built-visits, built-distinct, AreBuilt-empty}
 use Rattle.vr_first_arc.specs.declared.choice.Choice.{Choice}
 use Rattle.vr_first_arc.specs.Choices.{all_filled, key_of, item_of_choice, nodes_of_choice, choice_of, chosen_beside, may_append, MayBeAppended}
 use Rattle.vr_rules.specs.Fronts.{tail, IsDriven}
@@ -197,3 +197,8 @@ all_filled-more model v lists =
 -- what a slice of a whole vector was changed to
 pub whole-slice : {A : Type 0} (n : ℕ) (written rest : List A) → length written ≡ n → take n (written ++ rest) ≡ written
 whole-slice n written rest e = take-append-le n written rest (omega (arith, e)) ∙ take_all n written (omega (arith, e))
+
+-- the same where empty lists were filled
+pub whole-lists : (model : Model) (n : ℕ) (begun written rest : List (List ℕ)) → begun ≡ empty_lists model → length begun ≡ n → AreBuilt model written → take n (written ++ rest) ≡ written
+whole-lists model n begun written rest empty many built =
+    whole-slice n written rest (built-count model written built ∙ sym (built-count model begun (subst (AreBuilt model) (sym empty) (AreBuilt-empty model))) ∙ many)

@@ -188,8 +188,7 @@ fn fill_from_start(
     ensures marked { OnOk result (AreMarks filling.now.model.now.nodes lists.new marks.new) }
 {
     let mut fronts = Fronts::open(room, filling.model, v, lists[v as usize].as_slice())?;
-    fill(filling, v, &mut fronts, room, lists, marks)?;
-    Ok(())
+    fill(filling, v, &mut fronts, room, lists, marks)
 }
 
 // Fills the list of each vehicle in turn.

@@ -1,6 +1,6 @@
 -- Choices that cannot be better than the best so far.
 use Rattle.std.proofs.Common.{◌≡◌, ◌∙◌, ◌<◌, ◌≤◌, ◌+◌, ◌-◌, ◌⊎◌, ℕ, suc, List, [], ◌∷◌, Bool, true, false, cond, Option, Some, None, ℤ, pos, ◌≤ℤ◌, ◌+ℤ◌, refl, ap, sym, subst, inl, inr, arith, length, to_z, of_z, w64}
-use Rattle.std.specs.Prelude.{◌&&◌, ◌||◌, ◌==◌, fold, map, int_lt, int_le, nat_lt, nat_le, slice_index_or}
+use Rattle.std.specs.Prelude.{◌&&◌, ◌||◌, ◌==◌, ◌^◌, fold, map, int_lt, int_le, nat_lt, nat_le, neg_ℤ, slice_index_or}
 use Rattle.std.proofs.lemmas.Int.{ints}
 use Rattle.std.specs.Int.{int_min}
 use Rattle.std.proofs.lemmas.Bool.{cases_lt, eqb-true}
@@ -13,7 +13,8 @@ use Rattle.vr_rules.specs.Placing.{improves}
 use Rattle.vr_rules.proofs.LazyLeast.{untested}
 use Rattle.vr_first_insert.specs.declared.choice.Choice.{Choice}
 use Rattle.vr_first_insert.specs.Increases.{arc_at, detour, node_before, node_behind, visit_increase, pair_increase}
-use Rattle.vr_first_insert.specs.Placings.{key_of, tail_key, may_improve, pair_choice, placed, weigh, AreLeastAhead, IsAddedAhead, IsLeast, IsLeastAhead}
+use Rattle.vr_first_insert.specs.Placings.{key_of, tail_key, may_improve, pair_choice, placed, weigh, AreLeastAhead, IsAddedAhead, IsLeast, IsLeastAhead, IsLeastIncrease}
+use Rattle.vr_first_insert.specs.declared.vehicle_list.VehicleList.{VehicleList}
 
 not-before : (n c : ℕ) (i l b : ℤ) (tail : Bool) → (nat_lt n c || (nat_le n c && int_le l b)) ≡ false → l ≤ℤ i
     → (int_lt (pos n) (pos c) || (int_le (pos n) (pos c) && (int_lt i b || (int_le i b && tail)))) ≡ false
@@ -122,3 +123,17 @@ ahead-read model v list node k ahead x are read within =
     let is : IsLeastAhead model v list node k x = subst (IsLeastAhead model v list node k) read (are.each k (pos 0) (omega (arith, long, within))) in
     let fits : to_z w64 (of_z w64 x) ≡ x = omega (arith, ints, is.low, is.high) in
     subst (IsLeastAhead model v list node k) (sym fits) is
+
+-- what code reads of all places
+pub all-read : (list : VehicleList) (node : ℕ) (ahead : List ℤ) (x : ℤ) → AreLeastAhead list.closed.model.now list.vehicle list.nodes.now node ahead → slice_index_or ahead (length list.nodes.now) (pos 0) ≡ x
+    → IsLeastIncrease list.closed.model.now list.vehicle list.nodes.now node (to_z w64 (of_z w64 x))
+all-read list node ahead x are read =
+    let is = ahead-read list.closed.model.now list.vehicle list.nodes.now node (length list.nodes.now) ahead x are read (omega arith) in
+    record { adds = λ t within. is.behind t (omega arith) within; small = record { low = is.low; high = is.high } }
+
+-- the least of all places, as code hands it on
+pub least-read : (list : VehicleList) (node : ℕ) (x : ℤ) → IsLeast list.closed.model.now list.vehicle list.nodes.now node x → neg_ℤ (pos (2 ^ 40)) ≤ℤ x → x ≤ℤ pos (2 ^ 41)
+    → IsLeastIncrease list.closed.model.now list.vehicle list.nodes.now node (to_z w64 (of_z w64 x))
+least-read list node x is low high =
+    let fits : to_z w64 (of_z w64 x) ≡ x = omega (arith, ints, low, high) in
+    subst (IsLeastIncrease list.closed.model.now list.vehicle list.nodes.now node) (sym fits) (record { adds = is; small = record { low = low; high = high } })

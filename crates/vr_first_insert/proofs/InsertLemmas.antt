@@ -1,11 +1,11 @@
 -- The best insertion, place by place.
-use Rattle.std.proofs.Common.{◌≡◌, ◌∙◌, ◌<◌, ◌≤◌, ◌+◌, ◌-◌, ◌++◌, ℕ, zero, suc, List, [], ◌∷◌, Option, ap, arith, length, get_or}
+use Rattle.std.proofs.Common.{◌≡◌, ◌∙◌, ◌≤◌, ◌+◌, ◌-◌, ◌++◌, ℕ, zero, suc, List, [], ◌∷◌, Option, ap, arith, length}
 use Rattle.std.specs.Prelude.{map, fold}
 use Rattle.std.specs.List.{range_with_len}
 use Rattle.std.proofs.lemmas.List.{map-append}
 use Rattle.std.proofs.lemmas.List.Sums.{fold-append}
 use Rattle.std.proofs.lemmas.Grind.{flat_map-append}
-use Rattle.std.proofs.lemmas.List.{append-nil, get_or_default}
+use Rattle.std.proofs.lemmas.List.{append-nil}
 use Rattle.vr_model.specs.routes.Routes.{route}
 use Rattle.vr_rules.specs.declared.items.Candidate.{Candidate}
 use Rattle.vr_model.specs.declared.records.Model.{Model}
@@ -37,10 +37,6 @@ module _ {S : Type 0} (step : S → Choice → S) (begin : S) where
   pub fold-each : (f : ℕ → List Choice) (ks : List ℕ) (k : ℕ) → fold step begin (each (ks ++ k ∷ []) f) ≡ fold step (fold step begin (each ks f)) (f k)
   fold-each f ks k =
       ap (fold step begin) (flat_map-append f ks (k ∷ []) ∙ ap (λ ys. each ks f ++ ys) (append-nil (f k))) ∙ fold-append step begin (each ks f) (f k)
-
--- the list that code reads at a place
-pub list_at : (lists : List (List ℕ)) (v : ℕ) (list read : List ℕ) → list ≡ read → read ≡ get_or lists v read → v < length lists → list ≡ route lists v
-list_at lists v list read same is low = same ∙ is ∙ get_or_default lists v read [] low
 
 -- one list more
 pub best_in_lists-more : (model : Model) (lists : List (List ℕ)) (candidate : Candidate) (v : ℕ) (best : Option Choice)

@@ -1,5 +1,5 @@
 -- An item put into a list that its vehicle may drive.
-use Rattle.std.proofs.Common.{◌≡◌, ◌∙◌, ◌+◌, ◌<◌, ◌≤◌, ◌++◌, ℕ, suc, List, [], ◌∷◌, Bool, true, false, cond, Option, refl, ap, sym, inl, inr, arith, length, take, drop, append_assoc}
+use Rattle.std.proofs.Common.{◌≡◌, ◌∙◌, ◌+◌, ◌<◌, ◌≤◌, ◌++◌, ℕ, suc, List, [], ◌∷◌, Bool, true, false, cond, Option, refl, ap, sym, subst, inl, inr, arith, length, take, drop, append_assoc}
 use Rattle.std.specs.Prelude.{◌&&◌, ◌||◌, fold, insert, map, slice_range}
 use Rattle.std.specs.List.{list_all}
 use Rattle.std.proofs.lemmas.List.{take-append-drop}
@@ -18,14 +18,20 @@ use Rattle.vr_reach.specs.Lists.{IsUsed}
 use Rattle.vr_reach.proofs.Transfer.{not_empty}
 use Rattle.vr_rules.specs.RoutesOpen.{is_feasible_in_each}
 use Rattle.vr_rules.specs.Placing.{nodes_of}
+use Rattle.vr_lists.proofs.VisitLists.{visits-few}
+use Rattle.vr_rules.specs.declared.items.Item.{Item}
 use Rattle.vr_rules.specs.declared.items.Item.TheVariants.{Visit, PickupAndDelivery}
 use Rattle.vr_first_insert.specs.declared.probes.Probes.{Probes}
-use Rattle.vr_first_insert.specs.Probes.{AreReachedAt, ReachNoEnd}
+use Rattle.vr_first_insert.specs.Probes.{AreReachedAt, MayGoOn, ReachNoEnd}
 use Rattle.vr_first_insert.proofs.InsertedLemmas.{pair_front, pair_long}
-use Rattle.vr_first_insert.proofs.RowLemmas.{reached_in_each}
+use Rattle.vr_first_insert.proofs.RowLemmas.{reached_in_each, stops_of}
 use Rattle.vr_first_insert.specs.declared.choice.Placing.{Placing}
 use Rattle.vr_first_insert.specs.declared.choice.Placing.TheVariants.{One, Two}
 use Rattle.vr_first_insert.specs.declared.choice.Choice.{Choice}
+use Rattle.vr_first_insert.specs.declared.kept.Kept.{Kept}
+use Rattle.vr_first_insert.specs.declared.vehicle_list.VehicleList.{VehicleList}
+use Rattle.vr_first_insert.specs.declared.vehicle_list.PairIn.{PairIn}
+use Rattle.vr_first_insert.specs.VehicleLists.{IsReadyList}
 use Rattle.vr_first_insert.specs.Placings.{item_in, key_of, pair_choice, placed, weigh, AreWithin, MayHold}
 use Rattle.vr_first_insert.proofs.PlacedLemmas.{placed-distinct, placed-visits, split-three}
 
@@ -52,6 +58,30 @@ MayHold-pickup model list p d may = record {
   nodes = record { visits = and_both (is_visit model p) true (and_left (is_visit model p) _ may.nodes.visits) refl; distinct = refl };
   absent = λ node there. may.absent node (first-only _ _ there);
 }
+
+-- a list that may hold an item is short
+pub few-held : (list : VehicleList) {item : Item} → MayHold list.closed.model.now list.nodes.now item → length list.nodes.now ≤ 1000
+few-held list may = omega (arith, visits-few list.closed.model.now list.nodes.now may.visits may.distinct, list.closed.well_formed.number_of_nodes.1)
+
+-- ---- a list with the pickup of a pair
+
+pub half-used : (pair : PairIn) (s : ℕ) (half : List ℕ) → s ≤ length pair.list.nodes.now → half ≡ insert pair.list.nodes.now s pair.pickup → IsUsed pair.list.closed.model.now half
+half-used pair s half within picked_up =
+    subst (IsUsed pair.list.closed.model.now) (sym picked_up)
+    (used-placed pair.list.closed.model.now pair.list.nodes.now (One pair.pickup s) within (MayHold-pickup pair.list.closed.model.now pair.list.nodes.now pair.pickup pair.delivery pair.may_hold))
+
+-- a walk along it may go on
+pub half-goes_on : (pair : PairIn) (s k : ℕ) (half : List ℕ) (keeps : List Kept) (probes : Probes) → s ≤ length pair.list.nodes.now → half ≡ insert pair.list.nodes.now s pair.pickup → k ≤ suc (length pair.list.nodes.now)
+    → IsReadyList pair.list keeps → AreReachedAt pair.list.closed.model.now pair.list.vehicle half k probes → MayGoOn pair.list.closed.model.now pair.list.vehicle half k keeps probes
+half-goes_on pair s k half keeps probes within picked_up low ready here =
+    let long = ap length picked_up ∙ length-insert pair.list.nodes.now s pair.pickup within in
+    record {
+      vehicle = pair.list.there;
+      stops = stops_of pair.list.closed.model.now pair.list.vehicle pair.list.nodes.now keeps ready.kept;
+      used = half-used pair s half within picked_up;
+      stop = omega (arith, long, low);
+      here = here;
+    }
 
 -- ---- a test of all nodes
 

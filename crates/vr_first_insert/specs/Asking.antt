@@ -1,11 +1,18 @@
 -- What is put into lists, and the lists that are asked.
-use Rattle.std.specs.Prelude.{◌≡◌, ℕ, ◌<◌, length}
+use Rattle.std.specs.Prelude.{◌≡◌, ℕ, ◌<◌, true, Bool, List, Option, IsTrue, length}
+use Rattle.std.specs.List.{list_all}
+use Rattle.vr_model.specs.first.Items.{first_node}
 use Rattle.vr_model.specs.routes.Routes.{route}
-use Rattle.vr_rules.specs.Placing.{AreCandidates}
+use Rattle.vr_rules.specs.declared.items.Candidate.{Candidate}
+use Rattle.vr_rules.specs.Placing.{fits_by, nodes_of, AreBuilt, AreCandidates, AreMarks}
+use Rattle.vr_first_insert.specs.declared.choice.Choice.{Choice}
+use Rattle.vr_first_insert.specs.declared.kept.Kept.{Kept}
+use Rattle.vr_first_insert.specs.declared.known.Known.{Known}
 use Rattle.vr_first_insert.specs.declared.search.Items.{Items}
 use Rattle.vr_first_insert.specs.declared.search.Asked.{Asked}
-use Rattle.vr_first_insert.specs.Kept.{candidate_at}
-use Rattle.vr_first_insert.specs.Placings.{MayHold}
+use Rattle.vr_first_insert.specs.Kept.{candidate_at, AreKnown, AreRows}
+use Rattle.vr_first_insert.specs.KeptRows.{AreKept}
+use Rattle.vr_first_insert.specs.Placings.{best_in, best_in_lists, counts, MayHold}
 use Rattle.vr_first_insert.specs.Ready.{AreReady}
 
 -- all items of a model, with what was looked up of it
@@ -23,3 +30,73 @@ pub record AreAsked (on : Asked) : Type 0 where
 abbrev pub MayBeHeld : Asked → ℕ → Type 0
 MayBeHeld on i = (v : ℕ) → v < length on.lists.now
     → MayHold on.items.closed.model.now (route on.lists.now v) (candidate_at on.items.candidates.now i).item
+
+-- the best beside candidate i in the list of vehicle v
+abbrev pub best_asked : Asked → ℕ → ℕ → Option Choice → Option Choice
+best_asked on v i = best_in on.items.closed.model.now v (route on.lists.now v) (candidate_at on.items.candidates.now i)
+
+-- the best beside candidate i in each list
+abbrev pub best_asked_of_each : Asked → ℕ → Option Choice → Option Choice
+best_asked_of_each on i = best_in_lists on.items.closed.model.now on.lists.now (candidate_at on.items.candidates.now i)
+    (length on.lists.now)
+
+-- a row has what is known of the candidates in the list of vehicle v
+abbrev pub AreKnownIn : Asked → ℕ → List Known → Type 0
+AreKnownIn on v = AreKnown on.items.closed.model.now v (route on.lists.now v) on.items.candidates.now
+
+-- the same of each list
+abbrev pub AreKnownInEach : Asked → List (List Known) → Type 0
+AreKnownInEach on = AreRows on.items.closed.model.now on.lists.now on.items.candidates.now
+
+-- the list of vehicle v may be asked for candidate i, where the row has what is known of the candidates in it
+pub record MayAsk (on : Asked) (v i : ℕ) (known : List Known) : Type 0 where
+  pub asked : AreAsked on
+  pub candidate : i < length on.items.candidates.now
+  pub may_hold : MayBeHeld on i
+  pub there : v < length on.lists.now
+  pub row : AreKnownIn on v known
+
+-- the same of each list
+pub record MayAskEach (on : Asked) (i : ℕ) (known : List (List Known)) : Type 0 where
+  pub asked : AreAsked on
+  pub candidate : i < length on.items.candidates.now
+  pub may_hold : MayBeHeld on i
+  pub rows : AreKnownInEach on known
+
+-- whether an item may count can be told: the nodes that stand in lists are marked, so that no group has too many
+pub record MayCount (items : Items) (marked : List Bool) (candidate : Candidate) : Type 0 where
+  pub lookups : items.lookups.now ≡ items.closed.model.now
+  pub marks : length marked ≡ items.closed.model.now.nodes
+  pub fit : IsTrue (list_all (fits_by marked) items.closed.model.now.groups)
+  pub first : first_node (nodes_of candidate.item) < items.closed.model.now.nodes
+
+-- the best so far may be set beside candidate i: each list may be asked for it where it counts
+pub record MayWeigh (on : Asked) (marked : List Bool) (i : ℕ) (known : List (List Known)) : Type 0 where
+  pub asked : AreAsked on
+  pub marks : length marked ≡ on.items.closed.model.now.nodes
+  pub fit : IsTrue (list_all (fits_by marked) on.items.closed.model.now.groups)
+  pub candidate : i < length on.items.candidates.now
+  pub first : first_node (nodes_of (candidate_at on.items.candidates.now i).item) < on.items.closed.model.now.nodes
+  pub may_hold : counts on.items.closed.model.now marked (candidate_at on.items.candidates.now i) ≡ true
+      → MayBeHeld on i
+  pub rows : AreKnownInEach on known
+
+-- items may be inserted into lists: the lists are open, and their rows, the marks of their nodes and what is known of
+-- the items in them are those of the lists
+pub record MayInsert (items : Items) (keeps : List Kept) (marked : List Bool) (lists : List (List ℕ))
+    (known : List (List Known)) : Type 0 where
+  pub items_are : AreItems items
+  pub kept : AreKept items.closed.model.now lists keeps
+  pub built : AreBuilt items.closed.model.now lists
+  pub marks : AreMarks items.closed.model.now.nodes lists marked
+  pub rows : AreRows items.closed.model.now lists items.candidates.now known
+
+-- other open lists may be taken over, whose nodes are marked, and items be inserted into them
+pub record MayTakeOver (items : Items) (others : List (List ℕ)) (keeps : List Kept) (lists : List (List ℕ))
+    (marked : List Bool) (known : List (List Known)) : Type 0 where
+  pub items_are : AreItems items
+  pub vehicles : length lists ≡ length items.closed.model.now.vehicles
+  pub kept : AreKept items.closed.model.now lists keeps
+  pub rows : AreRows items.closed.model.now lists items.candidates.now known
+  pub built : AreBuilt items.closed.model.now others
+  pub marks : AreMarks items.closed.model.now.nodes others marked

@@ -1,5 +1,6 @@
 -- What an insertion adds to the arc costs of its vehicle, by the arcs at its places.
-use Rattle.std.specs.Prelude.{ℕ, ◌-◌, ◌==◌, cond, List, slice_index, slice_index_or, ℤ, pos, ◌+ℤ◌, ◌-ℤ◌}
+use Rattle.std.specs.Prelude.{ℕ, ◌-◌, ◌^◌, ◌==◌, cond, List, slice_index, slice_index_or}
+use Rattle.std.specs.Prelude.{ℤ, pos, neg_ℤ, ◌+ℤ◌, ◌-ℤ◌, ◌≤ℤ◌}
 use Rattle.vr_model.specs.tables.Tables.{arc_cost, vehicle_at}
 use Rattle.vr_model.specs.routes.Routes.{is_empty}
 use Rattle.vr_model.specs.declared.records.Model.{Model}
@@ -32,3 +33,8 @@ pair_increase model v list pickup delivery s t = cond (s == t)
     (arc_cost model v (node_before model v list s) pickup
     +ℤ detour model v pickup delivery (node_behind model v list s) (arc_at model v list s))
     (visit_increase model v list pickup s +ℤ visit_increase model v list delivery t)
+
+-- no more and no less than a visit may add
+pub record IsIncrease (n : ℤ) : Type 0 where
+  pub low : neg_ℤ (pos (2 ^ 40)) ≤ℤ n
+  pub high : n ≤ℤ pos (2 ^ 41)

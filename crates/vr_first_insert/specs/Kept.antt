@@ -9,6 +9,7 @@ use Rattle.vr_rules.specs.declared.items.Item.{Item}
 use Rattle.vr_rules.specs.declared.items.Item.TheVariants.{Visit, PickupAndDelivery}
 use Rattle.vr_rules.specs.declared.items.Candidate.{Candidate}
 use Rattle.vr_first_insert.specs.declared.choice.Choice.{Choice}
+use Rattle.vr_first_insert.specs.declared.known.Bound.{Bound}
 use Rattle.vr_first_insert.specs.declared.known.Known.{Known}
 use Rattle.vr_first_insert.specs.declared.known.Known.TheVariants.{Nothing, AtLeast, Best}
 use Rattle.vr_first_insert.specs.Increases.{pair_increase}
@@ -55,6 +56,16 @@ abbrev pub begun_with : Item → Bool → Option Choice → Option Choice
 begun_with item true best = None
 begun_with (Visit node) false best = None
 begun_with (PickupAndDelivery pickup delivery) false best = best
+
+-- what a search of the list of vehicle v tells of a candidate that begins with the best so far
+abbrev pub sought : Model → ℕ → List ℕ → Candidate → Option Choice → Known
+sought model v list candidate best = told_by best (best_in model v list candidate best)
+
+-- what is known once a candidate of which a bound is known was asked whether it is better than the best so far: the
+-- bound, where that is not better, and else what a search tells
+abbrev pub tried : Model → ℕ → List ℕ → Candidate → Bound → Option Choice → Known
+tried model v list candidate bound best = cond (may_improve best candidate.class bound.least)
+    (sought model v list candidate (begun_with candidate.item bound.searched best)) (AtLeast bound)
 
 -- what is known of a candidate in the list of vehicle v is so
 abbrev pub IsKnown : Model → ℕ → List ℕ → Candidate → Known → Type 0

@@ -1,12 +1,14 @@
 -- What is kept of lists in each dimension.
-use Rattle.std.specs.Prelude.{◌≡◌, ℕ, ◌<◌, List, length, slice_index_or}
+use Rattle.std.specs.Prelude.{◌≡◌, ℕ, ◌+◌, ◌<◌, ◌≤◌, List, length, slice_index_or}
 use Rattle.vr_model.specs.routes.Routes.{route}
 use Rattle.vr_model.specs.declared.records.Model.{Model}
 use Rattle.vr_reach.specs.Rows.{BothWays}
 use Rattle.vr_reach.specs.KnownRows.{AreRowsIfUsed}
-use Rattle.vr_reach.specs.Lists.{IsTour}
+use Rattle.vr_reach.specs.Lists.{IsTour, IsUsed}
 use Rattle.vr_reach.specs.Stops.{AreStops}
+use Rattle.vr_reach.specs.Stretches.{SharesBack, SharesFront}
 use Rattle.vr_first_insert.specs.declared.kept.Kept.{Kept}
+use Rattle.vr_first_insert.specs.declared.vehicle_list.VehicleList.{VehicleList}
 
 -- each list holds distinct visits
 abbrev pub AreTours : Model → List (List ℕ) → Type 0
@@ -42,3 +44,11 @@ pub record AreKeptOf (model : Model) (v : ℕ) (list : List ℕ) (keeps : List K
 pub record AreStopsOfEach (model : Model) (keeps : List Kept) : Type 0 where
   pub one_of_each : length keeps ≡ length model.dimensions
   pub each : (d : ℕ) (other : Kept) → d < length keeps → AreStops model d (slice_index_or keeps d other).stops
+
+-- a list may be walked between its first and its last nodes, which it shares with the one before, whose rows are kept
+pub record MayGoBetween (old : VehicleList) (new : List ℕ) (first last : ℕ) (keeps : List Kept) : Type 0 where
+  pub kept : AreKeptOf old.closed.model.now old.vehicle old.nodes.now keeps
+  pub used : IsUsed old.closed.model.now new
+  pub front : SharesFront old.nodes.now new first
+  pub back : SharesBack old.nodes.now new last
+  pub apart : first + last ≤ length new

@@ -20,7 +20,7 @@ use Rattle.vr_reach.specs.Lists.{IsTour}
 use Rattle.vr_first_insert.specs.declared.choice.Placing.{Placing}
 use Rattle.vr_first_insert.specs.declared.choice.Placing.TheVariants.{One, Two}
 use Rattle.vr_first_insert.specs.declared.choice.Choice.{Choice}
-use Rattle.vr_first_insert.specs.Increases.{visit_increase, pair_increase}
+use Rattle.vr_first_insert.specs.Increases.{visit_increase, pair_increase, IsIncrease}
 
 -- the item that is placed
 abbrev pub item_in : Placing → Item
@@ -131,6 +131,11 @@ may_improve (Some best) class least = nat_lt class best.class || (nat_le class b
 -- a visit adds at least so much before each place of the list of vehicle v
 abbrev pub IsLeast : Model → ℕ → List ℕ → ℕ → ℤ → Type 0
 IsLeast model v list node least = (t : ℕ) → t ≤ length list → least ≤ℤ visit_increase model v list node t
+
+-- the same of a number that a visit may add
+pub record IsLeastIncrease (model : Model) (v : ℕ) (list : List ℕ) (node : ℕ) (least : ℤ) : Type 0 where
+  pub adds : IsLeast model v list node least
+  pub small : IsIncrease least
 
 -- a visit adds just so much before one of the last places of the list of vehicle v, from the k-th from its end on
 pub record IsAddedAhead (model : Model) (v : ℕ) (list : List ℕ) (node k : ℕ) (least : ℤ) : Type 0 where

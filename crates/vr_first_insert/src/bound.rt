@@ -1,8 +1,8 @@
 //! What no place of a list can do better than.
 
 ghost use Rattle.std.specs.Prelude.{◌≡◌, ℕ, ◌<◌, ◌≤◌, ◌^◌, OnOk, cond, int_lt, length, neg_ℤ, pos, ◌+ℤ◌, ◌≤ℤ◌};
-ghost use Rattle.vr_first_insert.specs.Increases.{pair_increase as pair_increase_of};
-ghost use Rattle.vr_first_insert.specs.Placings.{AreLeastAhead, IsFirstLeast, IsLeast};
+ghost use Rattle.vr_first_insert.specs.Increases.{pair_increase as pair_increase_of, IsIncrease};
+ghost use Rattle.vr_first_insert.specs.Placings.{AreLeastAhead, IsFirstLeast, IsLeast, IsLeastIncrease};
 
 use crate::increase::{pair_increase, visit_increase};
 use crate::vehicle_list::VehicleList;
@@ -80,10 +80,8 @@ pub(crate) fn write_ahead(
 
 /// What a pair adds at least where its pickup alone adds so much, and its delivery alone `least` at least.
 pub(crate) fn least_apart(pickup: i64, least: i64) -> i64
-    requires pickup_low { neg_ℤ (pos (2 ^ 40)) ≤ℤ pickup }
-    requires pickup_high { pickup ≤ℤ pos (2 ^ 41) }
-    requires low { neg_ℤ (pos (2 ^ 40)) ≤ℤ least }
-    requires high { least ≤ℤ pos (2 ^ 41) }
+    requires pickup { IsIncrease pickup }
+    requires least { IsIncrease least }
     ensures value { result ≡ (pickup +ℤ least) }
     ensures low { neg_ℤ (pos (2 ^ 41)) ≤ℤ result }
     ensures high { result ≤ℤ pos (2 ^ 42) }
@@ -102,9 +100,7 @@ pub(crate) fn least_behind(
     requires pickup { pickup < list.now.closed.model.now.nodes }
     requires delivery { delivery < list.now.closed.model.now.nodes }
     requires within { s ≤ length list.now.nodes.now }
-    requires least { IsLeast list.now.closed.model.now list.now.vehicle list.now.nodes.now delivery least }
-    requires low { neg_ℤ (pos (2 ^ 40)) ≤ℤ least }
-    requires high { least ≤ℤ pos (2 ^ 41) }
+    requires least { IsLeastIncrease list.now.closed.model.now list.now.vehicle list.now.nodes.now delivery least }
     ensures least { (t : ℕ) → t ≤ length list.now.nodes.now
         → result ≤ℤ pair_increase_of list.now.closed.model.now list.now.vehicle list.now.nodes.now
         pickup delivery s t }
@@ -121,8 +117,7 @@ pub(crate) fn least_behind(
 pub(crate) fn least_further(list: &VehicleList<'_>, pickup: u32, s: usize, least: i64) -> i64
     requires pickup { pickup < list.now.closed.model.now.nodes }
     requires within { s ≤ length list.now.nodes.now }
-    requires low { neg_ℤ (pos (2 ^ 40)) ≤ℤ least }
-    requires high { least ≤ℤ pos (2 ^ 41) }
+    requires least { IsIncrease least }
     ensures least { (delivery t : ℕ)
         → IsLeast list.now.closed.model.now list.now.vehicle list.now.nodes.now delivery least
         → s < t → t ≤ length list.now.nodes.now

@@ -5,19 +5,19 @@ ghost use Rattle.vr_model.specs.first.CheapestInsertion.{rebuilt};
 ghost use Rattle.vr_model.specs.first.Items.{items as items_of};
 ghost use Rattle.vr_model.specs.moves.Moves.{with_route};
 ghost use Rattle.vr_model.specs.routes.Routes.{route};
-ghost use Rattle.vr_reach.specs.Lists.{IsTour};
 ghost use Rattle.vr_rules.specs.declared.items.Candidate.{Candidate as AnyCandidate};
-ghost use Rattle.vr_rules.specs.Placing.{AreBuilt, AreMarks};
-ghost use Rattle.vr_first_insert.specs.Asking.{AreItems};
+ghost use Rattle.vr_rules.specs.Placing.{AreBuilt};
+ghost use Rattle.vr_first_insert.specs.Asking.{MayTakeOver};
 ghost use Rattle.vr_first_insert.specs.KeptRows.{AreKept};
 ghost use Rattle.vr_first_insert.specs.Keeping.{IsKeeper};
 ghost use Rattle.vr_first_insert.specs.Kept.{AreRows};
 
 use crate::kept::{Kept, change_list, keep_each};
 use crate::known::{forget, rows_of};
-use crate::room::Room;
 use crate::row::Row;
+use crate::scratch::Scratch;
 use crate::search::{Items, insert_all};
+use crate::vehicle_list::VehicleList;
 use std::alloc::Global;
 use vr_lists::NodeTables;
 use vr_model::{Closed, NoMemory, Seq};
@@ -32,7 +32,7 @@ pub(crate) struct Keeper {
     keeps: Vec<Kept>,
     // what is known of the candidates in each list
     rows: Vec<Row>,
-    room: Room,
+    scratch: Scratch,
 }
 
 // Whether two lists have the same nodes in the same order.
@@ -42,39 +42,37 @@ fn is_same(one: &[u32], other: &[u32]) -> bool
     one == other
 }
 
-// Takes a list over as that of vehicle `v`. Where it is another than before, its rows are written, and of items in it
+// Takes a list over as that of its vehicle. Where it is another than before, its rows are written, and of items in it
 // nothing is known any more.
 fn take_list(
     alloc: Global,
-    closed: Closed<'_>,
     keeps: &mut [Kept],
-    v: u32,
-    list: &[u32],
     lists: &mut [Seq<u32>],
+    new: &VehicleList<'_>,
     rows: &mut [Row],
 ) -> Result<(), NoMemory>
-    requires vehicle { v < length closed.model.now.vehicles }
-    requires there { v < length lists.old }
-    requires tour { IsTour closed.model.now list.now }
-    requires kept { AreKept closed.model.now lists.old keeps.old }
-    requires row { v < length rows.old }
-    ensures lists { OnOk result (lists.new ≡ with_route lists.old v list.now) }
-    ensures kept { OnOk result (AreKept closed.entry.model.now lists.new keeps.new) }
-    ensures rows { OnOk result ((known : List AnyCandidate) → AreRows closed.entry.model.now lists.old known rows.old
-        → AreRows closed.entry.model.now lists.new known rows.new) }
+    requires there { new.now.vehicle < length lists.old }
+    requires kept { AreKept new.now.closed.model.now lists.old keeps.old }
+    requires row { new.now.vehicle < length rows.old }
+    ensures lists { OnOk result (lists.new ≡ with_route lists.old new.now.vehicle new.now.nodes.now) }
+    ensures kept { OnOk result (AreKept new.now.closed.model.now lists.new keeps.new) }
+    ensures rows { OnOk result ((known : List AnyCandidate)
+        → AreRows new.now.closed.model.now lists.old known rows.old
+        → AreRows new.now.closed.model.now lists.new known rows.new) }
 {
+    let v = new.vehicle;
     let before = lists[v as usize].as_slice();
-    if is_same(before, list) {
+    if is_same(before, new.nodes) {
         return Ok(());
     }
-    change_list(alloc, closed, keeps, v, list, lists)?;
+    change_list(alloc, keeps, lists, new)?;
     forget(rows, v);
     Ok(())
 }
 
 // Takes the lists of routes over, and inserts items into them as long as one may be inserted.
 fn insert_into(
-    room: &mut Room,
+    scratch: &mut Scratch,
     items: &Items<'_>,
     routes: &Routes,
     keeps: &mut [Kept],
@@ -82,12 +80,7 @@ fn insert_into(
     marks: &mut [bool],
     rows: &mut [Row],
 ) -> Result<(), NoMemory>
-    requires items { AreItems items.now }
-    requires vehicles { length lists.old ≡ length items.now.closed.model.now.vehicles }
-    requires kept { AreKept items.now.closed.model.now lists.old keeps.old }
-    requires rows { AreRows items.now.closed.model.now lists.old items.now.candidates.now rows.old }
-    requires built { AreBuilt items.now.closed.model.now routes.now.lists }
-    requires marks { AreMarks items.now.closed.model.now.nodes routes.now.lists marks.old }
+    requires { MayTakeOver items.now routes.now.lists keeps.old lists.old marks.old rows.old }
     ensures rebuilt { OnOk result (lists.new
         ≡ rebuilt items.now.closed.model.now (length (items_of items.now.closed.model.now)) routes.now.lists) }
     ensures built { OnOk result (AreBuilt items.now.closed.model.now lists.new) }
@@ -95,17 +88,14 @@ fn insert_into(
     ensures rows { OnOk result (AreRows items.now.closed.model.now lists.new items.now.candidates.now rows.new) }
 {
     for v in 0..routes.vehicles() {
-        take_list(
-            room.alloc,
-            items.closed,
-            keeps,
-            v,
-            routes.list(v),
-            lists,
-            rows,
-        )?;
+        let new = VehicleList {
+            closed: items.closed,
+            vehicle: v,
+            nodes: routes.list(v),
+        };
+        take_list(scratch.alloc, keeps, lists, &new, rows)?;
     }
-    insert_all(room, items, keeps, lists, marks, rows)?;
+    insert_all(scratch, items, keeps, lists, marks, rows)?;
     Ok(())
 }
 
@@ -128,7 +118,7 @@ impl Keeper {
             lists,
             keeps,
             rows,
-            room: Room::new(alloc),
+            scratch: Scratch::new(alloc),
         })
     }
 
@@ -148,14 +138,14 @@ impl Keeper {
             ≡ rebuilt closed.entry.model.now (length (items_of closed.entry.model.now)) routes.now.lists) }
         ensures built { OnOk result (AreBuilt closed.entry.model.now self.new.lists.items) }
     {
-        let mut marks = active_marks(self.room.alloc, closed.model, routes)?;
+        let mut marks = active_marks(self.scratch.alloc, closed.model, routes)?;
         let items = Items {
             closed,
             lookups,
             candidates: &self.candidates,
         };
         insert_into(
-            &mut self.room,
+            &mut self.scratch,
             &items,
             routes,
             &mut self.keeps,

@@ -1,12 +1,10 @@
 //! The rows of lists in each dimension.
 
-ghost use Rattle.std.specs.Prelude.{◌≡◌, ◌+◌, ◌<◌, ◌≤◌, length, IfOk, OnOk};
+ghost use Rattle.std.specs.Prelude.{◌≡◌, ◌<◌, length, IfOk, OnOk};
 ghost use Rattle.vr_model.specs.moves.Moves.{with_route};
-ghost use Rattle.vr_reach.specs.Lists.{IsTour, IsUsed};
 ghost use Rattle.vr_reach.specs.Stops.{AreStops};
-ghost use Rattle.vr_reach.specs.Stretches.{SharesFront, SharesBack};
 ghost use Rattle.vr_rules.specs.RoutesOpen.{is_feasible_in_each};
-ghost use Rattle.vr_first_insert.specs.KeptRows.{AreKept, AreKeptOf, AreRowsOfEach, AreTours, IsKept};
+ghost use Rattle.vr_first_insert.specs.KeptRows.{AreKept, AreRowsOfEach, AreTours, IsKept, MayGoBetween};
 
 use crate::place::write_list;
 use crate::vehicle_list::VehicleList;
@@ -45,27 +43,25 @@ impl Kept {
     fn learn(
         &mut self,
         alloc: Global,
-        closed: Closed<'_>,
         d: u32,
-        v: u32,
         lists: &[Seq<u32>],
-        list: &[u32],
+        new: &VehicleList<'_>,
     ) -> Result<(), NoMemory>
-        requires dimension { d < length closed.model.now.dimensions }
-        requires vehicle { v < length closed.model.now.vehicles }
-        requires there { v < length lists.now }
-        requires tour { IsTour closed.model.now list.now }
-        requires kept { IsKept closed.model.now d lists.now self.old }
-        ensures { OnOk result (IsKept closed.entry.model.now d (with_route lists.now v list.now) self.new) }
+        requires dimension { d < length new.now.closed.model.now.dimensions }
+        requires there { new.now.vehicle < length lists.now }
+        requires kept { IsKept new.now.closed.model.now d lists.now self.old }
+        ensures { OnOk result (IsKept new.now.closed.model.now d
+            (with_route lists.now new.now.vehicle new.now.nodes.now) self.new) }
     {
+        let v = new.vehicle;
         let old = lists[v as usize].as_slice();
         let stops = StopsFor {
-            closed,
+            closed: new.closed,
             d,
             v,
             of_dimension: &self.stops,
         };
-        rewrite_rows(alloc, &stops, old, list, &mut self.rows[v as usize])?;
+        rewrite_rows(alloc, &stops, old, new.nodes, &mut self.rows[v as usize])?;
         Ok(())
     }
 }
@@ -118,49 +114,42 @@ pub(crate) fn keep_each(
     Ok(keeps)
 }
 
-/// Writes the rows of a list of vehicle `v` over those of its list before, in each dimension. After `NoMemory` nothing
+/// Writes the rows of a list over those of the list of its vehicle before, in each dimension. After `NoMemory` nothing
 /// is said of what is kept.
 ///
 /// It takes memory only where a list is longer than any before, or a set has more than four runs.
 pub(crate) fn learn(
     alloc: Global,
-    closed: Closed<'_>,
     keeps: &mut [Kept],
-    v: u32,
     lists: &[Seq<u32>],
-    list: &[u32],
+    new: &VehicleList<'_>,
 ) -> Result<(), NoMemory>
-    requires vehicle { v < length closed.model.now.vehicles }
-    requires there { v < length lists.now }
-    requires tour { IsTour closed.model.now list.now }
-    requires kept { AreKept closed.model.now lists.now keeps.old }
-    ensures { OnOk result (AreKept closed.entry.model.now (with_route lists.now v list.now) keeps.new) }
+    requires there { new.now.vehicle < length lists.now }
+    requires kept { AreKept new.now.closed.model.now lists.now keeps.old }
+    ensures { OnOk result (AreKept new.now.closed.model.now
+        (with_route lists.now new.now.vehicle new.now.nodes.now) keeps.new) }
 {
     for d in 0..keeps.len() {
-        keeps[d].learn(alloc, closed, d as u32, v, lists, list)?;
+        keeps[d].learn(alloc, d as u32, lists, new)?;
     }
     Ok(())
 }
 
-/// Makes a list that of vehicle `v`, with its rows written over those of its list before. After want of memory nothing
+/// Makes a list that of its vehicle, with its rows written over those of the list before. After want of memory nothing
 /// is said of the lists.
 pub(crate) fn change_list(
     alloc: Global,
-    closed: Closed<'_>,
     keeps: &mut [Kept],
-    v: u32,
-    list: &[u32],
     lists: &mut [Seq<u32>],
+    new: &VehicleList<'_>,
 ) -> Result<(), NoMemory>
-    requires vehicle { v < length closed.model.now.vehicles }
-    requires there { v < length lists.old }
-    requires tour { IsTour closed.model.now list.now }
-    requires kept { AreKept closed.model.now lists.old keeps.old }
-    ensures lists { OnOk result (lists.new ≡ with_route lists.old v list.now) }
-    ensures kept { OnOk result (AreKept closed.entry.model.now lists.new keeps.new) }
+    requires there { new.now.vehicle < length lists.old }
+    requires kept { AreKept new.now.closed.model.now lists.old keeps.old }
+    ensures lists { OnOk result (lists.new ≡ with_route lists.old new.now.vehicle new.now.nodes.now) }
+    ensures kept { OnOk result (AreKept new.now.closed.model.now lists.new keeps.new) }
 {
-    learn(alloc, closed, keeps, v, lists, list)?;
-    write_list(list, &mut lists[v as usize])?;
+    learn(alloc, keeps, lists, new)?;
+    write_list(new.nodes, &mut lists[new.vehicle as usize])?;
     Ok(())
 }
 
@@ -178,11 +167,7 @@ pub(crate) fn is_feasible_between(
     back: usize,
     walk: &mut Walk,
 ) -> Result<bool, NoMemory>
-    requires kept { AreKeptOf old.now.closed.model.now old.now.vehicle old.now.nodes.now keeps.now }
-    requires used { IsUsed old.now.closed.model.now new.now }
-    requires front { SharesFront old.now.nodes.now new.now front }
-    requires back { SharesBack old.now.nodes.now new.now back }
-    requires apart { front + back ≤ length new.now }
+    requires { MayGoBetween old.now new.now front back keeps.now }
     ensures { IfOk result (λ answer. answer ≡ is_feasible_in_each old.now.closed.model.now old.now.vehicle new.now) }
 {
     let v = old.vehicle;

@@ -3,22 +3,20 @@
 ghost use Rattle.std.specs.Prelude.{◌≡◌, ◌<◌, IfOk, length, replicate};
 ghost use Rattle.vr_first_insert.specs.Kept.{begun_with as begun_with_of, best_of, better_choice};
 ghost use Rattle.vr_first_insert.specs.Kept.{is_settled as is_settled_of, told_by as told_by_of};
-ghost use Rattle.vr_first_insert.specs.Kept.{AddsAtLeast, BestAddsAtLeast, IsForgotten, IsKnown};
-ghost use Rattle.vr_first_insert.specs.Placings.{best_in, MayHold};
-ghost use Rattle.vr_first_insert.specs.VehicleLists.{IsReadyList};
+ghost use Rattle.vr_first_insert.specs.Kept.{AddsAtLeast, BestAddsAtLeast, IsForgotten};
+ghost use Rattle.vr_first_insert.specs.VehicleLists.{best_of_candidate, sought_in, tried_in, IsKnownOf, IsReadyList};
 ghost use Rattle.vr_first_insert.specs.declared.known.Known.TheVariants.{Nothing};
 
 use crate::bound::{least_pair, least_visit};
 use crate::choice::{Choice, improves, may_improve};
 use crate::kept::Kept;
 use crate::one_list::best_in_list;
-use crate::room::Room;
 use crate::row::Row;
-use crate::vehicle_list::VehicleList;
+use crate::scratch::Scratch;
+use crate::vehicle_list::CandidateIn;
 use std::alloc::Global;
-use vr_lists::NodeTables;
 use vr_model::NoMemory;
-use vr_rules::{Candidate, Item};
+use vr_rules::Item;
 
 /// What the best choice of an item in a list adds at least.
 #[derive(Clone, Copy, Drop)]
@@ -71,14 +69,14 @@ fn better(best: Option<Choice>, next: Choice) -> Option<Choice>
     }
 }
 
-// What an item adds at least to a list.
-fn least_in(list: &VehicleList<'_>, item: Item) -> i64
-    requires { MayHold list.now.closed.model.now list.now.nodes.now item }
-    ensures { AddsAtLeast list.now.closed.model.now list.now.vehicle list.now.nodes.now item result }
+// What a candidate adds at least to a list.
+fn least_in(of: &CandidateIn<'_>) -> i64
+    ensures { AddsAtLeast of.now.list.closed.model.now of.now.list.vehicle of.now.list.nodes.now
+        of.now.candidate.item result }
 {
-    match item {
-        Item::Visit(node) => least_visit(list, node),
-        Item::PickupAndDelivery(pickup, delivery) => least_pair(list, pickup, delivery),
+    match of.candidate.item {
+        Item::Visit(node) => least_visit(&of.list, node),
+        Item::PickupAndDelivery(pickup, delivery) => least_pair(&of.list, pickup, delivery),
     }
 }
 
@@ -123,84 +121,65 @@ fn begun_with(item: Item, searched: bool, best: Option<Choice>) -> Option<Choice
 
 // What a search of a list tells that begins with the best so far.
 fn sought(
-    room: &mut Room,
-    lookups: &NodeTables<'_>,
+    scratch: &mut Scratch,
     keeps: &[Kept],
-    list: &VehicleList<'_>,
-    candidate: Candidate,
+    of: &CandidateIn<'_>,
     best: Option<Choice>,
 ) -> Result<Known, NoMemory>
-    requires lookups { lookups.now ≡ list.now.closed.model.now }
-    requires ready { IsReadyList list.now keeps.now }
-    requires may_hold { MayHold list.now.closed.model.now list.now.nodes.now candidate.item }
-    ensures { IfOk result (λ known. known ≡ told_by_of best
-        (best_in list.now.closed.model.now list.now.vehicle list.now.nodes.now candidate best)) }
+    requires { IsReadyList of.now.list keeps.now }
+    ensures { IfOk result (λ known. known ≡ sought_in of.now best) }
 {
-    let found = best_in_list(room, lookups, keeps, list, candidate, best)?;
+    let found = best_in_list(scratch, keeps, of, best)?;
     Ok(told_by(best, found))
 }
 
-/// What is known of an item in a list once it was asked whether it is better than the best so far.
+/// What is known of a candidate in a list once it was asked whether it is better than the best so far.
 pub(crate) fn asked(
-    room: &mut Room,
-    lookups: &NodeTables<'_>,
+    scratch: &mut Scratch,
     keeps: &[Kept],
-    list: &VehicleList<'_>,
-    candidate: Candidate,
+    of: &CandidateIn<'_>,
     known: Known,
     best: Option<Choice>,
 ) -> Result<Known, NoMemory>
-    requires lookups { lookups.now ≡ list.now.closed.model.now }
-    requires ready { IsReadyList list.now keeps.now }
-    requires may_hold { MayHold list.now.closed.model.now list.now.nodes.now candidate.item }
-    requires known { IsKnown list.now.closed.model.now list.now.vehicle list.now.nodes.now candidate known }
-    ensures known { IfOk result (IsKnown list.now.closed.model.now list.now.vehicle list.now.nodes.now
-        candidate) }
-    ensures better { IfOk result (λ known. best_of known best
-        ≡ best_in list.now.closed.model.now list.now.vehicle list.now.nodes.now candidate best) }
+    requires ready { IsReadyList of.now.list keeps.now }
+    requires known { IsKnownOf of.now known }
+    ensures known { IfOk result (IsKnownOf of.now) }
+    ensures better { IfOk result (λ known. best_of known best ≡ best_of_candidate of.now best) }
 {
     match known {
         Known::Best(_) => Ok(known),
-        Known::AtLeast(bound) => {
-            let known = tried(room, lookups, keeps, list, candidate, bound, best)?;
-            Ok(known)
-        }
+        Known::AtLeast(bound) => tried(scratch, keeps, of, bound, best),
         Known::Nothing => {
             let bound = Bound {
-                least: least_in(list, candidate.item),
+                least: least_in(of),
                 searched: false,
             };
-            let known = tried(room, lookups, keeps, list, candidate, bound, best)?;
-            Ok(known)
+            tried(scratch, keeps, of, bound, best)
         }
     }
 }
 
-// The same of an item of which a bound is known: where that is not better than the best so far, no more is known.
+// The same of a candidate of which a bound is known: where that is not better than the best so far, no more is known,
+// and the list is not searched.
 fn tried(
-    room: &mut Room,
-    lookups: &NodeTables<'_>,
+    scratch: &mut Scratch,
     keeps: &[Kept],
-    list: &VehicleList<'_>,
-    candidate: Candidate,
+    of: &CandidateIn<'_>,
     bound: Bound,
     best: Option<Choice>,
 ) -> Result<Known, NoMemory>
-    requires lookups { lookups.now ≡ list.now.closed.model.now }
-    requires ready { IsReadyList list.now keeps.now }
-    requires may_hold { MayHold list.now.closed.model.now list.now.nodes.now candidate.item }
-    requires bound { BestAddsAtLeast list.now.closed.model.now list.now.vehicle list.now.nodes.now candidate
-        bound.least }
-    ensures known { IfOk result (IsKnown list.now.closed.model.now list.now.vehicle list.now.nodes.now
-        candidate) }
-    ensures better { IfOk result (λ known. best_of known best
-        ≡ best_in list.now.closed.model.now list.now.vehicle list.now.nodes.now candidate best) }
+    requires ready { IsReadyList of.now.list keeps.now }
+    requires bound { BestAddsAtLeast of.now.list.closed.model.now of.now.list.vehicle of.now.list.nodes.now
+        of.now.candidate bound.least }
+    ensures exact { IfOk result (λ known. known ≡ tried_in of.now bound best) }
+    ensures known { IfOk result (IsKnownOf of.now) }
+    ensures better { IfOk result (λ known. best_of known best ≡ best_of_candidate of.now best) }
 {
-    if !may_improve(best, candidate.class, bound.least) {
+    if !may_improve(best, of.candidate.class, bound.least) {
         return Ok(Known::AtLeast(bound));
     }
-    let begin = begun_with(candidate.item, bound.searched, best);
-    let known = sought(room, lookups, keeps, list, candidate, begin)?;
+    let begin = begun_with(of.candidate.item, bound.searched, best);
+    let known = sought(scratch, keeps, of, begin)?;
     Ok(known)
 }
 

@@ -1,17 +1,16 @@
 //! The best places of an item in one list.
 
-ghost use Rattle.std.specs.Prelude.{◌≡◌, suc, ◌+◌, ◌≤◌, ◌^◌, fold, insert, map, IfOk, IsTrue, length};
-ghost use Rattle.std.specs.Prelude.{neg_ℤ, pos, ◌≤ℤ◌, ◌&&◌};
+ghost use Rattle.std.specs.Prelude.{◌≡◌, suc, ◌+◌, ◌≤◌, ◌&&◌, fold, insert, map, IfOk, IsTrue, length};
 ghost use Rattle.std.specs.List.{list_all};
 ghost use Rattle.vr_model.specs.moves.Moves.{gaps};
 ghost use Rattle.vr_model.specs.routes.Rules.{allows_vehicle, is_route_open};
 ghost use Rattle.vr_model.specs.tables.Numbers.{each, from_to};
 ghost use Rattle.vr_rules.specs.Placing.{improves as improves_by, nodes_of};
 ghost use Rattle.vr_first_insert.specs.Probes.{AreReachedAt};
-ghost use Rattle.vr_first_insert.specs.Placings.{best_in, key_of};
-ghost use Rattle.vr_first_insert.specs.Placings.{placed, AreLeastAhead, IsLeast, MayHold};
-ghost use Rattle.vr_first_insert.specs.declared.choice.Placing.TheVariants.{One, Two};
-ghost use Rattle.vr_first_insert.specs.VehicleLists.{pair_before, visit_before, weigh_in, IsReadyList};
+ghost use Rattle.vr_first_insert.specs.Placings.{key_of, placed, IsLeastIncrease};
+ghost use Rattle.vr_first_insert.specs.declared.choice.Placing.TheVariants.{One};
+ghost use Rattle.vr_first_insert.specs.VehicleLists.{best_of_candidate, pair_before, visit_before, weigh_in};
+ghost use Rattle.vr_first_insert.specs.VehicleLists.{IsReadyList, IsReadyPair, MayTestPair, MayTestVisit};
 
 use crate::bound::{least_apart, least_behind, least_further, least_place, write_ahead};
 use crate::choice::{Choice, Placing, improves, may_improve};
@@ -19,13 +18,12 @@ use crate::increase::{pair_increase, visit_increase};
 use crate::kept::Kept;
 use crate::place::{move_on, write_placed};
 use crate::probes::Probes;
-use crate::room::Room;
+use crate::scratch::Scratch;
 use crate::trying::{Trying, may_serve, may_visit};
-use crate::vehicle_list::{PairIn, VehicleList, VisitIn};
+use crate::vehicle_list::{CandidateIn, PairIn, VisitIn};
 use std::alloc::Global;
-use vr_lists::NodeTables;
 use vr_model::{NoMemory, Seq};
-use vr_rules::{Candidate, Item, allows_item};
+use vr_rules::{Item, allows_item};
 
 // A visit before place `t`.
 fn visit_at(visit: &VisitIn<'_>, t: usize) -> Choice
@@ -48,9 +46,7 @@ fn weigh_visit(
     t: usize,
     best: Option<Choice>,
 ) -> Result<Option<Choice>, NoMemory>
-    requires ready { IsReadyList visit.now.list keeps.now }
-    requires within { t ≤ length visit.now.list.nodes.now }
-    requires longer { trying.old.longer ≡ placed visit.now.list.nodes.now (One visit.now.node t) }
+    requires { MayTestVisit visit.now t keeps.now trying.old.longer }
     ensures best { IfOk result (λ chosen. chosen ≡ weigh_in visit.now.list best (visit_before visit.now t)) }
     ensures longer { trying.new.longer ≡ trying.old.longer }
 {
@@ -73,9 +69,7 @@ fn is_visit_taken(
     t: usize,
     best: Option<Choice>,
 ) -> Result<bool, NoMemory>
-    requires ready { IsReadyList visit.now.list keeps.now }
-    requires within { t ≤ length visit.now.list.nodes.now }
-    requires longer { trying.old.longer ≡ placed visit.now.list.nodes.now (One visit.now.node t) }
+    requires { MayTestVisit visit.now t keeps.now trying.old.longer }
     ensures { IfOk result (λ taken. taken ≡ (improves_by key_of best (visit_before visit.now t)
         && is_route_open visit.now.list.closed.model.now visit.now.list.vehicle
         (placed visit.now.list.nodes.now (One visit.now.node t)))) }
@@ -89,7 +83,7 @@ fn is_visit_taken(
 // The best beside a visit before each place of a list. The first place at which it adds least comes first: where that
 // is taken, no other is looked at.
 fn best_visit(
-    room: &mut Room,
+    scratch: &mut Scratch,
     keeps: &[Kept],
     visit: &VisitIn<'_>,
     best: Option<Choice>,
@@ -99,7 +93,7 @@ fn best_visit(
         (map (visit_before visit.now) (gaps visit.now.list.nodes.now))) }
 {
     let t = least_place(&visit.list, visit.node);
-    let trying = &mut room.trying;
+    let trying = &mut scratch.trying;
     write_placed(
         visit.list.nodes,
         Placing::One(visit.node, t as u32),
@@ -108,13 +102,12 @@ fn best_visit(
     if is_visit_taken(trying, keeps, visit, t, best)? {
         return Ok(Some(visit_at(visit, t)));
     }
-    let best = best_of_places(room, keeps, visit, best)?;
-    Ok(best)
+    best_of_places(scratch, keeps, visit, best)
 }
 
 // The same, by one place after another.
 fn best_of_places(
-    room: &mut Room,
+    scratch: &mut Scratch,
     keeps: &[Kept],
     visit: &VisitIn<'_>,
     best: Option<Choice>,
@@ -123,7 +116,7 @@ fn best_of_places(
     ensures { IfOk result (λ chosen. chosen ≡ fold (weigh_in visit.now.list) best
         (map (visit_before visit.now) (gaps visit.now.list.nodes.now))) }
 {
-    let trying = &mut room.trying;
+    let trying = &mut scratch.trying;
     let list = visit.list.nodes;
     write_placed(list, Placing::One(visit.node, 0), &mut trying.longer)?;
     let first = weigh_visit(trying, keeps, visit, 0, best)?;
@@ -160,12 +153,7 @@ fn weigh_pair(
     t: usize,
     best: Option<Choice>,
 ) -> Result<Option<Choice>, NoMemory>
-    requires ready { IsReadyList pair.now.list keeps.now }
-    requires order { s ≤ t }
-    requires within { t ≤ length pair.now.list.nodes.now }
-    requires here { AreReachedAt pair.now.list.closed.model.now pair.now.list.vehicle
-        (insert pair.now.list.nodes.now s pair.now.pickup) (t + 1) probes.now }
-    requires longer { trying.old.longer ≡ placed pair.now.list.nodes.now (Two pair.now.pickup pair.now.delivery s t) }
+    requires { MayTestPair pair.now s t keeps.now probes.now trying.old.longer }
     ensures best { IfOk result (λ chosen. chosen ≡ weigh_in pair.now.list best (pair_before pair.now s t)) }
     ensures longer { trying.new.longer ≡ trying.old.longer }
 {
@@ -203,9 +191,7 @@ fn best_further(
     begun: &Begun<'_>,
     best: Option<Choice>,
 ) -> Result<Option<Choice>, NoMemory>
-    requires ready { IsReadyList begun.now.pair.list keeps.now }
-    requires ahead { AreLeastAhead begun.now.pair.list.closed.model.now begun.now.pair.list.vehicle
-        begun.now.pair.list.nodes.now begun.now.pair.delivery begun.now.ahead.now }
+    requires ready { IsReadyPair begun.now.pair keeps.now begun.now.ahead.now }
     requires here { AreReachedAt begun.now.pair.list.closed.model.now begun.now.pair.list.vehicle begun.now.half.now
         (begun.now.s + 2) probes.old }
     requires longer { trying.old.longer ≡ insert begun.now.half.now (begun.now.s + 1) begun.now.pair.delivery }
@@ -251,13 +237,9 @@ fn best_behind(
     least: i64,
     best: Option<Choice>,
 ) -> Result<Option<Choice>, NoMemory>
-    requires ready { IsReadyList begun.now.pair.list keeps.now }
-    requires ahead { AreLeastAhead begun.now.pair.list.closed.model.now begun.now.pair.list.vehicle
-        begun.now.pair.list.nodes.now begun.now.pair.delivery begun.now.ahead.now }
-    requires least { IsLeast begun.now.pair.list.closed.model.now begun.now.pair.list.vehicle
+    requires ready { IsReadyPair begun.now.pair keeps.now begun.now.ahead.now }
+    requires least { IsLeastIncrease begun.now.pair.list.closed.model.now begun.now.pair.list.vehicle
         begun.now.pair.list.nodes.now begun.now.pair.delivery least }
-    requires low { neg_ℤ (pos (2 ^ 40)) ≤ℤ least }
-    requires high { least ≤ℤ pos (2 ^ 41) }
     ensures { IfOk result (λ chosen. chosen ≡ fold (weigh_in begun.now.pair.list) best
         (map (pair_before begun.now.pair begun.now.s)
         (from_to begun.now.s (suc (length begun.now.pair.list.nodes.now))))) }
@@ -288,25 +270,23 @@ fn best_behind(
 }
 
 // The best beside a pickup before place `s` and its delivery before each place from there on, where the least that the
-// delivery adds is in the room: then no place is looked at where none can be better.
+// delivery adds is in the scratch: then no place is looked at where none can be better.
 fn best_delivery(
-    room: &mut Room,
+    scratch: &mut Scratch,
     keeps: &[Kept],
     pair: &PairIn<'_>,
     s: usize,
     best: Option<Choice>,
 ) -> Result<Option<Choice>, NoMemory>
-    requires ready { IsReadyList pair.now.list keeps.now }
+    requires ready { IsReadyPair pair.now keeps.now scratch.old.ahead }
     requires within { s ≤ length pair.now.list.nodes.now }
-    requires ahead { AreLeastAhead pair.now.list.closed.model.now pair.now.list.vehicle pair.now.list.nodes.now
-        pair.now.delivery room.old.ahead }
     ensures best { IfOk result (λ chosen. chosen ≡ fold (weigh_in pair.now.list) best
         (map (pair_before pair.now s)
         (from_to s (suc (length pair.now.list.nodes.now))))) }
-    ensures ahead { room.new.ahead ≡ room.old.ahead }
+    ensures ahead { scratch.new.ahead ≡ scratch.old.ahead }
 {
     let list = &pair.list;
-    let least = *room.ahead.get(list.nodes.len());
+    let least = *scratch.ahead.get(list.nodes.len());
     if !may_improve(
         best,
         pair.class,
@@ -317,23 +297,22 @@ fn best_delivery(
     write_placed(
         list.nodes,
         Placing::One(pair.pickup, s as u32),
-        &mut room.half,
+        &mut scratch.half,
     )?;
     let begun = Begun {
         pair: *pair,
         s,
-        half: room.half.as_slice(),
-        ahead: &room.ahead,
+        half: scratch.half.as_slice(),
+        ahead: &scratch.ahead,
     };
-    let trying = &mut room.trying;
-    let probes = &mut room.probes;
-    let best = best_behind(room.alloc, trying, probes, keeps, &begun, least, best)?;
-    Ok(best)
+    let trying = &mut scratch.trying;
+    let probes = &mut scratch.probes;
+    best_behind(scratch.alloc, trying, probes, keeps, &begun, least, best)
 }
 
 // The best beside a pair before each two places of a list.
 fn best_pair(
-    room: &mut Room,
+    scratch: &mut Scratch,
     keeps: &[Kept],
     pair: &PairIn<'_>,
     best: Option<Choice>,
@@ -343,47 +322,42 @@ fn best_pair(
         (each (gaps pair.now.list.nodes.now) (λ s. map (pair_before pair.now s)
         (from_to s (suc (length pair.now.list.nodes.now)))))) }
 {
-    write_ahead(&pair.list, pair.delivery, &mut room.ahead)?;
+    write_ahead(&pair.list, pair.delivery, &mut scratch.ahead)?;
     let mut best = best;
     for s in 0..pair.list.nodes.len() + 1 {
-        best = best_delivery(room, keeps, pair, s, best)?;
+        best = best_delivery(scratch, keeps, pair, s, best)?;
     }
     Ok(best)
 }
 
 // The best beside an item in a list, whose vehicle may visit its nodes.
 fn best_where_allowed(
-    room: &mut Room,
+    scratch: &mut Scratch,
     keeps: &[Kept],
-    list: &VehicleList<'_>,
-    candidate: Candidate,
+    of: &CandidateIn<'_>,
     best: Option<Choice>,
 ) -> Result<Option<Choice>, NoMemory>
-    requires ready { IsReadyList list.now keeps.now }
-    requires may_hold { MayHold list.now.closed.model.now list.now.nodes.now candidate.item }
-    requires allowed { IsTrue (list_all (allows_vehicle list.now.closed.model.now list.now.vehicle)
-        (nodes_of candidate.item)) }
-    ensures { IfOk result (λ chosen. chosen
-        ≡ best_in list.now.closed.model.now list.now.vehicle list.now.nodes.now candidate best) }
+    requires ready { IsReadyList of.now.list keeps.now }
+    requires allowed { IsTrue (list_all (allows_vehicle of.now.list.closed.model.now of.now.list.vehicle)
+        (nodes_of of.now.candidate.item)) }
+    ensures { IfOk result (λ chosen. chosen ≡ best_of_candidate of.now best) }
 {
+    let list = of.list;
+    let candidate = of.candidate;
     let class = candidate.class;
     let best = match candidate.item {
         Item::Visit(node) => {
-            let visit = VisitIn {
-                list: *list,
-                class,
-                node,
-            };
-            best_visit(room, keeps, &visit, best)?
+            let visit = VisitIn { list, class, node };
+            best_visit(scratch, keeps, &visit, best)?
         }
         Item::PickupAndDelivery(pickup, delivery) => {
             let pair = PairIn {
-                list: *list,
+                list,
                 class,
                 pickup,
                 delivery,
             };
-            best_pair(room, keeps, &pair, best)?
+            best_pair(scratch, keeps, &pair, best)?
         }
     };
     Ok(best)
@@ -391,22 +365,16 @@ fn best_where_allowed(
 
 /// The best beside an item in a list. Whether its vehicle may visit the nodes of the item is asked once.
 pub(crate) fn best_in_list(
-    room: &mut Room,
-    lookups: &NodeTables<'_>,
+    scratch: &mut Scratch,
     keeps: &[Kept],
-    list: &VehicleList<'_>,
-    candidate: Candidate,
+    of: &CandidateIn<'_>,
     best: Option<Choice>,
 ) -> Result<Option<Choice>, NoMemory>
-    requires lookups { lookups.now ≡ list.now.closed.model.now }
-    requires ready { IsReadyList list.now keeps.now }
-    requires may_hold { MayHold list.now.closed.model.now list.now.nodes.now candidate.item }
-    ensures { IfOk result (λ chosen. chosen
-        ≡ best_in list.now.closed.model.now list.now.vehicle list.now.nodes.now candidate best) }
+    requires { IsReadyList of.now.list keeps.now }
+    ensures { IfOk result (λ chosen. chosen ≡ best_of_candidate of.now best) }
 {
-    if !allows_item(lookups, list.vehicle, candidate.item) {
+    if !allows_item(of.lookups, of.list.vehicle, of.candidate.item) {
         return Ok(best);
     }
-    let best = best_where_allowed(room, keeps, list, candidate, best)?;
-    Ok(best)
+    best_where_allowed(scratch, keeps, of, best)
 }

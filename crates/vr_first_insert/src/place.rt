@@ -3,12 +3,13 @@
 ghost use Rattle.std.specs.Prelude.{◌≡◌, ◌+◌, ◌<◌, ◌≤◌, ℕ, List, OnOk, insert, length};
 ghost use Rattle.vr_model.specs.moves.Moves.{with_route};
 ghost use Rattle.vr_model.specs.routes.Routes.{route};
-ghost use Rattle.vr_reach.specs.Lists.{IsTour};
+ghost use Rattle.vr_rules.specs.Placing.{AreBuilt};
 ghost use Rattle.vr_first_insert.specs.KeptRows.{AreKept};
-ghost use Rattle.vr_first_insert.specs.Placings.{placed as placed_of, AreWithin};
+ghost use Rattle.vr_first_insert.specs.Placings.{placed as placed_of, AreWithin, MayBeInserted};
 
-use crate::choice::Placing;
+use crate::choice::{Choice, Placing};
 use crate::kept::{Kept, change_list};
+use crate::vehicle_list::VehicleList;
 use std::alloc::Global;
 use vr_model::{Closed, NoMemory, Seq};
 
@@ -60,27 +61,32 @@ pub(crate) fn write_list(list: &[u32], out: &mut Seq<u32>) -> Result<(), NoMemor
     Ok(())
 }
 
-/// Places an item in the list of vehicle `v`, with its rows written over those of its list before; the list is written
-/// over `longer` first. It takes memory only where a list is longer than any before, or a set has more than four runs.
+/// Makes an insertion, with the rows of the list written over those of the list before; the list is written over
+/// `longer` first. It takes memory only where a list is longer than any before, or a set has more than four runs.
 pub(crate) fn place_in(
     longer: &mut Seq<u32>,
     alloc: Global,
     closed: Closed<'_>,
     keeps: &mut [Kept],
     lists: &mut [Seq<u32>],
-    v: u32,
-    placing: Placing,
+    choice: Choice,
 ) -> Result<(), NoMemory>
-    requires vehicle { v < length closed.model.now.vehicles }
-    requires there { v < length lists.old }
-    requires within { AreWithin (route lists.old v) placing }
-    requires few { length (route lists.old v) ≤ 1000 }
-    requires tour { IsTour closed.model.now (placed_of (route lists.old v) placing) }
+    requires may { MayBeInserted closed.model.now lists.old choice }
+    requires built { AreBuilt closed.model.now lists.old }
     requires kept { AreKept closed.model.now lists.old keeps.old }
-    ensures lists { OnOk result (lists.new ≡ with_route lists.old v (placed_of (route lists.old v) placing)) }
+    ensures lists { OnOk result (lists.new ≡ with_route lists.old choice.vehicle
+        (placed_of (route lists.old choice.vehicle) choice.placing)) }
     ensures kept { OnOk result (AreKept closed.entry.model.now lists.new keeps.new) }
 {
-    write_placed(lists[v as usize].as_slice(), placing, longer)?;
-    change_list(alloc, closed, keeps, v, longer.as_slice(), lists)?;
+    let v = choice.vehicle;
+    let before = lists[v as usize].as_slice();
+    write_placed(before, choice.placing, longer)?;
+    let nodes = longer.as_slice();
+    let list = VehicleList {
+        closed,
+        vehicle: v,
+        nodes,
+    };
+    change_list(alloc, keeps, lists, &list)?;
     Ok(())
 }

@@ -1,11 +1,9 @@
 //! What a list reaches at one stop in each dimension, moved from stop to stop.
 
-ghost use Rattle.std.specs.Prelude.{◌≡◌, ◌+◌, ◌<◌, ◌≤◌, IsTrue, length, IfOk, OnOk};
-ghost use Rattle.vr_reach.specs.Lists.{IsUsed};
-ghost use Rattle.vr_reach.specs.Stretches.{SharesFront, SharesBack};
+ghost use Rattle.std.specs.Prelude.{◌≡◌, ◌+◌, ◌≤◌, IsTrue, length, IfOk, OnOk};
 ghost use Rattle.vr_rules.specs.RoutesOpen.{is_feasible_in_each};
-ghost use Rattle.vr_first_insert.specs.KeptRows.{AreKeptOf, AreStopsOfEach};
 ghost use Rattle.vr_first_insert.specs.Probes.{is_stuck_in_some, AreReachedAt, ReachNoEnd};
+ghost use Rattle.vr_first_insert.specs.Probes.{MayGoFrom, MayGoOn, MayLeave};
 
 use crate::kept::Kept;
 use crate::vehicle_list::VehicleList;
@@ -42,14 +40,11 @@ impl Probes {
         front: usize,
         walk: &mut Walk,
     ) -> Result<(), NoMemory>
-        requires kept { AreKeptOf old.now.closed.model.now old.now.vehicle old.now.nodes.now keeps.now }
-        requires used { IsUsed old.now.closed.model.now new.now }
-        requires front { SharesFront old.now.nodes.now new.now front }
+        requires { MayLeave old.now new.now front keeps.now }
         ensures { OnOk result (AreReachedAt old.now.closed.model.now old.now.vehicle new.now (front + 1) self.new) }
     {
         fit(alloc, self, keeps.len())?;
-        leave_each(self, keeps, old, new, front, walk)?;
-        Ok(())
+        leave_each(self, keeps, old, new, front, walk)
     }
 
     /// Whether nothing is reached in some dimension: then no list that reaches this at a stop has a feasible line
@@ -81,11 +76,7 @@ impl Probes {
         back: usize,
         walk: &mut Walk,
     ) -> Result<bool, NoMemory>
-        requires kept { AreKeptOf old.now.closed.model.now old.now.vehicle old.now.nodes.now keeps.now }
-        requires used { IsUsed old.now.closed.model.now new.now }
-        requires here { AreReachedAt old.now.closed.model.now old.now.vehicle new.now k self.now }
-        requires back { SharesBack old.now.nodes.now new.now back }
-        requires apart { k + back ≤ length new.now }
+        requires { MayGoFrom old.now new.now k back keeps.now self.now }
         ensures { IfOk result (λ answer. answer
             ≡ is_feasible_in_each old.now.closed.model.now old.now.vehicle new.now) }
     {
@@ -124,11 +115,7 @@ impl Probes {
         k: usize,
         walk: &mut Walk,
     ) -> Result<(), NoMemory>
-        requires vehicle { v < length closed.model.now.vehicles }
-        requires stops { AreStopsOfEach closed.model.now keeps.now }
-        requires used { IsUsed closed.model.now list.now }
-        requires stop { k ≤ length list.now }
-        requires here { AreReachedAt closed.model.now v list.now k self.old }
+        requires { MayGoOn closed.model.now v list.now k keeps.now self.old }
         ensures { OnOk result (AreReachedAt closed.entry.model.now v list.now (k + 1) self.new) }
     {
         for d in 0..keeps.len() {
@@ -163,9 +150,7 @@ fn leave_each(
     front: usize,
     walk: &mut Walk,
 ) -> Result<(), NoMemory>
-    requires kept { AreKeptOf old.now.closed.model.now old.now.vehicle old.now.nodes.now keeps.now }
-    requires used { IsUsed old.now.closed.model.now new.now }
-    requires front { SharesFront old.now.nodes.now new.now front }
+    requires leaves { MayLeave old.now new.now front keeps.now }
     requires enough { length keeps.now ≤ length probes.old.here.items }
     ensures { OnOk result (AreReachedAt old.now.closed.model.now old.now.vehicle new.now (front + 1) probes.new) }
 {

@@ -1,10 +1,9 @@
 //! Whether a list stays open with an item put in.
 
-ghost use Rattle.std.specs.Prelude.{◌≡◌, ◌+◌, ◌≤◌, IfOk, insert, length};
+ghost use Rattle.std.specs.Prelude.{◌≡◌, IfOk};
 ghost use Rattle.vr_model.specs.routes.Rules.{is_route_open};
-ghost use Rattle.vr_first_insert.specs.Probes.{AreReachedAt};
 ghost use Rattle.vr_first_insert.specs.Placings.{placed};
-ghost use Rattle.vr_first_insert.specs.VehicleLists.{IsReadyList};
+ghost use Rattle.vr_first_insert.specs.VehicleLists.{MayTestPair, MayTestVisit};
 ghost use Rattle.vr_first_insert.specs.declared.choice.Placing.TheVariants.{One, Two};
 
 use crate::kept::{Kept, is_feasible_between};
@@ -43,9 +42,7 @@ pub(crate) fn may_visit(
     visit: &VisitIn<'_>,
     t: usize,
 ) -> Result<bool, NoMemory>
-    requires ready { IsReadyList visit.now.list keeps.now }
-    requires within { t ≤ length visit.now.list.nodes.now }
-    requires longer { trying.old.longer ≡ placed visit.now.list.nodes.now (One visit.now.node t) }
+    requires { MayTestVisit visit.now t keeps.now trying.old.longer }
     ensures open { IfOk result (λ may. may
         ≡ is_route_open visit.now.list.closed.model.now visit.now.list.vehicle
         (placed visit.now.list.nodes.now (One visit.now.node t))) }
@@ -71,12 +68,7 @@ pub(crate) fn may_serve(
     s: usize,
     t: usize,
 ) -> Result<bool, NoMemory>
-    requires ready { IsReadyList pair.now.list keeps.now }
-    requires order { s ≤ t }
-    requires within { t ≤ length pair.now.list.nodes.now }
-    requires here { AreReachedAt pair.now.list.closed.model.now pair.now.list.vehicle
-        (insert pair.now.list.nodes.now s pair.now.pickup) (t + 1) probes.now }
-    requires longer { trying.old.longer ≡ placed pair.now.list.nodes.now (Two pair.now.pickup pair.now.delivery s t) }
+    requires { MayTestPair pair.now s t keeps.now probes.now trying.old.longer }
     ensures open { IfOk result (λ may. may
         ≡ is_route_open pair.now.list.closed.model.now pair.now.list.vehicle
         (placed pair.now.list.nodes.now (Two pair.now.pickup pair.now.delivery s t))) }

@@ -1,5 +1,5 @@
 -- The ends of routes that stand apart.
-use Rattle.std.proofs.Common.{◌≡◌, ◌∙◌, ◌<◌, ℕ, List, [], length, ap}
+use Rattle.std.proofs.Common.{◌≡◌, ◌∙◌, ◌<◌, ℕ, List, [], length, ap, subst, sym}
 use Rattle.std.specs.Prelude.{map, slice_index_or}
 use Rattle.std.proofs.lemmas.List.{get_or-map}
 use Rattle.vr_model.specs.declared.records.Model.{Model}
@@ -29,3 +29,7 @@ are_ends model routes i well are low =
 -- the ends that code reads
 pub ends_read : (model : Model) (routes : List (List ℕ)) (ends : List Ends) (i : ℕ) → ends ≡ map (ends_of model) routes → i < length routes → slice_index_or ends i unread ≡ ends_of model (route routes i)
 ends_read model routes ends i are low = ap (λ es. slice_index_or es i unread) are ∙ get_or-map (ends_of model) routes i [] unread low
+
+-- they are ends
+pub read_are_ends : (model : Model) (routes : List (List ℕ)) (ends : List Ends) (i : ℕ) → IsWellFormed model → AreApart model routes → ends ≡ map (ends_of model) routes → i < length routes → AreEnds model (slice_index_or ends i unread)
+read_are_ends model routes ends i well apart are low = subst (AreEnds model) (sym (ends_read model routes ends i are low)) (are_ends model routes i well apart low)

@@ -1,12 +1,15 @@
 -- Routes that are merged, join by join.
-use Rattle.std.proofs.Common.{◌≡◌, ◌∙◌, ◌<◌, ◌+◌, ◌++◌, ℕ, zero, suc, List, [], ◌∷◌, true, false, cond, not, Some, None, refl, ap, sym, length, take, get_or}
-use Rattle.std.specs.Prelude.{◌||◌, ◌==◌, filter}
+use Rattle.std.proofs.Common.{◌≡◌, ◌∙◌, ◌<◌, ◌+◌, ◌++◌, ℕ, zero, suc, List, [], ◌∷◌, Bool, true, false, cond, not, Option, Some, None, refl, ap, sym, subst, length, take, get_or, pos}
+use Rattle.std.specs.Prelude.{◌||◌, ◌==◌, filter, int_lt, nat_lt, IfSome}
+use Rattle.std.specs.Option.{option_map}
 use Rattle.std.proofs.lemmas.List.{get_or_default}
 use Rattle.std.proofs.lemmas.List.Elements.{filter_more}
 use Rattle.vr_model.specs.declared.records.Model.{Model}
 use Rattle.vr_model.specs.first.Items.{first_node}
 use Rattle.vr_model.specs.first.Choosing.{least_by}
 use Rattle.vr_model.specs.first.SavingsJoins.{Join, joined, joined_route, is_part_of, is_wanted, join_key, joins, merged}
+use Rattle.vr_first_savings.specs.declared.choice.Choice.{Choice}
+use Rattle.vr_first_savings.specs.Joins.{join_of, MayBeJoined}
 
 -- the one of the next route that is kept
 pub kept-more : (join : Join) (routes : List (List ℕ)) (i front back : ℕ) (route : List ℕ) (after more : List (List ℕ)) → i < length routes → get_or routes i route ≡ route
@@ -43,3 +46,20 @@ merged-next model more less routes join e w count =
 -- the entry that code reads
 pub read-item : (routes : List (List ℕ)) (i : ℕ) (route item : List ℕ) → i < length routes → route ≡ item → item ≡ get_or routes i item → get_or routes i route ≡ route
 read-item routes i route item low same is = get_or_default routes i route item low ∙ sym is ∙ sym same
+
+-- the best join, as code finds it, and whether it finds it wanted
+pub record IsFound (model : Model) (routes : List (List ℕ)) (choice : Choice) (wanted : Bool) : Type 0 where
+  pub best : least_by (join_key model) (joins model routes) ≡ Some (join_of routes choice)
+  pub may : MayBeJoined model routes choice
+  pub tells : wanted ≡ is_wanted model routes (join_of routes choice)
+
+pub found-read : (model : Model) (routes read : List (List ℕ)) (choice : Choice) (found : Option Choice) (count : ℕ) (wanted : Bool) → read ≡ routes → found ≡ Some choice
+    → option_map (join_of read) found ≡ least_by (join_key model) (joins model read) → IfSome found (MayBeJoined model read) → count ≡ length routes
+    → wanted ≡ (int_lt (pos 0) choice.saving || nat_lt (length model.vehicles) count) → IsFound model routes choice wanted
+found-read model routes read choice found count wanted same is best may many tells =
+    let there : MayBeJoined model routes choice = subst (λ routes. MayBeJoined model routes choice) same (subst (λ found. IfSome found (MayBeJoined model read)) is may) in
+    record {
+      best = sym (ap (λ routes. least_by (join_key model) (joins model routes)) same) ∙ sym best ∙ ap (option_map (join_of read)) is ∙ ap (λ routes. Some (join_of routes choice)) same;
+      may = there;
+      tells = tells ∙ (λ t. int_lt (pos 0) (there.saves t) || nat_lt (length model.vehicles) (many t));
+    }

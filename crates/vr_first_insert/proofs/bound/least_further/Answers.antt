@@ -9,4 +9,14 @@ returns-clause-least c = λ delivery t is_least behind within.
     let list = c.args.list.now.nodes.now in
     let one = c.visit_increase.ensures in
     let here = least-further model c.args.list.now.vehicle list c.args.pickup delivery c.args.s t c.args.least is_least behind within in
-    omega (arith, ints, here, one.value, one.low, one.high, c.requires.low, c.requires.high)
+    omega (arith, ints, here, one.value, one.low, one.high, c.requires.least.low, c.requires.least.high)
+
+pub returns-clause-low : goal.returns-clause-low
+returns-clause-low c =
+    let one = c.visit_increase.ensures in
+    omega (arith, ints, one.low, one.high, c.requires.least.low, c.requires.least.high)
+
+pub returns-clause-high : goal.returns-clause-high
+returns-clause-high c =
+    let one = c.visit_increase.ensures in
+    omega (arith, ints, one.low, one.high, c.requires.least.low, c.requires.least.high)

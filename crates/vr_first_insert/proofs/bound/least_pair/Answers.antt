@@ -2,7 +2,18 @@ use Rattle.std.proofs.Common.{◌≡◌, ◌≤◌, ◌≤ℤ◌, ℕ, length, a
 use Rattle.std.proofs.lemmas.Int.{ints, int_min_is}
 use borrow.Author.Count.{below_more}
 use Rattle.vr_first_insert.specs.Increases.{pair_increase}
+use Rattle.vr_first_insert.proofs.BoundLemmas.{least-read}
 use Rattle.vr_first_insert.proofs.bound.least_pair.Goals as goal
+
+pub least_behind-least-requires-clause-least : goal.least_behind-least-requires-clause-least
+least_behind-least-requires-clause-least c =
+    let alone = c.least_visit-alone.ensures in
+    least-read c.args.list.now c.args.delivery c.least_visit-alone.result alone.least alone.low alone.high
+
+pub least_behind-requires-clause-least : goal.least_behind-requires-clause-least
+least_behind-requires-clause-least c =
+    let alone = c.least_visit-alone.ensures in
+    least-read c.args.list.now c.args.delivery c.least_visit-alone.result alone.least alone.low alone.high
 
 pub loop-s-init : goal.loop-s-init
 loop-s-init c =

@@ -9,7 +9,7 @@ use Rattle.vr_first_insert.proofs.keeper.take_list.Goals as goal
 pub returns-then-is_same-clause-lists : goal.returns-then-is_same-clause-lists
 returns-then-is_same-clause-lists c =
     let lists = c.args.lists.now in
-    let v : ℕ = c.args.v in
+    let v : ℕ = c.args.new.now.vehicle in
     let before : c.as_slice-before.result.now ≡ route lists v = c.as_slice-before.ensures ∙ get_or_default lists v c.index-lists-v.result [] c.requires.there in
     sym (set-get_or lists v []) ∙ ap (with_route lists v) (sym before ∙ c.is_same.ensures c.if-is_same.true)
 
@@ -18,5 +18,5 @@ forget-requires c = record { vehicle = c.requires.row }
 
 pub returns-clause-rows : goal.returns-clause-rows
 returns-clause-rows c = λ known are.
-    subst (λ lists. AreRows c.args.closed.model.now lists known c.forget.new.rows) (sym c.in_ok-change_list.ensures.lists)
-    (rows-forgotten c.args.closed.model.now c.args.lists.now known c.args.rows.now c.forget.new.rows c.args.v c.args.list.now c.requires.there are c.forget.ensures)
+    subst (λ lists. AreRows c.args.new.now.closed.model.now lists known c.forget.new.rows) (sym c.in_ok-change_list.ensures.lists)
+    (rows-forgotten c.args.new.now.closed.model.now c.args.lists.now known c.args.rows.now c.forget.new.rows c.args.new.now.vehicle c.args.new.now.nodes.now c.requires.there are c.forget.ensures)

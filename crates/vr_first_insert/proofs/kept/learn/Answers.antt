@@ -13,14 +13,14 @@ learn-requires-clause-kept c =
 
 pub loop-d-preserved : goal.loop-d-preserved
 loop-d-preserved c =
-    let model = c.args.closed.model.now in
+    let model = c.args.new.now.closed.model.now in
     let lists = c.args.lists.now in
     let d : ℕ = c.loop-d.d in
     let m = c.loop-d.invariant in
     let within : d < length c.loop-d.keeps = omega (arith, m.long, c.loop-d-test.true) in
     let keeps = c.loop-d.keeps in
     let new = c.learn.new.self in
-    let Done = λ (d : ℕ) (kept : Kept). IsKept model d (with_route lists c.args.v c.args.list.now) kept in
+    let Done = λ (d : ℕ) (kept : Kept). IsKept model d (with_route lists c.args.new.now.vehicle c.args.new.now.nodes.now) kept in
     let Left = λ (d : ℕ) (kept : Kept). IsKept model d lists kept in
     record {
       long = length-set keeps d new ∙ m.long;

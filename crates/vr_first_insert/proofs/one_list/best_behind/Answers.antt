@@ -1,56 +1,53 @@
 use Rattle.std.proofs.Common.{to_z, of_z, w64, ◌≡◌, ◌∙◌, ◌+◌, ℕ, suc, ap, sym, subst, arith, length}
 use Rattle.std.specs.Prelude.{fold, insert, map}
-use Rattle.std.proofs.lemmas.List.Edits.{length-insert}
 use Rattle.vr_model.specs.tables.Numbers.{from_to}
 use Rattle.vr_model.proofs.tables.Ranges.{first_left}
-use Rattle.vr_reach.specs.Lists.{IsUsed}
 use Rattle.vr_reach.specs.Stretches.{SharesFront}
 use Rattle.vr_first_insert.specs.Probes.{AreReachedAt}
 use Rattle.vr_first_insert.proofs.InsertedLemmas.{pair_is, visit_front}
 use Rattle.vr_model.specs.declared.records.Pair.{Pair}
-use Rattle.vr_first_insert.proofs.RowLemmas.{stops_of}
 use Rattle.vr_first_insert.specs.declared.choice.Choice.{Choice}
-use Rattle.vr_first_insert.specs.declared.choice.Placing.TheVariants.{One}
+use Rattle.vr_first_insert.specs.Increases.{IsIncrease}
 use Rattle.std.proofs.lemmas.Int.{ints, to_z-of_z}
-use Rattle.vr_lists.proofs.VisitLists.{visits-few}
 use Rattle.vr_first_insert.proofs.BoundLemmas.{deliveries-passed_over}
 use Rattle.vr_first_insert.specs.Placings.{may_improve, pair_choice, weigh, IsLeast}
-use Rattle.vr_first_insert.proofs.ReadyLemmas.{deliveries-stuck, used-placed, MayHold-pickup}
+use Rattle.vr_first_insert.proofs.ReadyLemmas.{deliveries-stuck, few-held, half-goes_on, half-used}
 use Rattle.vr_first_insert.proofs.one_list.best_behind.Goals as goal
 
-pub leave-requires-clause-used : goal.leave-requires-clause-used
-leave-requires-clause-used c =
-    subst (IsUsed c.args.begun.now.pair.list.closed.model.now) (sym c.args.begun.now.picked_up) (used-placed c.args.begun.now.pair.list.closed.model.now c.args.begun.now.pair.list.nodes.now (One c.args.begun.now.pair.pickup c.args.begun.now.s) c.args.begun.now.within (MayHold-pickup c.args.begun.now.pair.list.closed.model.now c.args.begun.now.pair.list.nodes.now c.args.begun.now.pair.pickup c.args.begun.now.pair.delivery c.args.begun.now.pair.may_hold))
+pub leave-requires : goal.leave-requires
+leave-requires c =
+    let begun = c.args.begun.now in
+    record {
+      kept = c.requires.ready.ready.kept;
+      used = half-used begun.pair begun.s begun.half.now begun.within begun.picked_up;
+      front = subst (λ new. SharesFront begun.pair.list.nodes.now new begun.s) (sym begun.picked_up) (visit_front begun.pair.list.nodes.now begun.s begun.pair.pickup begun.within);
+    }
 
-pub leave-requires-clause-front : goal.leave-requires-clause-front
-leave-requires-clause-front c = subst (λ new. SharesFront c.args.begun.now.pair.list.nodes.now new c.args.begun.now.s) (sym c.args.begun.now.picked_up) (visit_front c.args.begun.now.pair.list.nodes.now c.args.begun.now.s c.args.begun.now.pair.pickup c.args.begun.now.within)
+pub go_on-requires : goal.go_on-requires
+go_on-requires c =
+    let begun = c.args.begun.now in
+    half-goes_on begun.pair begun.s (begun.s + 1) begun.half.now c.args.keeps.now c.leave.new.self begun.within begun.picked_up (let within = begun.within in omega (arith, within)) c.requires.ready.ready c.in_ok-leave.ensures
 
-pub go_on-requires-clause-used : goal.go_on-requires-clause-used
-go_on-requires-clause-used c =
-    subst (IsUsed c.args.begun.now.pair.list.closed.model.now) (sym c.args.begun.now.picked_up) (used-placed c.args.begun.now.pair.list.closed.model.now c.args.begun.now.pair.list.nodes.now (One c.args.begun.now.pair.pickup c.args.begun.now.s) c.args.begun.now.within (MayHold-pickup c.args.begun.now.pair.list.closed.model.now c.args.begun.now.pair.list.nodes.now c.args.begun.now.pair.pickup c.args.begun.now.pair.delivery c.args.begun.now.pair.may_hold))
+pub weigh_pair-requires : goal.weigh_pair-requires
+weigh_pair-requires c = record {
+  ready = c.requires.ready.ready;
+  order = omega arith;
+  within = c.args.begun.now.within;
+  here = subst (λ half. AreReachedAt c.args.begun.now.pair.list.closed.model.now c.args.begun.now.pair.list.vehicle half (c.args.begun.now.s + 1) c.leave.new.self) c.args.begun.now.picked_up c.in_ok-leave.ensures;
+  longer = c.in_ok-write_placed.ensures;
+}
 
-pub go_on-requires-clause-stops : goal.go_on-requires-clause-stops
-go_on-requires-clause-stops c = stops_of c.args.begun.now.pair.list.closed.model.now c.args.begun.now.pair.list.vehicle c.args.begun.now.pair.list.nodes.now c.args.keeps.now c.requires.ready.kept
-
-pub go_on-requires-clause-stop : goal.go_on-requires-clause-stop
-go_on-requires-clause-stop c =
-    let long = ap length c.args.begun.now.picked_up ∙ length-insert c.args.begun.now.pair.list.nodes.now c.args.begun.now.s c.args.begun.now.pair.pickup c.args.begun.now.within in
-    omega (arith, long, c.args.begun.now.within)
-
-pub go_on-requires-clause-here : goal.go_on-requires-clause-here
-go_on-requires-clause-here c = c.in_ok-leave.ensures
-
-pub weigh_pair-requires-clause-here : goal.weigh_pair-requires-clause-here
-weigh_pair-requires-clause-here c = subst (λ half. AreReachedAt c.args.begun.now.pair.list.closed.model.now c.args.begun.now.pair.list.vehicle half (c.args.begun.now.s + 1) c.leave.new.self) c.args.begun.now.picked_up c.in_ok-leave.ensures
+pub least_further-requires-clause-least : goal.least_further-requires-clause-least
+least_further-requires-clause-least c = subst IsIncrease (sym (to_z-of_z w64 c.args.least c.ranges.least)) c.requires.least.small
 
 pub overflow_cast-placing : goal.overflow_cast-placing
-overflow_cast-placing c = omega (arith, visits-few c.args.begun.now.pair.list.closed.model.now c.args.begun.now.pair.list.nodes.now c.args.begun.now.pair.may_hold.visits c.args.begun.now.pair.may_hold.distinct, c.args.begun.now.pair.list.closed.well_formed.number_of_nodes.1)
+overflow_cast-placing c = omega (arith, few-held c.args.begun.now.pair.list c.args.begun.now.pair.may_hold)
 
 pub overflow_cast-placing-2 : goal.overflow_cast-placing-2
-overflow_cast-placing-2 c = omega (arith, visits-few c.args.begun.now.pair.list.closed.model.now c.args.begun.now.pair.list.nodes.now c.args.begun.now.pair.may_hold.visits c.args.begun.now.pair.may_hold.distinct, c.args.begun.now.pair.list.closed.well_formed.number_of_nodes.1)
+overflow_cast-placing-2 c = omega (arith, few-held c.args.begun.now.pair.list c.args.begun.now.pair.may_hold)
 
 pub write_placed-requires-clause-few : goal.write_placed-requires-clause-few
-write_placed-requires-clause-few c = omega (arith, visits-few c.args.begun.now.pair.list.closed.model.now c.args.begun.now.pair.list.nodes.now c.args.begun.now.pair.may_hold.visits c.args.begun.now.pair.may_hold.distinct, c.args.begun.now.pair.list.closed.well_formed.number_of_nodes.1)
+write_placed-requires-clause-few c = few-held c.args.begun.now.pair.list c.args.begun.now.pair.may_hold
 
 pub best_further-requires-clause-longer : goal.best_further-requires-clause-longer
 best_further-requires-clause-longer c =
@@ -78,7 +75,7 @@ returns-then-not-may_improve c =
     let list = c.args.begun.now.pair.list.nodes.now in
     let f : ℕ → Choice = pair_choice model c.args.begun.now.pair.list.vehicle list c.args.begun.now.pair.class c.args.begun.now.pair.pickup c.args.begun.now.pair.delivery c.args.begun.now.s in
     let further = c.least_further.ensures in
-    let least = subst (λ x. IsLeast model c.args.begun.now.pair.list.vehicle list c.args.begun.now.pair.delivery x) (sym (to_z-of_z w64 c.args.least c.ranges.least)) c.requires.least in
+    let least = subst (λ x. IsLeast model c.args.begun.now.pair.list.vehicle list c.args.begun.now.pair.delivery x) (sym (to_z-of_z w64 c.args.least c.ranges.least)) c.requires.least.adds in
     let fits : to_z w64 (of_z w64 c.least_further.result) ≡ c.least_further.result = omega (arith, ints, further.low, further.high) in
     deliveries-passed_over model c.args.begun.now.pair.list.vehicle list c.args.begun.now.pair.class c.args.begun.now.pair.pickup c.args.begun.now.pair.delivery c.args.begun.now.s (c.args.begun.now.s + 1) c.in_ok-near.near c.least_further.result
     (λ t from high. further.least c.args.begun.now.pair.delivery t least (omega (arith, from)) high)

@@ -1,15 +1,15 @@
-use Rattle.std.proofs.Common.{◌≡◌, ◌∙◌, ap, sym, arith, length, pos, to_z, of_z, w64}
+use Rattle.std.proofs.Common.{◌≡◌, ◌∙◌, ap, sym, arith, pos, to_z, of_z, w64}
 use Rattle.std.proofs.lemmas.Int.{ints}
-use Rattle.vr_lists.proofs.VisitLists.{visits-few}
 use Rattle.vr_first_insert.specs.Placings.{may_improve}
-use Rattle.vr_first_insert.proofs.BoundLemmas.{ahead-read, deliveries-passed_over}
+use Rattle.vr_first_insert.proofs.BoundLemmas.{all-read, deliveries-passed_over}
+use Rattle.vr_first_insert.proofs.ReadyLemmas.{few-held}
 use Rattle.vr_first_insert.proofs.one_list.best_delivery.Goals as goal
 
 pub overflow_cast-s : goal.overflow_cast-s
-overflow_cast-s c = omega (arith, visits-few c.args.pair.now.list.closed.model.now c.args.pair.now.list.nodes.now c.args.pair.now.may_hold.visits c.args.pair.now.may_hold.distinct, c.args.pair.now.list.closed.well_formed.number_of_nodes.1)
+overflow_cast-s c = omega (arith, few-held c.args.pair.now.list c.args.pair.now.may_hold)
 
 pub write_placed-requires-clause-few : goal.write_placed-requires-clause-few
-write_placed-requires-clause-few c = omega (arith, visits-few c.args.pair.now.list.closed.model.now c.args.pair.now.list.nodes.now c.args.pair.now.may_hold.visits c.args.pair.now.may_hold.distinct, c.args.pair.now.list.closed.well_formed.number_of_nodes.1)
+write_placed-requires-clause-few c = few-held c.args.pair.now.list c.args.pair.now.may_hold
 
 pub returns-then-not-may_improve-clause-best : goal.returns-then-not-may_improve-clause-best
 returns-then-not-may_improve-clause-best c =
@@ -21,23 +21,11 @@ returns-then-not-may_improve-clause-best c =
 
 pub get-least-requires : goal.get-least-requires
 get-least-requires c =
-    let long = c.requires.ahead.one_of_each in
+    let long = c.requires.ready.ahead.one_of_each in
     omega (arith, long)
 
 pub least_behind-requires-clause-least : goal.least_behind-requires-clause-least
-least_behind-requires-clause-least c = λ t within. (ahead-read c.args.pair.now.list.closed.model.now c.args.pair.now.list.vehicle c.args.pair.now.list.nodes.now c.args.pair.now.delivery (length c.args.pair.now.list.nodes.now) c.args.room.now.ahead c.get-least.result.now c.requires.ahead (c.get-least.ensures.value (pos 0)) (omega arith)).behind t (omega arith) within
-
-pub least_behind-requires-clause-low : goal.least_behind-requires-clause-low
-least_behind-requires-clause-low c = (ahead-read c.args.pair.now.list.closed.model.now c.args.pair.now.list.vehicle c.args.pair.now.list.nodes.now c.args.pair.now.delivery (length c.args.pair.now.list.nodes.now) c.args.room.now.ahead c.get-least.result.now c.requires.ahead (c.get-least.ensures.value (pos 0)) (omega arith)).low
-
-pub least_behind-requires-clause-high : goal.least_behind-requires-clause-high
-least_behind-requires-clause-high c = (ahead-read c.args.pair.now.list.closed.model.now c.args.pair.now.list.vehicle c.args.pair.now.list.nodes.now c.args.pair.now.delivery (length c.args.pair.now.list.nodes.now) c.args.room.now.ahead c.get-least.result.now c.requires.ahead (c.get-least.ensures.value (pos 0)) (omega arith)).high
+least_behind-requires-clause-least c = all-read c.args.pair.now.list c.args.pair.now.delivery c.args.scratch.now.ahead c.get-least.result.now c.requires.ready.ahead (c.get-least.ensures.value (pos 0))
 
 pub best_behind-requires-clause-least : goal.best_behind-requires-clause-least
-best_behind-requires-clause-least c = λ t within. (ahead-read c.args.pair.now.list.closed.model.now c.args.pair.now.list.vehicle c.args.pair.now.list.nodes.now c.args.pair.now.delivery (length c.args.pair.now.list.nodes.now) c.args.room.now.ahead c.get-least.result.now c.requires.ahead (c.get-least.ensures.value (pos 0)) (omega arith)).behind t (omega arith) within
-
-pub best_behind-requires-clause-low : goal.best_behind-requires-clause-low
-best_behind-requires-clause-low c = (ahead-read c.args.pair.now.list.closed.model.now c.args.pair.now.list.vehicle c.args.pair.now.list.nodes.now c.args.pair.now.delivery (length c.args.pair.now.list.nodes.now) c.args.room.now.ahead c.get-least.result.now c.requires.ahead (c.get-least.ensures.value (pos 0)) (omega arith)).low
-
-pub best_behind-requires-clause-high : goal.best_behind-requires-clause-high
-best_behind-requires-clause-high c = (ahead-read c.args.pair.now.list.closed.model.now c.args.pair.now.list.vehicle c.args.pair.now.list.nodes.now c.args.pair.now.delivery (length c.args.pair.now.list.nodes.now) c.args.room.now.ahead c.get-least.result.now c.requires.ahead (c.get-least.ensures.value (pos 0)) (omega arith)).high
+best_behind-requires-clause-least c = all-read c.args.pair.now.list c.args.pair.now.delivery c.args.scratch.now.ahead c.get-least.result.now c.requires.ready.ahead (c.get-least.ensures.value (pos 0))

@@ -6,19 +6,31 @@ use Rattle.vr_first_insert.proofs.BoundLemmas.{ahead-read, deliveries-passed_ove
 use Rattle.std.proofs.lemmas.List.Edits.{length-insert}
 use Rattle.vr_model.specs.tables.Numbers.{from_to}
 use Rattle.vr_model.proofs.tables.Ranges.{walk_ends, walk_opens}
-use Rattle.vr_reach.specs.Lists.{IsUsed}
 use Rattle.vr_first_insert.specs.Probes.{AreReachedAt}
 use Rattle.vr_first_insert.proofs.InsertedLemmas.{pair_is}
-use Rattle.vr_first_insert.proofs.RowLemmas.{stops_of}
 use Rattle.vr_model.specs.declared.records.Pair.{Pair}
 use Rattle.vr_first_insert.specs.declared.choice.Choice.{Choice}
-use Rattle.vr_first_insert.specs.declared.choice.Placing.TheVariants.{One}
 use Rattle.vr_first_insert.specs.Placings.{may_improve, pair_choice, weigh}
-use Rattle.vr_first_insert.proofs.ReadyLemmas.{deliveries-stuck, used-placed, MayHold-pickup}
+use Rattle.vr_first_insert.proofs.ReadyLemmas.{deliveries-stuck, half-goes_on}
 use Rattle.vr_first_insert.proofs.one_list.best_further.Goals as goal
 
-pub weigh_pair-requires-clause-here : goal.weigh_pair-requires-clause-here
-weigh_pair-requires-clause-here c = subst (λ half. AreReachedAt c.args.begun.now.pair.list.closed.model.now c.args.begun.now.pair.list.vehicle half (c.loop-t.t + 1) c.loop-t.probes) c.args.begun.now.picked_up c.loop-t.invariant.reached
+pub weigh_pair-requires : goal.weigh_pair-requires
+weigh_pair-requires c =
+    let list = c.args.begun.now.pair.list.nodes.now in
+    let half = c.args.begun.now.half.now in
+    let t : ℕ = c.loop-t.t in
+    let pair : Pair = record { pickup = c.args.begun.now.pair.pickup; delivery = c.args.begun.now.pair.delivery } in
+    let long : length half ≡ length list + 1 = ap length c.args.begun.now.picked_up ∙ length-insert list c.args.begun.now.s c.args.begun.now.pair.pickup c.args.begun.now.within in
+    let next : suc t ≡ t + 1 = omega arith in
+    record {
+      ready = c.requires.ready.ready;
+      order = omega arith;
+      within = omega (arith, c.loop-t-test.true);
+      here = subst (λ half. AreReachedAt c.args.begun.now.pair.list.closed.model.now c.args.begun.now.pair.list.vehicle half (c.loop-t.t + 1) c.loop-t.probes) c.args.begun.now.picked_up c.loop-t.invariant.reached;
+      longer = c.move_on.ensures half c.args.begun.now.pair.delivery (omega (arith, long, c.loop-t-test.true)) c.loop-t.invariant.longer
+          ∙ ap (λ l. insert l (t + 1) c.args.begun.now.pair.delivery) c.args.begun.now.picked_up
+          ∙ sym (pair_is pair list c.args.begun.now.s t (omega arith) (omega (arith, c.loop-t-test.true)) ∙ ap (λ n. insert (insert list c.args.begun.now.s c.args.begun.now.pair.pickup) n c.args.begun.now.pair.delivery) next);
+    }
 
 pub move_on-requires : goal.move_on-requires
 move_on-requires c =
@@ -28,29 +40,10 @@ move_on-requires c =
     let longer = ap length c.loop-t.invariant.longer ∙ length-insert half t c.args.begun.now.pair.delivery (omega (arith, long, c.loop-t-test.true)) in
     omega (arith, long, longer, c.loop-t-test.true)
 
-pub weigh_pair-requires-clause-longer : goal.weigh_pair-requires-clause-longer
-weigh_pair-requires-clause-longer c =
-    let list = c.args.begun.now.pair.list.nodes.now in
-    let half = c.args.begun.now.half.now in
-    let t : ℕ = c.loop-t.t in
-    let pair : Pair = record { pickup = c.args.begun.now.pair.pickup; delivery = c.args.begun.now.pair.delivery } in
-    let long : length half ≡ length list + 1 = ap length c.args.begun.now.picked_up ∙ length-insert list c.args.begun.now.s c.args.begun.now.pair.pickup c.args.begun.now.within in
-    let next : suc t ≡ t + 1 = omega arith in
-    c.move_on.ensures half c.args.begun.now.pair.delivery (omega (arith, long, c.loop-t-test.true)) c.loop-t.invariant.longer
-    ∙ ap (λ l. insert l (t + 1) c.args.begun.now.pair.delivery) c.args.begun.now.picked_up
-    ∙ sym (pair_is pair list c.args.begun.now.s t (omega arith) (omega (arith, c.loop-t-test.true)) ∙ ap (λ n. insert (insert list c.args.begun.now.s c.args.begun.now.pair.pickup) n c.args.begun.now.pair.delivery) next)
-
-pub go_on-requires-clause-used : goal.go_on-requires-clause-used
-go_on-requires-clause-used c =
-    subst (IsUsed c.args.begun.now.pair.list.closed.model.now) (sym c.args.begun.now.picked_up) (used-placed c.args.begun.now.pair.list.closed.model.now c.args.begun.now.pair.list.nodes.now (One c.args.begun.now.pair.pickup c.args.begun.now.s) c.args.begun.now.within (MayHold-pickup c.args.begun.now.pair.list.closed.model.now c.args.begun.now.pair.list.nodes.now c.args.begun.now.pair.pickup c.args.begun.now.pair.delivery c.args.begun.now.pair.may_hold))
-
-pub go_on-requires-clause-stops : goal.go_on-requires-clause-stops
-go_on-requires-clause-stops c = stops_of c.args.begun.now.pair.list.closed.model.now c.args.begun.now.pair.list.vehicle c.args.begun.now.pair.list.nodes.now c.args.keeps.now c.requires.ready.kept
-
-pub go_on-requires-clause-stop : goal.go_on-requires-clause-stop
-go_on-requires-clause-stop c =
-    let long = ap length c.args.begun.now.picked_up ∙ length-insert c.args.begun.now.pair.list.nodes.now c.args.begun.now.s c.args.begun.now.pair.pickup c.args.begun.now.within in
-    omega (arith, long, c.loop-t-test.true)
+pub go_on-requires : goal.go_on-requires
+go_on-requires c =
+    let begun = c.args.begun.now in
+    half-goes_on begun.pair begun.s (c.loop-t.t + 1) begun.half.now c.args.keeps.now c.loop-t.probes begun.within begun.picked_up (omega (arith, c.loop-t-test.true)) c.requires.ready.ready c.loop-t.invariant.reached
 
 pub loop-t-preserved : goal.loop-t-preserved
 loop-t-preserved c =
@@ -86,18 +79,19 @@ loop-t-init c =
 
 pub get-least-requires : goal.get-least-requires
 get-least-requires c =
-    let long = c.requires.ahead.one_of_each in
+    let long = c.requires.ready.ahead.one_of_each in
     omega (arith, long)
 
-pub least_apart-requires-clause-low : goal.least_apart-requires-clause-low
-least_apart-requires-clause-low c =
-    let list = c.args.begun.now.pair.list.nodes.now in
-    (ahead-read c.args.begun.now.pair.list.closed.model.now c.args.begun.now.pair.list.vehicle list c.args.begun.now.pair.delivery (length list - c.loop-t.t) c.args.begun.now.ahead.now c.get-least.result.now c.requires.ahead (c.get-least.ensures.value (pos 0)) (omega arith)).low
+pub least_apart-requires-clause-pickup : goal.least_apart-requires-clause-pickup
+least_apart-requires-clause-pickup c =
+    let alone = c.visit_increase-alone.ensures in
+    record { low = omega (arith, ints, alone.low, alone.high); high = omega (arith, ints, alone.low, alone.high) }
 
-pub least_apart-requires-clause-high : goal.least_apart-requires-clause-high
-least_apart-requires-clause-high c =
+pub least_apart-requires-clause-least : goal.least_apart-requires-clause-least
+least_apart-requires-clause-least c =
     let list = c.args.begun.now.pair.list.nodes.now in
-    (ahead-read c.args.begun.now.pair.list.closed.model.now c.args.begun.now.pair.list.vehicle list c.args.begun.now.pair.delivery (length list - c.loop-t.t) c.args.begun.now.ahead.now c.get-least.result.now c.requires.ahead (c.get-least.ensures.value (pos 0)) (omega arith)).high
+    let is = ahead-read c.args.begun.now.pair.list.closed.model.now c.args.begun.now.pair.list.vehicle list c.args.begun.now.pair.delivery (length list - c.loop-t.t) c.args.begun.now.ahead.now c.get-least.result.now c.requires.ready.ahead (c.get-least.ensures.value (pos 0)) (omega arith) in
+    record { low = is.low; high = is.high }
 
 pub returns-then-not-may_improve : goal.returns-then-not-may_improve
 returns-then-not-may_improve c =
@@ -106,7 +100,7 @@ returns-then-not-may_improve c =
     let v : ℕ = c.args.begun.now.pair.list.vehicle in
     let t : ℕ = c.loop-t.t in
     let least : ℤ = to_z w64 (of_z w64 c.get-least.result.now) in
-    let is = ahead-read model v list c.args.begun.now.pair.delivery (length list - t) c.args.begun.now.ahead.now c.get-least.result.now c.requires.ahead (c.get-least.ensures.value (pos 0)) (omega arith) in
+    let is = ahead-read model v list c.args.begun.now.pair.delivery (length list - t) c.args.begun.now.ahead.now c.get-least.result.now c.requires.ready.ahead (c.get-least.ensures.value (pos 0)) (omega arith) in
     let apart = c.least_apart.ensures in
     let alone = c.visit_increase-alone.ensures in
     let fits : to_z w64 (of_z w64 c.least_apart.result) ≡ c.least_apart.result = omega (arith, ints, apart.low, apart.high) in

@@ -1,16 +1,16 @@
 use Rattle.std.proofs.Common.{◌≡◌, ◌∙◌, ◌+◌, ℕ, suc, ap, sym, arith, length}
 use Rattle.std.specs.Prelude.{fold, map}
 use Rattle.std.proofs.lemmas.List.Edits.{length-insert}
-use Rattle.vr_lists.proofs.VisitLists.{visits-few}
 use Rattle.vr_model.specs.tables.Numbers.{below}
 use Rattle.vr_model.proofs.tables.Ranges.{below-more}
 use Rattle.vr_first_insert.specs.declared.choice.Choice.{Choice}
 use Rattle.vr_first_insert.specs.Placings.{visit_choice, weigh}
 use Rattle.vr_first_insert.proofs.InsertLemmas.{fold-one}
+use Rattle.vr_first_insert.proofs.ReadyLemmas.{few-held}
 use Rattle.vr_first_insert.proofs.one_list.best_of_places.Goals as goal
 
 pub write_placed-requires-clause-few : goal.write_placed-requires-clause-few
-write_placed-requires-clause-few c = omega (arith, visits-few c.args.visit.now.list.closed.model.now c.args.visit.now.list.nodes.now c.args.visit.now.may_hold.visits c.args.visit.now.may_hold.distinct, c.args.visit.now.list.closed.well_formed.number_of_nodes.1)
+write_placed-requires-clause-few c = few-held c.args.visit.now.list c.args.visit.now.may_hold
 
 pub move_on-requires : goal.move_on-requires
 move_on-requires c =
@@ -19,8 +19,15 @@ move_on-requires c =
     let long = ap length c.loop-t.invariant.longer ∙ length-insert list t c.args.visit.now.node (omega arith) in
     omega (arith, long, c.loop-t-test.true)
 
-pub weigh_visit-requires-in-loop-t-clause-longer : goal.weigh_visit-requires-in-loop-t-clause-longer
-weigh_visit-requires-in-loop-t-clause-longer c = c.move_on.ensures c.args.visit.now.list.nodes.now c.args.visit.now.node c.loop-t-test.true c.loop-t.invariant.longer
+pub weigh_visit-requires : goal.weigh_visit-requires
+weigh_visit-requires c = record { ready = c.requires; within = omega arith; longer = c.in_ok-write_placed.ensures }
+
+pub weigh_visit-requires-in-loop-t : goal.weigh_visit-requires-in-loop-t
+weigh_visit-requires-in-loop-t c = record {
+  ready = c.requires;
+  within = omega (arith, c.loop-t-test.true);
+  longer = c.move_on.ensures c.args.visit.now.list.nodes.now c.args.visit.now.node c.loop-t-test.true c.loop-t.invariant.longer;
+}
 
 pub loop-t-preserved : goal.loop-t-preserved
 loop-t-preserved c =

@@ -6,6 +6,9 @@ use Rattle.vr_first_insert.specs.Placings.{weigh, AreLeastAhead}
 use Rattle.vr_first_insert.proofs.InsertLemmas.{deliveries, fold-each}
 use Rattle.vr_first_insert.proofs.one_list.best_pair.Goals as goal
 
+pub best_delivery-requires-clause-ready : goal.best_delivery-requires-clause-ready
+best_delivery-requires-clause-ready c = record { ready = c.requires; ahead = c.loop-s.invariant.ahead }
+
 pub loop-s-preserved : goal.loop-s-preserved
 loop-s-preserved c =
     let model = c.args.pair.now.list.closed.model.now in

@@ -10,5 +10,5 @@ use Rattle.vr_first_insert.proofs.one_list.best_pair.Given as goal
 abbrev pub invariant-loop-s : goal.invariant-loop-s
 invariant-loop-s l = record {
   best : l.best ≡ fold (weigh_in l.pair.list) l.initial.best (each (below l.s) (deliveries l.pair.list.closed.model.now l.pair.list.vehicle l.pair.list.nodes.now l.pair.class l.pair.pickup l.pair.delivery));
-  ahead : AreLeastAhead l.pair.list.closed.model.now l.pair.list.vehicle l.pair.list.nodes.now l.pair.delivery l.room.ahead;
+  ahead : AreLeastAhead l.pair.list.closed.model.now l.pair.list.vehicle l.pair.list.nodes.now l.pair.delivery l.scratch.ahead;
 }

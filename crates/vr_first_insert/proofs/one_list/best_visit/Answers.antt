@@ -1,19 +1,22 @@
 use Rattle.std.proofs.Common.{◌≡◌, ◌∙◌, ℕ, Some, true, ap, sym, arith}
 use Rattle.std.specs.Prelude.{◌&&◌}
-use Rattle.vr_lists.proofs.VisitLists.{visits-few}
 use Rattle.vr_model.specs.deciding.Testing.{and_left, and_right}
 use Rattle.vr_model.specs.routes.Rules.{is_route_open}
 use Rattle.vr_rules.specs.Placing.{improves}
 use Rattle.vr_first_insert.specs.declared.choice.Placing.TheVariants.{One}
 use Rattle.vr_first_insert.specs.Placings.{key_of, placed, visit_choice}
 use Rattle.vr_first_insert.proofs.FirstPlace.{first-taken}
+use Rattle.vr_first_insert.proofs.ReadyLemmas.{few-held}
 use Rattle.vr_first_insert.proofs.one_list.best_visit.Goals as goal
 
 pub write_placed-requires-clause-few : goal.write_placed-requires-clause-few
-write_placed-requires-clause-few c = omega (arith, visits-few c.args.visit.now.list.closed.model.now c.args.visit.now.list.nodes.now c.args.visit.now.may_hold.visits c.args.visit.now.may_hold.distinct, c.args.visit.now.list.closed.well_formed.number_of_nodes.1)
+write_placed-requires-clause-few c = few-held c.args.visit.now.list c.args.visit.now.may_hold
 
 pub overflow_cast-t : goal.overflow_cast-t
-overflow_cast-t c = omega (arith, visits-few c.args.visit.now.list.closed.model.now c.args.visit.now.list.nodes.now c.args.visit.now.may_hold.visits c.args.visit.now.may_hold.distinct, c.args.visit.now.list.closed.well_formed.number_of_nodes.1, c.least_place-t.ensures.within)
+overflow_cast-t c = omega (arith, few-held c.args.visit.now.list c.args.visit.now.may_hold, c.least_place-t.ensures.within)
+
+pub is_visit_taken-requires : goal.is_visit_taken-requires
+is_visit_taken-requires c = record { ready = c.requires; within = c.least_place-t.ensures.within; longer = c.in_ok-write_placed.ensures }
 
 pub returns-then-branch : goal.returns-then-branch
 returns-then-branch c =

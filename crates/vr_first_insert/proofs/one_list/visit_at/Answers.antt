@@ -1,11 +1,11 @@
 use Rattle.std.proofs.Common.{◌≡◌, ◌∙◌, arith, to_z, of_z, w64}
 use Rattle.std.proofs.lemmas.Int.{ints}
-use Rattle.vr_lists.proofs.VisitLists.{visits-few}
 use Rattle.vr_first_insert.specs.declared.choice.Placing.TheVariants.{One}
+use Rattle.vr_first_insert.proofs.ReadyLemmas.{few-held}
 use Rattle.vr_first_insert.proofs.one_list.visit_at.Goals as goal
 
 pub overflow_cast-result : goal.overflow_cast-result
-overflow_cast-result c = omega (arith, visits-few c.args.visit.now.list.closed.model.now c.args.visit.now.list.nodes.now c.args.visit.now.may_hold.visits c.args.visit.now.may_hold.distinct, c.args.visit.now.list.closed.well_formed.number_of_nodes.1)
+overflow_cast-result c = omega (arith, few-held c.args.visit.now.list c.args.visit.now.may_hold)
 
 pub returns : goal.returns
 returns c =

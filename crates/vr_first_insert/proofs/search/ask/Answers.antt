@@ -2,17 +2,20 @@ use Rattle.std.proofs.Common.{◌≡◌, ◌∙◌, ℕ, ap, sym, subst}
 use Rattle.vr_model.specs.routes.Routes.{route}
 use Rattle.vr_first_insert.specs.Kept.{candidate_at, AreKnown, IsKnown}
 use Rattle.vr_first_insert.specs.Placings.{best_in, MayHold}
-use Rattle.vr_first_insert.proofs.InsertLemmas.{list_at}
+use Rattle.vr_first_insert.proofs.RowLemmas.{list_at}
 use Rattle.vr_first_insert.proofs.KeptLemmas.{known-written}
 use Rattle.vr_first_insert.specs.Ready.{IsReady}
 use Rattle.vr_first_insert.proofs.search.ask.Goals as goal
 
-pub asked-requires-clause-may_hold : goal.asked-requires-clause-may_hold
-asked-requires-clause-may_hold c =
+pub invariant_of-of : goal.invariant_of-of
+invariant_of-of c =
     let lists = c.args.on.now.lists.now in
     let v : ℕ = c.args.v in
     let list : c.as_slice-nodes.result.now ≡ route lists v = list_at lists v c.as_slice-nodes.result.now c.index-lists-v.result c.as_slice-nodes.ensures c.index-lists-v.is c.requires.there in
-    subst (λ list. MayHold c.args.on.now.items.closed.model.now list (candidate_at c.args.on.now.items.candidates.now c.args.i).item) (sym list) (c.requires.may_hold v c.requires.there)
+    record {
+      of_model = c.requires.asked.lookups;
+      may_hold = subst (λ list. MayHold c.args.on.now.items.closed.model.now list (candidate_at c.args.on.now.items.candidates.now c.args.i).item) (sym list) (c.requires.may_hold v c.requires.there);
+    }
 
 pub asked-requires-clause-known : goal.asked-requires-clause-known
 asked-requires-clause-known c =

@@ -7,8 +7,8 @@ use Rattle.vr_first_insert.proofs.InsertLemmas.{best_in_lists-more}
 use Rattle.vr_first_insert.proofs.KeptLemmas.{row-written}
 use Rattle.vr_first_insert.proofs.search.best_in_lists.Goals as goal
 
-pub settle-requires-clause-row : goal.settle-requires-clause-row
-settle-requires-clause-row c =
+pub settle-requires : goal.settle-requires
+settle-requires c =
     let model = c.args.on.now.items.closed.model.now in
     let lists = c.args.on.now.lists.now in
     let v : ℕ = c.loop-v.v in
@@ -16,7 +16,13 @@ settle-requires-clause-row c =
     let known = c.loop-v.invariant.rows in
     let many : length rows ≡ length lists = known.many in
     let there = c.loop-v-test.true in
-    subst (AreKnown model v (route lists v) c.args.on.now.items.candidates.now) (get_or_default rows v [] c.index-rows-v.result (omega (arith, many, there))) (known.each v there)
+    record {
+      asked = c.requires.asked;
+      candidate = c.requires.candidate;
+      may_hold = c.requires.may_hold;
+      there = there;
+      row = subst (AreKnown model v (route lists v) c.args.on.now.items.candidates.now) (get_or_default rows v [] c.index-rows-v.result (omega (arith, many, there))) (known.each v there);
+    }
 
 pub loop-v-preserved : goal.loop-v-preserved
 loop-v-preserved c =

@@ -6,8 +6,7 @@ use Rattle.vr_model.specs.moves.Moves.{with_route}
 use Rattle.vr_model.specs.routes.Rules.{is_open}
 use Rattle.vr_model.specs.first.CheapestInsertion.{rebuilt, next_inserted}
 use Rattle.vr_rules.specs.Placing.{nodes_of, AreBuilt, AreMarks}
-use Rattle.vr_lists.proofs.VisitLists.{visits-few}
-use Rattle.vr_rules.proofs.PlacingLemmas.{IsAdded, AreBuilt-added, AreMarks-added, built-visits, built-distinct}
+use Rattle.vr_rules.proofs.PlacingLemmas.{IsAdded, AreBuilt-added, AreMarks-added}
 use Rattle.vr_first_insert.specs.declared.choice.Choice.{Choice}
 use Rattle.vr_first_insert.specs.Placings.{insertion_of, item_in, placed, MayBeInserted}
 use Rattle.vr_first_insert.proofs.PlacedLemmas.{IsAdded-placed}
@@ -20,14 +19,15 @@ pub returns-in-None-clause-rebuilt : goal.returns-in-None-clause-rebuilt
 returns-in-None-clause-rebuilt c =
     let model = c.args.items.now.closed.model.now in
     sym (rebuilt-stops model (length c.args.items.now.candidates.now - c.loop-step._step) c.loop-step.lists (sym c.in_ok-choice.ensures.next ∙ ap (option_map insertion_of) c.in-None.is))
-    ∙ c.loop-step.invariant.rebuilds ∙ ap (λ n. rebuilt model n c.args.lists.now) (candidates-count model c.args.items.now.candidates.now c.requires.items.candidates)
+    ∙ c.loop-step.invariant.rebuilds ∙ ap (λ n. rebuilt model n c.args.lists.now) (candidates-count model c.args.items.now.candidates.now c.requires.items_are.candidates)
 
-pub place_in-requires-clause-few : goal.place_in-requires-clause-few
-place_in-requires-clause-few c =
-    let model = c.args.items.now.closed.model.now in
-    let lists : List (List ℕ) = c.loop-step.lists in
-    let v : ℕ = c.in-Some.choice.vehicle in
-    omega (arith, visits-few model (route lists v) (built-visits model lists v c.loop-step.invariant.built) (built-distinct model lists v c.loop-step.invariant.built), c.args.items.now.closed.well_formed.number_of_nodes.1)
+pub next_insertion-requires : goal.next_insertion-requires
+next_insertion-requires c =
+    let so_far = c.loop-step.invariant in
+    record { items_are = c.requires.items_are; kept = so_far.kept; built = so_far.built; marks = so_far.marked; rows = so_far.rows }
+
+pub place_in-requires-clause-may : goal.place_in-requires-clause-may
+place_in-requires-clause-may c = rw c.in-Some.is at c.in_ok-choice.ensures.may
 
 pub loop-step-preserved : goal.loop-step-preserved
 loop-step-preserved c =
@@ -61,12 +61,3 @@ forget-requires c =
     let there = may.vehicle in
     let many = c.in_ok-choice.ensures.rows.many in
     record { vehicle = omega (arith, there, many) }
-
-pub place_in-requires-clause-tour : goal.place_in-requires-clause-tour
-place_in-requires-clause-tour c =
-    let model = c.args.items.now.closed.model.now in
-    let lists : List (List ℕ) = c.loop-step.lists in
-    let choice : Choice = c.in-Some.choice in
-    let may : MayBeInserted model lists choice = rw c.in-Some.is at c.in_ok-choice.ensures.may in
-    let added = IsAdded-placed model lists choice.vehicle choice.placing c.loop-step.invariant.built may.vehicle may.is_item may.inactive may.within in
-    record { visits = added.visits; distinct = added.distinct }

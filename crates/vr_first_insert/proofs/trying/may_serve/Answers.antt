@@ -1,5 +1,6 @@
 use Rattle.std.proofs.Common.{◌∙◌, ◌+◌, ◌-◌, ap, sym, subst, arith, length}
 use Rattle.std.specs.Prelude.{insert}
+use Rattle.vr_model.specs.declared.records.Pair.{Pair}
 use Rattle.vr_rules.specs.RoutesOpen.{is_feasible_in_each}
 use Rattle.vr_reach.specs.Lists.{IsUsed}
 use Rattle.vr_reach.specs.Stretches.{SharesBack}
@@ -24,25 +25,23 @@ pub keeps_pairs-requires-clause-distinct : goal.keeps_pairs-requires-clause-dist
 keeps_pairs-requires-clause-distinct c =
     ap is_distinct (c.as_slice-longer.ensures ∙ c.requires.longer) ∙ placed-distinct c.args.pair.now.list.closed.model.now c.args.pair.now.list.nodes.now (Two c.args.pair.now.pickup c.args.pair.now.delivery c.args.s c.args.t) (c.requires.order, c.requires.within) c.args.pair.now.may_hold
 
-pub goes_from-requires-clause-used : goal.goes_from-requires-clause-used
-goes_from-requires-clause-used c =
-    subst (IsUsed c.args.pair.now.list.closed.model.now) (sym (c.as_slice-longer.ensures ∙ c.requires.longer)) (used-placed c.args.pair.now.list.closed.model.now c.args.pair.now.list.nodes.now (Two c.args.pair.now.pickup c.args.pair.now.delivery c.args.s c.args.t) (c.requires.order, c.requires.within) c.args.pair.now.may_hold)
-
-pub goes_from-requires-clause-here : goal.goes_from-requires-clause-here
-goes_from-requires-clause-here c =
-    subst (λ new. AreReachedAt c.args.pair.now.list.closed.model.now c.args.pair.now.list.vehicle new (c.args.t + 1) c.args.probes.now) (sym (c.as_slice-longer.ensures ∙ c.requires.longer))
-    (reached_in_each c.args.pair.now.list.closed.model.now c.args.pair.now.list.vehicle (insert c.args.pair.now.list.nodes.now c.args.s c.args.pair.now.pickup) (placed c.args.pair.now.list.nodes.now (Two c.args.pair.now.pickup c.args.pair.now.delivery c.args.s c.args.t)) (c.args.t + 1) c.args.probes.now
-    (pair_front (record { pickup = c.args.pair.now.pickup; delivery = c.args.pair.now.delivery }) c.args.pair.now.list.nodes.now c.args.s c.args.t c.args.t c.requires.order (omega arith) c.requires.within) c.requires.here)
-
-pub goes_from-requires-clause-back : goal.goes_from-requires-clause-back
-goes_from-requires-clause-back c =
-    subst (λ new. SharesBack c.args.pair.now.list.nodes.now new (length c.args.pair.now.list.nodes.now - c.args.t)) (sym (c.as_slice-longer.ensures ∙ c.requires.longer))
-    (pair_back (record { pickup = c.args.pair.now.pickup; delivery = c.args.pair.now.delivery }) c.args.pair.now.list.nodes.now c.args.s c.args.t c.requires.order c.requires.within)
-
-pub goes_from-requires-clause-apart : goal.goes_from-requires-clause-apart
-goes_from-requires-clause-apart c =
-    let long = ap length (c.as_slice-longer.ensures ∙ c.requires.longer) ∙ pair_long (record { pickup = c.args.pair.now.pickup; delivery = c.args.pair.now.delivery }) c.args.pair.now.list.nodes.now c.args.s c.args.t c.requires.order c.requires.within in
-    omega (arith, long, c.requires.within)
+pub goes_from-requires : goal.goes_from-requires
+goes_from-requires c =
+    let model = c.args.pair.now.list.closed.model.now in
+    let v = c.args.pair.now.list.vehicle in
+    let list = c.args.pair.now.list.nodes.now in
+    let pair : Pair = record { pickup = c.args.pair.now.pickup; delivery = c.args.pair.now.delivery } in
+    let written = sym (c.as_slice-longer.ensures ∙ c.requires.longer) in
+    let long = ap length (c.as_slice-longer.ensures ∙ c.requires.longer) ∙ pair_long pair list c.args.s c.args.t c.requires.order c.requires.within in
+    record {
+      kept = c.requires.ready.kept;
+      used = subst (IsUsed model) written (used-placed model list (Two pair.pickup pair.delivery c.args.s c.args.t) (c.requires.order, c.requires.within) c.args.pair.now.may_hold);
+      here = subst (λ new. AreReachedAt model v new (c.args.t + 1) c.args.probes.now) written
+          (reached_in_each model v (insert list c.args.s pair.pickup) (placed list (Two pair.pickup pair.delivery c.args.s c.args.t)) (c.args.t + 1) c.args.probes.now
+          (pair_front pair list c.args.s c.args.t c.args.t c.requires.order (omega arith) c.requires.within) c.requires.here);
+      back = subst (λ new. SharesBack list new (length list - c.args.t)) written (pair_back pair list c.args.s c.args.t c.requires.order c.requires.within);
+      apart = omega (arith, long, c.requires.within);
+    }
 
 pub returns-then-not-branch-clause-open : goal.returns-then-not-branch-clause-open
 returns-then-not-branch-clause-open c =

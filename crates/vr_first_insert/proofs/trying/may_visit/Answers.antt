@@ -22,22 +22,18 @@ pub keeps_pairs-requires-clause-distinct : goal.keeps_pairs-requires-clause-dist
 keeps_pairs-requires-clause-distinct c =
     ap is_distinct (c.as_slice-longer.ensures ∙ c.requires.longer) ∙ placed-distinct c.args.visit.now.list.closed.model.now c.args.visit.now.list.nodes.now (One c.args.visit.now.node c.args.t) c.requires.within c.args.visit.now.may_hold
 
-pub is_feasible_between-requires-clause-used : goal.is_feasible_between-requires-clause-used
-is_feasible_between-requires-clause-used c =
-    subst (IsUsed c.args.visit.now.list.closed.model.now) (sym (c.as_slice-longer.ensures ∙ c.requires.longer)) (used-placed c.args.visit.now.list.closed.model.now c.args.visit.now.list.nodes.now (One c.args.visit.now.node c.args.t) c.requires.within c.args.visit.now.may_hold)
-
-pub is_feasible_between-requires-clause-front : goal.is_feasible_between-requires-clause-front
-is_feasible_between-requires-clause-front c =
-    subst (λ new. SharesFront c.args.visit.now.list.nodes.now new c.args.t) (sym (c.as_slice-longer.ensures ∙ c.requires.longer)) (visit_front c.args.visit.now.list.nodes.now c.args.t c.args.visit.now.node c.requires.within)
-
-pub is_feasible_between-requires-clause-back : goal.is_feasible_between-requires-clause-back
-is_feasible_between-requires-clause-back c =
-    subst (λ new. SharesBack c.args.visit.now.list.nodes.now new (length c.args.visit.now.list.nodes.now - c.args.t)) (sym (c.as_slice-longer.ensures ∙ c.requires.longer)) (visit_back c.args.visit.now.list.nodes.now c.args.t c.args.visit.now.node c.requires.within)
-
-pub is_feasible_between-requires-clause-apart : goal.is_feasible_between-requires-clause-apart
-is_feasible_between-requires-clause-apart c =
-    let long = ap length (c.as_slice-longer.ensures ∙ c.requires.longer) ∙ length-insert c.args.visit.now.list.nodes.now c.args.t c.args.visit.now.node c.requires.within in
-    omega (arith, long, c.requires.within)
+pub is_feasible_between-requires : goal.is_feasible_between-requires
+is_feasible_between-requires c =
+    let list = c.args.visit.now.list.nodes.now in
+    let written = sym (c.as_slice-longer.ensures ∙ c.requires.longer) in
+    let long = ap length (c.as_slice-longer.ensures ∙ c.requires.longer) ∙ length-insert list c.args.t c.args.visit.now.node c.requires.within in
+    record {
+      kept = c.requires.ready.kept;
+      used = subst (IsUsed c.args.visit.now.list.closed.model.now) written (used-placed c.args.visit.now.list.closed.model.now list (One c.args.visit.now.node c.args.t) c.requires.within c.args.visit.now.may_hold);
+      front = subst (λ new. SharesFront list new c.args.t) written (visit_front list c.args.t c.args.visit.now.node c.requires.within);
+      back = subst (λ new. SharesBack list new (length list - c.args.t)) written (visit_back list c.args.t c.args.visit.now.node c.requires.within);
+      apart = omega (arith, long, c.requires.within);
+    }
 
 pub returns-then-not-branch-clause-open : goal.returns-then-not-branch-clause-open
 returns-then-not-branch-clause-open c =

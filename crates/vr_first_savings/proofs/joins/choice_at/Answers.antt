@@ -1,25 +1,17 @@
-use Rattle.std.proofs.Common.{◌≡◌, ◌∙◌, sym, subst, arith, to_z, of_z, w64}
+use Rattle.std.proofs.Common.{◌≡◌, ◌∙◌, arith, to_z, of_z, w64}
 use Rattle.std.specs.Prelude.{slice_index_or, ◌+ℤ◌, ◌-ℤ◌}
 use Rattle.std.proofs.lemmas.Int.{ints}
 use Rattle.vr_model.specs.tables.Tables.{arc_cost}
 use Rattle.vr_model.specs.routes.Routes.{route}
-use Rattle.vr_first_savings.specs.RouteEnds.{ends_of, unread, AreEnds}
-use Rattle.vr_first_savings.proofs.EndLemmas.{are_ends, ends_read}
+use Rattle.vr_first_savings.specs.RouteEnds.{ends_of, unread}
+use Rattle.vr_first_savings.proofs.EndLemmas.{ends_read, read_are_ends}
 use Rattle.vr_first_savings.proofs.joins.choice_at.Goals as goal
 
 pub saved-requires-clause-front : goal.saved-requires-clause-front
-saved-requires-clause-front c =
-    let model = c.args.closed.model.now in
-    let routes = c.args.routes.now in
-    subst (AreEnds model) (sym (ends_read model routes c.args.ends.now c.args.i c.requires.ends c.requires.front))
-    (are_ends model routes c.args.i c.args.closed.well_formed c.requires.apart c.requires.front)
+saved-requires-clause-front c = read_are_ends c.args.closed.model.now c.args.routes.now c.args.ends.now c.args.i c.args.closed.well_formed c.requires.apart c.requires.ends c.requires.front
 
 pub saved-requires-clause-back : goal.saved-requires-clause-back
-saved-requires-clause-back c =
-    let model = c.args.closed.model.now in
-    let routes = c.args.routes.now in
-    subst (AreEnds model) (sym (ends_read model routes c.args.ends.now c.args.j c.requires.ends c.requires.back))
-    (are_ends model routes c.args.j c.args.closed.well_formed c.requires.apart c.requires.back)
+saved-requires-clause-back c = read_are_ends c.args.closed.model.now c.args.routes.now c.args.ends.now c.args.j c.args.closed.well_formed c.requires.apart c.requires.ends c.requires.back
 
 pub returns : goal.returns
 returns c =

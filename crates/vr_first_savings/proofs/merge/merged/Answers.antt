@@ -1,11 +1,10 @@
-use Rattle.std.proofs.Common.{◌≡◌, ◌∙◌, ◌+◌, ◌-◌, ℕ, List, Some, None, ap, sym, subst, arith, length}
-use Rattle.std.specs.Prelude.{◌||◌, int_lt, nat_lt, pos}
+use Rattle.std.proofs.Common.{◌≡◌, ◌∙◌, ◌+◌, ◌-◌, ℕ, List, None, ap, sym, subst, arith, length}
 use Rattle.std.specs.Option.{option_map}
 use Rattle.vr_model.specs.first.Choosing.{least_by}
-use Rattle.vr_model.specs.first.SavingsJoins.{Join, is_wanted, join_key, joins, merged, joined}
+use Rattle.vr_model.specs.first.SavingsJoins.{Join, join_key, joins, merged, joined}
 use Rattle.vr_first_savings.specs.declared.choice.Choice.{Choice}
-use Rattle.vr_first_savings.specs.Joins.{join_of, AreApart, MayBeJoined}
-use Rattle.vr_first_savings.proofs.MergeLemmas.{merged-stops, merged-unwanted, merged-next}
+use Rattle.vr_first_savings.specs.Joins.{join_of, AreApart}
+use Rattle.vr_first_savings.proofs.MergeLemmas.{found-read, merged-stops, merged-unwanted, merged-next}
 use Rattle.vr_first_savings.proofs.JoinedApart.{AreApart-joined}
 use Rattle.vr_first_savings.proofs.merge.merged.Goals as goal
 
@@ -22,15 +21,8 @@ returns-then-not-is_wanted-clause-merged c =
     let model = c.args.tables.now.model.now in
     let routes : List (List ℕ) = c.loop-step.routes.items in
     let choice : Choice = c.in-Some.choice in
-    let join : Join = join_of routes choice in
-    let read : c.deref.result.now ≡ routes = c.deref.ensures.value in
-    let some : least_by (join_key model) (joins model routes) ≡ Some join =
-    sym (ap (λ routes. least_by (join_key model) (joins model routes)) read) ∙ sym c.in_ok-choice.ensures.best ∙ ap (option_map (join_of c.deref.result.now)) c.in-Some.is ∙ ap (λ routes. Some (join_of routes choice)) read in
-    let there : MayBeJoined model c.deref.result.now choice = rw c.in-Some.is at c.in_ok-choice.ensures.may in
-    let may : MayBeJoined model routes choice = subst (λ routes. MayBeJoined model routes choice) read there in
-    let count : c.len.result ≡ length routes = omega arith in
-    let wanted : c.is_wanted.result ≡ is_wanted model routes join = c.is_wanted.ensures ∙ (λ t. int_lt (pos 0) (may.saves t) || nat_lt (length model.vehicles) (count t)) in
-    sym (merged-unwanted model (length c.args.routes.items - c.loop-step._step) routes join some (sym wanted ∙ c.if-not-is_wanted.true)) ∙ c.loop-step.invariant.merges
+    let found = found-read model routes c.deref.result.now choice _ c.len.result c.is_wanted.result c.deref.ensures.value c.in-Some.is c.in_ok-choice.ensures.best c.in_ok-choice.ensures.may (omega arith) c.is_wanted.ensures in
+    sym (merged-unwanted model (length c.args.routes.items - c.loop-step._step) routes (join_of routes choice) found.best (sym found.tells ∙ c.if-not-is_wanted.true)) ∙ c.loop-step.invariant.merges
 
 pub loop-step-preserved : goal.loop-step-preserved
 loop-step-preserved c =
@@ -38,17 +30,11 @@ loop-step-preserved c =
     let routes : List (List ℕ) = c.loop-step.routes.items in
     let choice : Choice = c.in-Some.choice in
     let join : Join = join_of routes choice in
-    let read : c.deref.result.now ≡ routes = c.deref.ensures.value in
-    let some : least_by (join_key model) (joins model routes) ≡ Some join =
-    sym (ap (λ routes. least_by (join_key model) (joins model routes)) read) ∙ sym c.in_ok-choice.ensures.best ∙ ap (option_map (join_of c.deref.result.now)) c.in-Some.is ∙ ap (λ routes. Some (join_of routes choice)) read in
-    let there : MayBeJoined model c.deref.result.now choice = rw c.in-Some.is at c.in_ok-choice.ensures.may in
-    let may : MayBeJoined model routes choice = subst (λ routes. MayBeJoined model routes choice) read there in
-    let count : c.len.result ≡ length routes = omega arith in
-    let wanted : c.is_wanted.result ≡ is_wanted model routes join = c.is_wanted.ensures ∙ (λ t. int_lt (pos 0) (may.saves t) || nat_lt (length model.vehicles) (count t)) in
+    let found = found-read model routes c.deref.result.now choice _ c.len.result c.is_wanted.result c.deref.ensures.value c.in-Some.is c.in_ok-choice.ensures.best c.in_ok-choice.ensures.may (omega arith) c.is_wanted.ensures in
     let n : ℕ = length c.args.routes.items in
     let after : c.in_ok-routes-in-Some.routes.items ≡ joined routes join = c.in_ok-routes-in-Some.ensures ∙ ap (λ routes. joined routes (join_of routes choice)) c.deref-in-Some.ensures.value in
     record {
       merges = ap (merged model (n - (c.loop-step._step + 1))) after
-          ∙ sym (merged-next model (n - c.loop-step._step) (n - (c.loop-step._step + 1)) routes join some (sym wanted ∙ c.if-not-is_wanted.false) (omega arith)) ∙ c.loop-step.invariant.merges;
-      apart = subst (AreApart model) (sym after) (AreApart-joined model routes choice c.loop-step.invariant.apart may);
+          ∙ sym (merged-next model (n - c.loop-step._step) (n - (c.loop-step._step + 1)) routes join found.best (sym found.tells ∙ c.if-not-is_wanted.false) (omega arith)) ∙ c.loop-step.invariant.merges;
+      apart = subst (AreApart model) (sym after) (AreApart-joined model routes choice c.loop-step.invariant.apart found.may);
     }
