@@ -3,6 +3,7 @@ pub mod PieceLemmas
 pub mod PathLemmas
 pub mod LineLemmas
 pub mod MoveLemmas
+pub mod AddedLemmas
 pub mod RunLemmas
 pub mod SwapLemmas
 pub mod PutLemmas

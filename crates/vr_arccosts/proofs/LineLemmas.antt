@@ -1,6 +1,6 @@
 -- Stretches of the lines of vehicles, and chains of their lists.
-use Rattle.std.proofs.Common.{◌≡◌, ◌∙◌, ℕ, zero, suc, ◌+◌, ◌-◌, ◌<◌, ◌≤◌, Bool, List, [], ◌∷◌, ◌++◌, length, take, drop, sym, ap, subst, arith, add-one, length-append}
-use Rattle.std.specs.Prelude.{ℤ, ◌+ℤ◌, slice_range, slice_index_or}
+use Rattle.std.proofs.Common.{◌≡◌, ◌∙◌, ℕ, zero, suc, ◌+◌, ◌-◌, ◌<◌, ◌≤◌, Bool, List, [], ◌∷◌, ◌++◌, length, take, drop, sym, ap, ap₂, subst, arith, add-one, length-append}
+use Rattle.std.specs.Prelude.{ℤ, ◌+ℤ◌, ◌≤ℤ◌, slice_range, slice_index_or}
 use Rattle.std.proofs.lemmas.Int.{ints}
 use Rattle.std.proofs.lemmas.List.{get_or_append_left, get_or_default, get_or_push, take-append-le}
 use Rattle.vr_model.specs.declared.records.Model.{Model}
@@ -105,6 +105,12 @@ arc-value model v list n at next arc cost = ap (λ x. cost x next) arc.from ∙ 
 -- what is told of a line by its numbers is told of the list of its vehicle
 pub line-told : {m model : Model} {n v : ℕ} {l list : List ℕ} (f : Model → ℕ → List ℕ → ℤ) → m ≡ model → n ≡ v → l ≡ list → f m n l ≡ f model v list
 line-told f of-model of-vehicle of-list = λ i. f (of-model i) (of-vehicle i) (of-list i)
+
+pub least-told : {m model : Model} {n v : ℕ} {l list : List ℕ} (bound : ℤ) (f : Model → ℕ → List ℕ → ℤ) → m ≡ model → n ≡ v → l ≡ list → bound ≤ℤ f m n l → bound ≤ℤ f model v list
+least-told bound f of-model of-vehicle of-list least = subst (λ d. bound ≤ℤ d) (line-told f of-model of-vehicle of-list) least
+
+pub list-told : {n v : ℕ} {l list : List ℕ} (bound : ℤ) (f : ℕ → List ℕ → ℤ) → n ≡ v → l ≡ list → bound ≤ℤ f n l → bound ≤ℤ f v list
+list-told bound f of-vehicle of-list least = subst (λ d. bound ≤ℤ d) (ap₂ f of-vehicle of-list) least
 
 -- ---- the sums of one vehicle
 

@@ -1,28 +1,32 @@
 -- What moves add to arc costs, by the stretches of lists that they change.
 use Rattle.std.proofs.Common.{◌≡◌, ◌≢◌, ◌∙◌, ℕ, suc, ◌+◌, ◌<◌, ◌≤◌, Bool, true, false, List, [], ◌∷◌, ◌++◌, length, reverse, take, drop, sym, ap, subst, arith, add-one, append_assoc, append-nil, length-set}
 use Rattle.std.proofs.lemmas.Int.{ints}
-use Rattle.std.specs.Prelude.{◌+ℤ◌, slice_range, slice_set, remove, All}
+use Rattle.std.specs.Prelude.{◌+ℤ◌, slice_index_or, slice_range, slice_set, remove, All}
+use Rattle.std.proofs.lemmas.List.Elements.{All-append, All-cons, All-nil}
 use Rattle.std.proofs.lemmas.Slice.{between_from_start}
 use Rattle.std.proofs.lemmas.List.{reverse-reverse, set_split}
 use Rattle.vr_model.specs.moves.Moves.{apply, chain_moved, reversed_between, with_route}
 use Rattle.vr_model.specs.routes.Costs.{arcs_part}
+use Rattle.vr_model.specs.deciding.Testing.{and_left}
+use Rattle.vr_model.specs.tables.Tables.{is_visit}
+use Rattle.vr_model.specs.moves.MoveTests.{is_inactive}
 use Rattle.vr_model.specs.routes.Routes.{route, route_cost}
 use Rattle.vr_model.specs.declared.records.Model.{Model}
 use Rattle.vr_model.specs.declared.neighbours.Move.{Move}
-use Rattle.vr_model.proofs.routes.Lists.{route_set_other}
-use Rattle.vr_routes.specs.Pieces.{nodes_of}
+use Rattle.vr_model.proofs.routes.Lists.{route_set_other, visit_below}
+use Rattle.vr_routes.specs.Pieces.{joined, nodes_of, IsWithin}
 use Rattle.vr_routes.specs.declared.pieces.Piece.{Piece}
-use Rattle.vr_routes.specs.declared.pieces.Piece.TheVariants.{Chain}
-use Rattle.vr_routes.proofs.JoinedPieces.{all_left, all_right}
+use Rattle.vr_routes.specs.declared.pieces.Piece.TheVariants.{Chain, Node}
+use Rattle.vr_routes.proofs.JoinedPieces.{all_at, all_left, all_right}
 use Rattle.vr_routes.proofs.PieceLemmas.{moved_back, moved_on, slice_to_end, swapped_joined}
-use Rattle.vr_arccosts.specs.ArcMoves.{arcs_added, costs_more, with_between}
+use Rattle.vr_arccosts.specs.ArcMoves.{arcs_added, costs_more, with_between, IsKnownPiece}
 use Rattle.vr_arccosts.proofs.PathLemmas.{whole-apart}
 use Rattle.vr_arccosts.proofs.PieceLemmas.{all-reversed}
 use Rattle.vr_parts.proofs.SumLemmas.{over-set}
 
 -- ---- the nodes of a chain are some of its list
 
-pub slice-all : (P : ℕ → Type 0) (list : List ℕ) (f t : ℕ) → f ≤ t → All P list → All P (slice_range list f t)
+slice-all : (P : ℕ → Type 0) (list : List ℕ) (f t : ℕ) → f ≤ t → All P list → All P (slice_range list f t)
 slice-all P list f t order h =
     let whole : All P (take f list ++ (slice_range list f t ++ drop t list)) = subst (All P) (sym (whole-apart list f t order)) h in
     all_left P (slice_range list f t) (drop t list) (all_right P (take f list) (slice_range list f t ++ drop t list) whole)
@@ -33,8 +37,36 @@ chain-all P lists v f t true order h =
     let chain : List ℕ = slice_range (route lists v) f t in
     all-reversed P (reverse chain) (subst (All P) (sym (reverse-reverse chain)) (slice-all P (route lists v) f t order h))
 
-pub piece-all : (P : ℕ → Type 0) (lists : List (List ℕ)) (piece : Piece) (v f t : ℕ) (back : Bool) → piece ≡ Chain v f t back → f ≤ t → All P (route lists v) → All P (nodes_of lists piece)
-piece-all P lists piece v f t back is order h = subst (λ p. All P (nodes_of lists p)) (sym is) (chain-all P lists v f t back order h)
+-- ---- pieces that are known
+
+known-within : (model : Model) (lists : List (List ℕ)) (piece : Piece) → IsKnownPiece model lists piece → IsWithin lists piece
+known-within model lists (Chain v f t back) known = known
+known-within model lists (Node node) known = tt
+
+known-nodes : (model : Model) (lists : List (List ℕ)) → ((v : ℕ) → All (λ node. node < model.nodes) (route lists v)) → (piece : Piece) → IsKnownPiece model lists piece → All (λ node. node < model.nodes) (nodes_of lists piece)
+known-nodes model lists below (Chain v f t back) known = chain-all (λ node. node < model.nodes) lists v f t back known.1 (below v)
+known-nodes model lists below (Node node) known = All-cons (λ node. node < model.nodes) node [] known (All-nil (λ node. node < model.nodes))
+
+pub pieces-within : (model : Model) (lists : List (List ℕ)) (pieces : List Piece) → All (IsKnownPiece model lists) pieces → All (IsWithin lists) pieces
+pieces-within model lists pieces h k d low = known-within model lists (slice_index_or pieces k d) (h k d low)
+
+pub pieces-below : (model : Model) (lists : List (List ℕ)) → ((v : ℕ) → All (λ node. node < model.nodes) (route lists v)) → (pieces : List Piece) → All (IsKnownPiece model lists) pieces → All (λ node. node < model.nodes) (joined lists pieces)
+pieces-below model lists below [] h = All-nil (λ node. node < model.nodes)
+pieces-below model lists below (piece ∷ pieces) h =
+    All-append (λ node. node < model.nodes) (nodes_of lists piece) (joined lists pieces) (known-nodes model lists below piece (h 0 piece (omega arith)))
+    (pieces-below model lists below pieces (λ k d low. h (suc k) d (omega (arith, low))))
+
+one-known : (model : Model) (lists : List (List ℕ)) (piece : Piece) → IsWithin lists piece → All (λ node. node < model.nodes) (nodes_of lists piece) → IsKnownPiece model lists piece
+one-known model lists (Chain v f t back) within nodes = within
+one-known model lists (Node node) within nodes = nodes 0 0 (omega arith)
+
+pub pieces-known : (model : Model) (lists : List (List ℕ)) (pieces : List Piece) → All (IsWithin lists) pieces → All (λ node. node < model.nodes) (joined lists pieces) → All (IsKnownPiece model lists) pieces
+pieces-known model lists pieces within nodes k d low =
+    one-known model lists (slice_index_or pieces k d) (within k d low) (all_at (λ node. node < model.nodes) lists pieces k d low nodes)
+
+-- a visit that is not in any list is a node
+pub newcomer-below : (model : Model) (lists : List (List ℕ)) (u : ℕ) → is_inactive model lists u ≡ true → u < model.nodes
+newcomer-below model lists u idle = visit_below model u (and_left (is_visit model u) _ idle)
 
 -- ---- the list after a move, by the nodes that stand between what it keeps at its ends
 

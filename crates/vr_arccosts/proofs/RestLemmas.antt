@@ -1,6 +1,6 @@
 -- The list of a vehicle without a pair: its nodes, and what moves add that put the pair back.
-use Rattle.std.proofs.Common.{◌≡◌, ◌∙◌, ℕ, suc, ◌+◌, ◌-◌, ◌<◌, ◌≤◌, List, ◌++◌, length, take, drop, sym, ap, inl, inr, arith, length-set}
-use Rattle.std.specs.Prelude.{ℤ, ◌+ℤ◌, ◌≤ℤ◌, slice_range, slice_index_or}
+use Rattle.std.proofs.Common.{◌≡◌, ◌≢◌, ◌∙◌, ℕ, suc, ◌+◌, ◌-◌, ◌<◌, ◌≤◌, List, ◌++◌, length, take, drop, sym, ap, ap₂, inl, inr, arith, length-set}
+use Rattle.std.specs.Prelude.{ℤ, pos, ◌+ℤ◌, ◌≤ℤ◌, slice_range, slice_index_or}
 use Rattle.std.proofs.lemmas.Bool.{cases_lt}
 use Rattle.std.proofs.lemmas.Int.{ints}
 use Rattle.std.proofs.Math.Seq.{get_or-append_right}
@@ -9,16 +9,24 @@ use Rattle.std.proofs.lemmas.List.Edits.{get_or-between, length-between}
 use Rattle.vr_model.specs.moves.Moves.{apply, with_pair, with_route}
 use Rattle.vr_model.specs.routes.Costs.{arcs_part}
 use Rattle.vr_model.specs.routes.Routes.{route, route_cost}
-use Rattle.vr_model.specs.tables.Tables.{pair_at}
+use Rattle.vr_model.specs.tables.Tables.{arc_cost, pair_at}
 use Rattle.vr_model.specs.declared.records.Model.{Model}
+use Rattle.vr_model.specs.declared.records.Pair.{Pair}
 use Rattle.vr_model.specs.declared.neighbours.Move.TheVariants.{RelocatePair}
 use Rattle.vr_model.proofs.routes.Lists.{route_set_same}
 use Rattle.vr_routes.specs.Pairs.{without_two, ArePlaces}
 use Rattle.vr_routes.specs.Seats.{IsOnce}
+use Rattle.vr_routes.proofs.RestLemmas.{two_fewer}
 use Rattle.vr_routes.proofs.WithoutLemmas.{pickup_first}
+use Rattle.vr_balance.specs.Sums.{last_of}
 use Rattle.vr_parts.proofs.SumLemmas.{over-set}
+use Rattle.vr_arccosts.specs.Along.{between_cost}
 use Rattle.vr_arccosts.specs.ArcMoves.{costs_more}
-use Rattle.vr_arccosts.specs.Runs.{AddsNoLess, pair_added, place_of}
+use Rattle.vr_arccosts.specs.Chains.{first_of}
+use Rattle.vr_arccosts.specs.Runs.{AddsNoLess, at_place, before_place, gap_added, pair_added, place_of, IsRest}
+use Rattle.vr_arccosts.proofs.PathLemmas.{first-left, last-kept, stretch-unused}
+use Rattle.vr_arccosts.proofs.PutLemmas.{pair-apart, pair-together}
+use Rattle.vr_arccosts.proofs.RunLemmas.{gap-old}
 
 -- a place in front of both, one between them, and one behind
 place-front : (place lo hi : ℕ) → place < lo → place_of place lo hi ≡ place
@@ -68,6 +76,37 @@ module _ (list : List ℕ) (lo hi : ℕ) (order : lo < hi) (low : hi < length li
       | inr behind ↦ (let is = place-behind k lo hi past behind in omega (arith, is, small))
     ]
   ]
+
+-- ---- what stands beside a place of the rest
+
+module _ {model : Model} {list : List ℕ} {lo hi : ℕ} (sound : IsRest model list lo hi) where
+  abbrev rest : List ℕ
+  rest = without_two list lo hi
+
+  fewer : length rest + 2 ≡ length list
+  fewer = two_fewer list lo hi sound.order sound.place
+
+  pub rest-next : (end k : ℕ) {node : ℕ} → k + 2 ≤ length list → k + 2 ≢ length list → node ≡ slice_index_or rest k 0 → node ≡ first_of (drop k rest) end
+  rest-next end k low other is = is ∙ sym (first-left end rest k (omega (arith, low, other, fewer)))
+
+  pub rest-before : (start k : ℕ) {node : ℕ} → k ≢ 0 → k + 2 ≤ length list → node ≡ slice_index_or rest (k - 1) 0 → node ≡ last_of start (take k rest)
+  rest-before start k some low is = is ∙ sym (last-kept start rest k (omega (arith, some)) (omega (arith, low, fewer)))
+
+  module _ (v t : ℕ) (low : t + 2 ≤ length list) where
+    -- what is there now, where the rest has no node and where it has some
+    pub rest-empty : length list ≡ 2 → pos 0 ≡ between_cost model v rest t t (slice_range rest t t)
+    rest-empty two = sym (stretch-unused model v rest t t (omega arith) (omega (arith, fewer, two)))
+
+    pub rest-old : {before next : ℕ} {old : ℤ} → length list ≢ 2 → before ≡ before_place model v rest t → next ≡ at_place model v rest t → old ≡ arc_cost model v before next
+        → old ≡ between_cost model v rest t t (slice_range rest t t)
+    rest-old other before-is next-is is = is ∙ ap₂ (arc_cost model v) before-is next-is ∙ sym (gap-old model v rest t (omega (arith, low, fewer)) (omega (arith, low, other, fewer)))
+
+    -- a pair whose delivery is put before the place, side by side with its pickup or behind it
+    pub rest-together : (pair : Pair) (s : ℕ) → s ≡ t → gap_added model v rest pair.pickup pair.delivery s +ℤ arc_cost model v pair.pickup pair.delivery ≡ pair_added model v rest pair s t
+    rest-together pair s same = pair-together model v rest pair s (omega (arith, low, same, fewer)) ∙ ap (pair_added model v rest pair s) same
+
+    pub rest-apart : (pair : Pair) (s : ℕ) → s < t → gap_added model v rest pair.pickup pair.pickup s +ℤ gap_added model v rest pair.delivery pair.delivery t ≡ pair_added model v rest pair s t
+    rest-apart pair s order = pair-apart model v rest pair s t order (omega (arith, low, fewer))
 
 module _ (model : Model) (lists : List (List ℕ)) where
   -- a served pair that is put back into its list

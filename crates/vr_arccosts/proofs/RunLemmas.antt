@@ -12,15 +12,15 @@ use Rattle.vr_model.specs.declared.records.Model.{Model}
 use Rattle.vr_model.specs.declared.neighbours.Move.TheVariants.{Exchange, OrOpt, Relocate, TwoOpt}
 use Rattle.vr_balance.specs.Sums.{last_of, path_sum}
 use Rattle.vr_balance.proofs.Paths.{last-append, path-append, path-between}
-use Rattle.vr_routes.proofs.FactLemmas.{of_exchange, of_or_opt, of_relocate}
+use Rattle.vr_routes.proofs.FactLemmas.{of_exchange, of_or_opt, of_relocate, of_two_opt}
 use Rattle.vr_routes.proofs.ChangeLemmas.{exchanged_between, exchanged_within}
 use Rattle.vr_parts.proofs.EmptyLemmas.{some-where}
 use Rattle.vr_arccosts.specs.Along.{between_cost}
 use Rattle.vr_arccosts.specs.ArcMoves.{arcs_added, costs_more, with_between}
 use Rattle.vr_arccosts.specs.Chains.{chain_of, chain_sum}
-use Rattle.vr_arccosts.specs.Runs.{AddsNoLess, at_place, before_place, gap_added, left_added, swap_added, turn_added}
+use Rattle.vr_arccosts.specs.Runs.{AddsNoLess, at_place, before_place, ends_added, gap_added, left_added, swap_added, turn_added}
 use Rattle.vr_arccosts.proofs.ChainLemmas.{path-first}
-use Rattle.vr_arccosts.proofs.MoveLemmas.{one-list, shifted-back, shifted-on, swapped-list, turned-list, two-lists, with-other}
+use Rattle.vr_arccosts.proofs.MoveLemmas.{one-list, shifted-back, shifted-on, swapped-list, turned-list, two-lists, with-other, without-one}
 use Rattle.vr_arccosts.proofs.PathLemmas.{cost-between, first-left, last-kept, many-apart, stretch-used}
 use Rattle.vr_arccosts.proofs.PieceLemmas.{chain-first, chain-last, chain-length}
 
@@ -29,6 +29,13 @@ pub one-more : (P : ℕ → Type 0) (from k : ℕ) → ((t : ℕ) → from ≤ t
 one-more P from k so-far here t low high = elim (cases_lt t k) [
   | inl less ↦ so-far t low less
   | inr more ↦ (let same : k ≡ t = omega (arith, more, high) in subst P same here)
+]
+
+-- the first number of a run, and those behind it
+pub first-or-behind : (P : ℕ → Type 0) (first k : ℕ) → first ≤ k → P first → (first < k → P k) → P k
+first-or-behind P first k low here behind = elim (cases_lt first k) [
+  | inl more ↦ behind more
+  | inr past ↦ (let same : first ≡ k = omega (arith, low, past) in subst P same here)
 ]
 
 module _ (model : Model) (v : ℕ) (list : List ℕ) where
@@ -40,6 +47,13 @@ module _ (model : Model) (v : ℕ) (list : List ℕ) where
       let inner = length-append nodes (drop b list) in
       let whole = length-append (take f list) (nodes ++ drop b list) in
       ap (λ e. cond e (pos 0) x) (some-where (take f list ++ (nodes ++ drop b list)) (λ e. absurd (omega (arith, inner, whole, some, e))))
+
+  -- what the arcs beside a chain cost more, as code works it out
+  pub ends-told : (f b first last : ℕ) {before next : ℕ} {to on old : ℤ} → before ≡ before_place model v list f → next ≡ at_place model v list b
+      → to ≡ arc_cost model v before first → on ≡ arc_cost model v last next → old ≡ between_cost model v list f b (slice_range list f b)
+      → (to +ℤ on) -ℤ old ≡ ends_added model v list f b first last
+  ends-told f b first last before-is next-is to-is on-is old-is =
+      ap₂ (λ d o. d -ℤ o) (ap₂ (λ x y. x +ℤ y) (to-is ∙ ap (λ n. arc_cost model v n first) before-is) (on-is ∙ ap (arc_cost model v last) next-is)) old-is
 
   -- a part that is reversed
   turn-between : (a b : ℕ) → a < b → b < length list
@@ -224,6 +238,9 @@ module _ (model : Model) (lists : List (List ℕ)) where
       ∙ one-list model lists (TwoOpt v a b) v (reversed_between list a (suc b)) low refl in
       turn ∙ (sym change ∙ is)
 
+  pub turn-no-less : (v a b : ℕ) (bound : ℤ) → bound ≤ℤ turn_added model v (route lists v) a b → AddsNoLess model lists (TwoOpt v a b) bound
+  turn-no-less v a b bound low one = let facts = of_two_opt model lists v a b one in subst (λ d. bound ≤ℤ d) (turn-adds v a b facts.vehicle facts.order facts.place) low
+
   pub gap-adds : (w t x : ℕ) → t ≤ length (route lists w)
       → gap_added model w (route lists w) x x t ≡ costs_more model lists w (insert (route lists w) t x)
   gap-adds w t x gap =
@@ -303,16 +320,15 @@ module _ (model : Model) (lists : List (List ℕ)) where
       ]
 
   -- a node that is put into the list of another vehicle
-  pub relocate-no-less : (v a w t : ℕ) (bound base : ℤ) → base ≡ costs_more model lists v (remove (route lists v) a)
-      → bound ≤ℤ (base +ℤ gap_added model w (route lists w) (slice_index (route lists v) a) (slice_index (route lists v) a) t)
-      → AddsNoLess model lists (Relocate v a w t) bound
-  relocate-no-less v a w t bound base is low one =
+  pub relocate-no-less : (v a w t : ℕ) {node : ℕ} (bound base : ℤ) → base ≡ costs_more model lists v (with_between (route lists v) a (a + 1) []) → node ≡ slice_index (route lists v) a
+      → bound ≤ℤ (base +ℤ gap_added model w (route lists w) node node t) → AddsNoLess model lists (Relocate v a w t) bound
+  relocate-no-less v a w t bound base is node-is low one =
       let list : List ℕ = route lists v in
-      let x : ℕ = slice_index list a in
       let facts = of_relocate model lists v a w t one in
       subst (λ d. bound ≤ℤ d)
-      (ap₂ (λ c d. c +ℤ d) is (gap-adds w t x facts.gap)
-      ∙ two-lists model lists (Relocate v a w t) v w (remove list a) (insert (route lists w) t x) facts.vehicle facts.other facts.apart refl) low
+      (ap₂ (λ c x. c +ℤ gap_added model w (route lists w) x x t) (is ∙ ap (costs_more model lists v) (without-one list a)) node-is
+      ∙ ap (λ d. costs_more model lists v (remove list a) +ℤ d) (gap-adds w t (slice_index list a) facts.gap)
+      ∙ two-lists model lists (Relocate v a w t) v w (remove list a) (insert (route lists w) t (slice_index list a)) facts.vehicle facts.other facts.apart refl) low
 
   -- what a chain adds where it leaves its place, as code works it out
   pub left-adds : (v a k : ℕ) (x c : ℤ) → a + k ≤ length (route lists v) → x ≡ costs_more model lists v (with_between (route lists v) a (a + k) [])

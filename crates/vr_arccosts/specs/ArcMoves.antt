@@ -1,5 +1,5 @@
 -- What moves add to arc costs.
-use Rattle.std.specs.Prelude.{ℕ, Bool, true, false, List, ℤ, ◌-ℤ◌, drop, take, ◌++◌}
+use Rattle.std.specs.Prelude.{ℕ, ◌<◌, Bool, true, false, List, ℤ, ◌-ℤ◌, drop, take, ◌++◌}
 use Rattle.vr_model.specs.moves.Moves.{apply}
 use Rattle.vr_model.specs.routes.Costs.{arcs_part}
 use Rattle.vr_model.specs.routes.Routes.{route, route_cost}
@@ -8,6 +8,9 @@ use Rattle.vr_model.specs.declared.neighbours.Move.{Move}
 use Rattle.vr_model.specs.declared.neighbours.Move.TheVariants.{TwoOpt, OrOpt, Relocate, Exchange, Cross, RelocatePair}
 use Rattle.vr_model.specs.declared.neighbours.Move.TheVariants.{PairActive, PairInactive, MakeActive, MakeInactive}
 use Rattle.vr_model.specs.declared.neighbours.Move.TheVariants.{SwapActive}
+use Rattle.vr_routes.specs.Pieces.{IsWithin}
+use Rattle.vr_routes.specs.declared.pieces.Piece.{Piece}
+use Rattle.vr_routes.specs.declared.pieces.Piece.TheVariants.{Chain, Node}
 
 -- how much more a list costs vehicle v than the one that it has
 abbrev pub costs_more : Model → List (List ℕ) → ℕ → List ℕ → ℤ
@@ -20,6 +23,11 @@ with_between list f b nodes = take f list ++ (nodes ++ drop b list)
 -- what the arc costs come to after a move, less what they come to before it
 abbrev pub arcs_added : Model → List (List ℕ) → Move → ℤ
 arcs_added model lists mv = arcs_part model (apply model lists mv) -ℤ arcs_part model lists
+
+-- a piece lies within its list, or is a node of the model
+abbrev pub IsKnownPiece : Model → List (List ℕ) → Piece → Type 0
+IsKnownPiece model lists (Chain v from to reversed) = IsWithin lists (Chain v from to reversed)
+IsKnownPiece model lists (Node node) = node < model.nodes
 
 -- a move is one of a pickup with its delivery
 abbrev pub is_of_pair : Move → Bool

@@ -42,20 +42,22 @@ before_place model v list place = last_of (vehicle_at model v).start (take place
 abbrev pub at_place : Model → ℕ → List ℕ → ℕ → ℕ
 at_place model v list place = first_of (drop place list) (vehicle_at model v).end
 
+-- what the arcs from the stop before place f of the list of vehicle v to the first node of a chain, and from its last
+-- node to the stop at place b, cost more than what stands between these stops
+abbrev pub ends_added : Model → ℕ → List ℕ → ℕ → ℕ → ℕ → ℕ → ℤ
+ends_added model v list f b first last =
+    (arc_cost model v (before_place model v list f) first +ℤ arc_cost model v last (at_place model v list b))
+    -ℤ between_cost model v list f b (slice_range list f b)
+
 -- what the arcs of vehicle v cost more where places a to b of its list are reversed
 abbrev pub turn_added : Model → ℕ → List ℕ → ℕ → ℕ → ℤ
 turn_added model v list a b =
-    (arc_cost model v (before_place model v list a) (slice_index_or list b 0)
+    ends_added model v list a (b + 1) (slice_index_or list b 0) (slice_index_or list a 0)
     +ℤ chain_sum (arc_cost model v) (chain_of true list a (b + 1))
-    +ℤ arc_cost model v (slice_index_or list a 0) (at_place model v list (b + 1)))
-    -ℤ between_cost model v list a (b + 1) (slice_range list a (b + 1))
 
--- what the arcs from the stop before a place of the list of vehicle v to the first node of a chain, and from its last
--- node to the stop at that place, cost more than what stands between these stops
+-- the same of a chain that is put before a place, of which only the arcs to and from it count
 abbrev pub gap_added : Model → ℕ → List ℕ → ℕ → ℕ → ℕ → ℤ
-gap_added model v list first last place =
-    (arc_cost model v (before_place model v list place) first +ℤ arc_cost model v last (at_place model v list place))
-    -ℤ between_cost model v list place place (slice_range list place place)
+gap_added model v list first last place = ends_added model v list place place first last
 
 -- what the arcs of vehicle v cost more where a pair is put into its list: the pickup before place s, and the delivery
 -- before place t
@@ -70,10 +72,7 @@ left_added model v list a k =
 
 -- what the arcs of vehicle v cost more where another node stands at a place of its list
 abbrev pub swap_added : Model → ℕ → List ℕ → ℕ → ℕ → ℤ
-swap_added model v list place node =
-    (arc_cost model v (before_place model v list place) node
-    +ℤ arc_cost model v node (at_place model v list (place + 1)))
-    -ℤ between_cost model v list place (place + 1) (slice_range list place (place + 1))
+swap_added model v list place node = ends_added model v list place (place + 1) node node
 
 -- what the front of the list of vehicle v, up to place a, costs vehicle w, up to the last node, less what the arcs cost
 -- there are now

@@ -6,10 +6,10 @@ ghost use Rattle.vr_model.specs.routes.Routes.{route, route_cost};
 ghost use Rattle.vr_model.specs.tables.Tables.{arc_cost, pair_at, visits};
 ghost use Rattle.vr_model.specs.routes.Rules.{is_valid};
 ghost use Rattle.vr_model.specs.tables.WellFormed.{IsWellFormed};
-ghost use Rattle.vr_routes.specs.Pieces.{changed, joined, IsWithin};
+ghost use Rattle.vr_routes.specs.Pieces.{changed, joined};
 ghost use Rattle.vr_routes.specs.Changes.{IsMadeOn, NothingReady};
 ghost use Rattle.vr_arccosts.specs.Along.{StandsAlong};
-ghost use Rattle.vr_arccosts.specs.ArcMoves.{costs_more, with_between};
+ghost use Rattle.vr_arccosts.specs.ArcMoves.{costs_more, with_between, IsKnownPiece};
 ghost use Rattle.vr_parts.specs.Bounds.{IsAddedByChange, IsAddedByList};
 
 use crate::costs::ArcCosts;
@@ -95,9 +95,8 @@ impl<'m> ArcCost<'m> {
         requires vehicle { v < length routes.now.lists }
         requires order { front ≤ behind }
         requires place { behind ≤ length (route routes.now.lists v) }
-        requires within { All (IsWithin routes.now.lists) pieces.now }
+        requires known { All (IsKnownPiece self.now.model routes.now.lists) pieces.now }
         requires few { length pieces.now ≤ 8 }
-        requires nodes { All (λ node. node < self.now.model.nodes) (joined routes.now.lists pieces.now) }
         ensures value { result ≡ costs_more self.now.model routes.now.lists v
             (with_between (route routes.now.lists v) front behind (joined routes.now.lists pieces.now)) }
         ensures range { IsAddedByList result }

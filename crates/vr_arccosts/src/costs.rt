@@ -20,6 +20,24 @@ pub struct ArcCosts<'m> {
 }
 
 impl<'m> ArcCosts<'m> {
+    /// The node at which the vehicle starts.
+    #[inline(always)]
+    pub fn start(&self) -> u32
+        ensures value { result ≡ (vehicle_at self.now.model.now self.now.vehicle).start }
+        ensures known { result < self.now.model.now.nodes }
+    {
+        self.model.vehicles.get(self.vehicle as usize).start
+    }
+
+    /// The node at which it ends.
+    #[inline(always)]
+    pub fn end(&self) -> u32
+        ensures value { result ≡ (vehicle_at self.now.model.now self.now.vehicle).end }
+        ensures known { result < self.now.model.now.nodes }
+    {
+        self.model.vehicles.get(self.vehicle as usize).end
+    }
+
     /// The cost of the arc from one node to another, in `0..=2^40` (`RoutingModel::GetArcCostForVehicle` in OR-Tools).
     #[inline(always)]
     pub fn cost(&self, i: u32, j: u32) -> i64

@@ -17,60 +17,65 @@ pub(crate) struct CrossRun<'a, 'm> {
     pub(crate) v: u32,
     pub(crate) a: u32,
     pub(crate) w: u32,
+    pub(crate) asked: Asked,
     pub ghost vehicles: { v < w },
     pub ghost other: { w < length lists.routes.now.lists },
     pub ghost gap: { a ≤ length (route lists.routes.now.lists v) },
+    pub ghost some: { 1 ≤ asked.from },
+    pub ghost places: { asked.end ≤ length (route lists.routes.now.lists w) + 1 },
 }
 
 impl<'a, 'm> CrossRun<'a, 'm> {
     /// Its first move that may add less than the bound, by the place behind the other front, which has a visit.
     #[inline(always)]
-    pub(crate) fn first(&self, asked: Asked) -> u32
-        requires some { 1 ≤ asked.from }
-        requires places { asked.end ≤ length (route self.now.lists.routes.now.lists self.now.w) + 1 }
-        ensures from { asked.from ≤ result }
-        ensures within { result ≤ asked.end }
-        ensures no_less { let run = self.now in (b : ℕ) → asked.from ≤ b → b < result → AddsNoLess
-            run.lists.kept.now.model run.lists.routes.now.lists (Cross run.v run.a run.w b) asked.bound }
+    pub(crate) fn first(&self) -> u32
+        ensures from { self.now.asked.from ≤ result }
+        ensures within { result ≤ self.now.asked.end }
+        ensures no_less { let run = self.now in (b : ℕ) → run.asked.from ≤ b → b < result → AddsNoLess
+            run.lists.kept.now.model run.lists.routes.now.lists (Cross run.v run.a run.w b) run.asked.bound }
     {
         if self.lists.kept.have_same_costs(self.v, self.w) {
-            return self.first_fronts(asked);
+            return self.first_fronts();
         }
-        self.first_unlike(asked)
+        self.first_unlike()
     }
 
     // The same run, where the vehicles need not have the same costs.
     #[inline(always)]
-    fn first_unlike(&self, asked: Asked) -> u32
-        requires some { 1 ≤ asked.from }
-        requires places { asked.end ≤ length (route self.now.lists.routes.now.lists self.now.w) + 1 }
-        ensures from { asked.from ≤ result }
-        ensures within { result ≤ asked.end }
-        ensures no_less { let run = self.now in (b : ℕ) → asked.from ≤ b → b < result → AddsNoLess
-            run.lists.kept.now.model run.lists.routes.now.lists (Cross run.v run.a run.w b) asked.bound }
+    fn first_unlike(&self) -> u32
+        ensures from { self.now.asked.from ≤ result }
+        ensures within { result ≤ self.now.asked.end }
+        ensures no_less { let run = self.now in (b : ℕ) → run.asked.from ≤ b → b < result → AddsNoLess
+            run.lists.kept.now.model run.lists.routes.now.lists (Cross run.v run.a run.w b) run.asked.bound }
     {
         let line = self.lists.kept.line_of(self.lists.routes, self.v);
         let other = self.lists.kept.line_of(self.lists.routes, self.w);
-        first_front(&line, self.a, &other, asked)
+        first_front(&line, self.a, &other, self.asked)
     }
 
     // The same run, where both vehicles have the same costs: fronts that leave one list empty are told alone.
     #[inline(always)]
-    fn first_fronts(&self, asked: Asked) -> u32
-        requires some { 1 ≤ asked.from }
-        requires places { asked.end ≤ length (route self.now.lists.routes.now.lists self.now.w) + 1 }
+    fn first_fronts(&self) -> u32
         requires costs { let run = self.now in (i j : ℕ) → arc_cost run.lists.kept.now.model run.w i j
             ≡ arc_cost run.lists.kept.now.model run.v i j }
-        ensures from { asked.from ≤ result }
-        ensures within { result ≤ asked.end }
-        ensures no_less { let run = self.now in (b : ℕ) → asked.from ≤ b → b < result → AddsNoLess
-            run.lists.kept.now.model run.lists.routes.now.lists (Cross run.v run.a run.w b) asked.bound }
+        ensures from { self.now.asked.from ≤ result }
+        ensures within { result ≤ self.now.asked.end }
+        ensures no_less { let run = self.now in (b : ℕ) → run.asked.from ≤ b → b < result → AddsNoLess
+            run.lists.kept.now.model run.lists.routes.now.lists (Cross run.v run.a run.w b) run.asked.bound }
     {
         let n = self.lists.routes.len(self.w);
+        let asked = self.asked;
         if self.a > 0 || asked.end <= n || asked.from == asked.end {
-            return self.first_left(asked);
+            return self.first_left();
         }
-        let b = self.first_left(asked.ending(n));
+        let left = CrossRun {
+            lists: self.lists,
+            v: self.v,
+            a: self.a,
+            w: self.w,
+            asked: asked.ending(n),
+        };
+        let b = left.first_left();
         if b < n || self.lists.crossed(self.v, 0, self.w, n) < asked.bound {
             return b;
         }
@@ -79,18 +84,17 @@ impl<'a, 'm> CrossRun<'a, 'm> {
 
     // The same run, where neither list is left empty.
     #[inline(always)]
-    fn first_left(&self, asked: Asked) -> u32
-        requires some { 1 ≤ asked.from }
-        requires places { asked.end ≤ length (route self.now.lists.routes.now.lists self.now.w) + 1 }
+    fn first_left(&self) -> u32
         requires costs { let run = self.now in (i j : ℕ) → arc_cost run.lists.kept.now.model run.w i j
             ≡ arc_cost run.lists.kept.now.model run.v i j }
-        requires left { self.now.a ≡ 0 → asked.from < asked.end
-            → asked.end ≤ length (route self.now.lists.routes.now.lists self.now.w) }
-        ensures from { asked.from ≤ result }
-        ensures within { result ≤ asked.end }
-        ensures no_less { let run = self.now in (b : ℕ) → asked.from ≤ b → b < result → AddsNoLess
-            run.lists.kept.now.model run.lists.routes.now.lists (Cross run.v run.a run.w b) asked.bound }
+        requires left { let run = self.now in run.a ≡ 0 → run.asked.from < run.asked.end
+            → run.asked.end ≤ length (route run.lists.routes.now.lists run.w) }
+        ensures from { self.now.asked.from ≤ result }
+        ensures within { result ≤ self.now.asked.end }
+        ensures no_less { let run = self.now in (b : ℕ) → run.asked.from ≤ b → b < result → AddsNoLess
+            run.lists.kept.now.model run.lists.routes.now.lists (Cross run.v run.a run.w b) run.asked.bound }
     {
+        let asked = self.asked;
         if asked.from == asked.end {
             return asked.end;
         }

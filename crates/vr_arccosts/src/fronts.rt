@@ -38,8 +38,8 @@ impl<'l, 'k, 'a, 'm> Fronts<'l, 'k, 'a, 'm> {
         ensures range { IsAddedByChange result }
     {
         let first = self.other.list[0];
-        let from = self.line.costs.cost(node_before(self.line, 0), first);
-        let left = self.other.costs.cost(node_before(self.other, 0), first);
+        let from = self.line.costs.cost(self.line.costs.start(), first);
+        let left = self.other.costs.cost(self.other.costs.start(), first);
         let front = self.front_added();
         from - left + front
     }
@@ -63,7 +63,7 @@ impl<'l, 'k, 'a, 'm> Fronts<'l, 'k, 'a, 'm> {
         let to = self
             .other
             .costs
-            .cost(node_before(self.other, 0), line.list[0]);
+            .cost(self.other.costs.start(), line.list[0]);
         let chain = line.along.chain(false, 0, self.a);
         to + chain - old
     }
@@ -77,7 +77,7 @@ impl<'l, 'k, 'a, 'm> Fronts<'l, 'k, 'a, 'm> {
         ensures known { result < self.now.line.now.costs.model.now.nodes }
     {
         if self.a == 0 {
-            return node_before(self.other, 0);
+            return self.other.costs.start();
         }
         node_before(self.line, self.a)
     }
@@ -96,7 +96,7 @@ impl<'l, 'k, 'a, 'm> Fronts<'l, 'k, 'a, 'm> {
         }
         let list = self.line.list;
         let costs = &self.other.costs;
-        let to = costs.cost(node_before(self.other, 0), list[0]);
+        let to = costs.cost(self.other.costs.start(), list[0]);
         to + costs_along(costs, false, &list[..self.a as usize])
     }
 }
@@ -188,7 +188,7 @@ impl<'l, 'k, 'a, 'm> BothFronts<'l, 'k, 'a, 'm> {
     {
         let line = self.fronts.line;
         let list = self.fronts.other.list;
-        let to = line.costs.cost(node_before(line, 0), list[0]);
+        let to = line.costs.cost(line.costs.start(), list[0]);
         let last = list[(self.b - 1) as usize];
         let on = line.costs.cost(last, node_at(line, self.fronts.a));
         to + self.inner + on

@@ -7,7 +7,7 @@ ghost use Rattle.vr_model.specs.tables.Tables.{arc_cost, vehicle_at};
 ghost use Rattle.vr_model.specs.tables.WellFormed.{IsWellFormed};
 ghost use Rattle.vr_parts.specs.Bounds.{IsAddedByChange, IsAddedByList};
 ghost use Rattle.vr_balance.specs.Sums.{last_of};
-ghost use Rattle.vr_arccosts.specs.Runs.{at_place, before_place, gap_added};
+ghost use Rattle.vr_arccosts.specs.Runs.{at_place, before_place, ends_added, gap_added};
 ghost use Rattle.vr_arccosts.specs.Runs.{pair_added, swap_added, turn_added, IsLine};
 
 use crate::costs::ArcCosts;
@@ -72,6 +72,26 @@ pub struct Ends {
     pub last: u32,
 }
 
+impl<'a, 'm> Line<'a, 'm> {
+    // How much more the arcs to and from a chain cost than what stands between the stop before place `front` and the
+    // stop at place `behind`.
+    #[inline(always)]
+    fn ends_added(&self, ends: Ends, front: u32, behind: u32) -> i64
+        requires first { ends.first < self.now.costs.model.now.nodes }
+        requires last { ends.last < self.now.costs.model.now.nodes }
+        requires order { front ≤ behind }
+        requires place { behind ≤ length self.now.list.now }
+        ensures value { result ≡ ends_added self.now.costs.model.now self.now.costs.vehicle self.now.list.now
+            front behind ends.first ends.last }
+        ensures range { IsAddedByList result }
+    {
+        let to = self.costs.cost(node_before(self, front), ends.first);
+        let on = self.costs.cost(ends.last, node_at(self, behind));
+        let old = self.along.stretch(self.list.len() as u32, front, behind);
+        to + on - old
+    }
+}
+
 /// The first last place of a reversed part, which begins at place `a`, with which the arcs cost less than the bound
 /// more; `end` where there is none.
 #[inline(always)]
@@ -97,13 +117,15 @@ fn turned(line: &Line, a: u32, b: u32) -> i64
     requires order { a < b }
     requires place { b < length line.now.list.now }
     ensures value { result ≡ turn_added line.now.costs.model.now line.now.costs.vehicle line.now.list.now a b }
-    ensures range { IsAddedByList result }
+    ensures range { IsAddedByChange result }
 {
-    let ahead = line.costs.cost(node_before(line, a), line.list[b as usize]);
-    let behind = line.costs.cost(line.list[a as usize], node_at(line, b + 1));
+    let ends = Ends {
+        first: line.list[b as usize],
+        last: line.list[a as usize],
+    };
+    let beside = line.ends_added(ends, a, b + 1);
     let inner = line.along.chain(true, a, b + 1);
-    let old = line.along.stretch(line.list.len() as u32, a, b + 1);
-    ahead + inner + behind - old
+    beside + inner
 }
 
 /// The first place before which a chain can be put so that, with what else the move adds, the arcs cost less than the
@@ -121,7 +143,7 @@ pub fn first_gap(line: &Line, ends: Ends, base: i64, asked: Asked) -> u32
         ends.first ends.last t) }
 {
     for t in asked.from..asked.end {
-        if base + put(line, ends, t) < asked.bound {
+        if base + line.ends_added(ends, t, t) < asked.bound {
             return t;
         }
     }
@@ -255,7 +277,7 @@ fn first_apart(line: &Line, pair: Pair, s: u32, base: i64, asked: Asked) -> u32
         first: pair.delivery,
         last: pair.delivery,
     };
-    let with_pickup = base + put(line, pickup, s);
+    let with_pickup = base + line.ends_added(pickup, s, s);
     first_gap(line, delivery, with_pickup, asked)
 }
 
@@ -274,23 +296,7 @@ fn put_pair(line: &Line, pair: Pair, s: u32) -> i64
         last: pair.delivery,
     };
     let inner = line.costs.cost(pair.pickup, pair.delivery);
-    put(line, ends, s) + inner
-}
-
-// How much more the arcs to and from a chain cost than what stands between the stops beside a place.
-#[inline(always)]
-fn put(line: &Line, ends: Ends, t: u32) -> i64
-    requires first { ends.first < line.now.costs.model.now.nodes }
-    requires last { ends.last < line.now.costs.model.now.nodes }
-    requires place { t ≤ length line.now.list.now }
-    ensures value { result ≡ gap_added line.now.costs.model.now line.now.costs.vehicle line.now.list.now
-        ends.first ends.last t }
-    ensures range { IsAddedByList result }
-{
-    let to = line.costs.cost(node_before(line, t), ends.first);
-    let on = line.costs.cost(ends.last, node_at(line, t));
-    let old = line.along.stretch(line.list.len() as u32, t, t);
-    to + on - old
+    line.ends_added(ends, s, s) + inner
 }
 
 /// The first place of another list at which the arcs of both cost less than the bound more where its node and that at
@@ -326,10 +332,11 @@ pub fn swapped(line: &Line, place: u32, node: u32) -> i64
         ≡ swap_added line.now.costs.model.now line.now.costs.vehicle line.now.list.now place node }
     ensures range { IsAddedByList result }
 {
-    let to = line.costs.cost(node_before(line, place), node);
-    let on = line.costs.cost(node, node_at(line, place + 1));
-    let old = line.along.stretch(line.list.len() as u32, place, place + 1);
-    to + on - old
+    let ends = Ends {
+        first: node,
+        last: node,
+    };
+    line.ends_added(ends, place, place + 1)
 }
 
 /// The node of the stop before a place of the list of a vehicle.
@@ -340,12 +347,7 @@ pub fn node_before(line: &Line, place: u32) -> u32
     ensures known { result < line.now.costs.model.now.nodes }
 {
     if place == 0 {
-        return line
-            .costs
-            .model
-            .vehicles
-            .get(line.costs.vehicle as usize)
-            .start;
+        return line.costs.start();
     }
     line.list[(place - 1) as usize]
 }
@@ -358,12 +360,7 @@ pub fn node_at(line: &Line, place: u32) -> u32
     ensures known { result < line.now.costs.model.now.nodes }
 {
     if place as usize == line.list.len() {
-        return line
-            .costs
-            .model
-            .vehicles
-            .get(line.costs.vehicle as usize)
-            .end;
+        return line.costs.end();
     }
     line.list[place as usize]
 }

@@ -1,15 +1,16 @@
 //! What moves add to arc costs.
 
-ghost use Rattle.std.specs.Prelude.{◌≡◌, ◌-ℤ◌, IfSome, MatchOption, false, true};
+ghost use Rattle.std.specs.Prelude.{◌≡◌, ◌<◌, ◌-ℤ◌, IfSome, MatchOption, false, true, length, slice_index};
 ghost use Rattle.vr_model.specs.moves.MoveTests.{is_move};
 ghost use Rattle.vr_model.specs.routes.Costs.{arcs_part};
+ghost use Rattle.vr_model.specs.routes.Routes.{route};
 ghost use Rattle.vr_model.specs.declared.neighbours.Move.TheVariants.{TwoOpt, OrOpt, Relocate, Exchange, Cross};
 ghost use Rattle.vr_model.specs.declared.neighbours.Move.TheVariants.{MakeActive, MakeInactive, SwapActive};
-ghost use Rattle.vr_routes.specs.declared.pieces.Piece.TheVariants.{Chain};
+ghost use Rattle.vr_routes.specs.declared.pieces.Piece.TheVariants.{Chain, Node};
 ghost use Rattle.vr_routes.specs.Changes.{IsChange};
 ghost use Rattle.vr_routes.specs.Pieces.{changed};
 ghost use Rattle.vr_arccosts.specs.Along.{StandsAlong};
-ghost use Rattle.vr_arccosts.specs.ArcMoves.{arcs_added, is_of_pair};
+ghost use Rattle.vr_arccosts.specs.ArcMoves.{arcs_added, is_of_pair, IsKnownPiece};
 ghost use Rattle.vr_parts.specs.Bounds.{IsAddedByChange, IsAddedByList};
 
 use crate::ArcCost;
@@ -101,9 +102,7 @@ impl<'a, 'm> Committed<'a, 'm> {
         ensures exact { result ≡ arcs_added self.entry.kept.now.model self.entry.routes.now.lists (Relocate v a w t) }
         ensures range { IsAddedByChange result }
     {
-        let visit = Piece::Node {
-            node: self.routes.node_at(v, a),
-        };
+        let visit = self.visit(v, a);
         let without = self.kept.between_adds(self.routes, v, a, a + 1, &[]);
         let with = self.kept.between_adds(self.routes, w, t, t, &[visit]);
         without + with
@@ -116,12 +115,8 @@ impl<'a, 'm> Committed<'a, 'm> {
         ensures exact { result ≡ arcs_added self.entry.kept.now.model self.entry.routes.now.lists (Exchange v a w b) }
         ensures range { IsAddedByChange result }
     {
-        let first = Piece::Node {
-            node: self.routes.node_at(v, a),
-        };
-        let second = Piece::Node {
-            node: self.routes.node_at(w, b),
-        };
+        let first = self.visit(v, a);
+        let second = self.visit(w, b);
         if v == w {
             let pieces = [second, on(v, a + 1, b), first];
             return self.kept.between_adds(self.routes, v, a, b + 1, &pieces);
@@ -141,6 +136,19 @@ impl<'a, 'm> Committed<'a, 'm> {
         let one = self.kept.between_adds(self.routes, v, 0, a, &[on(w, 0, b)]);
         let other = self.kept.between_adds(self.routes, w, 0, b, &[on(v, 0, a)]);
         one + other
+    }
+
+    // The visit at a place of a list, as a piece.
+    #[inline(always)]
+    fn visit(self, v: u32, place: u32) -> Piece
+        requires vehicle { v < length self.routes.now.lists }
+        requires place { place < length (route self.routes.now.lists v) }
+        ensures value { result ≡ Node (slice_index (route self.entry.routes.now.lists v) place) }
+        ensures known { IsKnownPiece self.entry.kept.now.model self.entry.routes.now.lists result }
+    {
+        Piece::Node {
+            node: self.routes.node_at(v, place),
+        }
     }
 
     // What a visit adds that is put into a list.

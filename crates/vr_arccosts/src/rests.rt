@@ -1,7 +1,7 @@
 //! The list of a vehicle without a pair: what the pair adds where it is put into it.
 
 ghost use Rattle.std.proofs.Props.{props};
-ghost use Rattle.std.specs.Prelude.{◌≡◌, ℕ, ◌+◌, ◌<◌, ◌≤◌, ◌+ℤ◌, ◌≤ℤ◌, length};
+ghost use Rattle.std.specs.Prelude.{◌≡◌, ℕ, ◌+◌, ◌<◌, ◌≤◌, ◌+ℤ◌, ◌≤ℤ◌, length, slice_index_or};
 ghost use Rattle.vr_parts.specs.Bounds.{IsAddedByChange, IsAddedByList};
 ghost use Rattle.vr_routes.specs.Pairs.{without_two};
 ghost use Rattle.vr_arccosts.specs.Runs.{at_place, before_place, gap_added, pair_added, place_of, IsRest};
@@ -111,14 +111,9 @@ fn node_before(rest: &Rest, place: u32) -> u32
     ensures known { result < rest.now.costs.model.now.nodes }
 {
     if place == 0 {
-        return rest
-            .costs
-            .model
-            .vehicles
-            .get(rest.costs.vehicle as usize)
-            .start;
+        return rest.costs.start();
     }
-    rest.list[place_of(place - 1, rest.lo, rest.hi) as usize]
+    rest.node(place - 1)
 }
 
 // The node of the stop at a place of a rest.
@@ -130,14 +125,21 @@ fn node_at(rest: &Rest, place: u32) -> u32
     ensures known { result < rest.now.costs.model.now.nodes }
 {
     if place as usize + 2 == rest.list.len() {
-        return rest
-            .costs
-            .model
-            .vehicles
-            .get(rest.costs.vehicle as usize)
-            .end;
+        return rest.costs.end();
     }
-    rest.list[place_of(place, rest.lo, rest.hi) as usize]
+    rest.node(place)
+}
+
+impl<'a, 'm> Rest<'a, 'm> {
+    // The node at a place of the rest.
+    #[inline(always)]
+    fn node(&self, place: u32) -> u32
+        requires place { place + 2 < length self.now.list.now }
+        ensures value { result ≡ slice_index_or (without_two self.now.list.now self.now.lo self.now.hi) place 0 }
+        ensures known { result < self.now.costs.model.now.nodes }
+    {
+        self.list[place_of(place, self.lo, self.hi) as usize]
+    }
 }
 
 // Where a node of a rest stands in the list.

@@ -199,19 +199,27 @@ impl<'a, 'm> Committed<'a, 'm> {
         if asked.from == asked.end {
             return asked.end;
         }
-        let run = CrossRun {
-            lists: self,
-            v,
-            a,
-            w,
-        };
         if asked.from > 0 {
-            return run.first(asked);
+            let run = CrossRun {
+                lists: self,
+                v,
+                a,
+                w,
+                asked,
+            };
+            return run.first();
         }
         // the other front is empty
         if a > 0 && self.crossed(v, a, w, 0) < asked.bound {
             return 0;
         }
-        run.first(asked.starting(1))
+        let behind = CrossRun {
+            lists: self,
+            v,
+            a,
+            w,
+            asked: asked.starting(1),
+        };
+        behind.first()
     }
 }

@@ -88,7 +88,7 @@ impl<'a, 'm> Gap<'a, 'm> {
     {
         let costs = self.of.costs;
         if self.front == 0 {
-            return costs.model.vehicles.get(costs.vehicle as usize).start;
+            return costs.start();
         }
         self.of.routes.node_at(costs.vehicle, self.front - 1)
     }
@@ -103,7 +103,7 @@ impl<'a, 'm> Gap<'a, 'm> {
     {
         let costs = self.of.costs;
         if self.behind == self.of.routes.len(costs.vehicle) {
-            return costs.model.vehicles.get(costs.vehicle as usize).end;
+            return costs.end();
         }
         self.of.routes.node_at(costs.vehicle, self.behind)
     }

@@ -5,7 +5,7 @@ use Rattle.vr_arccosts.proofs.gaps.first_apart.Goals as goal
 
 pub returns-clause-no_less : goal.returns-clause-no_less
 returns-clause-no_less c t low high =
-    let put = c.put.ensures in
+    let put = c.ends_added.ensures in
     let base = c.requires.base in
     let order = c.requires.order in
     let within = c.first_gap.ensures.within in

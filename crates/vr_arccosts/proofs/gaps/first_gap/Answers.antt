@@ -9,12 +9,12 @@ pub loop-t-preserved : goal.loop-t-preserved
 loop-t-preserved c =
     let gap : ℕ → ℤ = gap_added c.args.line.now.costs.model.now c.args.line.now.costs.vehicle c.args.line.now.list.now c.args.ends.first c.args.ends.last in
     let base = c.requires.base in
-    let put = c.put.ensures in
+    let put = c.ends_added.ensures in
     one-more (λ t. c.args.asked.bound ≤ℤ (to_z w64 (of_z w64 c.args.base) +ℤ gap t)) c.args.asked.from c.loop-t.t c.loop-t.invariant
-    (let no = c.if-base-put.false in omega (arith, ints, put.value, put.range.low, put.range.high, base.low, base.high, no))
+    (let no = c.if-base-ends_added.false in omega (arith, ints, put.value, put.range.low, put.range.high, base.low, base.high, no))
 
-pub returns-then-base-put-clause-no_less : goal.returns-then-base-put-clause-no_less
-returns-then-base-put-clause-no_less c t low high =
+pub returns-then-base-ends_added-clause-no_less : goal.returns-then-base-ends_added-clause-no_less
+returns-then-base-ends_added-clause-no_less c t low high =
     let base = c.requires.base in
     let is : to_z w64 (of_z w64 c.args.base) ≡ c.args.base = omega (arith, ints, base.low, base.high) in
     let gap = gap_added c.args.line.now.costs.model.now c.args.line.now.costs.vehicle c.args.line.now.list.now c.args.ends.first c.args.ends.last t in

@@ -1,21 +1,8 @@
-use Rattle.std.proofs.Common.{◌∙◌, ℕ, List, ap, sym, arith}
-use Rattle.std.specs.Prelude.{slice_index_or}
 use Rattle.vr_model.specs.tables.Tables.{vehicle_at}
-use Rattle.vr_routes.specs.Pairs.{without_two}
-use Rattle.vr_routes.proofs.RestLemmas.{two_fewer}
-use Rattle.vr_arccosts.proofs.PathLemmas.{first-left}
-use Rattle.vr_arccosts.proofs.RestLemmas.{rest-at}
+use Rattle.vr_arccosts.proofs.RestLemmas.{rest-next}
 use Rattle.vr_arccosts.proofs.rests.node_at.Goals as goal
 
 pub returns-clause-value : goal.returns-clause-value
 returns-clause-value c =
-    let r = c.args.rest.now.sound in
-    let list : List ℕ = c.args.rest.now.list.now in
-    let lo = c.args.rest.now.lo in
-    let hi = c.args.rest.now.hi in
-    let other = c.if-place-rest.false in
-    let low = c.requires.place in
-    let fewer = two_fewer list lo hi r.order r.place in
-    let next = first-left (vehicle_at c.args.rest.now.costs.model.now c.args.rest.now.costs.vehicle).end (without_two list lo hi) c.args.place (omega (arith, other, low, fewer)) in
-    let at = rest-at list lo hi r.order r.place c.args.place in
-    ap (λ n. slice_index_or list n 0) c.place_of.ensures ∙ (sym at ∙ sym next)
+    let rest = c.args.rest.now in
+    rest-next rest.sound (vehicle_at rest.costs.model.now rest.costs.vehicle).end c.args.place c.requires.place c.if-place-rest.false c.node.ensures.value

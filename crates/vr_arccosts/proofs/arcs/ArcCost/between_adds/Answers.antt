@@ -7,6 +7,7 @@ use Rattle.vr_routes.specs.Pieces.{joined}
 use Rattle.vr_arccosts.specs.Along.{between_cost, AreAlong, HaveAlong, StandsAlong}
 use Rattle.vr_arccosts.specs.declared.lines.Along.{Along}
 use Rattle.vr_arccosts.proofs.LineLemmas.{along-at}
+use Rattle.vr_arccosts.proofs.MoveLemmas.{pieces-below, pieces-within}
 use Rattle.vr_parts.proofs.PartLemmas.{small}
 use Rattle.vr_arccosts.proofs.PathLemmas.{cost-between}
 use Rattle.vr_arccosts.proofs.arcs.ArcCost.between_adds.Goals as goal
@@ -35,9 +36,15 @@ invariant_of-gap c = record {
   place = subst (λ u. c.args.behind ≤ length (route c.args.routes.now.lists u)) (sym c.costs_of-costs.ensures.vehicle) c.requires.place;
 }
 
+pub cost_along-requires-clause-within : goal.cost_along-requires-clause-within
+cost_along-requires-clause-within c = pieces-within c.args.self.now.model c.args.routes.now.lists c.args.pieces.now c.requires.known
+
 pub cost_along-requires-clause-nodes : goal.cost_along-requires-clause-nodes
 cost_along-requires-clause-nodes c =
-    subst (λ (m : Model). All (λ node. node < m.nodes) (joined c.args.routes.now.lists c.args.pieces.now)) (sym c.costs_of-costs.ensures.model) c.requires.nodes
+    let model : Model = c.args.self.now.model in
+    let lists : List (List ℕ) = c.args.routes.now.lists in
+    let s = small model c.requires.stands.well_formed lists c.requires.stands.valid in
+    subst (λ (m : Model). All (λ node. node < m.nodes) (joined lists c.args.pieces.now)) (sym c.costs_of-costs.ensures.model) (pieces-below model lists s.below c.args.pieces.now c.requires.known)
 
 pub returns-clause-value : goal.returns-clause-value
 returns-clause-value c =

@@ -10,7 +10,7 @@ use Rattle.vr_model.proofs.routes.Lists.{place_of_held}
 use Rattle.vr_routes.specs.Tours.{inactive_of}
 use Rattle.vr_routes.proofs.TourLemmas.{visits_ascend, visits_below}
 use Rattle.vr_arccosts.specs.Runs.{swap_added}
-use Rattle.vr_arccosts.proofs.LineLemmas.{line-told}
+use Rattle.vr_arccosts.proofs.LineLemmas.{least-told}
 use Rattle.vr_arccosts.proofs.SwapLemmas.{newcomer-held, swap-in-no-less}
 use Rattle.vr_arccosts.proofs.committed.Committed.first_swapped_in.Goals as goal
 
@@ -31,16 +31,14 @@ first_newcomer-requires-clause-ascending c =
 
 pub returns-clause-no_less : goal.returns-clause-no_less
 returns-clause-no_less c u low high one =
-    let model : Model = c.args.self.kept.now.model in
-    let lists : List (List ℕ) = c.args.self.routes.now.lists in
-    let v = c.args.v in
-    let a = c.args.a in
-    let line = c.line_of-line.ensures in
-    let xs : List ℕ = c.inactive-visits.result.now in
-    let idle : xs ≡ inactive_of (visits model) lists = c.inactive-visits.ensures.value ∙ ap (λ l. inactive_of l lists) c.args.self.stands.of_model in
-    let at = place_of_held (inactive_of (visits model) lists) u (newcomer-held model lists v a u one) in
-    let here : slice_index xs at.0 ≡ u = ap (λ l. slice_index l at.0) idle ∙ at.2 in
+    let a = c.args in
+    let model : Model = a.self.kept.now.model in
+    let lists : List (List ℕ) = a.self.routes.now.lists in
+    let idle : c.inactive-visits.result.now ≡ inactive_of (visits model) lists = c.inactive-visits.ensures.value ∙ ap (λ l. inactive_of l lists) a.self.stands.of_model in
+    let at = place_of_held (inactive_of (visits model) lists) u (newcomer-held model lists a.v a.a u one) in
+    let here : slice_index c.inactive-visits.result.now at.0 ≡ u = ap (λ l. slice_index l at.0) idle ∙ at.2 in
     let told = c.first_newcomer.ensures.no_less at.0 (subst (λ l. at.0 < length l) (sym idle) at.1)
-    (subst (λ y. c.args.asked.from ≤ y) (sym here) low) (subst (λ y. y < c.first_newcomer.result) (sym here) high) in
-    let same = line-told (λ m n l. swap_added m n l a (slice_index xs at.0)) line.model line.vehicle line.list ∙ ap (swap_added model v (route lists v) a) here in
-    swap-in-no-less model lists v a u c.args.asked.bound (subst (λ d. c.args.asked.bound ≤ℤ d) same told) one
+    (subst (λ y. a.asked.from ≤ y) (sym here) low) (subst (λ y. y < c.first_newcomer.result) (sym here) high) in
+    let line = c.line_of-line.ensures in
+    swap-in-no-less model lists a.v a.a u a.asked.bound (subst (λ y. a.asked.bound ≤ℤ swap_added model a.v (route lists a.v) a.a y) here
+    (least-told a.asked.bound (λ m n l. swap_added m n l a.a (slice_index c.inactive-visits.result.now at.0)) line.model line.vehicle line.list told)) one

@@ -3,22 +3,11 @@ use Rattle.std.specs.Prelude.{slice_range}
 use Rattle.std.proofs.lemmas.Int.{ints}
 use Rattle.std.proofs.lemmas.List.Elements.{All-append, All-nil}
 use Rattle.vr_parts.proofs.PartLemmas.{small}
-use Rattle.vr_arccosts.proofs.MoveLemmas.{slice-all}
 use Rattle.vr_model.specs.routes.Routes.{route}
 use Rattle.vr_model.specs.declared.records.Model.{Model}
 use Rattle.vr_arccosts.specs.ArcMoves.{costs_more}
 use Rattle.vr_arccosts.proofs.PutLemmas.{without-pair-list}
 use Rattle.vr_arccosts.proofs.puts.Served.without_pair.Goals as goal
-
-pub between_adds-requires-clause-nodes : goal.between_adds-requires-clause-nodes
-between_adds-requires-clause-nodes c =
-    let model : Model = c.args.self.now.lists.kept.now.model in
-    let lists : List (List ℕ) = c.args.self.now.lists.routes.now.lists in
-    let at = c.args.self.now.at in
-    let P : ℕ → Type 0 = λ node. node < model.nodes in
-    let s = small model c.args.self.now.lists.stands.well_formed lists c.args.self.now.lists.stands.valid in
-    let order = c.args.self.now.in_turn in
-    All-append P (slice_range (route lists at.vehicle) (at.pickup + 1) at.delivery) [] (slice-all P (route lists at.vehicle) (at.pickup + 1) at.delivery (omega (arith, order)) (s.below at.vehicle)) (All-nil P)
 
 pub returns-clause-value : goal.returns-clause-value
 returns-clause-value c =
