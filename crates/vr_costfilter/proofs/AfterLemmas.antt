@@ -1,5 +1,5 @@
 -- What a change makes of a list is timed by what it keeps.
-use Rattle.std.proofs.Common.{◌≡◌, ◌∙◌, ◌+◌, ◌<◌, ◌≤◌, ◌++◌, ℕ, List, [], Some, None, Option, false, length, refl, true, reverse, take, drop, ap, ap₂, sym, subst, arith, to_z, of_z, w64}
+use Rattle.std.proofs.Common.{◌≡◌, ◌∙◌, ◌+◌, ◌<◌, ◌≤◌, ◌++◌, ℕ, List, [], Some, None, Option, false, length, refl, reverse, take, drop, ap, ap₂, sym, subst, arith, to_z, of_z, w64}
 use Rattle.std.specs.Option.{option_and_then}
 use Rattle.std.specs.Prelude.{All, FitsSigned, ℤ, neg_ℤ, option_map, pos, slice_index_or, ◌*◌, ◌+ℤ◌, ◌≤ℤ◌}
 use Rattle.std.proofs.lemmas.Int.{ints}
@@ -25,20 +25,32 @@ use Rattle.vr_costfilter.proofs.FirstLemmas.{begin-none, begin-starting, begin-s
 use Rattle.vr_costfilter.proofs.FloorLemmas.{aimed-append, aimed-right, first-append}
 use Rattle.vr_costfilter.proofs.StageLemmas.{along-append, whole-append, whole-shift}
 use Rattle.vr_costfilter.proofs.StuckLemmas.{along-none, whole-none}
-use Rattle.vr_costfilter.proofs.TimingLemmas.{line-feasible, soft-high, soft-low, timed, IsTimed}
+use Rattle.vr_costfilter.proofs.TimingLemmas.{soft-high, soft-low, timed, HasTiming}
 
 -- what is read of a cost, and of more
-pub record IsRead (soft more : ℤ) : Type 0 where
+record IsRead (soft more : ℤ) : Type 0 where
   pub fits : FitsSigned w64 (to_z w64 (of_z w64 soft) +ℤ to_z w64 (of_z w64 more))
   pub read : to_z w64 (of_z w64 (to_z w64 (of_z w64 soft) +ℤ to_z w64 (of_z w64 more))) ≡ to_z w64 (of_z w64 (soft +ℤ more))
 
-pub read-more : (soft more : ℤ) (n : ℕ) → n ≤ 1000 → pos 0 ≤ℤ (soft +ℤ more) → (soft +ℤ more) ≤ℤ pos (cumul_cost * (n + 2)) → IsIn (neg_ℤ (pos (cumul_cost * 1002))) (pos (cumul_cost * 1002)) more → IsRead soft more
+read-more : (soft more : ℤ) (n : ℕ) → n ≤ 1000 → pos 0 ≤ℤ (soft +ℤ more) → (soft +ℤ more) ≤ℤ pos (cumul_cost * (n + 2)) → IsIn (neg_ℤ (pos (cumul_cost * 1002))) (pos (cumul_cost * 1002)) more → IsRead soft more
 read-more soft more n few low high range =
-    let a = range.at_least in
-    let b = range.at_most in
-    let x : to_z w64 (of_z w64 soft) ≡ soft = omega (arith, ints, few, low, high, a, b) in
-    let y : to_z w64 (of_z w64 more) ≡ more = omega (arith, ints, a, b) in
+    let x : to_z w64 (of_z w64 soft) ≡ soft = omega (arith, ints, few, low, high, range.at_least, range.at_most) in
+    let y : to_z w64 (of_z w64 more) ≡ more = omega (arith, ints, range.at_least, range.at_most) in
     record { fits = omega (arith, ints, x, y, few, low, high); read = ap₂ (λ (p q : ℤ). to_z w64 (of_z w64 (p +ℤ q))) x y }
+
+-- the chosen schedule of a list comes to this end, where more was paid on the way, from where it set out
+pub record ComesTo (model : Model) (d v : ℕ) (new : List ℕ) (met : Outset) (end : Stage) : Type 0 where
+  pub fits : FitsSigned w64 (to_z w64 (of_z w64 end.soft) +ℤ to_z w64 (of_z w64 met.more))
+  pub has : HasTiming model d v new (record { soft = to_z w64 (of_z w64 (to_z w64 (of_z w64 end.soft) +ℤ to_z w64 (of_z w64 met.more))); start = to_z w64 (of_z w64 met.start); last = to_z w64 (of_z w64 end.cumul) })
+
+-- a trail that was empty holds what was put on it
+pub back-anew : {model : Model} {d v : ℕ} {runs : Runs} {nodes : List ℕ} {next first : Step} {old new : List Step} → old ≡ [] → WentBack model d v runs nodes next old new first → WentBack model d v runs nodes next [] new first
+back-anew {model} {d} {v} {runs} {nodes} {next} {first} {old} {new} none back = subst (λ l. WentBack model d v runs nodes next l new first) none back
+
+-- the list that was walked along is this one
+pub led-along : {model : Model} {d v : ℕ} {runs : Runs} {kept between trail : List Step} {first : Step} {lead : Lead} {list old : List ℕ} (front : ℕ) → list ≡ old → HasLed model d v runs kept (take front list) first between trail lead
+    → HasLed model d v runs kept (take front old) first between trail lead
+led-along {model} {d} {v} {runs} {kept} {between} {trail} {first} {lead} {list} {old} front is led = subst (λ (l : List ℕ). HasLed model d v runs kept (take front l) first between trail lead) is led
 
 -- what is on a trail, back along the middle of a list and then along a part of its front
 trail-is : (model : Model) (d v : ℕ) (runs : Runs) (kept : List Step) (nodes middle : List ℕ) (next first : Step) (between trail : List Step) (lead : Lead) (back : WentBack model d v runs middle next [] between first) (led : HasLed model d v runs kept nodes first between trail lead)
@@ -47,25 +59,29 @@ trail-is model d v runs kept nodes middle next first between trail lead back led
     ap reverse (led.trail ∙ ap (λ l. l ++ reverse led.steps) back.trail) ∙ reverse-append (reverse back.steps) (reverse led.steps)
     ∙ ap₂ (λ (xs ys : List Step). xs ++ ys) (reverse-reverse led.steps) (reverse-reverse back.steps)
 
-pub trail-known : (model : Model) (d v : ℕ) (runs : Runs) (kept : List Step) (nodes middle : List ℕ) (next first : Step) (between trail : List Step) (lead : Lead) → WentBack model d v runs middle next [] between first
+pub trail-known : {model : Model} {d v : ℕ} {runs : Runs} {kept : List Step} {nodes middle : List ℕ} {next first : Step} {between trail : List Step} {lead : Lead} → WentBack model d v runs middle next [] between first
     → HasLed model d v runs kept nodes first between trail lead → All (IsVisitStep model) (reverse trail)
-trail-known model d v runs kept nodes middle next first between trail lead back led =
+trail-known {model} {d} {v} {runs} {kept} {nodes} {middle} {next} {first} {between} {trail} {lead} back led =
     subst (All (IsVisitStep model)) (sym (trail-is model d v runs kept nodes middle next first between trail lead back led)) (All-append (IsVisitStep model) led.steps back.steps led.known back.known)
 
--- a list keeps the front and the end of an old one, whose steps are kept
-module _ (model : Model) (d v : ℕ) (runs : Runs) (old : List ℕ) (steps : List Step) (steps_are : AreSteps model d v runs old steps) (new : List ℕ) (front behind : ℕ) (middle : List ℕ) (joins : new ≡ take front old ++ (middle ++ drop behind old))
-    (next : Step) (next_is : next ≡ slice_index_or steps behind (end_step model v runs)) (start : Run) where
+-- a list keeps the front and the end of an old one, whose steps are kept, and this is the step behind its middle
+pub record IsKeptAround (model : Model) (d v : ℕ) (runs : Runs) (old : List ℕ) (steps : List Step) (new : List ℕ) (front behind : ℕ) (middle : List ℕ) (next : Step) : Type 0 where
+  pub steps_are : AreSteps model d v runs old steps
+  pub joins : new ≡ take front old ++ (middle ++ drop behind old)
+  pub next_is : next ≡ slice_index_or steps behind (end_step model v runs)
+
+module _ {model : Model} {d v : ℕ} {runs : Runs} {old : List ℕ} {steps : List Step} {new : List ℕ} {front behind : ℕ} {middle : List ℕ} {next : Step} (around : IsKeptAround model d v runs old steps new front behind middle next) (start : Run) where
   abbrev last : Step
   last = end_step model v runs
 
   next-first : first_of (drop behind steps) last ≡ next
-  next-first = get_or-drop behind steps 0 last ∙ ap (λ n. slice_index_or steps n last) (let e : behind + 0 ≡ behind = omega arith in e) ∙ sym next_is
+  next-first = get_or-drop behind steps 0 last ∙ ap (λ n. slice_index_or steps n last) (let e : behind + 0 ≡ behind = omega arith in e) ∙ sym around.next_is
 
   behind-aimed : AreAimed model d v runs (drop behind steps) last
-  behind-aimed = aimed-right model d v runs (take behind steps) (drop behind steps) last (subst (λ l. AreAimed model d v runs l last) (sym (take-append-drop behind steps)) steps_are.aimed)
+  behind-aimed = aimed-right model d v runs (take behind steps) (drop behind steps) last (subst (λ l. AreAimed model d v runs l last) (sym (take-append-drop behind steps)) around.steps_are.aimed)
 
   behind-nodes : nodes_in (drop behind steps) ≡ drop behind old
-  behind-nodes = sym (drop-map (λ (s : Step). s.node) behind steps) ∙ ap (drop behind) steps_are.nodes_are
+  behind-nodes = sym (drop-map (λ (s : Step). s.node) behind steps) ∙ ap (drop behind) around.steps_are.nodes_are
 
   -- back along its middle there is no way
   module _ (allows : AllowsRuns model d v (starting runs start) new (chosen_line model d v new)) where
@@ -77,18 +93,18 @@ module _ (model : Model) (d v : ℕ) (runs : Runs) (old : List ℕ) (steps : Lis
 
     pub middle-unmet : first_step model d v runs middle next ≡ None → is_feasible (chosen_line model d v new) ≡ false
     middle-unmet none =
-        begin-unmet (begin-none model d v runs new (take front old) (middle ++ drop behind old) last joins
+        begin-unmet (begin-none model d v runs new (take front old) (middle ++ drop behind old) last around.joins
         (begin-stuck model d v runs (middle ++ drop behind old) middle (drop behind old) last next refl behind-begin none))
 
     -- nor back along the front
-    pub front-unmet : (first : Step) (between : List Step) → WentBack model d v runs middle next [] between first → first_step model d v runs (take front old) first ≡ None → is_feasible (chosen_line model d v new) ≡ false
-    front-unmet first between back none =
+    pub front-unmet : {first : Step} {between : List Step} → WentBack model d v runs middle next [] between first → first_step model d v runs (take front old) first ≡ None → is_feasible (chosen_line model d v new) ≡ false
+    front-unmet {first} {between} back none =
         let tail : first_step model d v runs (middle ++ drop behind old) last ≡ Some first =
         begin-append model d v runs middle (drop behind old) last ∙ ap (option_and_then (first_step model d v runs middle)) behind-begin ∙ went-begin model d v runs middle next first [] between back in
-        begin-unmet (begin-stuck model d v runs new (take front old) (middle ++ drop behind old) last first joins tail none)
+        begin-unmet (begin-stuck model d v runs new (take front old) (middle ++ drop behind old) last first around.joins tail none)
 
   -- new steps were put on a trail back along its middle and along a part of the front
-  module _ (first : Step) (between trail : List Step) (back : WentBack model d v runs middle next [] between first) (lead : Lead) (led : HasLed model d v runs steps (take front old) first between trail lead) where
+  module _ {first : Step} {between trail : List Step} (back : WentBack model d v runs middle next [] between first) {lead : Lead} (led : HasLed model d v runs steps (take front old) first between trail lead) where
     abbrev fronts : List Step
     fronts = take lead.place steps ++ led.steps
 
@@ -110,7 +126,7 @@ module _ (model : Model) (d v : ℕ) (runs : Runs) (old : List ℕ) (steps : Lis
     new-steps = record {
       nodes_are = map-append (λ (s : Step). s.node) fronts left
           ∙ ap₂ (λ (xs ys : List ℕ). xs ++ ys) led.nodes_are (map-append (λ (s : Step). s.node) back.steps (drop behind steps)
-          ∙ ap₂ (λ (xs ys : List ℕ). xs ++ ys) back.nodes_are behind-nodes) ∙ sym joins;
+          ∙ ap₂ (λ (xs ys : List ℕ). xs ++ ys) back.nodes_are behind-nodes) ∙ sym around.joins;
       aimed = record { each = aimed.each };
     }
 
@@ -140,7 +156,7 @@ module _ (model : Model) (d v : ℕ) (runs : Runs) (old : List ℕ) (steps : Lis
           ∙ whole-none model d v runs left)
 
     -- it has come along the kept ones
-    module _ (met : Outset) (out : HasSetOut model d v runs start steps lead met) where
+    module _ {met : Outset} (out : HasSetOut model d v runs start steps lead met) where
       from-out : whole model d v runs (Some out.first) (fronts ++ left) ≡ option_map (paid_more met.more) (whole model d v runs (Some met.stage) (led.steps ++ left))
       from-out =
           whole-append model d v runs (Some out.first) fronts left
@@ -164,16 +180,16 @@ module _ (model : Model) (d v : ℕ) (runs : Runs) (old : List ℕ) (steps : Lis
         whole-is = ap (λ o. whole model d v (starting runs start) o (fronts ++ left)) out-is ∙ from-start
 
         module _ (law : ChosenIsLeast) (well : IsWellFormed model) (dimension : d < length model.dimensions) (allows : AllowsRuns model d v (starting runs start) new (chosen_line model d v new)) where
-          -- what soft upper bounds cost in all
-          pub after-low : pos 0 ≤ℤ (end.soft +ℤ met.more)
-          after-low = soft-low model well d v dimension (starting runs start) new (chosen_line model d v new) allows (fronts ++ left) new-steps law refl out.first (paid_more met.more end) out-is whole-is
-
-          pub after-high : (end.soft +ℤ met.more) ≤ℤ pos (cumul_cost * (length new + 2))
-          after-high = soft-high model well d v dimension (starting runs start) new (chosen_line model d v new) allows (fronts ++ left) new-steps law refl out.first (paid_more met.more end) out-is whole-is
-
-          pub after-feasible : is_feasible (chosen_line model d v new) ≡ true
-          after-feasible = line-feasible model well d v dimension (starting runs start) new (chosen_line model d v new) allows (fronts ++ left) new-steps law refl out.first (paid_more met.more end) out-is whole-is
-
-          pub after-timed : length new ≤ 1000 → IsTimed model d v new (record { soft = to_z w64 (of_z w64 (end.soft +ℤ met.more)); start = to_z w64 (of_z w64 met.start); last = to_z w64 (of_z w64 end.cumul) })
-          after-timed few =
-              timed model well d v dimension (starting runs start) new (chosen_line model d v new) allows (fronts ++ left) new-steps law refl out.first (paid_more met.more end) out-is whole-is few met.start out.paced.start
+          -- the chosen schedule comes to what was found
+          pub comes-to : length new ≤ 1000 → ComesTo model d v new met end
+          comes-to few =
+              let read =
+              read-more end.soft met.more (length new) few
+              (soft-low model well d v dimension by new (chosen_line model d v new) allows (fronts ++ left) new-steps law refl out.first (paid_more met.more end) out-is whole-is)
+              (soft-high model well d v dimension by new (chosen_line model d v new) allows (fronts ++ left) new-steps law refl out.first (paid_more met.more end) out-is whole-is) out.paced.more in
+              record {
+                fits = read.fits;
+                has =
+                    subst (λ (x : ℤ). HasTiming model d v new (record { soft = x; start = to_z w64 (of_z w64 met.start); last = to_z w64 (of_z w64 end.cumul) })) (sym read.read)
+                    (timed model well d v dimension by new (chosen_line model d v new) allows (fronts ++ left) new-steps law refl out.first (paid_more met.more end) out-is whole-is few met.start out.paced.start);
+              }

@@ -1,5 +1,5 @@
 -- A list along which a vehicle has gone whole, back along its stops and then along the steps to them, is timed.
-use Rattle.std.proofs.Common.{◌≡◌, ◌∙◌, ◌<◌, ◌≤◌, ℕ, List, [], Some, None, false, length, reverse, true, refl, ap, sym, subst, to_z, of_z, w64}
+use Rattle.std.proofs.Common.{◌≡◌, ◌∙◌, ◌<◌, ◌≤◌, ℕ, List, [], Some, None, false, length, reverse, refl, ap, sym, subst, to_z, of_z, w64}
 use Rattle.std.specs.Prelude.{All, ℤ, option_map}
 use Rattle.std.specs.Option.{option_and_then}
 use Rattle.std.proofs.lemmas.List.{reverse-reverse}
@@ -17,9 +17,9 @@ use Rattle.vr_costfilter.specs.declared.guides.Stage.{Stage}
 use Rattle.vr_costfilter.specs.declared.trails.Step.{Step}
 use Rattle.vr_costfilter.proofs.FeasibleLemmas.{whole-unfeasible}
 use Rattle.vr_costfilter.proofs.StuckLemmas.{whole-none}
-use Rattle.vr_costfilter.proofs.TimingLemmas.{line-feasible, timed, IsTimed}
+use Rattle.vr_costfilter.proofs.TimingLemmas.{timed, HasTiming}
 
-module _ (model : Model) (d v : ℕ) (runs : Runs) (list : List ℕ) (next first : Step) (trail : List Step) (next_is : next ≡ end_step model v runs) (back : WentBack model d v runs list next [] trail first) where
+module _ {model : Model} {d v : ℕ} {runs : Runs} {list : List ℕ} {next first : Step} {trail : List Step} (back : WentBack model d v runs list next [] trail first) (next_is : next ≡ end_step model v runs) where
   trail-is : reverse trail ≡ back.steps
   trail-is = ap reverse back.trail ∙ reverse-reverse back.steps
 
@@ -57,10 +57,7 @@ module _ (model : Model) (d v : ℕ) (runs : Runs) (list : List ℕ) (next first
         ap (λ o. whole model d v runs o back.steps) out
         ∙ ap (option_and_then (to_end model d v runs)) (ap (along model d v runs (Some stage)) (sym trail-is) ∙ gone_is) ∙ end_is
 
-    pub along-feasible : ChosenIsLeast → IsWellFormed model → d < length model.dimensions → AllowsRuns model d v runs list (chosen_line model d v list) → is_feasible (chosen_line model d v list) ≡ true
-    along-feasible law well dimension by = line-feasible model well d v dimension runs list (chosen_line model d v list) by back.steps steps-are law refl stage end out whole-is
-
     pub along-timed : ChosenIsLeast → IsWellFormed model → d < length model.dimensions → AllowsRuns model d v runs list (chosen_line model d v list) → length list ≤ 1000
-        → IsTimed model d v list (record { soft = to_z w64 (of_z w64 end.soft); start = to_z w64 (of_z w64 floor); last = to_z w64 (of_z w64 end.cumul) })
+        → HasTiming model d v list (record { soft = to_z w64 (of_z w64 end.soft); start = to_z w64 (of_z w64 floor); last = to_z w64 (of_z w64 end.cumul) })
     along-timed law well dimension by few =
         timed model well d v dimension runs list (chosen_line model d v list) by back.steps steps-are law refl stage end out whole-is few floor (sym (ap (λ (s : Stage). s.cumul) stage_is))

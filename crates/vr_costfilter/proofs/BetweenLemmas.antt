@@ -84,7 +84,7 @@ module _ (model : Model) (d v : ℕ) (runs : Runs) (list : List ℕ) (L : Line) 
   all-arcs = arcs-many model d v runs list L by
 
   end-low : length L.arcs < length L.allowed
-  end-low = let m = by.has.stops in omega (arith, m)
+  end-low = omega (arith, by.has.stops)
 
   as-many : length ending.allowed ≡ length L.allowed
   as-many = length-set L.allowed (length L.arcs) (λ y. slice_index_or L.allowed (length L.arcs) (λ _. false) y && is_same_number e y)

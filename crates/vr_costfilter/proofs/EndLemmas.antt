@@ -25,7 +25,7 @@ module _ (line : Line) (runs : List Run) (are : HasRuns line runs) where
 
   pub bounds : (plan : Plan) → IsSchedule line plan → (k : ℕ) → k ≤ length line.arcs → ((run_at runs k).lo ≤ℤ cumul plan k) × (cumul plan k ≤ℤ (run_at runs k).hi)
   bounds plan s k le =
-      within-run (cumul plan k) (s.cumuls_allowed k (let m = are.stops in omega (arith, m, le)))
+      within-run (cumul plan k) (s.cumuls_allowed k (omega (arith, are.stops, le)))
     where
       within-run : (x : ℤ) → IsTrue (allows line k x) → ((run_at runs k).lo ≤ℤ x) × (x ≤ℤ (run_at runs k).hi)
       within-run x there =
@@ -115,17 +115,15 @@ module _ (line : Line) (runs : List Run) (are : HasRuns line runs) where
         let run = are.each k le in
         let a = low k le in
         let b = high k le in
-        let lo = run.ends.lo.at_least in
-        let hi = run.ends.hi.at_most in
         let inside : IsTrue (in_run (run_at runs k) (q k)) = grind (arith, ints, a, b) in
-        and_from _ _ (grind (arith, ints, a, b, lo, hi)) (sym (run.exact (q k)) ∙ inside)
+        and_from _ _ (grind (arith, ints, a, b, run.ends.lo.at_least, run.ends.hi.at_most)) (sym (run.exact (q k)) ∙ inside)
 
     pub made-schedule : IsSchedule line made
     made-schedule = record {
       cumul_of_each_stop = length-map (below (suc (length line.arcs))) q ∙ length-range_with_len 0 (suc (length line.arcs)) ∙ sym are.stops;
       slack_of_each_arc = length-map (below (length line.arcs)) left ∙ length-range_with_len 0 (length line.arcs);
       start_of_each_break = sym (ap length are.no_breaks);
-      cumuls_allowed = λ k less. (let le : k ≤ length line.arcs = (let m = are.stops in omega (arith, m, less)) in subst (λ x. IsTrue (allows line k x)) (sym (made-is k le)) (there k le));
+      cumuls_allowed = λ k less. (let le : k ≤ length line.arcs = omega (arith, are.stops, less) in subst (λ x. IsTrue (allows line k x)) (sym (made-is k le)) (there k le));
       slacks_left = λ k less. (let a = slack-is k less in let b = made-is k (omega (arith, less)) in let c = made-is (suc k) (omega (arith, less)) in omega (arith, ints, a, b, c));
       slacks_bounded = λ k less. (let a = slack-is k less in let b = on k less in let c = most k less in (omega (arith, ints, a, b), omega (arith, ints, a, c)));
       breaks_in_range = λ i less. absurd (no-break i less);

@@ -40,14 +40,14 @@ entries-more f xs more x n many each is next k other high =
 pub ways-more : (model : Model) (d v : ℕ) (runs : Runs) (list : List ℕ) (n : ℕ) (ways more : List Way) (way : Way) → AreWaysTo model d v runs list n ways → more ≡ ways ++ way ∷ []
     → way ≡ way_along model d v runs (way_out model v runs) (take (n + 1) list) → AreWaysTo model d v runs list (n + 1) more
 ways-more model d v runs list n ways more way h is next = record {
-  many = (let m = h.many in ap length is ∙ length-append ways (way ∷ []) ∙ (let e : length ways + 1 ≡ suc (n + 1) = omega (arith, m) in e));
+  many = (ap length is ∙ length-append ways (way ∷ []) ∙ (let e : length ways + 1 ≡ suc (n + 1) = omega (arith, h.many) in e));
   each = entries-more (λ k. way_along model d v runs (way_out model v runs) (take k list)) ways more way n h.many h.each is next;
 }
 
 pub rests-more : (model : Model) (d v : ℕ) (runs : Runs) (list : List ℕ) (n : ℕ) (rests more : List Rest) (rest : Rest) → AreRestsTo model d v runs list n rests → more ≡ rests ++ rest ∷ []
     → rest ≡ rest_of model d v runs (drop (length list - (n + 1)) list) → AreRestsTo model d v runs list (n + 1) more
 rests-more model d v runs list n rests more rest h is next = record {
-  many = (let m = h.many in ap length is ∙ length-append rests (rest ∷ []) ∙ (let e : length rests + 1 ≡ suc (n + 1) = omega (arith, m) in e));
+  many = (ap length is ∙ length-append rests (rest ∷ []) ∙ (let e : length rests + 1 ≡ suc (n + 1) = omega (arith, h.many) in e));
   each = entries-more (λ k. rest_of model d v runs (drop (length list - k) list)) rests more rest n h.many h.each is next;
 }
 
@@ -84,9 +84,7 @@ module _ (model : Model) (d v : ℕ) (a b : Runs) (of_a : AreRuns model d v a) (
   some k le =
       let n = arcs-many model d v a list (line model d v list) by in
       let two = bounds (line model d v list) (stop_runs a list) by.has feasible.0 feasible.1 k (omega (arith, n, le)) in
-      let low = two.0 in
-      let high = two.1 in
-      omega (arith, ints, low, high)
+      omega (arith, ints, two.0, two.1)
 
   pub same-start : a.start ≡ b.start
   same-start = start-run model d v a b of_a of_b (some 0 (omega arith))
@@ -116,22 +114,30 @@ module _ (g : Guide) (list : List ℕ) (few : length list ≤ 1000) (visits : Al
 
 -- ---- a list keeps the front and the end of an old one
 
-module _ (g : Guide) (are : AreRuns g.model.now g.d g.v (runs_of g)) (old list : List ℕ) (front behind : ℕ) (middle : List ℕ) (joins : list ≡ take front old ++ (middle ++ drop behind old))
-    (tour : IsTour g.model.now list) (few : length list ≤ 1000) (feasible : IsFeasible (line g.model.now g.d g.v list)) (kept : KeptWays) (is : AreWays g.model.now g.d g.v old kept) where
-  same-all : All (λ node. slice_index_or is.runs.visits node no_run ≡ slice_index_or g.visits.now node no_run) list
-  same-all = same-visits g.model.now g.d g.v is.runs (runs_of g) is.has.runs_are are list tour feasible
+-- a list that is feasible keeps the front and the end of an old one, of which this is kept
+pub record IsKeptAt (g : Guide) (old list : List ℕ) (front behind : ℕ) (middle : List ℕ) (kept : KeptWays) : Type 0 where
+  pub are : AreRuns g.model.now g.d g.v (runs_of g)
+  pub joins : list ≡ take front old ++ (middle ++ drop behind old)
+  pub tour : IsTour g.model.now list
+  pub few : length list ≤ 1000
+  pub feasible : IsFeasible (line g.model.now g.d g.v list)
+  pub is : AreWays g.model.now g.d g.v old kept
+
+module _ {g : Guide} {old list : List ℕ} {front behind : ℕ} {middle : List ℕ} {kept : KeptWays} (it : IsKeptAt g old list front behind middle kept) where
+  same-all : All (λ node. slice_index_or it.is.runs.visits node no_run ≡ slice_index_or g.visits.now node no_run) list
+  same-all = same-visits g.model.now g.d g.v it.is.runs (runs_of g) it.is.has.runs_are it.are list it.tour it.feasible
 
   visits : All (λ node. IsTrue (is_visit g.model.now node)) list
-  visits = all-visits g.model.now list tour.visits
+  visits = all-visits g.model.now list it.tour.visits
 
   in-front : (P : ℕ → Type 0) → All P list → All P (take front old)
-  in-front P all = all_left P (take front old) (middle ++ drop behind old) (subst (All P) joins all)
+  in-front P all = all_left P (take front old) (middle ++ drop behind old) (subst (All P) it.joins all)
 
   pub in-middle : (P : ℕ → Type 0) → All P list → All P middle
-  in-middle P all = all_left P middle (drop behind old) (all_right P (take front old) (middle ++ drop behind old) (subst (All P) joins all))
+  in-middle P all = all_left P middle (drop behind old) (all_right P (take front old) (middle ++ drop behind old) (subst (All P) it.joins all))
 
   in-back : (P : ℕ → Type 0) → All P list → All P (drop behind old)
-  in-back P all = all_right P middle (drop behind old) (all_right P (take front old) (middle ++ drop behind old) (subst (All P) joins all))
+  in-back P all = all_right P middle (drop behind old) (all_right P (take front old) (middle ++ drop behind old) (subst (All P) it.joins all))
 
   pub middle-visits : All (λ node. IsTrue (is_visit g.model.now node)) middle
   middle-visits = in-middle (λ node. IsTrue (is_visit g.model.now node)) visits
@@ -140,44 +146,43 @@ module _ (g : Guide) (are : AreRuns g.model.now g.d g.v (runs_of g)) (old list :
   parts =
       let two = length-append (take front old) (middle ++ drop behind old) in
       let more = length-append middle (drop behind old) in
-      let all = ap length joins in
+      let all = ap length it.joins in
       omega (arith, two, more, all)
 
   pub middle-few : length middle ≤ 1000
-  middle-few = let n = parts in omega (arith, n, few)
+  middle-few = let n = parts in omega (arith, n, it.few)
 
   -- the way that is kept in front
   pub way-known : (way : Way) → front ≤ length old → ((other : Way) → way ≡ slice_index_or kept.ways.items front other)
       → way ≡ way_along g.model.now g.d g.v (runs_of g) (way_out g.model.now g.v (runs_of g)) (take front old)
   way-known way low read =
-      read way ∙ is.has.ways.each front way low
-      ∙ same-way g.model.now g.d g.v is.runs (runs_of g) (take front old) (in-front (λ node. slice_index_or is.runs.visits node no_run ≡ slice_index_or g.visits.now node no_run) same-all) (way_out g.model.now g.v is.runs)
+      read way ∙ it.is.has.ways.each front way low
+      ∙ same-way g.model.now g.d g.v it.is.runs (runs_of g) (take front old) (in-front (λ node. slice_index_or it.is.runs.visits node no_run ≡ slice_index_or g.visits.now node no_run) same-all) (way_out g.model.now g.v it.is.runs)
       ∙ ap (λ (r : Run). (let out : Way = record { at = (vehicle_at g.model.now g.v).start; time = r.lo; transits = pos 0; latest = r.hi } in way_along g.model.now g.d g.v (runs_of g) out (take front old)))
-      (same-start g.model.now g.d g.v is.runs (runs_of g) is.has.runs_are are list tour feasible)
+      (same-start g.model.now g.d g.v it.is.runs (runs_of g) it.is.has.runs_are it.are list it.tour it.feasible)
 
   pub way-small : (way : Way) → front ≤ length old → ((other : Way) → way ≡ slice_index_or kept.ways.items front other) → IsWayOf g.model.now 1000 way
   way-small way low read =
       let n = parts in
       subst (IsWayOf g.model.now 1000) (sym (way-known way low read))
-      (way-more g.model.now (0 + length (take front old)) 1000 _ (omega (arith, n, few))
+      (way-more g.model.now (0 + length (take front old)) 1000 _ (omega (arith, n, it.few))
       (along-way g.model.now g.sound.well_formed g.d g.v g.sound.dimension g.sound.vehicle (runs_of g) g.sound.visits (take front old) (in-front (λ node. IsTrue (is_visit g.model.now node)) visits) 0 (way_out g.model.now g.v (runs_of g)) (out-way g.model.now g.sound.well_formed g.d g.v g.sound.dimension g.sound.vehicle (runs_of g) g.sound.start)))
 
   -- what is kept behind
   pub rest-known : (rest : Rest) → behind ≤ length old → ((other : Rest) → rest ≡ slice_index_or kept.rests.items (length kept.rests.items - 1 - behind) other)
       → rest ≡ rest_of g.model.now g.d g.v (runs_of g) (drop behind old)
   rest-known rest low read =
-      let many = is.has.rests.many in
-      let here : length kept.rests.items - 1 - behind ≡ length old - behind = omega (arith, many) in
+      let here : length kept.rests.items - 1 - behind ≡ length old - behind = omega (arith, it.is.has.rests.many) in
       let back : length old - (length old - behind) ≡ behind = omega (arith, low) in
-      read rest ∙ ap (λ n. slice_index_or kept.rests.items n rest) here ∙ is.has.rests.each (length old - behind) rest (omega arith) ∙ ap (λ n. rest_of g.model.now g.d g.v is.runs (drop n old)) back
-      ∙ same-rest g.model.now g.d g.v is.runs (runs_of g) (same-finish g.model.now g.d g.v is.runs (runs_of g) is.has.runs_are are list tour feasible)
-      (drop behind old) (in-back (λ node. slice_index_or is.runs.visits node no_run ≡ slice_index_or g.visits.now node no_run) same-all)
+      read rest ∙ ap (λ n. slice_index_or kept.rests.items n rest) here ∙ it.is.has.rests.each (length old - behind) rest (omega arith) ∙ ap (λ n. rest_of g.model.now g.d g.v it.is.runs (drop n old)) back
+      ∙ same-rest g.model.now g.d g.v it.is.runs (runs_of g) (same-finish g.model.now g.d g.v it.is.runs (runs_of g) it.is.has.runs_are it.are list it.tour it.feasible)
+      (drop behind old) (in-back (λ node. slice_index_or it.is.runs.visits node no_run ≡ slice_index_or g.visits.now node no_run) same-all)
 
   pub rest-small : (rest : Rest) → behind ≤ length old → ((other : Rest) → rest ≡ slice_index_or kept.rests.items (length kept.rests.items - 1 - behind) other) → IsRestOf g.model.now 1000 rest
   rest-small rest low read =
       let n = parts in
       subst (IsRestOf g.model.now 1000) (sym (rest-known rest low read))
-      (rest-more g.model.now (length (drop behind old)) 1000 _ (omega (arith, n, few))
+      (rest-more g.model.now (length (drop behind old)) 1000 _ (omega (arith, n, it.few))
       (rest-range g.model.now g.sound.well_formed g.d g.v g.sound.dimension g.sound.vehicle (runs_of g) g.sound.visits g.sound.finish (drop behind old) (in-back (λ node. IsTrue (is_visit g.model.now node)) visits)))
 
   -- the way along the front, on along the middle and through what is left is the whole one
@@ -187,7 +192,7 @@ module _ (g : Guide) (are : AreRuns g.model.now g.d g.v (runs_of g)) (old list :
   whole-known first way whole rest low high way_read rest_read way_is whole_is =
       whole_is
       ∙ ap₂ (λ (w : Way) (r : Rest). way_through g.model.now g.d g.v w r) (way_is ∙ ap (λ (w : Way). way_along g.model.now g.d g.v (runs_of g) w middle) (way-known first low way_read)) (rest-known rest high rest_read)
-      ∙ whole-parts g.model.now g.d g.v (runs_of g) (take front old) middle (drop behind old) list joins
+      ∙ whole-parts g.model.now g.d g.v (runs_of g) (take front old) middle (drop behind old) list it.joins
 
   pub whole-small : (way whole : Way) (rest : Rest) → behind ≤ length old → IsWayOf g.model.now 2000 way → ((other : Rest) → rest ≡ slice_index_or kept.rests.items (length kept.rests.items - 1 - behind) other)
       → whole ≡ way_through g.model.now g.d g.v way rest → IsWayOf g.model.now 3001 whole

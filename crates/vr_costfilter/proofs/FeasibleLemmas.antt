@@ -47,7 +47,7 @@ module _ (model : Model) (d v : ℕ) (runs : Runs) (list : List ℕ) (L : Line) 
   all-arcs = arcs-many model d v runs list L by
 
   allowed-at : (k : ℕ) → k ≤ suc (length list) → IsTrue (allows L k (cumul plan k))
-  allowed-at k le = s.cumuls_allowed k (let m = by.has.stops in let n = all-arcs in omega (arith, m, n, le))
+  allowed-at k le = s.cumuls_allowed k (let n = all-arcs in omega (arith, by.has.stops, n, le))
 
   -- a stop has a floor, where the schedule is no earlier at the next one than its floor
   record HasFloor (node : ℕ) (allowed : Run) (next : Step) (k : ℕ) : Type 0 where
@@ -67,9 +67,8 @@ module _ (model : Model) (d v : ℕ) (runs : Runs) (list : List ℕ) (L : Line) 
       let most = not-above L k allowed (cumul plan k) is (allowed-at k (omega (arith, le))) in
       let left = s.slacks_left k low in
       let bound = (s.slacks_bounded k low).1 in
-      let same = by.slack_max in
       let m = int_max_is ((next.floor -ℤ t) -ℤ slack) allowed.lo in
-      let least : floor_before next.floor (transit model d v node next.node) slack allowed ≤ℤ cumul plan k = omega (arith, ints, m, way, here, left, bound, same, there) in
+      let least : floor_before next.floor (transit model d v node next.node) slack allowed ≤ℤ cumul plan k = omega (arith, ints, m, way, here, left, bound, by.slack_max, there) in
       record { floor = it; is = floor-is next.floor t slack allowed it (record { is = refl; most = omega (arith, ints, least, most) }); least = least }
 
   -- the first of the steps to the visits from a place on, to which the schedule comes no earlier
@@ -166,10 +165,7 @@ module _ (model : Model) (d v : ℕ) (runs : Runs) (list : List ℕ) (L : Line) 
     slack-positive =
         let n = all-arcs in
         let two = s.slacks_bounded 0 (omega (arith, n)) in
-        let low = two.0 in
-        let high = two.1 in
-        let same = by.slack_max in
-        omega (arith, ints, low, high, same)
+        omega (arith, ints, two.0, two.1, by.slack_max)
 
     -- the stage at its start
     record Stands : Type 0 where
@@ -186,12 +182,11 @@ module _ (model : Model) (d v : ℕ) (runs : Runs) (list : List ℕ) (L : Line) 
         let had = floor-there 0 runs.start node next (omega arith) (start-allows model d v runs list L by) refl (step-node model d v runs list L by steps steps_are 0 (omega arith))
         (subst (λ i. next.floor ≤ℤ cumul plan i) f first) in
         let floor = floor-had next.floor (transit model d v node next.node) slack runs.start had.floor had.is in
-        let it = floor.is in
         let m = int_max_is ((next.floor -ℤ transit model d v node next.node) -ℤ slack) runs.start.lo in
         record {
           stage = standing model d v had.floor;
           out = ap (option_map (standing model d v)) had.is;
-          keeps = record { at = refl; most = had.least; meets = omega (arith, ints, it, m) };
+          keeps = record { at = refl; most = had.least; meets = omega (arith, ints, floor.is, m) };
         }
 
     -- the stage at visit k

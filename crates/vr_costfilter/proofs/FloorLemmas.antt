@@ -55,8 +55,7 @@ floor-had floor t s allowed it e = by (int_le (floor_before floor t s allowed) a
 
 pub floor-is : (floor t s : ℤ) (allowed : Run) (it : ℤ) → IsFloor floor t s allowed it → floor_in floor t s allowed ≡ Some it
 floor-is floor t s allowed it is =
-    let most = is.most in
-    let le : IsTrue (int_le it allowed.hi) = grind (arith, ints, most) in
+    let le : IsTrue (int_le it allowed.hi) = grind (arith, ints, is.most) in
     let test : int_le (floor_before floor t s allowed) allowed.hi ≡ true = subst (λ x. IsTrue (int_le x allowed.hi)) is.is le in
     ap (λ b. cond b (Some (floor_before floor t s allowed)) None) test ∙ ap (λ x. Some x) (sym is.is)
 

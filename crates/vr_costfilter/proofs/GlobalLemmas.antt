@@ -110,7 +110,7 @@ module _ (model : Model) (lists : List (List ℕ)) (orders : List Orders) (are :
       many = are.many;
       in_orders = λ d low pays. record { starts = (are.each d low pays).starts.range; ends = (are.each d low pays).ends.range };
       in_rows = λ d low pays k less. (
-          let known : k < length parts = (let many = rows.many in omega (arith, many, less)) in
+          let known : k < length parts = omega (arith, rows.many, less) in
           told-ranged model d (part_at parts k).vehicle (joined lists (part_at parts k).pieces) (told_in d (slice_index_or next k [])) (((rows.rows k known).each d low).told pays));
     }
 

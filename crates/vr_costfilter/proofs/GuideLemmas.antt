@@ -5,7 +5,7 @@ use Rattle.vr_costfilter.specs.GuideRuns.{runs_of}
 use Rattle.vr_costfilter.specs.Runs.{Runs}
 use Rattle.vr_costfilter.specs.declared.guides.Guide.{Guide}
 
-module _ (guide : Guide) (model : Model) (d v : ℕ) (runs : Runs) (same_model : guide.model.now ≡ model) (same_dimension : guide.d ≡ d) (same_vehicle : guide.v ≡ v) (same_runs : runs_of guide ≡ runs) where
+module _ (guide : Guide) {model : Model} {d v : ℕ} {runs : Runs} (same_model : guide.model.now ≡ model) (same_dimension : guide.d ≡ d) (same_vehicle : guide.v ≡ v) (same_runs : runs_of guide ≡ runs) where
   pub of-guide : (P : Model → ℕ → ℕ → Runs → Type 0) → P model d v runs → P guide.model.now guide.d guide.v (runs_of guide)
   of-guide P is =
       subst (λ m. P m guide.d guide.v (runs_of guide)) (sym same_model)

@@ -1,5 +1,5 @@
 -- What is kept of lists, written stage by stage, and after a list is replaced.
-use Rattle.std.proofs.Common.{◌≡◌, ◌∙◌, inl, inr, ℕ, zero, suc, ◌+◌, ◌<◌, ◌≤◌, List, [], ◌∷◌, ◌++◌, length, length-set, reverse, take, drop, refl, sym, ap, subst, add-one, arith, Option, Some, None}
+use Rattle.std.proofs.Common.{◌≡◌, ◌∙◌, inl, inr, ℕ, zero, suc, ◌+◌, ◌-◌, ◌<◌, ◌≤◌, List, [], ◌∷◌, ◌++◌, length, length-set, reverse, take, drop, refl, sym, ap, subst, add-one, arith, Option, Some, None}
 use Rattle.std.specs.Prelude.{All, IsTrue, ℤ, pos, option_map, slice_index_or, slice_set}
 use Rattle.std.specs.List.{list_all}
 use Rattle.std.proofs.lemmas.Bool.{and_parts, cases_lt}
@@ -19,13 +19,13 @@ use Rattle.vr_costfilter.specs.Runs.{between_runs, Runs, AreRuns}
 use Rattle.vr_costfilter.specs.Stages.{along, setting_out, standing, to_end, to_visit, visit_more, whole, IsStageOf}
 use Rattle.vr_costfilter.specs.KeptWays.{AreKeptWays, HaveKeptWays}
 use Rattle.vr_costfilter.specs.Kept.{AreAsMany, AreKept, HasRoom, IsKept}
-use Rattle.vr_costfilter.specs.Steps.{steps_of, AreAllStages, AreStages, AreSteps, HasStages}
+use Rattle.vr_costfilter.specs.Steps.{steps_of, AreAllStages, AreKnownSteps, AreStages, AreSteps, HasStages}
 use Rattle.vr_costfilter.specs.declared.kept_ways.KeptWays.{KeptWays}
 use Rattle.vr_costfilter.specs.declared.guides.Stage.{Stage}
 use Rattle.vr_costfilter.specs.declared.kept.KeptList.{KeptList}
 use Rattle.vr_costfilter.specs.declared.steps.KeptSteps.{KeptSteps}
 use Rattle.vr_costfilter.specs.declared.trails.Step.{Step}
-use Rattle.vr_costfilter.proofs.FloorLemmas.{aimed-left, many-steps}
+use Rattle.vr_costfilter.proofs.FloorLemmas.{aimed-left, many-steps, step-read}
 use Rattle.vr_costfilter.proofs.RunLemmas.{end-some, finish-run, same-aimed, same-along, same-end, same-end-step, same-out, start-run, start-some}
 use Rattle.vr_costfilter.proofs.StageLemmas.{some-same, stage-more, whole-append}
 
@@ -110,6 +110,30 @@ module _ (model : Model) (d v : ℕ) (runs : Runs) (list : List ℕ) (steps : Li
 -- as many steps are kept as there are visits
 pub items-many : (model : Model) (d v : ℕ) (runs : Runs) (list : List ℕ) (items : List Step) → AreSteps model d v runs list (reverse items) → length items ≡ length list
 items-many model d v runs list items are = sym (length-reverse items) ∙ many-steps model d v runs list (reverse items) are
+
+-- what is read of the steps and the stages that are kept of a list
+module _ {model : Model} {d v : ℕ} {runs : Runs} {list : List ℕ} {kept : KeptSteps} (sound : AreKnownSteps model d v runs list kept) where
+  many : length kept.trail.steps.items ≡ length list
+  many = items-many model d v runs list kept.trail.steps.items sound.stages.steps_are
+
+  -- there are as many steps as visits
+  pub steps-long : length (steps_of kept) ≡ length list
+  steps-long = length-reverse kept.trail.steps.items ∙ many
+
+  -- the step to a visit
+  module _ {read : List Step} (is : read ≡ kept.trail.steps.items) (k : ℕ) (low : k < length list) where
+    pub step-inside : length list - 1 - k < length read
+    step-inside = let same = ap length is in omega (arith, same, many, low)
+
+    pub step-there : (one other : Step) → slice_index_or read (length list - 1 - k) one ≡ slice_index_or (steps_of kept) k other
+    step-there one other = step-read kept.trail.steps.items read (length list) k one other is many low
+
+    pub step-known : (one : Step) → IsVisitStep model (slice_index_or read (length list - 1 - k) one)
+    step-known one = subst (IsVisitStep model) (sym (step-there one one)) (sound.stages.known k one (omega (arith, low, steps-long)))
+
+  -- the stage at a stop
+  pub stage-known : {read : List Stage} → read ≡ kept.stages.items → (k : ℕ) (other : Stage) → k ≤ length list → IsStageOf model 1002 (slice_index_or read k other)
+  stage-known {read} is k other le = kept-small model d v runs list (steps_of kept) kept.stages.items read sound.stages is sound.few k other le
 
 -- what is kept at the start is a stage at a cumul
 pub out-standing : (model : Model) (d v : ℕ) (runs : Runs) (next : Step) (stage : Stage) → setting_out model d v runs next ≡ Some stage → stage ≡ standing model d v stage.cumul
@@ -232,5 +256,5 @@ as-many-same kept = record { many = refl; each = λ d other low. refl }
 pub as-many-then : (old next new : List (List KeptList)) → AreAsMany old next → AreAsMany next new → AreAsMany old new
 as-many-then old next new first then = record {
   many = then.many ∙ first.many;
-  each = λ d other low. then.each d other low ∙ first.each d other (let n = then.many in omega (arith, n, low));
+  each = λ d other low. then.each d other low ∙ first.each d other (omega (arith, then.many, low));
 }

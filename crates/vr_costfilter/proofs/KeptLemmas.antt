@@ -63,13 +63,9 @@ module _ (model : Model) (lists : List (List ℕ)) (parts : List ListAfter) (d :
       there true e away = h
       there false e away =
           let o = over away e in
-          let x = o.last in
-          let y = o.start in
-          let l = h.last in
-          let f = h.start in
           let a = int_max_is s.last (last_with model d v (route lists v)) in
           let b = int_min_is s.start (start_with model d v (route lists v)) in
-          record { last = omega (arith, ints, a, x, l); start = omega (arith, ints, b, y, f); span = h.span }
+          record { last = omega (arith, ints, a, o.last, h.last); start = omega (arith, ints, b, o.start, h.start); span = h.span }
 
       by : (b : Bool) → gives parts v ≡ b → IsWithin (cond b s (with_chosen model d v (route lists v) s)) t
       by true e = h
@@ -85,7 +81,7 @@ module _ (model : Model) (lists : List (List ℕ)) (parts : List ListAfter) (d :
   kept-low : (n : ℕ) → IsWithin no_spread (kept n)
   kept-low zero = record { last = omega (arith, ints); start = omega (arith, ints); span = refl }
   kept-low (suc n) = subst (IsWithin no_spread) (sym (kept-next n)) (let a = kept-low n in let b = grows (kept n) n in
-      let p = a.last in let q = b.last in let r = a.start in let s = b.start in record { last = omega (arith, ints, p, q); start = omega (arith, ints, r, s); span = b.span ∙ a.span })
+      record { last = omega (arith, ints, a.last, b.last); start = omega (arith, ints, a.start, b.start); span = b.span ∙ a.span })
 
   -- and over each list that stays
   kept-over : (n v : ℕ) → v < n → gives parts v ≡ false → is_empty (route lists v) ≡ false → Reaches v (kept n)
@@ -94,8 +90,7 @@ module _ (model : Model) (lists : List (List ℕ)) (parts : List ListAfter) (d :
     | inl less ↦ (
         let h = kept-over n v less away used in
         let g = grows (kept n) n in
-        let p = h.last in let q = g.last in let r = h.start in let s = g.start in
-        record { last = omega (arith, ints, p, q); start = omega (arith, ints, r, s) })
+        record { last = omega (arith, ints, h.last, g.last); start = omega (arith, ints, h.start, g.start) })
     | inr past ↦ (
         let here : n ≡ v = omega (arith, low, past) in
         subst (λ w. Reaches v (with_kept model lists parts d (kept n) w)) (sym here) (reaches (kept n) v away used))
@@ -131,17 +126,15 @@ module _ (model : Model) (lists : List (List ℕ)) (parts : List ListAfter) (d :
       last None h r = let w = (within None h r).last in let l = (kept-low (length lists)).last in omega (arith, ints, w, l)
       last (Some e) h r =
           let w = (within (Some e) h r).last in
-          let at = h.last.3 in
           let l = (kept-over (length lists) h.last.0 (used-known lists h.last.0 h.last.2) (stay h.last.0 h.last.1) h.last.2).last in
-          omega (arith, ints, w, at, l)
+          omega (arith, ints, w, h.last.3, l)
 
       start : (extent : Option Extent) → IsReach model d lists (λ v. not (names (vehicles_of parts) v)) extent → IsSpreadInRange (spread_of extent) → (spread_of extent).start ≡ (kept (length lists)).start
       start None h r = let w = (within None h r).start in let l = (kept-low (length lists)).start in omega (arith, ints, w, l)
       start (Some e) h r =
           let w = (within (Some e) h r).start in
-          let at = h.first.3 in
           let l = (kept-over (length lists) h.first.0 (used-known lists h.first.0 h.first.2) (stay h.first.0 h.first.1) h.first.2).start in
-          omega (arith, ints, w, at, l)
+          omega (arith, ints, w, h.first.3, l)
 
       span : (extent : Option Extent) → (spread_of extent).span ≡ (kept (length lists)).span
       span None = sym (kept-low (length lists)).span

@@ -25,7 +25,7 @@ tour-of model v list known is read same = subst (IsTourOf model v) (sym same) (r
 -- what is looked up of a dimension, as it is read of all of them
 pub known-at : (model : Model) (tables : List Table) → AreTables model tables → (d : ℕ) (table : Table) → table ≡ slice_index_or tables d table → d < length tables → IsLookedUp model d table
 known-at model tables are d table is under =
-    let low : d < length model.dimensions = (let n = are.one_of_each in omega (arith, n, under)) in
+    let low : d < length model.dimensions = omega (arith, are.one_of_each, under) in
     record { dimension = low; told = table_at model tables are d table is low }
 
 -- a part of a change before which and after which lists are valid, for a model as it is seen

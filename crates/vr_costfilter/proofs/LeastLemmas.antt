@@ -32,10 +32,8 @@ use Rattle.vr_costfilter.proofs.RunLemmas.{stop-last, stop-visit}
 -- a number of the run that a stop allows is a cumul that it allows
 pub allowed-in : (line : Line) (k : ℕ) (run : Run) (x : ℤ) → IsAllowedRun line k run → run.lo ≤ℤ x → x ≤ℤ run.hi → IsTrue (allows line k x)
 allowed-in line k run x is low high =
-    let lo = is.ends.lo.at_least in
-    let hi = is.ends.hi.at_most in
     let there : IsTrue (in_run run x) = grind (arith, ints, low, high) in
-    and_from _ _ (grind (arith, ints, low, high, lo, hi)) (sym (is.exact x) ∙ there)
+    and_from _ _ (grind (arith, ints, low, high, is.ends.lo.at_least, is.ends.hi.at_most)) (sym (is.exact x) ∙ there)
 
 -- what a stop allows is not below its run
 pub not-below : (line : Line) (k : ℕ) (run : Run) (x : ℤ) → IsAllowedRun line k run → IsTrue (allows line k x) → run.lo ≤ℤ x
@@ -60,7 +58,7 @@ module _ (line : Line) (stops : length line.allowed ≡ suc (length line.arcs)) 
       → IsIn (pos 0) line.slack_max ((next -ℤ number_at cumuls k) -ℤ (arc_at line k).transit)
       → ((plan : Plan) → IsSchedule line plan → next ≤ℤ cumul plan (suc k)) → AreEarly line (suc k) (cumuls ++ next ∷ [])
   step-least k cumuls are next there slack least = record {
-    many = let n = length-append cumuls (next ∷ []) in let m = are.many in omega (arith, n, m);
+    many = let n = length-append cumuls (next ∷ []) in omega (arith, n, are.many);
     allowed = λ i le. elim (earlier i le) [
       | inl old ↦ subst (λ x. IsTrue (allows line i x)) (sym (before i old)) (are.allowed i old)
       | inr new ↦ subst (λ j. IsTrue (allows line j (number_at (cumuls ++ next ∷ []) j))) (sym new) (subst (λ x. IsTrue (allows line (suc k) x)) (sym last) there)
@@ -85,7 +83,7 @@ module _ (line : Line) (stops : length line.allowed ≡ suc (length line.arcs)) 
       last = at_new cumuls next (suc k) are.many
 
       before : (i : ℕ) → i ≤ k → number_at (cumuls ++ next ∷ []) i ≡ number_at cumuls i
-      before i le = get_or_append_left cumuls (next ∷ []) (pos 0) i (let m = are.many in omega (arith, m, le))
+      before i le = get_or_append_left cumuls (next ∷ []) (pos 0) i (omega (arith, are.many, le))
 
       same : (i : ℕ) → i < k → slack_left line (cumuls ++ next ∷ []) i ≡ slack_left line cumuls i
       same i less =
@@ -96,9 +94,7 @@ module _ (line : Line) (stops : length line.allowed ≡ suc (length line.arcs)) 
       here : IsIn (pos 0) line.slack_max (slack_left line (cumuls ++ next ∷ []) k)
       here =
           let a = before k (omega arith) in
-          let low = slack.at_least in
-          let high = slack.at_most in
-          record { at_least = omega (arith, ints, last, a, low); at_most = omega (arith, ints, last, a, high) }
+          record { at_least = omega (arith, ints, last, a, slack.at_least); at_most = omega (arith, ints, last, a, slack.at_most) }
 
 -- ---- along a line that allows runs
 
@@ -175,10 +171,8 @@ module _ (model : Model) (d v : ℕ) (runs : Runs) (list : List ℕ) (L : Line) 
       let here = not-below L k allowed (cumul plan k) is (s.cumuls_allowed k (let m = stops-and-arcs in omega (arith, m, low))) in
       let left = s.slacks_left k low in
       let most = (s.slacks_bounded k low).1 in
-      let slack = by.slack_max in
       let m = int_max_is ((next.floor -ℤ transit model d v node next.node) -ℤ (dimension_at model d).slack_max) allowed.lo in
-      let f = floor.is in
-      omega (arith, ints, f, m, way, here, left, most, slack, there)
+      omega (arith, ints, floor.is, m, way, here, left, most, by.slack_max, there)
 
   -- no schedule comes to a visit, or to the end, before its floor
   pub floors-least : (plan : Plan) → IsSchedule L plan → (j k : ℕ) → j + k ≡ length list → (slice_index_or steps k (end_step model v runs)).floor ≤ℤ cumul plan (k + 1)

@@ -55,7 +55,7 @@ plans-least model well lists valid v vehicle known = by (is_empty (route lists v
             let plan = plan-at model lists d v low known used in
             let soft = subst (λ (p : Plan). pos 0 ≤ℤ soft_of (dimension_at model d) v (route lists v) p.cumuls) plan (softs-up_to model well lists valid d v low known used).at_least in
             let is = well.each_dimension d no_dimension low in
-            let coefficient = (is.span_costs_in_range v (pos 0) (let n = is.span_cost_of_each_vehicle in omega (arith, n, vehicle))).at_least in
+            let coefficient = (is.span_costs_in_range v (pos 0) (omega (arith, is.span_cost_of_each_vehicle, vehicle))).at_least in
             let span = times-le (number_at (dimension_at model d).span_costs v) (least_span model d v (route lists v)) (last_with model d v (route lists v) -ℤ start_with model d v (route lists v)) coefficient (no-earlier model lists valid d v low known used well).span in
             omega (arith, ints, soft, span)
 

@@ -29,7 +29,7 @@ list-of model well lists valid v =
     let are = are-lists model lists valid in
     record {
       tour = record { visits = route-visits model lists v are; distinct = route-distinct model lists v are };
-      few = (let f = route-few model lists v are in let n = well.number_of_nodes.1 in omega (arith, f, n));
+      few = (let f = route-few model lists v are in omega (arith, f, well.number_of_nodes.1));
     }
 
 -- the list of part k

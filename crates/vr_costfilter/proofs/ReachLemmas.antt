@@ -25,19 +25,18 @@ is-not true e = absurd (true≢false (sym e))
 is-not false e = refl
 
 -- the lesser of two numbers is one of them, and the greater too
+either : (b : Bool) (x y : ℤ) → (cond b x y ≡ x) ⊎ (cond b x y ≡ y)
+either true x y = inl refl
+either false x y = inr refl
+
 min-is : (x y : ℤ) → (int_min x y ≡ x) ⊎ (int_min x y ≡ y)
-min-is x y = go (int_lt y x)
-  where
-    go : (b : Bool) → (cond b y x ≡ x) ⊎ (cond b y x ≡ y)
-    go true = inr refl
-    go false = inl refl
+min-is x y = elim (either (int_lt y x) y x) [
+  | inl first ↦ inr first
+  | inr second ↦ inl second
+]
 
 max-is : (x y : ℤ) → (int_max x y ≡ x) ⊎ (int_max x y ≡ y)
-max-is x y = go (int_lt y x)
-  where
-    go : (b : Bool) → (cond b x y ≡ x) ⊎ (cond b x y ≡ y)
-    go true = inl refl
-    go false = inr refl
+max-is x y = either (int_lt y x) x y
 
 -- the first entries of other vehicles tell it
 pub extent-but-is : (model : Model) (d : ℕ) (lists : List (List ℕ)) (orders : Orders) → AreOrders model d lists orders → (vehicles : List ℕ) → IsReach model d lists (λ v. not (names vehicles v)) (extent_but vehicles orders)
@@ -51,12 +50,11 @@ extent-but-is model d lists orders are vehicles = go (first_but vehicles orders.
         let b = first-told (number_of (left_with model d) lists) orders.ends are.ends vehicles y e in
         let p = number-is (start_with model d) lists a.0.0 x a.0.2 in
         let q = number-is (left_with model d) lists b.0.0 y b.0.2 in
-        let at_end = q.1 in
         record {
           starts = λ v away used. a.1 v (start_with model d v (route lists v)) (is-not (names vehicles v) away) (number-some (start_with model d) lists v used);
           ends = λ v away used. (let l = b.1 v (left_with model d v (route lists v)) (is-not (names vehicles v) away) (number-some (left_with model d) lists v used) in omega (arith, ints, l));
           first = (a.0.0, ap not a.0.1, p.0, p.1);
-          last = (b.0.0, ap not b.0.1, q.0, omega (arith, ints, at_end));
+          last = (b.0.0, ap not b.0.1, q.0, omega (arith, ints, q.1));
         }
 
 -- the same of other lists, where those of these vehicles are the same
@@ -75,11 +73,11 @@ module _ (model : Model) (d : ℕ) (lists : List (List ℕ)) (some more : ℕ �
   reach-more None h None unused = λ u is. elim (only u is) [ inl same ↦ subst (λ w. is_empty (route lists w) ≡ true) (sym same) unused | inr before ↦ h u before ]
   reach-more None h (Some t) is = record {
     starts = λ u now used. elim (only u now) [
-      | inl same ↦ subst (λ w. t.start ≤ℤ start_with model d w (route lists w)) (sym same) (let e = is.is_timing.start in omega (arith, ints, e))
+      | inl same ↦ subst (λ w. t.start ≤ℤ start_with model d w (route lists w)) (sym same) (omega (arith, ints, is.is_timing.start))
       | inr before ↦ absurd (true≢false (sym (h u before) ∙ used))
     ];
     ends = λ u now used. elim (only u now) [
-      | inl same ↦ subst (λ w. last_with model d w (route lists w) ≤ℤ t.last) (sym same) (let e = is.is_timing.last in omega (arith, ints, e))
+      | inl same ↦ subst (λ w. last_with model d w (route lists w) ≤ℤ t.last) (sym same) (omega (arith, ints, is.is_timing.last))
       | inr before ↦ absurd (true≢false (sym (h u before) ∙ used))
     ];
     first = (v, in_it, is.used, sym is.is_timing.start);
@@ -99,11 +97,11 @@ module _ (model : Model) (d : ℕ) (lists : List (List ℕ)) (some more : ℕ �
   }
   reach-more (Some e) h (Some t) is = record {
     starts = λ u now used. elim (only u now) [
-      | inl same ↦ subst (λ w. int_min e.start t.start ≤ℤ start_with model d w (route lists w)) (sym same) (let m = int_min_is e.start t.start in let at = is.is_timing.start in omega (arith, ints, m, at))
+      | inl same ↦ subst (λ w. int_min e.start t.start ≤ℤ start_with model d w (route lists w)) (sym same) (let m = int_min_is e.start t.start in omega (arith, ints, m, is.is_timing.start))
       | inr before ↦ (let m = int_min_is e.start t.start in let l = h.starts u before used in omega (arith, ints, m, l))
     ];
     ends = λ u now used. elim (only u now) [
-      | inl same ↦ subst (λ w. last_with model d w (route lists w) ≤ℤ int_max e.last t.last) (sym same) (let m = int_max_is e.last t.last in let at = is.is_timing.last in omega (arith, ints, m, at))
+      | inl same ↦ subst (λ w. last_with model d w (route lists w) ≤ℤ int_max e.last t.last) (sym same) (let m = int_max_is e.last t.last in omega (arith, ints, m, is.is_timing.last))
       | inr before ↦ (let m = int_max_is e.last t.last in let l = h.ends u before used in omega (arith, ints, m, l))
     ];
     first = elim (min-is e.start t.start) [

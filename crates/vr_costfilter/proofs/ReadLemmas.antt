@@ -41,12 +41,8 @@ read-floor f t s hf ht hs =
 pub floor-around : (f t s lo x m : ℤ) → x ≡ m → IsAround 100000000000 f → IsAround 100000000000 t → IsAround 100000000000 s → IsAround 100000000000 lo → m ≡ int_max ((f -ℤ t) -ℤ s) lo → IsAround 500000000000 x
 floor-around f t s lo x m same hf ht hs hlo is =
     let d = less-around (f -ℤ t) s (less-arc f t hf ht) hs in
-    let dl = d.low in
-    let dh = d.high in
-    let ll = hlo.low in
-    let lh = hlo.high in
     let i = int_max_is ((f -ℤ t) -ℤ s) lo in
-    record { low = omega (arith, ints, same, is, i, dl, dh, ll, lh); high = omega (arith, ints, same, is, i, dl, dh, ll, lh) }
+    record { low = omega (arith, ints, same, is, i, d.low, d.high, hlo.low, hlo.high); high = omega (arith, ints, same, is, i, d.low, d.high, hlo.low, hlo.high) }
 
 -- what is read of a floor
 pub record IsFloorRead (f t s lo it : ℤ) : Type 0 where

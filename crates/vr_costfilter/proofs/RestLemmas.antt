@@ -30,189 +30,113 @@ rest-is node other transits r least_end f latest_cumul l at a b c =
 pub rest-more : (model : Model) (n m : ℕ) (rest : Rest) → n ≤ m → IsRestOf model n rest → IsRestOf model m rest
 rest-more model n m rest le h = record {
   at = h.at;
-  low = (let x = h.low in omega (arith, ints, x, le));
-  high = (let x = h.high in omega (arith, ints, x, le));
+  low = omega (arith, ints, h.low, le);
+  high = omega (arith, ints, h.high, le);
   early = h.early;
-  late = (let x = h.late in omega (arith, ints, x, le));
-  soonest = (let x = h.soonest in omega (arith, ints, x, le));
+  late = omega (arith, ints, h.late, le);
+  soonest = omega (arith, ints, h.soonest, le);
   latest = h.latest;
 }
 
--- what is read of what is left from a stop on, r being the transit as it was read
-module _ (model : Model) (rest : Rest) (allowed : Run) (t r : ℤ) (h : IsRestOf model 1000 rest) (ends : HasCumulEnds allowed) (same : r ≡ t) (least : neg_ℤ (pos (2 ^ 31)) ≤ℤ r) (greatest : r ≤ℤ pos (2 ^ 31)) where
+-- what is read of what is left, r being the transit to it as it was read
+module _ {model : Model} {rest : Rest} {t r : ℤ} (h : IsRestOf model 1000 rest) (same : r ≡ t) (least : neg_ℤ (pos (2 ^ 31)) ≤ℤ r) (greatest : r ≤ℤ pos (2 ^ 31)) where
   left-read : to_z w64 (of_z w64 (to_z w64 (of_z w64 r) +ℤ to_z w64 (of_z w64 rest.transits))) ≡ t +ℤ rest.transits
-  left-read = let low = h.low in let high = h.high in omega (arith, ints, same, least, greatest, low, high)
-
-  from-read : to_z w64 (of_z w64 (to_z w64 (of_z w64 allowed.lo) +ℤ to_z w64 (of_z w64 (to_z w64 (of_z w64 r) +ℤ to_z w64 (of_z w64 rest.transits))))) ≡ allowed.lo +ℤ (t +ℤ rest.transits)
-  from-read =
-      let is = left-read in
-      let low = h.low in
-      let high = h.high in
-      let p = ends.lo.at_least in
-      let q = ends.lo.at_most in
-      omega (arith, ints, is, same, least, greatest, low, high, p, q)
-
-  pub from-fits : FitsSigned w64 (to_z w64 (of_z w64 allowed.lo) +ℤ to_z w64 (of_z w64 (to_z w64 (of_z w64 r) +ℤ to_z w64 (of_z w64 rest.transits))))
-  from-fits =
-      let is = left-read in
-      let low = h.low in
-      let high = h.high in
-      let p = ends.lo.at_least in
-      let q = ends.lo.at_most in
-      omega (arith, ints, is, same, least, greatest, low, high, p, q)
-
-  under-read : to_z w64 (of_z w64 (to_z w64 (of_z w64 rest.latest_cumul) -ℤ to_z w64 (of_z w64 r))) ≡ rest.latest_cumul -ℤ t
-  under-read = let low = h.soonest in let high = h.latest in omega (arith, ints, same, least, greatest, low, high)
-
-  pub under-fits : FitsSigned w64 (to_z w64 (of_z w64 rest.latest_cumul) -ℤ to_z w64 (of_z w64 r))
-  under-fits = let low = h.soonest in let high = h.latest in omega (arith, ints, same, least, greatest, low, high)
+  left-read = omega (arith, ints, same, least, greatest, h.low, h.high)
 
   floor-known : to_z w64 (of_z w64 rest.least_end) ≡ rest.least_end
-  floor-known = let early = h.early in let late = h.late in omega (arith, ints, early, late)
+  floor-known = omega (arith, ints, h.early, h.late)
 
-  floor-read : (x : ℤ) → x ≡ int_max (allowed.lo +ℤ (t +ℤ rest.transits)) rest.least_end → to_z w64 (of_z w64 x) ≡ x
-  floor-read x is =
-      let m = int_max_is (allowed.lo +ℤ (t +ℤ rest.transits)) rest.least_end in
-      let low = h.low in
-      let high = h.high in
-      let early = h.early in
-      let late = h.late in
-      let p = ends.lo.at_least in
-      let q = ends.lo.at_most in
-      omega (arith, ints, is, m, same, least, greatest, low, high, early, late, p, q)
+  -- from a stop on that allows a run
+  module _ {allowed : Run} (ends : HasCumulEnds allowed) where
+    from-read : to_z w64 (of_z w64 (to_z w64 (of_z w64 allowed.lo) +ℤ to_z w64 (of_z w64 (to_z w64 (of_z w64 r) +ℤ to_z w64 (of_z w64 rest.transits))))) ≡ allowed.lo +ℤ (t +ℤ rest.transits)
+    from-read = omega (arith, ints, left-read, same, least, greatest, h.low, h.high, ends.lo.at_least, ends.lo.at_most)
 
-  ceiling-read : (x : ℤ) → x ≡ int_min allowed.hi (rest.latest_cumul -ℤ t) → to_z w64 (of_z w64 x) ≡ x
-  ceiling-read x is =
-      let m = int_min_is allowed.hi (rest.latest_cumul -ℤ t) in
-      let low = h.soonest in
-      let high = h.latest in
-      let p = ends.hi.at_least in
-      let q = ends.hi.at_most in
-      omega (arith, ints, is, m, same, least, greatest, low, high, p, q)
+    pub from-fits : FitsSigned w64 (to_z w64 (of_z w64 allowed.lo) +ℤ to_z w64 (of_z w64 (to_z w64 (of_z w64 r) +ℤ to_z w64 (of_z w64 rest.transits))))
+    from-fits = omega (arith, ints, left-read, same, least, greatest, h.low, h.high, ends.lo.at_least, ends.lo.at_most)
 
-  pub before-read : (node : ℕ) (least_end latest_cumul : ℤ)
-      → least_end ≡ int_max (to_z w64 (of_z w64 (to_z w64 (of_z w64 allowed.lo) +ℤ to_z w64 (of_z w64 (to_z w64 (of_z w64 r) +ℤ to_z w64 (of_z w64 rest.transits)))))) (to_z w64 (of_z w64 rest.least_end))
-      → latest_cumul ≡ int_min (to_z w64 (of_z w64 allowed.hi)) (to_z w64 (of_z w64 (to_z w64 (of_z w64 rest.latest_cumul) -ℤ to_z w64 (of_z w64 r))))
-      → (let w : Rest = record { at = node; transits = to_z w64 (of_z w64 (to_z w64 (of_z w64 r) +ℤ to_z w64 (of_z w64 rest.transits))); least_end = to_z w64 (of_z w64 least_end); latest_cumul = to_z w64 (of_z w64 latest_cumul) } in w) ≡ rest_by t node allowed rest
-  before-read node least_end latest_cumul floor_is ceiling_is =
-      let soon = floor_is ∙ ap₂ (λ (x y : ℤ). int_max x y) from-read floor-known in
-      let late = ceiling_is ∙ ap₂ (λ (x y : ℤ). int_min x y) (read-cumul allowed.hi ends.hi) under-read in
-      rest-is node node _ _ _ _ _ _ refl left-read (floor-read least_end soon ∙ soon) (ceiling-read latest_cumul late ∙ late)
+    under-read : to_z w64 (of_z w64 (to_z w64 (of_z w64 rest.latest_cumul) -ℤ to_z w64 (of_z w64 r))) ≡ rest.latest_cumul -ℤ t
+    under-read = omega (arith, ints, same, least, greatest, h.soonest, h.latest)
 
--- what is read of a way through what is left
-module _ (model : Model) (way : Way) (rest : Rest) (t r : ℤ) (w : IsWayOf model 2000 way) (h : IsRestOf model 1000 rest) (same : r ≡ t) (least : neg_ℤ (pos (2 ^ 31)) ≤ℤ r) (greatest : r ≤ℤ pos (2 ^ 31)) where
-  rest-read : to_z w64 (of_z w64 (to_z w64 (of_z w64 r) +ℤ to_z w64 (of_z w64 rest.transits))) ≡ t +ℤ rest.transits
-  rest-read = let low = h.low in let high = h.high in omega (arith, ints, same, least, greatest, low, high)
+    pub under-fits : FitsSigned w64 (to_z w64 (of_z w64 rest.latest_cumul) -ℤ to_z w64 (of_z w64 r))
+    under-fits = omega (arith, ints, same, least, greatest, h.soonest, h.latest)
 
-  sum-read : to_z w64 (of_z w64 (to_z w64 (of_z w64 way.time) +ℤ to_z w64 (of_z w64 (to_z w64 (of_z w64 r) +ℤ to_z w64 (of_z w64 rest.transits))))) ≡ way.time +ℤ (t +ℤ rest.transits)
-  sum-read =
-      let is = rest-read in
-      let low = h.low in
-      let high = h.high in
-      let early = w.early in
-      let late = w.late in
-      omega (arith, ints, is, same, least, greatest, low, high, early, late)
+    floor-read : (x : ℤ) → x ≡ int_max (allowed.lo +ℤ (t +ℤ rest.transits)) rest.least_end → to_z w64 (of_z w64 x) ≡ x
+    floor-read x is =
+        let m = int_max_is (allowed.lo +ℤ (t +ℤ rest.transits)) rest.least_end in
+        omega (arith, ints, is, m, same, least, greatest, h.low, h.high, h.early, h.late, ends.lo.at_least, ends.lo.at_most)
 
-  transits-read : to_z w64 (of_z w64 (to_z w64 (of_z w64 way.transits) +ℤ to_z w64 (of_z w64 (to_z w64 (of_z w64 r) +ℤ to_z w64 (of_z w64 rest.transits))))) ≡ way.transits +ℤ (t +ℤ rest.transits)
-  transits-read =
-      let is = rest-read in
-      let low = h.low in
-      let high = h.high in
-      let few = w.low in
-      let many = w.high in
-      omega (arith, ints, is, same, least, greatest, low, high, few, many)
+    ceiling-read : (x : ℤ) → x ≡ int_min allowed.hi (rest.latest_cumul -ℤ t) → to_z w64 (of_z w64 x) ≡ x
+    ceiling-read x is =
+        let m = int_min_is allowed.hi (rest.latest_cumul -ℤ t) in
+        omega (arith, ints, is, m, same, least, greatest, h.soonest, h.latest, ends.hi.at_least, ends.hi.at_most)
 
-  pub transits-fit : FitsSigned w64 (to_z w64 (of_z w64 way.transits) +ℤ to_z w64 (of_z w64 (to_z w64 (of_z w64 r) +ℤ to_z w64 (of_z w64 rest.transits))))
-  transits-fit =
-      let is = rest-read in
-      let low = h.low in
-      let high = h.high in
-      let few = w.low in
-      let many = w.high in
-      omega (arith, ints, is, same, least, greatest, low, high, few, many)
+    pub before-read : (node : ℕ) (least_end latest_cumul : ℤ)
+        → least_end ≡ int_max (to_z w64 (of_z w64 (to_z w64 (of_z w64 allowed.lo) +ℤ to_z w64 (of_z w64 (to_z w64 (of_z w64 r) +ℤ to_z w64 (of_z w64 rest.transits)))))) (to_z w64 (of_z w64 rest.least_end))
+        → latest_cumul ≡ int_min (to_z w64 (of_z w64 allowed.hi)) (to_z w64 (of_z w64 (to_z w64 (of_z w64 rest.latest_cumul) -ℤ to_z w64 (of_z w64 r))))
+        → (let w : Rest = record { at = node; transits = to_z w64 (of_z w64 (to_z w64 (of_z w64 r) +ℤ to_z w64 (of_z w64 rest.transits))); least_end = to_z w64 (of_z w64 least_end); latest_cumul = to_z w64 (of_z w64 latest_cumul) } in w) ≡ rest_by t node allowed rest
+    before-read node least_end latest_cumul floor_is ceiling_is =
+        let soon = floor_is ∙ ap₂ (λ (x y : ℤ). int_max x y) from-read floor-known in
+        let late = ceiling_is ∙ ap₂ (λ (x y : ℤ). int_min x y) (read-cumul allowed.hi ends.hi) under-read in
+        rest-is node node _ _ _ _ _ _ refl left-read (floor-read least_end soon ∙ soon) (ceiling-read latest_cumul late ∙ late)
 
-  gone-read : to_z w64 (of_z w64 (to_z w64 (of_z w64 way.transits) +ℤ to_z w64 (of_z w64 r))) ≡ way.transits +ℤ t
-  gone-read = let few = w.low in let many = w.high in omega (arith, ints, same, least, greatest, few, many)
+  -- through it behind a way
+  module _ {way : Way} (w : IsWayOf model 2000 way) where
+    sum-read : to_z w64 (of_z w64 (to_z w64 (of_z w64 way.time) +ℤ to_z w64 (of_z w64 (to_z w64 (of_z w64 r) +ℤ to_z w64 (of_z w64 rest.transits))))) ≡ way.time +ℤ (t +ℤ rest.transits)
+    sum-read = omega (arith, ints, left-read, same, least, greatest, h.low, h.high, w.early, w.late)
 
-  start-read : to_z w64 (of_z w64 (to_z w64 (of_z w64 rest.latest_cumul) -ℤ to_z w64 (of_z w64 (to_z w64 (of_z w64 way.transits) +ℤ to_z w64 (of_z w64 r))))) ≡ rest.latest_cumul -ℤ (way.transits +ℤ t)
-  start-read =
-      let is = gone-read in
-      let few = w.low in
-      let many = w.high in
-      let low = h.soonest in
-      let high = h.latest in
-      omega (arith, ints, is, same, least, greatest, few, many, low, high)
+    transits-read : to_z w64 (of_z w64 (to_z w64 (of_z w64 way.transits) +ℤ to_z w64 (of_z w64 (to_z w64 (of_z w64 r) +ℤ to_z w64 (of_z w64 rest.transits))))) ≡ way.transits +ℤ (t +ℤ rest.transits)
+    transits-read = omega (arith, ints, left-read, same, least, greatest, h.low, h.high, w.low, w.high)
 
-  pub start-fits : FitsSigned w64 (to_z w64 (of_z w64 rest.latest_cumul) -ℤ to_z w64 (of_z w64 (to_z w64 (of_z w64 way.transits) +ℤ to_z w64 (of_z w64 r))))
-  start-fits =
-      let is = gone-read in
-      let few = w.low in
-      let many = w.high in
-      let low = h.soonest in
-      let high = h.latest in
-      omega (arith, ints, is, same, least, greatest, few, many, low, high)
+    pub transits-fit : FitsSigned w64 (to_z w64 (of_z w64 way.transits) +ℤ to_z w64 (of_z w64 (to_z w64 (of_z w64 r) +ℤ to_z w64 (of_z w64 rest.transits))))
+    transits-fit = omega (arith, ints, left-read, same, least, greatest, h.low, h.high, w.low, w.high)
 
-  pub time-fits : FitsSigned w64 (to_z w64 (of_z w64 way.time) +ℤ to_z w64 (of_z w64 (to_z w64 (of_z w64 r) +ℤ to_z w64 (of_z w64 rest.transits))))
-  time-fits =
-      let is = rest-read in
-      let low = h.low in
-      let high = h.high in
-      let early = w.early in
-      let late = w.late in
-      omega (arith, ints, is, same, least, greatest, low, high, early, late)
+    gone-read : to_z w64 (of_z w64 (to_z w64 (of_z w64 way.transits) +ℤ to_z w64 (of_z w64 r))) ≡ way.transits +ℤ t
+    gone-read = omega (arith, ints, same, least, greatest, w.low, w.high)
 
-  floor-is : to_z w64 (of_z w64 rest.least_end) ≡ rest.least_end
-  floor-is = let early = h.early in let late = h.late in omega (arith, ints, early, late)
+    start-read : to_z w64 (of_z w64 (to_z w64 (of_z w64 rest.latest_cumul) -ℤ to_z w64 (of_z w64 (to_z w64 (of_z w64 way.transits) +ℤ to_z w64 (of_z w64 r))))) ≡ rest.latest_cumul -ℤ (way.transits +ℤ t)
+    start-read = omega (arith, ints, gone-read, same, least, greatest, w.low, w.high, h.soonest, h.latest)
 
-  latest-is : to_z w64 (of_z w64 way.latest) ≡ way.latest
-  latest-is = let soonest = w.soonest in let latest = w.latest in omega (arith, ints, soonest, latest)
+    pub start-fits : FitsSigned w64 (to_z w64 (of_z w64 rest.latest_cumul) -ℤ to_z w64 (of_z w64 (to_z w64 (of_z w64 way.transits) +ℤ to_z w64 (of_z w64 r))))
+    start-fits = omega (arith, ints, gone-read, same, least, greatest, w.low, w.high, h.soonest, h.latest)
 
-  time-read : (x : ℤ) → x ≡ int_max (way.time +ℤ (t +ℤ rest.transits)) rest.least_end → to_z w64 (of_z w64 x) ≡ x
-  time-read x is =
-      let m = int_max_is (way.time +ℤ (t +ℤ rest.transits)) rest.least_end in
-      let low = h.low in
-      let high = h.high in
-      let early = w.early in
-      let late = w.late in
-      let p = h.early in
-      let q = h.late in
-      omega (arith, ints, is, m, same, least, greatest, low, high, early, late, p, q)
+    pub time-fits : FitsSigned w64 (to_z w64 (of_z w64 way.time) +ℤ to_z w64 (of_z w64 (to_z w64 (of_z w64 r) +ℤ to_z w64 (of_z w64 rest.transits))))
+    time-fits = omega (arith, ints, left-read, same, least, greatest, h.low, h.high, w.early, w.late)
 
-  latest-read : (x : ℤ) → x ≡ int_min way.latest (rest.latest_cumul -ℤ (way.transits +ℤ t)) → to_z w64 (of_z w64 x) ≡ x
-  latest-read x is =
-      let m = int_min_is way.latest (rest.latest_cumul -ℤ (way.transits +ℤ t)) in
-      let few = w.low in
-      let many = w.high in
-      let soonest = w.soonest in
-      let latest = w.latest in
-      let low = h.soonest in
-      let high = h.latest in
-      omega (arith, ints, is, m, same, least, greatest, few, many, soonest, latest, low, high)
+    latest-is : to_z w64 (of_z w64 way.latest) ≡ way.latest
+    latest-is = omega (arith, ints, w.soonest, w.latest)
 
-  pub through-read : (node end : ℕ) (time latest : ℤ) → node ≡ end
-      → time ≡ int_max (to_z w64 (of_z w64 (to_z w64 (of_z w64 way.time) +ℤ to_z w64 (of_z w64 (to_z w64 (of_z w64 r) +ℤ to_z w64 (of_z w64 rest.transits)))))) (to_z w64 (of_z w64 rest.least_end))
-      → latest ≡ int_min (to_z w64 (of_z w64 way.latest)) (to_z w64 (of_z w64 (to_z w64 (of_z w64 rest.latest_cumul) -ℤ to_z w64 (of_z w64 (to_z w64 (of_z w64 way.transits) +ℤ to_z w64 (of_z w64 r))))))
-      → (let w : Way = record { at = node; time = to_z w64 (of_z w64 time); transits = to_z w64 (of_z w64 (to_z w64 (of_z w64 way.transits) +ℤ to_z w64 (of_z w64 (to_z w64 (of_z w64 r) +ℤ to_z w64 (of_z w64 rest.transits))))); latest = to_z w64 (of_z w64 latest) } in w) ≡ through_by t end rest way
-  through-read node end time latest at time_is latest_is =
-      let soon = time_is ∙ ap₂ (λ (x y : ℤ). int_max x y) sum-read floor-is in
-      let late = latest_is ∙ ap₂ (λ (x y : ℤ). int_min x y) latest-is start-read in
-      way-is node end _ _ _ _ _ _ at (time-read time soon ∙ soon) transits-read (latest-read latest late ∙ late)
+    time-read : (x : ℤ) → x ≡ int_max (way.time +ℤ (t +ℤ rest.transits)) rest.least_end → to_z w64 (of_z w64 x) ≡ x
+    time-read x is =
+        let m = int_max_is (way.time +ℤ (t +ℤ rest.transits)) rest.least_end in
+        omega (arith, ints, is, m, same, least, greatest, h.low, h.high, w.early, w.late, h.early, h.late)
+
+    latest-read : (x : ℤ) → x ≡ int_min way.latest (rest.latest_cumul -ℤ (way.transits +ℤ t)) → to_z w64 (of_z w64 x) ≡ x
+    latest-read x is =
+        let m = int_min_is way.latest (rest.latest_cumul -ℤ (way.transits +ℤ t)) in
+        omega (arith, ints, is, m, same, least, greatest, w.low, w.high, w.soonest, w.latest, h.soonest, h.latest)
+
+    pub through-read : (node end : ℕ) (time latest : ℤ) → node ≡ end
+        → time ≡ int_max (to_z w64 (of_z w64 (to_z w64 (of_z w64 way.time) +ℤ to_z w64 (of_z w64 (to_z w64 (of_z w64 r) +ℤ to_z w64 (of_z w64 rest.transits)))))) (to_z w64 (of_z w64 rest.least_end))
+        → latest ≡ int_min (to_z w64 (of_z w64 way.latest)) (to_z w64 (of_z w64 (to_z w64 (of_z w64 rest.latest_cumul) -ℤ to_z w64 (of_z w64 (to_z w64 (of_z w64 way.transits) +ℤ to_z w64 (of_z w64 r))))))
+        → (let w : Way = record { at = node; time = to_z w64 (of_z w64 time); transits = to_z w64 (of_z w64 (to_z w64 (of_z w64 way.transits) +ℤ to_z w64 (of_z w64 (to_z w64 (of_z w64 r) +ℤ to_z w64 (of_z w64 rest.transits))))); latest = to_z w64 (of_z w64 latest) } in w) ≡ through_by t end rest way
+    through-read node end time latest at time_is latest_is =
+        let soon = time_is ∙ ap₂ (λ (x y : ℤ). int_max x y) sum-read floor-known in
+        let late = latest_is ∙ ap₂ (λ (x y : ℤ). int_min x y) latest-is start-read in
+        way-is node end _ _ _ _ _ _ at (time-read time soon ∙ soon) transits-read (latest-read latest late ∙ late)
 
 module _ (model : Model) (well : IsWellFormed model) (d v : ℕ) (dimension : d < length model.dimensions) (vehicle : v < length model.vehicles) where
   -- what is left from the end on
   pub end-rest : (runs : Runs) → HasCumulEnds runs.finish → IsRestOf model 0 (rest_at_end model v runs)
   end-rest runs ends =
       let f = ends.lo.at_least in
-      let g = ends.lo.at_most in
-      let p = ends.hi.at_least in
       let q = ends.hi.at_most in
       record {
         at = (well.each_vehicle v no_vehicle vehicle).end_in_range;
         low = omega (arith, ints);
         high = omega (arith, ints);
         early = f;
-        late = omega (arith, ints, g);
-        soonest = omega (arith, ints, p);
+        late = omega (arith, ints, ends.lo.at_most);
+        soonest = omega (arith, ints, ends.hi.at_least);
         latest = q;
       }
 
@@ -226,25 +150,14 @@ module _ (model : Model) (well : IsWellFormed model) (d v : ℕ) (dimension : d 
         let t = transit_in_range model well d v dimension vehicle node rest.at low h.at in
         let m = int_max_is (allowed.lo +ℤ (transit model d v node rest.at +ℤ rest.transits)) rest.least_end in
         let o = int_min_is allowed.hi (rest.latest_cumul -ℤ transit model d v node rest.at) in
-        let a = t.at_least in
-        let b = t.at_most in
-        let e = h.early in
-        let l = h.late in
-        let x = h.low in
-        let y = h.high in
-        let s = h.soonest in
-        let z = h.latest in
-        let g = ends.lo.at_most in
-        let p = ends.hi.at_least in
-        let q = ends.hi.at_most in
         record {
           at = low;
-          low = omega (arith, ints, x, a);
-          high = omega (arith, ints, y, b);
-          early = omega (arith, ints, m, e);
-          late = omega (arith, ints, m, b, l, g, y);
-          soonest = omega (arith, ints, o, s, p, b);
-          latest = omega (arith, ints, o, q);
+          low = omega (arith, ints, h.low, t.at_least);
+          high = omega (arith, ints, h.high, t.at_most);
+          early = omega (arith, ints, m, h.early);
+          late = omega (arith, ints, m, t.at_most, h.late, ends.lo.at_most, h.high);
+          soonest = omega (arith, ints, o, h.soonest, ends.hi.at_least, t.at_most);
+          latest = omega (arith, ints, o, ends.hi.at_most);
         }
 
     -- what is left from visits on
@@ -260,18 +173,14 @@ module _ (model : Model) (well : IsWellFormed model) (d v : ℕ) (dimension : d 
       let t = transit_in_range model well d v dimension vehicle way.at rest.at h.at r.at in
       let x = int_max_is (way.time +ℤ (transit model d v way.at rest.at +ℤ rest.transits)) rest.least_end in
       let o = int_min_is way.latest (rest.latest_cumul -ℤ (way.transits +ℤ transit model d v way.at rest.at)) in
-      let a = t.at_least in
-      let b = t.at_most in
-      let l = h.low in
-      let u = h.high in
       record {
         at = (well.each_vehicle v no_vehicle vehicle).end_in_range;
-        early = (let e = r.early in omega (arith, ints, x, e));
-        late = (let e = h.late in let y = r.high in let z = r.late in omega (arith, ints, x, b, e, y, z));
-        low = (let y = r.low in omega (arith, ints, a, l, y));
-        high = (let y = r.high in omega (arith, ints, b, u, y));
-        soonest = (let s = h.soonest in let y = r.soonest in omega (arith, ints, o, s, y, b, u));
-        latest = (let s = h.latest in omega (arith, ints, o, s));
+        early = omega (arith, ints, x, r.early);
+        late = omega (arith, ints, x, t.at_most, h.late, r.high, r.late);
+        low = omega (arith, ints, t.at_least, h.low, r.low);
+        high = omega (arith, ints, t.at_most, h.high, r.high);
+        soonest = omega (arith, ints, o, h.soonest, r.soonest, t.at_most, h.high);
+        latest = omega (arith, ints, o, h.latest);
       }
 
 -- ---- through what is left

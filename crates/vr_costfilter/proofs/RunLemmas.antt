@@ -55,7 +55,7 @@ line-allows model d v runs are list tour = record {
     each zero le = record { exact = are.start.exact; ends = are.start.ends }
     each (suc k) le = elim (either k (let n = arcs_of_line model d v list in omega (arith, n, le))) [
       | inl low ↦ (
-          let known : slice_index_or list k 0 < length runs.visits = (let n = are.visits.long in let h = place_below model list k 0 tour.visits low in omega (arith, n, h)) in
+          let known : slice_index_or list k 0 < length runs.visits = (let h = place_below model list k 0 tour.visits low in omega (arith, are.visits.long, h)) in
           let run : Run = slice_index_or runs.visits (slice_index_or list k 0) no_run in
           let there = visit_allows_run model d v list k runs.visits run no_run are.visits tour low known refl in
           let next : k + 1 ≡ suc k = omega arith in
@@ -109,20 +109,16 @@ start-some model d v runs next stage e = by (floor_of model d v (vehicle_at mode
         let t : ℤ = transit model d v (vehicle_at model v).start next.node in
         let s : ℤ = (dimension_at model d).slack_max in
         let floor = floor-had next.floor t s runs.start it is in
-        let f = floor.is in
-        let most = floor.most in
         let m = int_max_is ((next.floor -ℤ t) -ℤ s) runs.start.lo in
-        omega (arith, ints, f, most, m)
+        omega (arith, ints, floor.is, floor.most, m)
 
 -- so does an end to which it comes
 pub end-some : (model : Model) (d v : ℕ) (runs : Runs) (o : Option Stage) (stage : Stage) → option_and_then (to_end model d v runs) o ≡ Some stage → runs.finish.lo ≤ℤ runs.finish.hi
 end-some model d v runs o stage e = option_and_then_some (to_end model d v runs) o stage e (λ before there more.
     let t : ℤ = transit model d v before.at (vehicle_at model v).end in
     let is = gone t (dimension_at model d).slack_max (vehicle_at model v).end runs.finish (row_of (dimension_at model d).ends v) before stage more in
-    let least = is.earliest.least in
-    let most = is.earliest.most in
     let m = int_max_is (before.cumul +ℤ t) runs.finish.lo in
-    omega (arith, ints, least, most, m))
+    omega (arith, ints, is.earliest.least, is.earliest.most, m))
 
 -- and a visit to which a step leads
 pub step-some : (model : Model) (d v : ℕ) (runs : Runs) (node : ℕ) (next step : Step) → before model d v runs node next ≡ Some step → (slice_index_or runs.visits node no_run).lo ≤ℤ (slice_index_or runs.visits node no_run).hi
@@ -131,10 +127,8 @@ step-some model d v runs node next step e =
     let t : ℤ = transit model d v node next.node in
     let s : ℤ = (dimension_at model d).slack_max in
     let floor = floor-had next.floor t s allowed step.floor (before-had model d v runs node next step e).floor in
-    let f = floor.is in
-    let most = floor.most in
     let m = int_max_is ((next.floor -ℤ t) -ℤ s) allowed.lo in
-    omega (arith, ints, f, most, m)
+    omega (arith, ints, floor.is, floor.most, m)
 
 module _ (model : Model) (d v : ℕ) (a b : Runs) (of_a : AreRuns model d v a) (of_b : AreRuns model d v b) where
   pub start-run : a.start.lo ≤ℤ a.start.hi → a.start ≡ b.start
@@ -147,8 +141,8 @@ module _ (model : Model) (d v : ℕ) (a b : Runs) (of_a : AreRuns model d v a) (
   pub visit-run : (node : ℕ) → IsTrue (is_visit model node) → (slice_index_or a.visits node no_run).lo ≤ℤ (slice_index_or a.visits node no_run).hi → slice_index_or a.visits node no_run ≡ slice_index_or b.visits node no_run
   visit-run node visit some =
       let low = visit_below model node visit in
-      let p = of_a.visits.each node no_run (let n = of_a.visits.long in omega (arith, low, n)) visit in
-      let q = of_b.visits.each node no_run (let n = of_b.visits.long in omega (arith, low, n)) visit in
+      let p = of_a.visits.each node no_run (omega (arith, low, of_a.visits.long)) visit in
+      let q = of_b.visits.each node no_run (omega (arith, low, of_b.visits.long)) visit in
       run-same (slice_index_or a.visits node no_run) (slice_index_or b.visits node no_run) (λ x. p.exact x ∙ sym (q.exact x)) some
 
   -- the runs of the visits to which steps lead

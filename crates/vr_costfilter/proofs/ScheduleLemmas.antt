@@ -13,7 +13,7 @@ use Rattle.vr_costfilter.specs.PlanCosts.{IsPlanCostIn}
 pub timing-more : (timing : Timing) (n m : ℕ) → n ≤ m → IsTimingOf n timing → IsTimingOf m timing
 timing-more timing n m le h = record {
   not_negative = h.not_negative;
-  bound = (let b = h.bound in omega (arith, ints, b, le));
+  bound = omega (arith, ints, h.bound, le);
   start_in_range = h.start_in_range;
   last_in_range = h.last_in_range;
 }

@@ -82,13 +82,10 @@ module _ (model : Model) (well : IsWellFormed model) (lists : List (List ℕ)) (
         let starts = starts-within in
         let a = int_max_is s.last (last_with model d v (route lists v)) in
         let b = int_min_is s.start (start_with model d v (route lists v)) in
-        let x = h.last in
-        let y = h.start in
-        let z = h.span in
         record {
-          last = omega (arith, ints, ends, a, x, last);
-          start = omega (arith, ints, starts, b, y, start);
-          span = omega (arith, ints, z, span);
+          last = omega (arith, ints, ends, a, h.last, last);
+          start = omega (arith, ints, starts, b, h.start, start);
+          span = omega (arith, ints, h.span, span);
         }
 
     -- a list more, by how early it can end and how short its span can be
@@ -98,17 +95,12 @@ module _ (model : Model) (well : IsWellFormed model) (lists : List (List ℕ)) (
         let ends = ends-within in
         let starts = starts-within in
         let e = no-earlier model lists valid d v low known used well in
-        let c = e.last in
-        let r = e.span in
         let a = int_max_is s.last (earliest_end model d v (route lists v)) in
         let b = int_max_is s.span (least_span model d v (route lists v)) in
-        let x = h.last in
-        let y = h.start in
-        let z = h.span in
         record {
-          last = omega (arith, ints, ends, a, x, c, last);
-          start = omega (arith, ints, y, start);
-          span = omega (arith, ints, ends, starts, b, z, r, span);
+          last = omega (arith, ints, ends, a, h.last, e.last, last);
+          start = omega (arith, ints, h.start, start);
+          span = omega (arith, ints, ends, starts, b, h.span, e.span, span);
         }
 
   -- what the global span costs at least
@@ -116,10 +108,7 @@ module _ (model : Model) (well : IsWellFormed model) (lists : List (List ℕ)) (
       → ((dimension_at model d).global_span_cost *ℤ int_max (s.last -ℤ s.start) s.span) ≤ℤ global_in model lists d
   spread-costs s h coefficient =
       let m = int_max_is (s.last -ℤ s.start) s.span in
-      let a = h.last in
-      let b = h.start in
-      let c = h.span in
-      times-le (dimension_at model d).global_span_cost (int_max (s.last -ℤ s.start) s.span) (last_end model lists d -ℤ first_start model lists d) coefficient (omega (arith, ints, m, a, b, c))
+      times-le (dimension_at model d).global_span_cost (int_max (s.last -ℤ s.start) s.span) (last_end model lists d -ℤ first_start model lists d) coefficient (omega (arith, ints, m, h.last, h.start, h.span))
 
 -- ---- one list more of those after a change
 

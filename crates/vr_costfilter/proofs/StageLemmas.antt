@@ -28,9 +28,7 @@ pub record IsBehind (t s : ℤ) (node : ℕ) (allowed : Run) (row : Option StopR
 pub had-so : (cumul t s : ℤ) (allowed : Run) → IsTrue (is_had cumul t s allowed) → IsEarliestBehind cumul t s allowed (next_cumul cumul t allowed)
 had-so cumul t s allowed had =
     let two = and_parts (int_le (next_cumul cumul t allowed) allowed.hi) (int_le (next_cumul cumul t allowed -ℤ (cumul +ℤ t)) s) had in
-    let a = two.0 in
-    let b = two.1 in
-    record { least = refl; most = grind (arith, ints, a); slack = grind (arith, ints, b) }
+    record { least = refl; most = grind (arith, ints, two.0); slack = grind (arith, ints, two.1) }
 
 pub some-same : (a b : Stage) → Some a ≡ Some b → a ≡ b
 some-same a b e = ap (λ o. unwrap_or o a) e
@@ -52,10 +50,8 @@ pub going : (t s : ℤ) (node : ℕ) (allowed : Run) (row : Option StopRow) (sta
     → go_on t s node allowed row stage ≡ Some (record { at = node; cumul = cumul; soft = soft })
 going t s node allowed row stage cumul soft is costs =
     let least = is.least in
-    let most = is.most in
-    let slack = is.slack in
-    let a : IsTrue (int_le cumul allowed.hi) = grind (arith, ints, most) in
-    let b : IsTrue (int_le (cumul -ℤ (stage.cumul +ℤ t)) s) = grind (arith, ints, slack) in
+    let a : IsTrue (int_le cumul allowed.hi) = grind (arith, ints, is.most) in
+    let b : IsTrue (int_le (cumul -ℤ (stage.cumul +ℤ t)) s) = grind (arith, ints, is.slack) in
     let had : is_had stage.cumul t s allowed ≡ true = subst (λ c. IsTrue (int_le c allowed.hi && int_le (c -ℤ (stage.cumul +ℤ t)) s)) least (and_from _ _ a b) in
     ap (λ b. cond b (Some (record { at = node; cumul = next_cumul stage.cumul t allowed; soft = stage.soft +ℤ row_cost row (next_cumul stage.cumul t allowed) })) None) had
     ∙ ap₂ (λ (c : ℤ) (x : ℤ). Some (record { at = node; cumul = c; soft = x })) (sym least) (ap (λ c. stage.soft +ℤ row_cost row c) (sym least) ∙ sym costs)
@@ -84,7 +80,7 @@ stage-more model n m stage le h = record {
   at = h.at;
   cumul = h.cumul;
   not_negative = h.not_negative;
-  bound = (let b = h.bound in omega (arith, ints, b, le));
+  bound = omega (arith, ints, h.bound, le);
 }
 
 -- ---- another cost behind

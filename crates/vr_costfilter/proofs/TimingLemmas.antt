@@ -46,6 +46,11 @@ pub record IsTimed (model : Model) (d v : ℕ) (list : List ℕ) (timing : Timin
   pub is_timing : IsTiming model d v list timing
   pub range : IsTimingOf (length list + 2) timing
 
+-- it has one, with this timing
+pub record HasTiming (model : Model) (d v : ℕ) (list : List ℕ) (timing : Timing) : Type 0 where
+  pub feasible : is_feasible (chosen_line model d v list) ≡ true
+  pub timed : IsTimed model d v list timing
+
 -- ---- what a cumul costs
 
 -- what a stop costs: nothing negative, and not much
@@ -61,8 +66,7 @@ soft-range (Some soft) x is range =
     let y : IsAround 68719476736 (x -ℤ soft.bound) = record { low = omega (arith, ints, range.at_least, b.at_most); high = omega (arith, ints, range.at_most, b.at_least) } in
     let m = int_max_is (pos 0) (x -ℤ soft.bound) in
     let p = mul-around soft.coefficient (int_max (pos 0) (x -ℤ soft.bound)) 68719476736 c.at_least c.at_most (max-around (x -ℤ soft.bound) 68719476736 y) in
-    let high = p.high in
-    record { low = mul-sign soft.coefficient (int_max (pos 0) (x -ℤ soft.bound)) c.at_least (omega (arith, ints, m)); high = omega (arith, ints, high) }
+    record { low = mul-sign soft.coefficient (int_max (pos 0) (x -ℤ soft.bound)) c.at_least (omega (arith, ints, m)); high = omega (arith, ints, p.high) }
 
 pub row-range : (row : Option StopRow) (x : ℤ) → WherePresent IsStopRow row → IsIn (pos 0) horizon x → IsCost (row_cost row x)
 row-range None x is range = record { low = omega (arith, ints); high = omega (arith, ints) }
@@ -135,16 +139,13 @@ module _ (model : Model) (well : IsWellFormed model) (d v : ℕ) (dimension : d 
           let node : ℕ = (vehicle_at model v).start in
           let next : Step = first_of steps end in
           let floor = floor-had next.floor (transit model d v node next.node) (dimension_at model d).slack_max runs.start x is in
-          let f = floor.is in
           let most = floor.most in
           let m = int_max_is ((next.floor -ℤ transit model d v node next.node) -ℤ (dimension_at model d).slack_max) runs.start.lo in
           let run = start-allows model d v runs list L has in
-          let lo = run.ends.lo.at_least in
-          let hi = run.ends.hi.at_most in
-          let range : IsIn (pos 0) horizon x = record { at_least = omega (arith, ints, f, m, lo); at_most = omega (arith, ints, most, hi) } in
+          let range : IsIn (pos 0) horizon x = record { at_least = omega (arith, ints, floor.is, m, run.ends.lo.at_least); at_most = omega (arith, ints, most, run.ends.hi.at_most) } in
           let costs = row-range row x (starts-valid v) range in
           let none = sum-none (map (row_of (dimension_at model d).nodes) list ++ row_of (dimension_at model d).ends v ∷ []) in
-          let there = allowed-in L 0 runs.start x run (omega (arith, ints, f, m)) most in
+          let there = allowed-in L 0 runs.start x run (omega (arith, ints, floor.is, m)) most in
           subst (λ (s : Stage). Comes s.cumul 0 s) (some-same (standing model d v x) stage e) (record {
             cumuls = x ∷ [];
             early = begin-least L has.has.stops x there (start-least model d v runs list L has steps steps_are x is);
@@ -153,7 +154,7 @@ module _ (model : Model) (well : IsWellFormed model) (d v : ℕ) (dimension : d 
             at = refl;
             soft = omega (arith, ints, none);
             low = costs.low;
-            high = (let h = costs.high in omega (arith, ints, h));
+            high = omega (arith, ints, costs.high);
           })
 
   -- over the arc from stop k, to a floor below which no schedule comes to the next one
@@ -169,19 +170,11 @@ module _ (model : Model) (well : IsWellFormed model) (d v : ℕ) (dimension : d 
       let most = behind.earliest.most in
       let slack = behind.earliest.slack in
       let m = int_max_is (stage.cumul +ℤ transit model d v stage.at node) floor in
-      let lo = is.ends.lo.at_least in
-      let hi = is.ends.hi.at_most in
-      let range : IsIn (pos 0) horizon x = record { at_least = omega (arith, ints, least, m, lo, above); at_most = omega (arith, ints, most, hi) } in
+      let range : IsIn (pos 0) horizon x = record { at_least = omega (arith, ints, least, m, is.ends.lo.at_least, above); at_most = omega (arith, ints, most, is.ends.hi.at_most) } in
       let costs = row-range row x valid range in
       let n = rows-long (row_of (dimension_at model d).nodes) list (row_of (dimension_at model d).ends v) in
       let next_row : slice_index_or (stop_rows (dimension_at model d) v list) (length old) None ≡ row = ap (λ i. slice_index_or (stop_rows (dimension_at model d) v list) i None) (many ∙ sym (add-one k)) ∙ at in
       let more = sum-more (stop_rows (dimension_at model d) v list) old x (omega (arith, many, n, le)) ∙ ap (λ o. soft_of (dimension_at model d) v list old +ℤ row_cost o x) next_row in
-      let soft = behind.soft in
-      let before = comes.soft in
-      let low = comes.low in
-      let high = comes.high in
-      let add = costs.low in
-      let most_add = costs.high in
       let there = allowed-in L (k + 1) allowed x is (omega (arith, ints, least, m, above)) most in
       record {
         cumuls = old ++ x ∷ [];
@@ -190,9 +183,9 @@ module _ (model : Model) (well : IsWellFormed model) (d v : ℕ) (dimension : d 
         start = get_or_append_left old (x ∷ []) (pos 0) 0 (omega (arith, many)) ∙ comes.start;
         last = at_new old x (k + 1) (many ∙ sym (add-one k));
         at = behind.at ∙ to;
-        soft = omega (arith, ints, soft, before, more);
-        low = omega (arith, ints, soft, low, add);
-        high = omega (arith, ints, soft, high, most_add);
+        soft = omega (arith, ints, behind.soft, comes.soft, more);
+        low = omega (arith, ints, behind.soft, comes.low, costs.low);
+        high = omega (arith, ints, behind.soft, comes.high, costs.high);
       }
     where
       t : ℤ
@@ -204,9 +197,8 @@ module _ (model : Model) (well : IsWellFormed model) (d v : ℕ) (dimension : d 
       slack-left : t ≡ (arc_at L k).transit → number_at comes.cumuls k ≡ stage.cumul → next.cumul ≡ int_max (stage.cumul +ℤ t) floor → (next.cumul -ℤ (stage.cumul +ℤ t)) ≤ℤ (dimension_at model d).slack_max
           → IsIn (pos 0) L.slack_max ((next.cumul -ℤ number_at comes.cumuls k) -ℤ (arc_at L k).transit)
       slack-left way last least most =
-          let same = has.slack_max in
           let m = int_max_is (stage.cumul +ℤ t) floor in
-          record { at_least = omega (arith, ints, way, last, least, m); at_most = omega (arith, ints, way, last, most, same) }
+          record { at_least = omega (arith, ints, way, last, least, m); at_most = omega (arith, ints, way, last, most, has.slack_max) }
 
       late : t ≡ (arc_at L k).transit → number_at comes.cumuls k ≡ stage.cumul → next.cumul ≡ int_max (stage.cumul +ℤ t) floor
           → (plan : Plan) → IsSchedule L plan → next.cumul ≤ℤ cumul plan (suc k)
@@ -230,10 +222,9 @@ module _ (model : Model) (well : IsWellFormed model) (d v : ℕ) (dimension : d 
       let is = before-had model d v runs step.node (slice_index_or steps (suc k) end) step (steps_are.aimed.each k (omega (arith, n, low))) in
       let behind : Step = slice_index_or steps (suc k) end in
       let floor = floor-had behind.floor (transit model d v step.node behind.node) (dimension_at model d).slack_max allowed step.floor is.floor in
-      let f = floor.is in
       let m = int_max_is ((behind.floor -ℤ transit model d v step.node behind.node) -ℤ (dimension_at model d).slack_max) allowed.lo in
       over first k stage next (omega (arith, low)) comes allowed (run-of model d v runs list L has steps steps_are k end low)
-      step.floor (omega (arith, ints, f, m)) (λ plan s. floors-least model d v runs list L has steps steps_are plan s (left k low) k (left-is k low)) row (nodes-valid step.node)
+      step.floor (omega (arith, ints, floor.is, m)) (λ plan s. floors-least model d v runs list L has steps steps_are plan s (left k low) k (left-is k low)) row (nodes-valid step.node)
       (subst (λ i. slice_index_or (stop_rows (dimension_at model d) v list) i None ≡ row) (sym (add-one k)) (row-behind (row_of (dimension_at model d).nodes) list (row_of (dimension_at model d).ends v) k low ∙ ap (row_of (dimension_at model d).nodes) (sym node)))
       step.node (step-node model d v runs list L has steps steps_are k (omega (arith, low)))
       (gone (transit model d v stage.at step.node) (dimension_at model d).slack_max step.node (raised step.floor allowed) row stage next e)
@@ -283,7 +274,7 @@ module _ (model : Model) (well : IsWellFormed model) (d v : ℕ) (dimension : d 
         let all : length list + 1 ≡ length L.arcs = (let n = arcs-many model d v runs list L has in omega (arith, n)) in
         early_chosen L has.has.stops has.has.no_breaks comes.cumuls (subst (λ k. AreEarly L k comes.cumuls) all comes.early) law
 
-    pub line-feasible : is_feasible L ≡ true
+    line-feasible : is_feasible L ≡ true
     line-feasible = ap is_some chosen-are.is_chosen
 
     cumuls-are : (plan_of model d v list).cumuls ≡ comes.cumuls
@@ -300,7 +291,7 @@ module _ (model : Model) (well : IsWellFormed model) (d v : ℕ) (dimension : d 
     soft-low = comes.low
 
     pub soft-high : last.soft ≤ℤ pos (cumul_cost * (length list + 2))
-    soft-high = let high = comes.high in omega (arith, ints, high)
+    soft-high = omega (arith, ints, comes.high)
 
     pub last-range : IsIn (pos 0) horizon last.cumul
     last-range = subst (IsIn (pos 0) horizon) comes.last (in-range (length list + 1) (omega arith))
@@ -318,10 +309,9 @@ module _ (model : Model) (well : IsWellFormed model) (d v : ℕ) (dimension : d 
     timing-range : (timing : Timing) → timing.soft ≡ last.soft → timing.start ≡ first.cumul → timing.last ≡ last.cumul → IsTimingOf (length list + 2) timing
     timing-range timing soft start end =
         let low = comes.low in
-        let high = comes.high in
         record {
           not_negative = subst (λ x. pos 0 ≤ℤ x) (sym soft) low;
-          bound = omega (arith, ints, soft, high);
+          bound = omega (arith, ints, soft, comes.high);
           start_in_range = subst (IsIn (pos 0) horizon) (sym start) first-range;
           last_in_range = subst (IsIn (pos 0) horizon) (sym end) last-range;
         }
@@ -337,5 +327,5 @@ module _ (model : Model) (well : IsWellFormed model) (d v : ℕ) (dimension : d 
       start-read : to_z w64 (of_z w64 start) ≡ first.cumul
       start-read = ap (λ x. to_z w64 (of_z w64 x)) start_is ∙ read-cumul first.cumul first-range
 
-      pub timed : IsTimed model d v list (record { soft = to_z w64 (of_z w64 last.soft); start = to_z w64 (of_z w64 start); last = to_z w64 (of_z w64 last.cumul) })
-      timed = record { is_timing = is-timing _ soft-read start-read last-read; range = timing-range _ soft-read start-read last-read }
+      pub timed : HasTiming model d v list (record { soft = to_z w64 (of_z w64 last.soft); start = to_z w64 (of_z w64 start); last = to_z w64 (of_z w64 last.cumul) })
+      timed = record { feasible = ap is_feasible is ∙ line-feasible; timed = record { is_timing = is-timing _ soft-read start-read last-read; range = timing-range _ soft-read start-read last-read } }

@@ -38,10 +38,10 @@ pub way-more : (model : Model) (n m : ℕ) (way : Way) → n ≤ m → IsWayOf m
 way-more model n m way le h = record {
   at = h.at;
   early = h.early;
-  late = (let x = h.late in omega (arith, ints, x, le));
-  low = (let x = h.low in omega (arith, ints, x, le));
-  high = (let x = h.high in omega (arith, ints, x, le));
-  soonest = (let x = h.soonest in omega (arith, ints, x, le));
+  late = omega (arith, ints, h.late, le);
+  low = omega (arith, ints, h.low, le);
+  high = omega (arith, ints, h.high, le);
+  soonest = omega (arith, ints, h.soonest, le);
   latest = h.latest;
 }
 
@@ -50,44 +50,28 @@ ordered-long false xs = refl
 ordered-long true xs = length-reverse xs
 
 -- what is read of a way that goes on, r being the transit as it was read
-module _ (model : Model) (way : Way) (allowed : Run) (t r : ℤ) (h : IsWayOf model 3000 way) (ends : HasCumulEnds allowed) (same : r ≡ t) (least : neg_ℤ (pos (2 ^ 31)) ≤ℤ r) (greatest : r ≤ℤ pos (2 ^ 31)) where
+module _ {model : Model} {way : Way} {allowed : Run} {t r : ℤ} (h : IsWayOf model 3000 way) (ends : HasCumulEnds allowed) (same : r ≡ t) (least : neg_ℤ (pos (2 ^ 31)) ≤ℤ r) (greatest : r ≤ℤ pos (2 ^ 31)) where
   sum-read : to_z w64 (of_z w64 (to_z w64 (of_z w64 way.time) +ℤ to_z w64 (of_z w64 r))) ≡ way.time +ℤ t
-  sum-read = let early = h.early in let late = h.late in omega (arith, ints, same, least, greatest, early, late)
+  sum-read = omega (arith, ints, same, least, greatest, h.early, h.late)
 
   transits-read : to_z w64 (of_z w64 (to_z w64 (of_z w64 way.transits) +ℤ to_z w64 (of_z w64 r))) ≡ way.transits +ℤ t
-  transits-read = let low = h.low in let high = h.high in omega (arith, ints, same, least, greatest, low, high)
+  transits-read = omega (arith, ints, same, least, greatest, h.low, h.high)
 
   left-read : to_z w64 (of_z w64 (to_z w64 (of_z w64 allowed.hi) -ℤ to_z w64 (of_z w64 (to_z w64 (of_z w64 way.transits) +ℤ to_z w64 (of_z w64 r))))) ≡ allowed.hi -ℤ (way.transits +ℤ t)
-  left-read =
-      let is = transits-read in
-      let low = h.low in
-      let high = h.high in
-      let p = ends.hi.at_least in
-      let q = ends.hi.at_most in
-      omega (arith, ints, is, same, least, greatest, low, high, p, q)
+  left-read = omega (arith, ints, transits-read, same, least, greatest, h.low, h.high, ends.hi.at_least, ends.hi.at_most)
 
   time-read : (x : ℤ) → x ≡ int_max (way.time +ℤ t) allowed.lo → to_z w64 (of_z w64 x) ≡ x
   time-read x is =
       let m = int_max_is (way.time +ℤ t) allowed.lo in
-      let early = h.early in
-      let late = h.late in
-      let f = ends.lo.at_least in
-      let g = ends.lo.at_most in
-      omega (arith, ints, is, m, same, least, greatest, early, late, f, g)
+      omega (arith, ints, is, m, same, least, greatest, h.early, h.late, ends.lo.at_least, ends.lo.at_most)
 
   latest-read : (x : ℤ) → x ≡ int_min way.latest (allowed.hi -ℤ (way.transits +ℤ t)) → to_z w64 (of_z w64 x) ≡ x
   latest-read x is =
       let m = int_min_is way.latest (allowed.hi -ℤ (way.transits +ℤ t)) in
-      let low = h.low in
-      let high = h.high in
-      let soonest = h.soonest in
-      let latest = h.latest in
-      let p = ends.hi.at_least in
-      let q = ends.hi.at_most in
-      omega (arith, ints, is, m, same, least, greatest, low, high, soonest, latest, p, q)
+      omega (arith, ints, is, m, same, least, greatest, h.low, h.high, h.soonest, h.latest, ends.hi.at_least, ends.hi.at_most)
 
   latest-known : to_z w64 (of_z w64 way.latest) ≡ way.latest
-  latest-known = let soonest = h.soonest in let latest = h.latest in omega (arith, ints, soonest, latest)
+  latest-known = omega (arith, ints, h.soonest, h.latest)
 
   pub on-read : (node : ℕ) (time latest : ℤ)
       → time ≡ int_max (to_z w64 (of_z w64 (to_z w64 (of_z w64 way.time) +ℤ to_z w64 (of_z w64 r)))) (to_z w64 (of_z w64 allowed.lo))
@@ -100,38 +84,26 @@ module _ (model : Model) (way : Way) (allowed : Run) (t r : ℤ) (h : IsWayOf mo
 
   -- what is left of a run lies within its bits
   pub left-fits : FitsSigned w64 (to_z w64 (of_z w64 allowed.hi) -ℤ to_z w64 (of_z w64 (to_z w64 (of_z w64 way.transits) +ℤ to_z w64 (of_z w64 r))))
-  left-fits =
-      let is = transits-read in
-      let low = h.low in
-      let high = h.high in
-      let p = ends.hi.at_least in
-      let q = ends.hi.at_most in
-      omega (arith, ints, is, same, least, greatest, low, high, p, q)
+  left-fits = omega (arith, ints, transits-read, same, least, greatest, h.low, h.high, ends.hi.at_least, ends.hi.at_most)
 
 -- what is read of a whole way
-module _ (model : Model) (way : Way) (h : IsWayOf model 3001 way) where
+module _ {model : Model} {way : Way} (h : IsWayOf model 3001 way) where
   pub end-read : to_z w64 (of_z w64 way.time) ≡ way.time
-  end-read = let early = h.early in let late = h.late in omega (arith, ints, early, late)
+  end-read = omega (arith, ints, h.early, h.late)
 
   gone-read : to_z w64 (of_z w64 (to_z w64 (of_z w64 way.time) -ℤ to_z w64 (of_z w64 way.transits))) ≡ way.time -ℤ way.transits
-  gone-read = let early = h.early in let late = h.late in let low = h.low in let high = h.high in omega (arith, ints, early, late, low, high)
+  gone-read = omega (arith, ints, h.early, h.late, h.low, h.high)
 
   pub gone-fits : FitsSigned w64 (to_z w64 (of_z w64 way.time) -ℤ to_z w64 (of_z w64 way.transits))
-  gone-fits = let early = h.early in let late = h.late in let low = h.low in let high = h.high in omega (arith, ints, early, late, low, high)
+  gone-fits = omega (arith, ints, h.early, h.late, h.low, h.high)
 
   start-known : to_z w64 (of_z w64 way.latest) ≡ way.latest
-  start-known = let soonest = h.soonest in let latest = h.latest in omega (arith, ints, soonest, latest)
+  start-known = omega (arith, ints, h.soonest, h.latest)
 
   pub start-small : (x : ℤ) → x ≡ int_min way.latest (way.time -ℤ way.transits) → to_z w64 (of_z w64 x) ≡ x
   start-small x is =
       let m = int_min_is way.latest (way.time -ℤ way.transits) in
-      let early = h.early in
-      let late = h.late in
-      let low = h.low in
-      let high = h.high in
-      let soonest = h.soonest in
-      let latest = h.latest in
-      omega (arith, ints, is, m, early, late, low, high, soonest, latest)
+      omega (arith, ints, is, m, h.early, h.late, h.low, h.high, h.soonest, h.latest)
 
   pub start-read : (x : ℤ) → x ≡ int_min (to_z w64 (of_z w64 way.latest)) (to_z w64 (of_z w64 (to_z w64 (of_z w64 way.time) -ℤ to_z w64 (of_z w64 way.transits)))) → to_z w64 (of_z w64 x) ≡ int_min way.latest (way.time -ℤ way.transits)
   start-read x is = let same = is ∙ ap₂ (λ (a b : ℤ). int_min a b) start-known gone-read in start-small x same ∙ same
@@ -142,46 +114,34 @@ module _ (model : Model) (well : IsWellFormed model) (d v : ℕ) (dimension : d 
       let t = transit_in_range model well d v dimension vehicle way.at node h.at low in
       let m = int_max_is (way.time +ℤ transit model d v way.at node) allowed.lo in
       let o = int_min_is way.latest (allowed.hi -ℤ (way.transits +ℤ transit model d v way.at node)) in
-      let a = t.at_least in
-      let b = t.at_most in
-      let l = h.late in
-      let f = ends.lo.at_least in
-      let g = ends.lo.at_most in
-      let p = ends.hi.at_least in
-      let x = h.low in
-      let y = h.high in
-      let s = h.soonest in
-      let e = h.latest in
       record {
         at = low;
-        early = omega (arith, ints, m, f);
-        late = omega (arith, ints, m, b, l, g);
-        low = omega (arith, ints, x, a);
-        high = omega (arith, ints, y, b);
-        soonest = omega (arith, ints, o, s, p, y, b);
-        latest = omega (arith, ints, o, e);
+        early = omega (arith, ints, m, ends.lo.at_least);
+        late = omega (arith, ints, m, t.at_most, h.late, ends.lo.at_most);
+        low = omega (arith, ints, h.low, t.at_least);
+        high = omega (arith, ints, h.high, t.at_most);
+        soonest = omega (arith, ints, o, h.soonest, ends.hi.at_least, h.high, t.at_most);
+        latest = omega (arith, ints, o, h.latest);
       }
 
   pub out-way : (runs : Runs) → HasCumulEnds runs.start → IsWayOf model 0 (way_out model v runs)
   out-way runs ends =
       let f = ends.lo.at_least in
-      let g = ends.lo.at_most in
-      let p = ends.hi.at_least in
       let q = ends.hi.at_most in
       record {
         at = (well.each_vehicle v no_vehicle vehicle).start_in_range;
         early = f;
-        late = omega (arith, ints, g);
+        late = omega (arith, ints, ends.lo.at_most);
         low = omega (arith, ints);
         high = omega (arith, ints);
-        soonest = omega (arith, ints, p);
+        soonest = omega (arith, ints, ends.hi.at_least);
         latest = q;
       }
 
   module _ (runs : Runs) (visits : AreVisitRuns model d v runs.visits) where
     -- the run of a visit
     pub visit-ends : (node : ℕ) (other : Run) → IsTrue (is_visit model node) → HasCumulEnds (slice_index_or runs.visits node other)
-    visit-ends node other visit = (visits.each node other (let n = visits.long in let low = visit_below model node visit in omega (arith, n, low)) visit).ends
+    visit-ends node other visit = (visits.each node other (let low = visit_below model node visit in omega (arith, visits.long, low)) visit).ends
 
     pub along-way : (nodes : List ℕ) → All (λ node. IsTrue (is_visit model node)) nodes → (n : ℕ) (way : Way) → IsWayOf model n way → IsWayOf model (n + length nodes) (way_along model d v runs way nodes)
     along-way [] all n way h = way-more model n (n + 0) way (omega arith) h
@@ -212,10 +172,8 @@ module _ (model : Model) (d v : ℕ) (runs : Runs) (list : List ℕ) (L : Line) 
   come-on : (k : ℕ) (way : Way) (node : ℕ) (allowed : Run) → k ≤ length list → HasCome k way → node ≡ node_at_stop model v list (k + 1) → allowed ≡ run_at rs (suc k) → HasCome (suc k) (way_on model d v way node allowed)
   come-on k way node allowed le h to is =
       let t = arc-transit model d v runs list L by k way.at node le h.at to in
-      let time = h.time in
-      let way_is = h.transits in
-      let sum : way.time +ℤ transit model d v way.at node ≡ time_at L rs k +ℤ (arc_at L k).transit = omega (arith, ints, t, time) in
-      let transits : way.transits +ℤ transit model d v way.at node ≡ transits_to L k +ℤ (arc_at L k).transit = omega (arith, ints, t, way_is) in
+      let sum : way.time +ℤ transit model d v way.at node ≡ time_at L rs k +ℤ (arc_at L k).transit = omega (arith, ints, t, h.time) in
+      let transits : way.transits +ℤ transit model d v way.at node ≡ transits_to L k +ℤ (arc_at L k).transit = omega (arith, ints, t, h.transits) in
       record {
         at = to ∙ ap (node_at_stop model v list) (add-one k);
         time = ap₂ (λ (x : ℤ) (r : Run). int_max x r.lo) sum is;

@@ -72,14 +72,12 @@ start-before dimension capacity row x is none allowed above top =
     stop : (row : Option StopRow) → WherePresent IsStopRow row → IsTrue (forbids_none row) → (floor_of row +ℤ pos 1) ≤ℤ x → IsTrue (stop_allows capacity row x) → IsTrue (stop_allows capacity row (x +ℤ negsuc 0))
     stop None is none above allowed =
         let w = within_is (pos 0) capacity x (and_left (within (pos 0) capacity x) _ allowed) in
-        let b = w.1 in
-        and_both (within (pos 0) capacity (x +ℤ negsuc 0)) true (test_of_within (pos 0) capacity (x +ℤ negsuc 0) (omega (arith, ints, above)) (omega (arith, ints, b))) refl
+        and_both (within (pos 0) capacity (x +ℤ negsuc 0)) true (test_of_within (pos 0) capacity (x +ℤ negsuc 0) (omega (arith, ints, above)) (omega (arith, ints, w.1))) refl
     stop (Some row) is none above allowed =
         let w = within_is (pos 0) capacity x (and_left (within (pos 0) capacity x) _ allowed) in
-        let b = w.1 in
         let a = above_opening row none above in
         let o = opens row is in
-        and_both (within (pos 0) capacity (x +ℤ negsuc 0)) _ (test_of_within (pos 0) capacity (x +ℤ negsuc 0) (omega (arith, ints, a, o)) (omega (arith, ints, b)))
+        and_both (within (pos 0) capacity (x +ℤ negsuc 0)) _ (test_of_within (pos 0) capacity (x +ℤ negsuc 0) (omega (arith, ints, a, o)) (omega (arith, ints, w.1)))
         (and_both (in_window row.window (x +ℤ negsuc 0)) _ (window row.window a (and_left (in_window row.window x) _ (and_right (within (pos 0) capacity x) _ allowed)))
         (subst (λ l. IsTrue (list_all (λ interval. not (within interval.lo interval.hi (x +ℤ negsuc 0))) l)) (sym (none-of row.forbidden none)) refl))
       where
@@ -103,10 +101,10 @@ sum-none f n e = ap (λ m. total_by f (below m)) e
 module _ (line : Line) (plan : Plan) (keeps : IsSchedule line plan) (no_breaks : line.breaks ≡ []) (some : 0 < length line.arcs) (stops : 0 < length line.allowed)
     (allowed : IsTrue (allows line 0 (cumul plan 0 +ℤ negsuc 0))) (room : (slack plan 0 +ℤ pos 1) ≤ℤ line.slack_max) where
   first : cumul (earlier plan) 0 ≡ cumul plan 0 +ℤ negsuc 0
-  first = shifted-first plan.cumuls (negsuc 0) (let l = keeps.cumul_of_each_stop in omega (arith, l, stops))
+  first = shifted-first plan.cumuls (negsuc 0) (omega (arith, keeps.cumul_of_each_stop, stops))
 
   first_slack : slack (earlier plan) 0 ≡ slack plan 0 +ℤ pos 1
-  first_slack = shifted-first plan.slacks (pos 1) (let l = keeps.slack_of_each_arc in omega (arith, l, some))
+  first_slack = shifted-first plan.slacks (pos 1) (omega (arith, keeps.slack_of_each_arc, some))
 
   none : (i : ℕ) → i < length line.breaks → ⊥
   none i low = let l = ap length no_breaks in omega (arith, low, l)
@@ -152,4 +150,4 @@ module _ (line : Line) (plan : Plan) (keeps : IsSchedule line plan) (no_breaks :
 
   -- a plan that could start earlier is not chosen
   pub not-least : ((other : Plan) → IsSchedule line other → IsTrue (is_no_later plan other)) → ⊥
-  not-least least = not-before plan.cumuls plan.breaks (let l = keeps.cumul_of_each_stop in omega (arith, l, stops)) (least (earlier plan) earlier-keeps)
+  not-least least = not-before plan.cumuls plan.breaks (omega (arith, keeps.cumul_of_each_stop, stops)) (least (earlier plan) earlier-keeps)

@@ -86,7 +86,7 @@ pub behind-range : (interval : Interval) (x : ℤ) → IsInterval interval → I
 behind-range interval x is range = go (within interval.lo interval.hi x)
   where
     go : (b : Bool) → IsIn (pos 0) (pos 68719476737) (cond b (interval.hi +ℤ pos 1) x)
-    go true = (let a = is.lo_in_range in let b = is.in_order in let c = is.hi_in_range in record { at_least = omega (arith, ints, a, b); at_most = omega (arith, ints, c) })
+    go true = (record { at_least = omega (arith, ints, is.lo_in_range, is.in_order); at_most = omega (arith, ints, is.hi_in_range) })
     go false = range
 
 -- a floor that is looked up
@@ -96,7 +96,7 @@ pub record IsFloor (rows : List StopRow) (key : ℕ) (x : ℤ) : Type 0 where
 
 pub floor-at : (rows : List StopRow) (n : ℕ) (floors : List ℤ) → HaveFloors rows n floors → (key : ℕ) → key < n → (x : ℤ) → x ≡ slice_index_or floors key x → IsFloor rows key x
 floor-at rows n floors h key low x e =
-    let same : x ≡ number_at floors key = e ∙ get_or_default floors key x (pos 0) (let m = h.many in omega (arith, low, m)) in
+    let same : x ≡ number_at floors key = e ∙ get_or_default floors key x (pos 0) (omega (arith, low, h.many)) in
     record { is = same ∙ h.each key low; range = subst (IsIn (pos 0) horizon) (sym same) (h.range key low) }
 
 -- floors are in their range

@@ -25,14 +25,14 @@ entries-more f xs more x n many each is next k other high =
 pub ways-more : (model : Model) (d v : ℕ) (list : List ℕ) (n : ℕ) (ways more : List Way) (way : Way) → AreWaysTo model d v list n ways → more ≡ ways ++ way ∷ [] → way ≡ way_along model d v (take (n + 1) list)
     → AreWaysTo model d v list (n + 1) more
 ways-more model d v list n ways more way h is next = record {
-  many = (let m = h.many in ap length is ∙ length-append ways (way ∷ []) ∙ (let e : length ways + 1 ≡ suc (n + 1) = omega (arith, m) in e));
+  many = (ap length is ∙ length-append ways (way ∷ []) ∙ (let e : length ways + 1 ≡ suc (n + 1) = omega (arith, h.many) in e));
   each = entries-more (λ k. way_along model d v (take k list)) ways more way n h.many h.each is next;
 }
 
 pub rests-more : (model : Model) (d v : ℕ) (list : List ℕ) (n : ℕ) (rests more : List Rest) (rest : Rest) → AreRestsTo model d v list n rests → more ≡ rests ++ rest ∷ []
     → rest ≡ rest_of model d v (drop (length list - (n + 1)) list) → AreRestsTo model d v list (n + 1) more
 rests-more model d v list n rests more rest h is next = record {
-  many = (let m = h.many in ap length is ∙ length-append rests (rest ∷ []) ∙ (let e : length rests + 1 ≡ suc (n + 1) = omega (arith, m) in e));
+  many = (ap length is ∙ length-append rests (rest ∷ []) ∙ (let e : length rests + 1 ≡ suc (n + 1) = omega (arith, h.many) in e));
   each = entries-more (λ k. rest_of model d v (drop (length list - k) list)) rests more rest n h.many h.each is next;
 }
 
@@ -56,8 +56,7 @@ way-at model d v list kept k way h low is = is way ∙ h.ways.each k way low
 pub rest-at : (model : Model) (d v : ℕ) (list : List ℕ) (kept : KeptWays) (k : ℕ) (rest : Rest) → HasWays model d v list kept → k ≤ length list → ((other : Rest) → rest ≡ slice_index_or kept.rests.items (length kept.rests.items - 1 - k) other)
     → rest ≡ rest_of model d v (drop k list)
 rest-at model d v list kept k rest h low is =
-    let many = h.rests.many in
-    let here : length kept.rests.items - 1 - k ≡ length list - k = omega (arith, many) in
+    let here : length kept.rests.items - 1 - k ≡ length list - k = omega (arith, h.rests.many) in
     let back : length list - (length list - k) ≡ k = omega (arith, low) in
     is rest ∙ ap (λ n. slice_index_or kept.rests.items n rest) here ∙ h.rests.each (length list - k) rest (omega arith) ∙ ap (λ n. rest_of model d v (drop n list)) back
 

@@ -47,9 +47,7 @@ module _ (model : Model) (d v : ℕ) where
   node-below : (way : Way) (node : ℕ) (floor y x b : ℤ) → IsBelow way y b → (y +ℤ transit model d v way.at node) ≤ℤ x → floor ≤ℤ x → IsBelow (to_node model d v way node floor) x b
   node-below way node floor y x b h arc low =
       let m = int_max_is (way.time +ℤ transit model d v way.at node) floor in
-      let t = h.time in
-      let s = h.transits in
-      record { time = omega (arith, ints, m, t, arc, low); transits = omega (arith, ints, s, arc) }
+      record { time = omega (arith, ints, m, h.time, arc, low); transits = omega (arith, ints, h.transits, arc) }
 
   rest-of : (at x : ℕ) (xs : List ℕ) (c : ℕ → ℤ) → AreCumuls at (x ∷ xs) c → AreCumuls x xs (λ k. c (suc k))
   rest-of at x xs c h = record {
@@ -199,7 +197,7 @@ module _ (model : Model) (well : IsWellFormed model) (d v : ℕ) (dimension : d 
           → cond b (int_min ((whole_way model d v list).time -ℤ start_floor model d v) ((dimension_at model d).slack_max +ℤ (whole_way model d v list).transits)) (whole_way model d v list).transits ≤ℤ (last -ℤ cumul plan 0)
       go false e = w.transits
       go true e = elim (early-or-late (free-is model d v e)) [
-        | inl low ↦ (let t = w.time in let m = int_min_is ((whole_way model d v list).time -ℤ start_floor model d v) ((dimension_at model d).slack_max +ℤ (whole_way model d v list).transits) in omega (arith, ints, m, t, low))
+        | inl low ↦ (let m = int_min_is ((whole_way model d v list).time -ℤ start_floor model d v) ((dimension_at model d).slack_max +ℤ (whole_way model d v list).transits) in omega (arith, ints, m, w.time, low))
         | inr full ↦ (let s = slack-below model d v list plan keeps some full in least-below ((whole_way model d v list).time -ℤ start_floor model d v) ((dimension_at model d).slack_max +ℤ (whole_way model d v list).transits) (last -ℤ cumul plan 0) s)
       ]
 
@@ -209,13 +207,11 @@ module _ (model : Model) (well : IsWellFormed model) (d v : ℕ) (dimension : d 
       let s = in_range model d v list plan keeps 0 (omega arith) in
       let w = (whole model d v list plan keeps).time in
       let b = by-way in
-      let low = r.0 in
-      let top = s.1 in
       let m = int_min_is horizon (span_by model d v (whole_way model d v list)) in
       let n = int_max_is (neg_ℤ horizon) (int_min horizon (span_by model d v (whole_way model d v list))) in
       record {
         last = least-below horizon (whole_way model d v list).time last w;
-        span = omega (arith, ints, m, n, b, low, top);
+        span = omega (arith, ints, m, n, b, r.0, s.1);
       }
 
 pub law : ChosenIsNoEarlier

@@ -24,18 +24,18 @@ pub way-more : (model : Model) (n m : ℕ) (way : Way) → n ≤ m → IsWayOf m
 way-more model n m way le h = record {
   at = h.at;
   early = h.early;
-  late = (let x = h.late in omega (arith, ints, x, le));
-  low = (let x = h.low in omega (arith, ints, x, le));
-  high = (let x = h.high in omega (arith, ints, x, le));
+  late = omega (arith, ints, h.late, le);
+  low = omega (arith, ints, h.low, le);
+  high = omega (arith, ints, h.high, le);
 }
 
 pub rest-more : (model : Model) (n m : ℕ) (rest : Rest) → n ≤ m → IsRestOf model n rest → IsRestOf model m rest
 rest-more model n m rest le h = record {
   at = h.at;
-  low = (let x = h.low in omega (arith, ints, x, le));
-  high = (let x = h.high in omega (arith, ints, x, le));
+  low = omega (arith, ints, h.low, le);
+  high = omega (arith, ints, h.high, le);
   early = h.early;
-  late = (let x = h.late in omega (arith, ints, x, le));
+  late = omega (arith, ints, h.late, le);
 }
 
 module _ (model : Model) (well : IsWellFormed model) (d v : ℕ) (dimension : d < length model.dimensions) (vehicle : v < length model.vehicles) where
@@ -43,18 +43,12 @@ module _ (model : Model) (well : IsWellFormed model) (d v : ℕ) (dimension : d 
   node-way n way node floor h low range =
       let t = transit_in_range model well d v dimension vehicle way.at node h.at low in
       let m = int_max_is (way.time +ℤ transit model d v way.at node) floor in
-      let a = t.at_least in
-      let b = t.at_most in
-      let e = h.early in
-      let l = h.late in
-      let f = range.at_least in
-      let g = range.at_most in
       record {
         at = low;
-        early = omega (arith, ints, m, f);
-        late = omega (arith, ints, m, b, l, g);
-        low = (let x = h.low in omega (arith, ints, x, a));
-        high = (let x = h.high in omega (arith, ints, x, b));
+        early = omega (arith, ints, m, range.at_least);
+        late = omega (arith, ints, m, t.at_most, h.late, range.at_most);
+        low = omega (arith, ints, h.low, t.at_least);
+        high = omega (arith, ints, h.high, t.at_most);
       }
 
   pub along-way : (floors : List ℤ) → HaveFloors (dimension_at model d).nodes model.nodes floors → (nodes : List ℕ) → All (λ node. node < model.nodes) nodes → (n : ℕ) (way : Way) → IsWayOf model n way
@@ -76,7 +70,7 @@ module _ (model : Model) (well : IsWellFormed model) (d v : ℕ) (dimension : d 
   start-way range = record {
     at = (well.each_vehicle v no_vehicle vehicle).start_in_range;
     early = range.at_least;
-    late = (let g = range.at_most in omega (arith, ints, g));
+    late = omega (arith, ints, range.at_most);
     low = omega (arith, ints);
     high = omega (arith, ints);
   }
@@ -88,7 +82,7 @@ module _ (model : Model) (well : IsWellFormed model) (d v : ℕ) (dimension : d 
     low = omega (arith, ints);
     high = omega (arith, ints);
     early = range.at_least;
-    late = (let g = range.at_most in omega (arith, ints, g));
+    late = omega (arith, ints, range.at_most);
   }
 
   -- what is left of one arc more
@@ -96,20 +90,12 @@ module _ (model : Model) (well : IsWellFormed model) (d v : ℕ) (dimension : d 
   rest-before n rest node h low range =
       let t = transit_in_range model well d v dimension vehicle node rest.at low h.at in
       let m = int_max_is (visit_floor model d node +ℤ (transit model d v node rest.at +ℤ rest.transits)) rest.least_end in
-      let a = t.at_least in
-      let b = t.at_most in
-      let e = h.early in
-      let l = h.late in
-      let x = h.low in
-      let y = h.high in
-      let f = range.at_least in
-      let g = range.at_most in
       record {
         at = low;
-        low = omega (arith, ints, x, a);
-        high = omega (arith, ints, y, b);
-        early = omega (arith, ints, m, e);
-        late = omega (arith, ints, m, b, l, g, y);
+        low = omega (arith, ints, h.low, t.at_least);
+        high = omega (arith, ints, h.high, t.at_most);
+        early = omega (arith, ints, m, h.early);
+        late = omega (arith, ints, m, t.at_most, h.late, range.at_most, h.high);
       }
 
   -- a way through what is left
@@ -117,14 +103,12 @@ module _ (model : Model) (well : IsWellFormed model) (d v : ℕ) (dimension : d 
   end-way n m way rest h r =
       let t = transit_in_range model well d v dimension vehicle way.at rest.at h.at r.at in
       let x = int_max_is (way.time +ℤ (transit model d v way.at rest.at +ℤ rest.transits)) rest.least_end in
-      let a = t.at_least in
-      let b = t.at_most in
       record {
         at = (well.each_vehicle v no_vehicle vehicle).end_in_range;
-        early = (let e = r.early in omega (arith, ints, x, e));
-        late = (let l = h.late in let y = r.high in let z = r.late in omega (arith, ints, x, b, l, y, z));
-        low = (let l = h.low in let y = r.low in omega (arith, ints, a, l, y));
-        high = (let l = h.high in let y = r.high in omega (arith, ints, b, l, y));
+        early = omega (arith, ints, x, r.early);
+        late = omega (arith, ints, x, t.at_most, h.late, r.high, r.late);
+        low = omega (arith, ints, t.at_least, h.low, r.low);
+        high = omega (arith, ints, t.at_most, h.high, r.high);
       }
 
   -- what is left from visits on

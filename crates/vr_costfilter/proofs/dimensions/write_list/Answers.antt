@@ -10,11 +10,7 @@ use Rattle.vr_costfilter.proofs.dimensions.write_list.Goals as goal
 
 pub write-requires : goal.write-requires
 write-requires c =
-    let n = c.requires.tables.one_of_each in
-    let low = c.loop-d-test.true in
-    let many = c.loop-d.invariant.many in
-    let ends = c.requires.many in
-    record { known = known-at c.args.tour.now.closed.model.now c.args.tables.now c.requires.tables c.loop-d.d c.index-tables-d.result c.index-tables-d.is (omega (arith, n, low, many, ends)) }
+    record { known = known-at c.args.tour.now.closed.model.now c.args.tables.now c.requires.tables c.loop-d.d c.index-tables-d.result c.index-tables-d.is (omega (arith, c.requires.tables.one_of_each, c.loop-d-test.true, c.loop-d.invariant.many, c.requires.many)) }
 
 pub loop-d-preserved : goal.loop-d-preserved
 loop-d-preserved c =
@@ -26,9 +22,7 @@ loop-d-preserved c =
     let v = c.args.tour.now.v in
     let list : List ℕ = c.args.tour.now.list.now in
     let many = length-set kept at new in
-    let all_many = i.many in
-    let ends = c.requires.many in
-    let inside : at < length kept = (let low = c.loop-d-test.true in omega (arith, low, all_many, ends)) in
+    let inside : at < length kept = omega (arith, c.loop-d-test.true, i.many, c.requires.many) in
     record {
       many = many ∙ i.many;
       done = λ lists all known d other low. elim (cases_lt d at) [
@@ -49,7 +43,7 @@ loop-d-preserved c =
               | inr least ↦ (
                   let here : d ≡ at = omega (arith, high, least) in
                   let there = i.as_many at c.index-kept-d.result inside in
-                  let first : at < length c.args.kept.now = (let n = c.requires.many in omega (arith, n, all_many, inside)) in
+                  let first : at < length c.args.kept.now = omega (arith, c.requires.many, i.many, inside) in
                   let set = ap length (get_or-set_same kept at new other inside) ∙ c.write.ensures.many ∙ there ∙ ap length (get_or_default c.args.kept.now at c.index-kept-d.result other first) in
                   subst (λ n. length (slice_index_or (slice_set kept at new) n other) ≡ length (slice_index_or c.args.kept.now n other)) (sym here) set)
             ]

@@ -7,10 +7,9 @@ use Rattle.vr_costfilter.proofs.kept.write_list.Goals as goal
 pub returns-in-None-clause-kept : goal.returns-in-None-clause-kept
 returns-in-None-clause-kept c =
     let m = c.args.tour.now.closed.model.now in
-    let none = c.forget.ensures.none in
     record {
-      earliest = λ rule runs are. stages-none m c.args.d c.args.tour.now.v runs c.args.tour.now.list.now _ (omega (arith, none));
-      tight = λ rule runs are. stages-none m c.args.d c.args.tour.now.v _ c.args.tour.now.list.now _ (omega (arith, none));
+      earliest = λ rule runs are. stages-none m c.args.d c.args.tour.now.v runs c.args.tour.now.list.now _ (omega (arith, c.forget.ensures.none));
+      tight = λ rule runs are. stages-none m c.args.d c.args.tour.now.v _ c.args.tour.now.list.now _ (omega (arith, c.forget.ensures.none));
       between = c.forget.ensures.between;
       ends = c.forget.ensures.ends m c.args.d c.args.tour.now.v c.args.tour.now.list.now;
       whole = λ tour one feasible room. absurd (false≢true (c.in-None.ensures.known ∙ one));

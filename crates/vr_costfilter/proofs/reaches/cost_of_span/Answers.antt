@@ -17,9 +17,8 @@ global_cost-requires-clause-coefficient c =
 
 pub reach-requires : goal.reach-requires
 reach-requires c =
-    let some = c.if-dimension-eq0.false in
     let same = ap (λ x. x.global_span_cost) (c.get-dimension.ensures.value no_dimension) in
-    c.requires.ranged (λ none. absurd (omega (arith, ints, some, same, none)))
+    c.requires.ranged (λ none. absurd (omega (arith, ints, c.if-dimension-eq0.false, same, none)))
 
 pub returns-clause-value : goal.returns-clause-value
 returns-clause-value c =
@@ -29,5 +28,4 @@ returns-clause-value c =
 pub returns-then-dimension-eq0-clause-value : goal.returns-then-dimension-eq0-clause-value
 returns-then-dimension-eq0-clause-value c =
     let same = ap (λ x. x.global_span_cost) (c.get-dimension.ensures.value no_dimension) in
-    let none = c.if-dimension-eq0.true in
-    sym (times-none (dimension_at c.args.closed.model.now c.args.d).global_span_cost (length_of (extent_after c.args.d c.args.vehicles.now c.args.next.now c.args.orders.now)) (omega (arith, ints, same, none)))
+    sym (times-none (dimension_at c.args.closed.model.now c.args.d).global_span_cost (length_of (extent_after c.args.d c.args.vehicles.now c.args.next.now c.args.orders.now)) (omega (arith, ints, same, c.if-dimension-eq0.true)))

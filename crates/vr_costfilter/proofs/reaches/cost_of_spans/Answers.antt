@@ -14,12 +14,10 @@ pub cost_of_span-cost-requires-clause-ranged : goal.cost_of_span-cost-requires-c
 cost_of_span-cost-requires-clause-ranged c pays =
     let d = c.loop-d.d in
     let h = c.requires.ranged in
-    let many = h.many in
-    let few = c.args.closed.well_formed.number_of_dimensions in
     let low = c.loop-d-test.true in
-    let known : d < length c.args.closed.model.now.dimensions = omega (arith, many, low) in
+    let known : d < length c.args.closed.model.now.dimensions = omega (arith, h.many, low) in
     record {
-      dimension = omega (arith, few, known);
+      dimension = omega (arith, c.args.closed.well_formed.number_of_dimensions, known);
       in_orders = subst AreInRange (sym (c.index-orders-d.is ∙ get_or_default c.args.orders.now d c.index-orders-d.result no_orders low)) (h.in_orders d known pays);
       in_rows = h.in_rows d known pays;
     }
@@ -29,7 +27,6 @@ loop-d-preserved c =
     let i = c.loop-d.invariant in
     let d = c.loop-d.d in
     let m = c.args.closed.model.now in
-    let is = c.loop-d.cost-is in
     let e = c.cost_of_span-cost.ensures in
     let low = c.loop-d-test.true in
     let many = c.requires.ranged.many in
@@ -37,12 +34,7 @@ loop-d-preserved c =
     let value : c.cost_of_span-cost.result ≡ span_cost_after m c.args.orders.now c.args.vehicles.now c.args.next.now d = e.value
     ∙ ap (λ (o : Orders). (dimension_at m d).global_span_cost *ℤ length_of (extent_after d c.args.vehicles.now c.args.next.now o)) (c.index-orders-d.is ∙ get_or_default c.args.orders.now d c.index-orders-d.result no_orders low) in
     let next = total_by-more (span_cost_after m c.args.orders.now c.args.vehicles.now c.args.next.now) d in
-    let so_far = i.sum in
-    let a = i.range.low in
-    let b = i.range.high in
-    let p = e.range.low in
-    let q = e.range.high in
     record {
-      sum = omega (arith, ints, next, so_far, value, is, a, b, p, q, few, many, low);
-      range = record { low = omega (arith, ints, is, a, b, p, q, few, many, low); high = omega (arith, ints, is, a, b, p, q, few, many, low) };
+      sum = omega (arith, ints, next, i.sum, value, c.loop-d.cost-is, i.range.low, i.range.high, e.range.low, e.range.high, few, many, low);
+      range = record { low = omega (arith, ints, c.loop-d.cost-is, i.range.low, i.range.high, e.range.low, e.range.high, few, many, low); high = omega (arith, ints, c.loop-d.cost-is, i.range.low, i.range.high, e.range.low, e.range.high, few, many, low) };
     }

@@ -17,10 +17,6 @@ loop-d-preserved c =
     let d = c.loop-d.d in
     let row : List (Option Timing) = c.loop-d.timings in
     let new : Option Timing = c.in_ok-timings.field-0 in
-    let n = c.requires.tables.one_of_each in
-    let few = c.args.part.now.sound.well_formed.number_of_dimensions in
-    let low = c.loop-d-test.true in
-    let many = i.many in
     record {
       many = length-set row d new ∙ i.many;
       each = λ e under. elim (cases_lt e d) [
@@ -28,13 +24,11 @@ loop-d-preserved c =
         | inr past ↦ (
             let here : d ≡ e = omega (arith, under, past) in
             subst (λ k. IsToldIfPaid c.args.part.now.model.now k (part_at c.args.part.now.change.now c.args.part.now.k).vehicle (joined c.args.part.now.routes.now.lists (part_at c.args.part.now.change.now c.args.part.now.k).pieces) (slice_index_or (slice_set row d new) k None)) here
-            (subst (IsToldIfPaid c.args.part.now.model.now d (part_at c.args.part.now.change.now c.args.part.now.k).vehicle (joined c.args.part.now.routes.now.lists (part_at c.args.part.now.change.now c.args.part.now.k).pieces)) (sym (get_or-set_same row d new None (omega (arith, n, few, low, many)))) c.in_ok-timings.ensures))
+            (subst (IsToldIfPaid c.args.part.now.model.now d (part_at c.args.part.now.change.now c.args.part.now.k).vehicle (joined c.args.part.now.routes.now.lists (part_at c.args.part.now.change.now c.args.part.now.k).pieces)) (sym (get_or-set_same row d new None (omega (arith, c.requires.tables.one_of_each, c.args.part.now.sound.well_formed.number_of_dimensions, c.loop-d-test.true, i.many)))) c.in_ok-timings.ensures))
       ];
     }
 
 pub returns : goal.returns
 returns c =
     let i = c.loop-d.invariant in
-    let n = c.requires.tables.one_of_each in
-    let end = c.loop-d-test.false in
-    record { many = i.many; each = λ d low. i.each d (omega (arith, n, end, low)) }
+    record { many = i.many; each = λ d low. i.each d (omega (arith, c.requires.tables.one_of_each, c.loop-d-test.false, low)) }

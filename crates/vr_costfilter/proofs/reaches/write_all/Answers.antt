@@ -18,18 +18,13 @@ write_in-requires c =
     let h = c.requires.rows in
     let d = c.loop-d.d in
     let less = c.loop-d-test.true in
-    let many = h.orders_are.many in
-    let low : d < length m.dimensions = omega (arith, less, many) in
-    let some = c.if-get-ne0.true in
+    let low : d < length m.dimensions = omega (arith, less, h.orders_are.many) in
     let same = ap (λ x. x.global_span_cost) (c.get.ensures.value no_dimension) in
-    let pays : Pays m d = λ none. absurd (omega (arith, ints, some, same, none)) in
-    let dimensions = c.args.closed.well_formed.number_of_dimensions in
-    let vehicles = c.args.closed.well_formed.number_of_vehicles.at_most in
-    let as_many = h.as_many in
+    let pays : Pays m d = λ none. absurd (omega (arith, ints, c.if-get-ne0.true, same, none)) in
     record {
-      dimension = omega (arith, dimensions, low);
+      dimension = omega (arith, c.args.closed.well_formed.number_of_dimensions, low);
       orders_are = subst (AreOrders m d lists) (sym (c.index-orders-d.is ∙ get_or_default c.args.orders.now d c.index-orders-d.result no_orders less)) (h.orders_are.each d low pays);
-      few = omega (arith, vehicles, as_many);
+      few = omega (arith, c.args.closed.well_formed.number_of_vehicles.at_most, h.as_many);
       parts_are = h.parts_are;
       many = h.rows.many;
       told = λ k under. ((h.rows.rows k under).each d low).told pays;
@@ -42,10 +37,7 @@ loop-d-preserved c =
     let d = c.loop-d.d in
     let os : List Orders = c.loop-d.out in
     let i = c.loop-d.invariant in
-    let less = c.loop-d-test.true in
-    let all = c.requires.rows.orders_are.many in
-    let many = i.many in
-    let inside : d < length os = omega (arith, less, all, many) in
+    let inside : d < length os = omega (arith, c.loop-d-test.true, c.requires.rows.orders_are.many, i.many) in
     let same = ap (λ x. x.global_span_cost) (c.get.ensures.value no_dimension) in
     record {
       many = c.if-get-ne0.auto.out ∙ i.many;
@@ -56,8 +48,7 @@ loop-d-preserved c =
           | inl before ↦ i.done e before known pays
           | inr past ↦ (
               let at : d ≡ e = omega (arith, under, past) in
-              let none = w.if-get-ne0.false in
-              absurd (subst (λ k. Pays m k) (sym at) pays (omega (arith, ints, none, same))))
+              absurd (subst (λ k. Pays m k) (sym at) pays (omega (arith, ints, w.if-get-ne0.false, same))))
         ])
       ];
     }

@@ -18,14 +18,10 @@ set-requires-clause-room c =
     let parts = c.args.change.now in
     let k = c.loop-k.k in
     let base : List (List ℕ) = upto lists parts k in
-    let less = c.loop-k-test.true in
-    let many = c.parts-k-end.ensures.value in
-    let low : k < length parts = omega (arith, less, many) in
-    let vehicle = c.vehicle.ensures in
+    let low : k < length parts = omega (arith, c.loop-k-test.true, c.parts-k-end.ensures.value) in
     let known : (part_at parts k).vehicle < length lists = c.requires.parts_are.each_vehicle k no_part low in
     let all = upto-many lists parts k in
-    let few = c.requires.few in
-    orders-room m d base c.loop-k.out c.loop-k.invariant c.vehicle.result (length base) (λ u used. used-known base u used) (omega (arith, vehicle, known, all)) (omega (arith, few, all))
+    orders-room m d base c.loop-k.out c.loop-k.invariant c.vehicle.result (length base) (λ u used. used-known base u used) (omega (arith, c.vehicle.ensures, known, all)) (omega (arith, c.requires.few, all))
 
 pub loop-k-preserved : goal.loop-k-preserved
 loop-k-preserved c =
@@ -35,9 +31,7 @@ loop-k-preserved c =
     let parts = c.args.change.now in
     let k = c.loop-k.k in
     let base : List (List ℕ) = upto lists parts k in
-    let less = c.loop-k-test.true in
-    let many = c.parts-k-end.ensures.value in
-    let low : k < length parts = omega (arith, less, many) in
+    let low : k < length parts = omega (arith, c.loop-k-test.true, c.parts-k-end.ensures.value) in
     let vehicle = c.vehicle.ensures in
     let known : (part_at parts k).vehicle < length lists = c.requires.parts_are.each_vehicle k no_part low in
     let all = upto-many lists parts k in

@@ -15,9 +15,7 @@ pub times-requires-clause-coefficient : goal.times-requires-clause-coefficient
 times-requires-clause-coefficient c =
     let is = ap (λ x. x.global_span_cost) (c.get.ensures.value no_dimension) in
     let r = (c.args.early.now.sound.well_formed.each_dimension c.args.d no_dimension c.requires.dimension).global_span_cost_in_range in
-    let low = r.at_least in
-    let high = r.at_most in
-    record { at_least = omega (arith, ints, is, low, high); at_most = omega (arith, ints, is, low, high) }
+    record { at_least = omega (arith, ints, is, r.at_least, r.at_most); at_most = omega (arith, ints, is, r.at_least, r.at_most) }
 
 pub times-requires-clause-range : goal.times-requires-clause-range
 times-requires-clause-range c =
@@ -25,23 +23,21 @@ times-requires-clause-range c =
     let r = c.spread_after-spread.ensures.range in
     let value = c.max.ensures.value in
     let m = int_max_is (s.last -ℤ s.start) s.span in
-    let fits = c.max.type_inv in
     let last = r.last in
     let start = r.start in
     let span = r.span in
     let less : to_z w64 (of_z w64 (to_z w64 (of_z w64 s.last) -ℤ to_z w64 (of_z w64 s.start))) ≡ s.last -ℤ s.start = omega (arith, ints, last.at_least, last.at_most, start.at_least, start.at_most) in
     let is : c.max.result ≡ int_max (s.last -ℤ s.start) s.span = value ∙ ap₂ (λ x y. int_max x y) less (read-span s.span span) in
     record {
-      low = omega (arith, ints, is, m, fits, last.at_least, last.at_most, start.at_least, start.at_most, span.at_least, span.at_most);
-      high = omega (arith, ints, is, m, fits, last.at_least, last.at_most, start.at_least, start.at_most, span.at_least, span.at_most);
+      low = omega (arith, ints, is, m, c.max.type_inv, last.at_least, last.at_most, start.at_least, start.at_most, span.at_least, span.at_most);
+      high = omega (arith, ints, is, m, c.max.type_inv, last.at_least, last.at_most, start.at_least, start.at_most, span.at_least, span.at_most);
     }
 
 pub returns-then-coefficient-eq0-clause-value : goal.returns-then-coefficient-eq0-clause-value
 returns-then-coefficient-eq0-clause-value c =
     let s = spread_after c.args.early.now.model.now c.args.early.now.routes.now.lists c.args.early.now.change.now c.args.d in
     let is = ap (λ x. x.global_span_cost) (c.get.ensures.value no_dimension) in
-    let zero = c.if-coefficient-eq0.true in
-    sym (times-none (dimension_at c.args.early.now.model.now c.args.d).global_span_cost (int_max (s.last -ℤ s.start) s.span) (omega (arith, ints, is, zero)))
+    sym (times-none (dimension_at c.args.early.now.model.now c.args.d).global_span_cost (int_max (s.last -ℤ s.start) s.span) (omega (arith, ints, is, c.if-coefficient-eq0.true)))
 
 pub returns-clause-value : goal.returns-clause-value
 returns-clause-value c =
@@ -51,26 +47,21 @@ returns-clause-value c =
     let e = c.spread_after-spread.ensures in
     let last = e.range.last in
     let start = e.range.start in
-    let fits = c.max.type_inv in
     let less : to_z w64 (of_z w64 (to_z w64 (of_z w64 s.last) -ℤ to_z w64 (of_z w64 s.start))) ≡ s.last -ℤ s.start = omega (arith, ints, last.at_least, last.at_most, start.at_least, start.at_most) in
     let is : c.max.result ≡ int_max (s.last -ℤ s.start) s.span = c.max.ensures.value ∙ ap₂ (λ x y. int_max x y) less (read-span s.span e.range.span) in
-    let max : to_z w64 (of_z w64 c.max.result) ≡ c.max.result = omega (arith, ints, fits) in
+    let max : to_z w64 (of_z w64 c.max.result) ≡ c.max.result = omega (arith, ints, c.max.type_inv) in
     let same = ap (λ x. x.global_span_cost) (c.get.ensures.value no_dimension) in
     let r = (c.args.early.now.sound.well_formed.each_dimension d no_dimension c.requires.dimension).global_span_cost_in_range in
-    let low = r.at_least in
-    let high = r.at_most in
-    let coefficient : to_z w64 (of_z w64 c.get.result.now.global_span_cost) ≡ (dimension_at model d).global_span_cost = omega (arith, ints, same, low, high) in
+    let coefficient : to_z w64 (of_z w64 c.get.result.now.global_span_cost) ≡ (dimension_at model d).global_span_cost = omega (arith, ints, same, r.at_least, r.at_most) in
     read-around c.times.result cumul_cost c.times.ensures.range (omega arith) ∙ c.times.ensures.value
     ∙ ap₂ (λ x y. x *ℤ y) coefficient (max ∙ is ∙ ap (λ (t : Spread). int_max (t.last -ℤ t.start) t.span) e.value)
 
 pub invariant_of-paid : goal.invariant_of-paid
 invariant_of-paid c =
     let is = ap (λ x. x.global_span_cost) (c.get.ensures.value no_dimension) in
-    let some = c.if-coefficient-eq0.false in
-    record { sound = record { dimension = c.requires.dimension; pays = λ none. absurd (omega (arith, ints, is, some, none)) } }
+    record { sound = record { dimension = c.requires.dimension; pays = λ none. absurd (omega (arith, ints, is, c.if-coefficient-eq0.false, none)) } }
 
 pub spread_after-spread-requires : goal.spread_after-spread-requires
 spread_after-spread-requires c =
     let is = ap (λ x. x.global_span_cost) (c.get.ensures.value no_dimension) in
-    let some = c.if-coefficient-eq0.false in
-    c.requires.orders (λ none. absurd (omega (arith, ints, is, some, none)))
+    c.requires.orders (λ none. absurd (omega (arith, ints, is, c.if-coefficient-eq0.false, none)))

@@ -9,21 +9,16 @@ pub loop-d-preserved : goal.loop-d-preserved
 loop-d-preserved c =
     let next = total_by-more (global_least_in c.args.early.now.model.now c.args.early.now.routes.now.lists c.args.early.now.change.now) c.loop-d.d in
     let i = c.loop-d.invariant in
-    let is = c.loop-d.cost-is in
     let e = c.least_of_global_span-cost.ensures in
     let few = c.args.early.now.sound.well_formed.number_of_dimensions in
-    let many = c.requires.many in
     let low = c.loop-d-test.true in
     record {
-      sum = omega (arith, ints, next, i.sum, e.value, is, i.range.low, i.range.high, e.range.low, e.range.high, few, many, low);
-      range = record { low = omega (arith, ints, is, i.range.low, i.range.high, e.range.low, e.range.high, few, many, low); high = omega (arith, ints, is, i.range.low, i.range.high, e.range.low, e.range.high, few, many, low) };
+      sum = omega (arith, ints, next, i.sum, e.value, c.loop-d.cost-is, i.range.low, i.range.high, e.range.low, e.range.high, few, c.requires.many, low);
+      range = record { low = omega (arith, ints, c.loop-d.cost-is, i.range.low, i.range.high, e.range.low, e.range.high, few, c.requires.many, low); high = omega (arith, ints, c.loop-d.cost-is, i.range.low, i.range.high, e.range.low, e.range.high, few, c.requires.many, low) };
     }
 
 pub returns-clause-value : goal.returns-clause-value
 returns-clause-value c =
     let model = c.args.early.now.model.now in
-    let many = c.requires.many in
-    let high = c.loop-d-test.false in
-    let end = c.loop-d.auto.d-end in
-    let all : c.loop-d.d ≡ length model.dimensions = omega (arith, many, high, end) in
+    let all : c.loop-d.d ≡ length model.dimensions = omega (arith, c.requires.many, c.loop-d-test.false, c.loop-d.auto.d-end) in
     c.loop-d.invariant.sum ∙ ap (λ n. total_by (global_least_in model c.args.early.now.routes.now.lists c.args.early.now.change.now) (below n)) all

@@ -41,7 +41,5 @@ loop-k-preserved c =
 pub returns-clause-value : goal.returns-clause-value
 returns-clause-value c =
     let lists : List (List ℕ) = c.args.paid.now.early.now.routes.now.lists in
-    let many = c.parts-k-end.ensures.value in
-    let end = c.loop-k-test.false in
     c.loop-k.invariant.value
-    ∙ ap (fold (with_changed c.args.paid.now.early.now.model.now lists c.args.paid.now.d) (spread_of_kept c.args.paid.now.early.now.model.now lists c.args.paid.now.early.now.change.now c.args.paid.now.d (length lists))) (take_all c.loop-k.k c.args.paid.now.early.now.change.now (omega (arith, many, end)))
+    ∙ ap (fold (with_changed c.args.paid.now.early.now.model.now lists c.args.paid.now.d) (spread_of_kept c.args.paid.now.early.now.model.now lists c.args.paid.now.early.now.change.now c.args.paid.now.d (length lists))) (take_all c.loop-k.k c.args.paid.now.early.now.change.now (omega (arith, c.parts-k-end.ensures.value, c.loop-k-test.false)))

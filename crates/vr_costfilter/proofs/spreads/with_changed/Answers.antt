@@ -11,14 +11,10 @@ use Rattle.vr_costfilter.proofs.spreads.with_changed.Goals as goal
 pub at-told-requires-clause-dimension : goal.at-told-requires-clause-dimension
 at-told-requires-clause-dimension c =
     let few = c.args.paid.now.early.now.sound.well_formed.number_of_dimensions in
-    let low = c.args.paid.now.sound.dimension in
-    omega (arith, few, low)
+    omega (arith, few, c.args.paid.now.sound.dimension)
 
 pub at-told-requires-clause-part : goal.at-told-requires-clause-part
-at-told-requires-clause-part c =
-    let few = c.args.paid.now.early.now.sound.earlies.few in
-    let low = c.requires.part in
-    omega (arith, few, low)
+at-told-requires-clause-part c = omega (arith, c.args.paid.now.early.now.sound.earlies.few, c.requires.part)
 
 pub returns-then-nodes_in-eq0-clause-value : goal.returns-then-nodes_in-eq0-clause-value
 returns-then-nodes_in-eq0-clause-value c =
@@ -42,10 +38,8 @@ returns-clause-value c =
     let s = c.args.spread in
     let is : joined lists c.pieces.result.now ≡ list = ap (joined lists) c.pieces.ensures.value in
     let some = c.nodes_in.ensures ∙ ap length is in
-    let fits = c.max.type_inv in
-    let fits_span = c.max-2.type_inv in
-    let last : to_z w64 (of_z w64 c.max.result) ≡ c.max.result = omega (arith, ints, fits) in
-    let span : to_z w64 (of_z w64 c.max-2.result) ≡ c.max-2.result = omega (arith, ints, fits_span) in
+    let last : to_z w64 (of_z w64 c.max.result) ≡ c.max.result = omega (arith, ints, c.max.type_inv) in
+    let span : to_z w64 (of_z w64 c.max-2.result) ≡ c.max-2.result = omega (arith, ints, c.max-2.type_inv) in
     same-spread _ (reached-early model d part.vehicle list s)
     (last ∙ c.max.ensures.value ∙ ap₂ (λ x y. int_max x y) (read-cumul s.last r.last) (read-cumul early.last e.last_range ∙ e.last))
     (read-cumul s.start r.start)
@@ -62,10 +56,8 @@ returns-clause-range c =
     let e : IsEarly model d part.vehicle list early = subst (IsEarly model d part.vehicle list) (sym c.at-told.ensures)
     (c.args.paid.now.early.now.sound.earlies.each d c.args.paid.now.sound.dimension (λ unpaid. c.args.paid.now.sound.pays unpaid.global) c.args.k c.requires.part) in
     let r = c.requires.range in
-    let fits = c.max.type_inv in
-    let fits_span = c.max-2.type_inv in
-    let last : to_z w64 (of_z w64 c.max.result) ≡ c.max.result = omega (arith, ints, fits) in
-    let span : to_z w64 (of_z w64 c.max-2.result) ≡ c.max-2.result = omega (arith, ints, fits_span) in
+    let last : to_z w64 (of_z w64 c.max.result) ≡ c.max.result = omega (arith, ints, c.max.type_inv) in
+    let span : to_z w64 (of_z w64 c.max-2.result) ≡ c.max-2.result = omega (arith, ints, c.max-2.type_inv) in
     range-early early e.last_range e.span_range c.args.spread _ r
     (last ∙ c.max.ensures.value ∙ ap₂ (λ x y. int_max x y) (read-cumul c.args.spread.last r.last) (read-cumul early.last e.last_range))
     (read-cumul c.args.spread.start r.start)

@@ -25,10 +25,10 @@ along_pieces-way-requires-clause-way c =
     let h = c.args.guide.now.sound in
     let front = c.strip-ends.result.front in
     let e = c.strip-ends.ensures in
-    let low : front ≤ length (route c.args.routes.now.lists g.v) = (let a = e.order in let b = e.high in omega (arith, a, b)) in
+    let low : front ≤ length (route c.args.routes.now.lists g.v) = omega (arith, e.order, e.high) in
     let list : List ℕ = route c.args.routes.now.lists g.v in
     let one = c.index-list.result.now in
-    let is = kept-one g.model.now g.d c.args.routes.now.lists c.args.kept.now g.v one c.requires.kept (let len = c.len.ensures in let n = ap (λ l. length l) c.kept.view_is in let less = c.if-v-len.true in omega (arith, len, n, less))
+    let is = kept-one g.model.now g.d c.args.routes.now.lists c.args.kept.now g.v one c.requires.kept (let n = ap (λ l. length l) c.kept.view_is in omega (arith, c.len.ensures, n, c.if-v-len.true))
     (c.index-list.ensures ∙ ap (λ l. slice_index_or l g.v one) c.kept.view_is) in
     subst (IsWayOf g.model.now 1000) (sym (way-at g.model.now g.d g.v list one front c.way.result is low c.way.ensures))
     (way-front g.model.now h.well_formed g.d g.v h.dimension h.vehicle g.floors.now h.floors_are list is.few c.requires.nodes_before front low)
@@ -40,7 +40,7 @@ to_end-requires-clause-rest c =
     let behind = c.strip-ends.result.behind in
     let list : List ℕ = route c.args.routes.now.lists g.v in
     let one = c.index-list.result.now in
-    let is = kept-one g.model.now g.d c.args.routes.now.lists c.args.kept.now g.v one c.requires.kept (let len = c.len.ensures in let n = ap (λ l. length l) c.kept.view_is in let less = c.if-v-len.true in omega (arith, len, n, less))
+    let is = kept-one g.model.now g.d c.args.routes.now.lists c.args.kept.now g.v one c.requires.kept (let n = ap (λ l. length l) c.kept.view_is in omega (arith, c.len.ensures, n, c.if-v-len.true))
     (c.index-list.ensures ∙ ap (λ l. slice_index_or l g.v one) c.kept.view_is) in
     subst (IsRestOf g.model.now 1000) (sym (rest-at g.model.now g.d g.v list one behind c.rest.result is c.strip-ends.ensures.high c.rest.ensures))
     (rest-behind g.model.now h.well_formed g.d g.v h.dimension h.vehicle g.floors.now h.floors_are list is.few c.requires.nodes_before behind)
@@ -53,10 +53,10 @@ returns-then-v-len-clause-value c =
     let list : List ℕ = route lists g.v in
     let ends = c.strip-ends.result in
     let e = c.strip-ends.ensures in
-    let low : ends.front ≤ length (route c.args.routes.now.lists g.v) = (let a = e.order in let b = e.high in omega (arith, a, b)) in
+    let low : ends.front ≤ length (route c.args.routes.now.lists g.v) = omega (arith, e.order, e.high) in
     let middle : List ℕ = joined lists ends.middle.now in
     let one = c.index-list.result.now in
-    let is = kept-one m g.d lists c.args.kept.now g.v one c.requires.kept (let len = c.len.ensures in let n = ap (λ l. length l) c.kept.view_is in let less = c.if-v-len.true in omega (arith, len, n, less))
+    let is = kept-one m g.d lists c.args.kept.now g.v one c.requires.kept (let n = ap (λ l. length l) c.kept.view_is in omega (arith, c.len.ensures, n, c.if-v-len.true))
     (c.index-list.ensures ∙ ap (λ l. slice_index_or l g.v one) c.kept.view_is) in
     let way = way-at m g.d g.v list one ends.front c.way.result is low c.way.ensures in
     let rest = rest-at m g.d g.v list one ends.behind c.rest.result is e.high c.rest.ensures in

@@ -17,9 +17,7 @@ loop-d-preserved c =
     let v = c.args.v in
     let list : List ℕ = c.args.list.now in
     let many = length-set kept at new in
-    let all_many = i.many in
-    let ends = c.requires.many in
-    let inside : at < length kept = (let low = c.loop-d-test.true in omega (arith, low, all_many, ends)) in
+    let inside : at < length kept = omega (arith, c.loop-d-test.true, i.many, c.requires.many) in
     record {
       many = many ∙ i.many;
       done = λ lists all known d other low. elim (cases_lt d at) [

@@ -1,97 +1,65 @@
 use Rattle.std.proofs.Common.{ℕ, List, subst, sym, arith}
 use Rattle.std.specs.Prelude.{◌-ℤ◌}
 use Rattle.std.specs.Int.{int_min}
-use Rattle.vr_model.specs.routes.Routes.{route}
 use Rattle.vr_model.specs.schedules.Lines.{line}
 use Rattle.vr_model.specs.schedules.Tight.{IsLatestStart, IsLeastEnd}
 use Rattle.vr_routes.specs.Pieces.{joined}
+use Rattle.vr_balance.specs.declared.ends.Ends.{Ends}
+use Rattle.vr_costfilter.specs.Asked.{new_list, old_list}
 use Rattle.vr_costfilter.specs.GuideRuns.{runs_of}
-use Rattle.vr_costfilter.proofs.EndsLemmas.{middle-few, middle-visits, rest-small, way-small, whole-known, whole-small}
+use Rattle.vr_costfilter.specs.declared.asked.Asked.{Asked}
+use Rattle.vr_costfilter.specs.declared.kept_ways.KeptWays.{KeptWays}
+use Rattle.vr_costfilter.proofs.EndsLemmas.{middle-few, middle-visits, rest-small, way-small, whole-known, whole-small, IsKeptAt}
 use Rattle.vr_costfilter.proofs.RunLemmas.{line-allows}
 use Rattle.vr_costfilter.proofs.WayLemmas.{latest-start, least-end}
 use Rattle.vr_costfilter.proofs.asked.Asked.ends_of.Goals as goal
 
 pub way-front-requires : goal.way-front-requires
-way-front-requires c =
-    let many = c.requires.kept.has.ways.many in
-    let order = c.strip-ends.ensures.order in
-    let high = c.strip-ends.ensures.high in
-    omega (arith, many, order, high)
+way-front-requires c = omega (arith, c.requires.kept.has.ways.many, c.strip-ends.ensures.order, c.strip-ends.ensures.high)
 
 pub rest-left-requires : goal.rest-left-requires
-rest-left-requires c =
-    let many = c.requires.kept.has.rests.many in
-    let high = c.strip-ends.ensures.high in
-    omega (arith, many, high)
+rest-left-requires c = omega (arith, c.requires.kept.has.rests.many, c.strip-ends.ensures.high)
+
+-- what the list that is asked of keeps of the old one
+abbrev Around : Asked → Ends → KeptWays → Type 0
+Around asked ends kept = IsKeptAt asked.guide.now (old_list asked) (new_list asked) ends.front ends.behind (joined asked.routes.now.lists ends.middle.now) kept
 
 pub invariant_of-led : goal.invariant_of-led
 invariant_of-led c =
-    let g = c.args.self.now.guide.now in
-    let lists : List (List ℕ) = c.args.self.now.routes.now.lists in
-    let h = c.args.self.now.sound in
-    let ends = c.strip-ends.result in
-    record {
-      sound = record {
-        within = c.strip-ends.ensures.within;
-        nodes = record {
-          few = middle-few g c.requires.runs (route lists g.v) (joined lists c.args.self.now.pieces.now) ends.front ends.behind (joined lists ends.middle.now) c.strip-ends.ensures.joins h.used.tour h.few c.requires.feasible c.args.kept.now c.requires.kept;
-          visits = middle-visits g c.requires.runs (route lists g.v) (joined lists c.args.self.now.pieces.now) ends.front ends.behind (joined lists ends.middle.now) c.strip-ends.ensures.joins h.used.tour h.few c.requires.feasible c.args.kept.now c.requires.kept;
-        };
-      };
-    }
+    let it : Around c.args.self.now c.strip-ends.result c.args.kept.now = record { are = c.requires.runs; joins = c.strip-ends.ensures.joins; tour = c.args.self.now.sound.used.tour; few = c.args.self.now.sound.few; feasible = c.requires.feasible; is = c.requires.kept } in
+    record { sound = record { within = c.strip-ends.ensures.within; nodes = record { few = middle-few it; visits = middle-visits it } } }
 
 pub way_along-way-requires : goal.way_along-way-requires
 way_along-way-requires c =
-    let g = c.args.self.now.guide.now in
-    let lists : List (List ℕ) = c.args.self.now.routes.now.lists in
-    let ends = c.strip-ends.result in
-    let order = c.strip-ends.ensures.order in
-    let high = c.strip-ends.ensures.high in
-    way-small g c.requires.runs (route lists g.v) (joined lists c.args.self.now.pieces.now) ends.front ends.behind (joined lists ends.middle.now) c.strip-ends.ensures.joins c.args.self.now.sound.used.tour c.args.self.now.sound.few c.requires.feasible c.args.kept.now c.requires.kept
-    c.way-front.result (omega (arith, order, high)) c.way-front.ensures
+    let it : Around c.args.self.now c.strip-ends.result c.args.kept.now = record { are = c.requires.runs; joins = c.strip-ends.ensures.joins; tour = c.args.self.now.sound.used.tour; few = c.args.self.now.sound.few; feasible = c.requires.feasible; is = c.requires.kept } in
+    way-small it c.way-front.result (omega (arith, c.strip-ends.ensures.order, c.strip-ends.ensures.high)) c.way-front.ensures
 
 pub way_through-whole-requires-clause-rest : goal.way_through-whole-requires-clause-rest
 way_through-whole-requires-clause-rest c =
-    let g = c.args.self.now.guide.now in
-    let lists : List (List ℕ) = c.args.self.now.routes.now.lists in
-    let ends = c.strip-ends.result in
-    rest-small g c.requires.runs (route lists g.v) (joined lists c.args.self.now.pieces.now) ends.front ends.behind (joined lists ends.middle.now) c.strip-ends.ensures.joins c.args.self.now.sound.used.tour c.args.self.now.sound.few c.requires.feasible c.args.kept.now c.requires.kept
-    c.rest-left.result c.strip-ends.ensures.high c.rest-left.ensures
+    let it : Around c.args.self.now c.strip-ends.result c.args.kept.now = record { are = c.requires.runs; joins = c.strip-ends.ensures.joins; tour = c.args.self.now.sound.used.tour; few = c.args.self.now.sound.few; feasible = c.requires.feasible; is = c.requires.kept } in
+    rest-small it c.rest-left.result c.strip-ends.ensures.high c.rest-left.ensures
 
 pub ends_by-requires : goal.ends_by-requires
 ends_by-requires c =
-    let g = c.args.self.now.guide.now in
-    let lists : List (List ℕ) = c.args.self.now.routes.now.lists in
-    let ends = c.strip-ends.result in
-    whole-small g c.requires.runs (route lists g.v) (joined lists c.args.self.now.pieces.now) ends.front ends.behind (joined lists ends.middle.now) c.strip-ends.ensures.joins c.args.self.now.sound.used.tour c.args.self.now.sound.few c.requires.feasible c.args.kept.now c.requires.kept
-    c.way_along-way.result c.way_through-whole.result c.rest-left.result c.strip-ends.ensures.high c.way_along-way.ensures.range c.rest-left.ensures c.way_through-whole.ensures
+    let it : Around c.args.self.now c.strip-ends.result c.args.kept.now = record { are = c.requires.runs; joins = c.strip-ends.ensures.joins; tour = c.args.self.now.sound.used.tour; few = c.args.self.now.sound.few; feasible = c.requires.feasible; is = c.requires.kept } in
+    whole-small it c.way_along-way.result c.way_through-whole.result c.rest-left.result c.strip-ends.ensures.high c.way_along-way.ensures.range c.rest-left.ensures c.way_through-whole.ensures
 
 pub returns-clause-last : goal.returns-clause-last
 returns-clause-last c =
     let g = c.args.self.now.guide.now in
-    let lists : List (List ℕ) = c.args.self.now.routes.now.lists in
-    let list : List ℕ = joined lists c.args.self.now.pieces.now in
-    let ends = c.strip-ends.result in
-    let order = c.strip-ends.ensures.order in
-    let high = c.strip-ends.ensures.high in
-    let whole = c.way_through-whole.result in
-    let is = whole-known g c.requires.runs (route lists g.v) list ends.front ends.behind (joined lists ends.middle.now) c.strip-ends.ensures.joins c.args.self.now.sound.used.tour c.args.self.now.sound.few c.requires.feasible c.args.kept.now c.requires.kept
-    c.way-front.result c.way_along-way.result whole c.rest-left.result (omega (arith, order, high)) high c.way-front.ensures c.rest-left.ensures c.way_along-way.ensures.value c.way_through-whole.ensures in
+    let list : List ℕ = new_list c.args.self.now in
+    let it : Around c.args.self.now c.strip-ends.result c.args.kept.now = record { are = c.requires.runs; joins = c.strip-ends.ensures.joins; tour = c.args.self.now.sound.used.tour; few = c.args.self.now.sound.few; feasible = c.requires.feasible; is = c.requires.kept } in
+    let is = whole-known it c.way-front.result c.way_along-way.result c.way_through-whole.result c.rest-left.result (omega (arith, c.strip-ends.ensures.order, c.strip-ends.ensures.high)) c.strip-ends.ensures.high c.way-front.ensures c.rest-left.ensures c.way_along-way.ensures.value c.way_through-whole.ensures in
     let by = line-allows g.model.now g.d g.v (runs_of g) c.requires.runs list c.args.self.now.sound.used.tour in
-    subst (IsLeastEnd (line g.model.now g.d g.v list)) (sym c.ends_by.ensures.last) (least-end g.model.now g.d g.v (runs_of g) list (line g.model.now g.d g.v list) by c.requires.feasible whole is)
+    subst (IsLeastEnd (line g.model.now g.d g.v list)) (sym c.ends_by.ensures.last) (least-end g.model.now g.d g.v (runs_of g) list (line g.model.now g.d g.v list) by c.requires.feasible c.way_through-whole.result is)
 
 pub returns-clause-start : goal.returns-clause-start
 returns-clause-start c =
     let g = c.args.self.now.guide.now in
-    let lists : List (List ℕ) = c.args.self.now.routes.now.lists in
-    let list : List ℕ = joined lists c.args.self.now.pieces.now in
-    let ends = c.strip-ends.result in
-    let order = c.strip-ends.ensures.order in
-    let high = c.strip-ends.ensures.high in
+    let list : List ℕ = new_list c.args.self.now in
     let whole = c.way_through-whole.result in
-    let is = whole-known g c.requires.runs (route lists g.v) list ends.front ends.behind (joined lists ends.middle.now) c.strip-ends.ensures.joins c.args.self.now.sound.used.tour c.args.self.now.sound.few c.requires.feasible c.args.kept.now c.requires.kept
-    c.way-front.result c.way_along-way.result whole c.rest-left.result (omega (arith, order, high)) high c.way-front.ensures c.rest-left.ensures c.way_along-way.ensures.value c.way_through-whole.ensures in
-    let by = line-allows g.model.now g.d g.v (runs_of g) c.requires.runs list c.args.self.now.sound.used.tour in
-    let start = latest-start g.model.now g.d g.v (runs_of g) list (line g.model.now g.d g.v list) by c.requires.feasible whole is in
+    let it : Around c.args.self.now c.strip-ends.result c.args.kept.now = record { are = c.requires.runs; joins = c.strip-ends.ensures.joins; tour = c.args.self.now.sound.used.tour; few = c.args.self.now.sound.few; feasible = c.requires.feasible; is = c.requires.kept } in
+    let is = whole-known it c.way-front.result c.way_along-way.result c.way_through-whole.result c.rest-left.result (omega (arith, c.strip-ends.ensures.order, c.strip-ends.ensures.high)) c.strip-ends.ensures.high c.way-front.ensures c.rest-left.ensures c.way_along-way.ensures.value c.way_through-whole.ensures in
+    let start = latest-start g.model.now g.d g.v (runs_of g) list (line g.model.now g.d g.v list) (line-allows g.model.now g.d g.v (runs_of g) c.requires.runs list c.args.self.now.sound.used.tour) c.requires.feasible whole is in
     subst (λ s. IsLatestStart (line g.model.now g.d g.v list) c.ends_by.result.last s) (sym c.ends_by.ensures.start)
     (subst (λ e. IsLatestStart (line g.model.now g.d g.v list) e (int_min whole.latest (whole.time -ℤ whole.transits))) (sym c.ends_by.ensures.last) start)

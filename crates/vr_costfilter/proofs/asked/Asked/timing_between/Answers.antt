@@ -1,45 +1,31 @@
-use Rattle.std.proofs.Common.{◌≡◌, ℕ, List}
+use Rattle.std.proofs.Common.{◌≡◌}
 use Rattle.std.specs.Prelude.{IfSome, is_some}
 use Rattle.vr_model.specs.schedules.Choices.{is_feasible}
 use Rattle.vr_model.specs.schedules.Narrowed.{chosen_line}
 use Rattle.vr_plan.specs.Timings.{IsTiming}
 use Rattle.vr_costfilter.specs.Asked.{new_list}
-use Rattle.vr_costfilter.specs.GuideRuns.{runs_of}
 use Rattle.vr_costfilter.specs.Joined.{AreJoined}
-use Rattle.vr_costfilter.specs.Runs.{between_runs, AllowsRuns}
+use Rattle.vr_costfilter.specs.Runs.{AllowsRuns}
 use Rattle.vr_costfilter.proofs.GuideLemmas.{by-guide, of-guide}
 use Rattle.vr_costfilter.proofs.asked.Asked.timing_between.Goals as goal
 
 pub invariant_of-asked : goal.invariant_of-asked
 invariant_of-asked c =
     let asked = c.args.self.now in
-    let g = asked.guide.now in
     let e = c.between-guide.ensures in
-    record {
-      sound = of-guide c.between-guide.result g.model.now g.d g.v (between_runs (runs_of g) c.args.ends.start c.args.ends.last) e.model e.dimension e.vehicle e.runs
-          (λ model d v runs. AreJoined model v asked.routes.now.lists asked.pieces.now) asked.sound;
-    }
+    record { sound = of-guide c.between-guide.result e.model e.dimension e.vehicle e.runs (λ model d v runs. AreJoined model v asked.routes.now.lists asked.pieces.now) asked.sound }
 
 pub timing_along-requires : goal.timing_along-requires
 timing_along-requires c =
-    let g = c.args.self.now.guide.now in
-    let list : List ℕ = new_list c.args.self.now in
     let e = c.between-guide.ensures in
-    of-guide c.between-guide.result g.model.now g.d g.v (between_runs (runs_of g) c.args.ends.start c.args.ends.last) e.model e.dimension e.vehicle e.runs
-    (λ model d v runs. AllowsRuns model d v runs list (chosen_line model d v list)) c.requires.allows
+    of-guide c.between-guide.result e.model e.dimension e.vehicle e.runs (λ model d v runs. AllowsRuns model d v runs (new_list c.args.self.now) (chosen_line model d v (new_list c.args.self.now))) c.requires.allows
 
 pub returns-clause-known : goal.returns-clause-known
 returns-clause-known c =
-    let g = c.args.self.now.guide.now in
-    let list : List ℕ = new_list c.args.self.now in
     let e = c.between-guide.ensures in
-    by-guide c.between-guide.result g.model.now g.d g.v (between_runs (runs_of g) c.args.ends.start c.args.ends.last) e.model e.dimension e.vehicle e.runs
-    (λ model d v runs. is_some c.timing_along.result ≡ is_feasible (chosen_line model d v list)) c.timing_along.ensures.known
+    by-guide c.between-guide.result e.model e.dimension e.vehicle e.runs (λ model d v runs. is_some c.timing_along.result ≡ is_feasible (chosen_line model d v (new_list c.args.self.now))) c.timing_along.ensures.known
 
 pub returns-clause-timing : goal.returns-clause-timing
 returns-clause-timing c =
-    let g = c.args.self.now.guide.now in
-    let list : List ℕ = new_list c.args.self.now in
     let e = c.between-guide.ensures in
-    by-guide c.between-guide.result g.model.now g.d g.v (between_runs (runs_of g) c.args.ends.start c.args.ends.last) e.model e.dimension e.vehicle e.runs
-    (λ model d v runs. IfSome c.timing_along.result (IsTiming model d v list)) c.timing_along.ensures.timing
+    by-guide c.between-guide.result e.model e.dimension e.vehicle e.runs (λ model d v runs. IfSome c.timing_along.result (IsTiming model d v (new_list c.args.self.now))) c.timing_along.ensures.timing

@@ -27,8 +27,7 @@ invariant_of-tour c =
     let part = list-after m c.args.closed.well_formed lists parts c.requires.made.makes.parts_are c.requires.valid k low in
     let many = (small m c.args.closed.well_formed lists c.requires.before).many in
     let known = c.requires.made.makes.parts_are.each_vehicle k no_part low in
-    let e = c.vehicle.ensures in
-    record { sound = tour-of m c.vehicle.result (joined lists (part_at parts k).pieces) (omega (arith, e, known, many)) part c.as_slice.result.now (c.as_slice.ensures.value ∙ c.join_into.ensures ∙ ap (joined lists) c.pieces.ensures.value) }
+    record { sound = tour-of m c.vehicle.result (joined lists (part_at parts k).pieces) (omega (arith, c.vehicle.ensures, known, many)) part c.as_slice.result.now (c.as_slice.ensures.value ∙ c.join_into.ensures ∙ ap (joined lists) c.pieces.ensures.value) }
 
 pub loop-k-preserved : goal.loop-k-preserved
 loop-k-preserved c =

@@ -56,8 +56,6 @@ returns-clause-known c other =
     let some = is_some c.timing_after.result in
     let kept = c.index-kept.result.now in
     let a = subst (λ v. IsTrue some ↔ IsKnown m c.args.d v (route lists v) kept) c.vehicle.ensures.value c.timing_after.ensures.known in
-    let dimension = c.requires.dimension in
-    let many = c.requires.kept.many in
     let b = subst (λ k. IsTrue some ↔ IsKnown m c.args.d (part_at c.args.part.now.change.now c.args.part.now.k).vehicle (route lists (part_at c.args.part.now.change.now c.args.part.now.k).vehicle) k) c.index-kept.ensures a in
     subst (λ k. IsTrue some ↔ IsKnown m c.args.d (part_at c.args.part.now.change.now c.args.part.now.k).vehicle (route lists (part_at c.args.part.now.change.now c.args.part.now.k).vehicle) k)
-    (get_or_default c.self.inside.dimensions.items c.args.d kept other (let view = ap length c.self.view_is in omega (arith, dimension, many, view)) ∙ ap (λ (l : List (List KeptList)). slice_index_or l c.args.d other) c.self.view_is) b
+    (get_or_default c.self.inside.dimensions.items c.args.d kept other (let view = ap length c.self.view_is in omega (arith, c.requires.dimension, c.requires.kept.many, view)) ∙ ap (λ (l : List (List KeptList)). slice_index_or l c.args.d other) c.self.view_is) b

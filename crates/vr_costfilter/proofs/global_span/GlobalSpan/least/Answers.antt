@@ -44,10 +44,9 @@ pub returns-clause-value : goal.returns-clause-value
 returns-clause-value c =
     let least = c.least.ensures.value ∙ ap (λ m. global_least m c.args.routes.now.lists c.args.change.now) (ap (λ s. s.model) c.self.view_is) in
     let cost = ap (λ s. s.cost) c.self.view_is in
-    let now = c.requires.stands.cost in
     let r = c.least.ensures.range in
     let s = c.requires.stands.range in
-    omega (arith, ints, least, cost, now, r.low, r.high, s.low, s.high)
+    omega (arith, ints, least, cost, c.requires.stands.cost, r.low, r.high, s.low, s.high)
 
 pub returns-clause-least : goal.returns-clause-least
 returns-clause-least c valid =

@@ -2,10 +2,10 @@ use Rattle.vr_costfilter.proofs.WayLemmas.{end-read, gone-fits, start-read}
 use Rattle.vr_costfilter.proofs.guides.Guide.ends_by.Goals as goal
 
 pub overflow_sub-whole : goal.overflow_sub-whole
-overflow_sub-whole c = gone-fits c.args.self.now.model.now c.args.whole c.requires
+overflow_sub-whole c = gone-fits c.requires
 
 pub returns-clause-last : goal.returns-clause-last
-returns-clause-last c = end-read c.args.self.now.model.now c.args.whole c.requires
+returns-clause-last c = end-read c.requires
 
 pub returns-clause-start : goal.returns-clause-start
-returns-clause-start c = start-read c.args.self.now.model.now c.args.whole c.requires c.min.result c.min.ensures.value
+returns-clause-start c = start-read c.requires c.min.result c.min.ensures.value

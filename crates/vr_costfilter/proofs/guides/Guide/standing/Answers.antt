@@ -32,12 +32,10 @@ pub returns-clause-range : goal.returns-clause-range
 returns-clause-range c =
     let g = c.args.self.now.sound in
     let costs = c.row_cost.ensures in
-    let low = costs.low in
-    let high = costs.range.high in
     let known = (g.well_formed.each_vehicle c.args.self.now.v no_vehicle g.vehicle).start_in_range in
     record {
       at = subst (λ (w : Vehicle). w.start < c.args.self.now.model.now.nodes) (c.get.ensures.value no_vehicle) known;
       cumul = subst (IsIn (pos 0) horizon) (sym (read-cumul c.args.cumul c.requires.cumul)) c.requires.cumul;
-      not_negative = omega (arith, ints, low, high);
-      bound = omega (arith, ints, low, high);
+      not_negative = omega (arith, ints, costs.low, costs.range.high);
+      bound = omega (arith, ints, costs.low, costs.range.high);
     }

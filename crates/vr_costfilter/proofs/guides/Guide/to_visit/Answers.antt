@@ -21,7 +21,7 @@ first_run = record { lo = pos 0; hi = pos 0 }
 
 -- the run of a visit is there
 known : (guide : Guide) (step : Step) → IsVisitStep guide.model.now step → step.node < length guide.visits.now
-known guide step is = let low = visit_below guide.model.now step.node is.visit in let n = guide.sound.visits.long in omega (arith, low, n)
+known guide step is = let low = visit_below guide.model.now step.node is.visit in omega (arith, low, guide.sound.visits.long)
 
 -- its last cumul is one
 last : (guide : Guide) (step : Step) → IsVisitStep guide.model.now step → IsIn (pos 0) horizon (slice_index_or guide.visits.now step.node first_run).hi

@@ -13,18 +13,14 @@ use Rattle.vr_costfilter.proofs.kept.KeptCumuls.open.Goals as goal
 pub get-requires : goal.get-requires
 get-requires c =
     let many = are_lists-count c.args.closed.model.now c.args.routes.now.lists (are-lists c.args.closed.model.now c.args.routes.now.lists c.requires.valid) in
-    let end = c.vehicles-v-end.ensures.value in
-    let low = c.loop-v-test.true in
-    omega (arith, many, end, low)
+    omega (arith, many, c.vehicles-v-end.ensures.value, c.loop-v-test.true)
 
 pub invariant_of-tour : goal.invariant_of-tour
 invariant_of-tour c =
     let m = c.args.closed.model.now in
     let lists : List (List ℕ) = c.args.routes.now.lists in
     let many = are_lists-count m lists (are-lists m lists c.requires.valid) in
-    let end = c.vehicles-v-end.ensures.value in
-    let low = c.loop-v-test.true in
-    record { sound = tour-of m c.loop-v.v (route lists c.loop-v.v) (omega (arith, many, end, low)) (list-of m c.args.closed.well_formed lists c.requires.valid c.loop-v.v) c.list.result.now c.list.ensures.value }
+    record { sound = tour-of m c.loop-v.v (route lists c.loop-v.v) (omega (arith, many, c.vehicles-v-end.ensures.value, c.loop-v-test.true)) (list-of m c.args.closed.well_formed lists c.requires.valid c.loop-v.v) c.list.result.now c.list.ensures.value }
 
 pub loop-v-preserved : goal.loop-v-preserved
 loop-v-preserved c =

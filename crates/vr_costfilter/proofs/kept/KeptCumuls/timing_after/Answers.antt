@@ -15,7 +15,8 @@ use Rattle.vr_reach.specs.VisitRuns.{have_stops_one_run}
 use Rattle.vr_costfilter.specs.Kept.{AreKept, IsKept, IsKnown, HasAllAsked, HasAllStages, HasAllWays}
 use Rattle.vr_costfilter.specs.declared.kept.KeptList.{KeptList}
 use Rattle.vr_costfilter.specs.Joined.{AreJoined}
-use Rattle.vr_costfilter.specs.GuideRuns.{runs_of}
+use Rattle.vr_costfilter.specs.GuideRuns.{HasItsRuns, IsGuideBy}
+use Rattle.vr_costfilter.specs.declared.guides.Guide.{Guide}
 use Rattle.vr_costfilter.proofs.GuideLemmas.{of-guide}
 use Rattle.vr_costfilter.proofs.kept.KeptCumuls.timing_after.Goals as goal
 
@@ -27,9 +28,19 @@ told-so model d v list inside seen view kept low is one some to from = subst (λ
   λ told. from (subst (HasAllAsked (vehicle_at model v).schedule list) (sym is) (told.tells kept)),
 )
 
--- what is kept of its list
-read-kept : (model : Model) (d v : ℕ) (lists : List (List ℕ)) (inside seen : List KeptList) → inside ≡ seen → AreKept model d lists seen → (kept : KeptList) → v < length inside → kept ≡ slice_index_or inside v kept → IsKept model d v (route lists v) kept
-read-kept model d v lists inside seen view are kept low is = subst (IsKept model d v (route lists v)) (sym is) ((subst (AreKept model d lists) (sym view) are).each v kept low)
+-- what is kept of its list, as the guide has it
+read-kept : (g : Guide) {model : Model} {d v : ℕ} (lists : List (List ℕ)) {inside seen : List KeptList} {kept : KeptList} → g.model.now ≡ model → g.d ≡ d → g.v ≡ v → inside ≡ seen → AreKept model d lists seen → v < length inside → kept ≡ slice_index_or inside v kept
+    → IsKept g.model.now g.d g.v (route lists g.v) kept
+read-kept g {model} {d} {v} lists {inside} {seen} {kept} same_model same_dimension same_vehicle view are low is =
+    of-guide g same_model same_dimension same_vehicle refl (λ m d v runs. IsKept m d v (route lists v) kept)
+    (subst (IsKept model d v (route lists v)) (sym is) ((subst (AreKept model d lists) (sym view) are).each v kept low))
+
+-- the rule of its vehicle is that of the guide's
+rule-so : (g : Guide) {model : Model} {d v : ℕ} {vehicle : Vehicle} {rule : ScheduleRule} → g.model.now ≡ model → g.d ≡ d → g.v ≡ v → HasItsRuns g → vehicle_at model v ≡ vehicle → vehicle.schedule ≡ rule → IsGuideBy rule g
+rule-so g {model} {d} {v} {vehicle} {rule} same_model same_dimension same_vehicle runs at is = record {
+  runs = runs;
+  rule_is = of-guide g same_model same_dimension same_vehicle refl (λ m d v runs. (vehicle_at m v).schedule ≡ rule) (ap (λ (w : Vehicle). w.schedule) at ∙ is);
+}
 
 pub invariant_of-asked : goal.invariant_of-asked
 invariant_of-asked c =
@@ -39,10 +50,8 @@ invariant_of-asked c =
 
 pub returns-then-v-len-clause-known : goal.returns-then-v-len-clause-known
 returns-then-v-len-clause-known c =
-    let len = c.len.ensures in
-    let past = c.if-v-len.true in
     let same = ap length c.self.view_is in
-    (λ e. absurd (false≢true e), λ told. (let low = told.known in absurd (omega (arith, len, past, same, low))))
+    (λ e. absurd (false≢true e), λ told. (absurd (omega (arith, c.len.ensures, c.if-v-len.true, same, told.known))))
 
 pub returns-in_err-guide-clause-known : goal.returns-in_err-guide-clause-known
 returns-in_err-guide-clause-known c =
@@ -55,9 +64,7 @@ returns-in-Earliest-clause-known c =
     let v = c.args.v in
     let list : List ℕ = route c.args.routes.now.lists v in
     let kept : KeptList = c.index-kept.result.now in
-    let len = c.len.ensures in
-    let under = c.if-v-len.false in
-    let low : v < length c.self.inside.lists.items = omega (arith, len, under) in
+    let low : v < length c.self.inside.lists.items = omega (arith, c.len.ensures, c.if-v-len.false) in
     let same = c.in_ok-guide.ensures.vehicle in
     let rule : (vehicle_at m v).schedule ≡ Earliest = ap (λ (w : Vehicle). w.schedule) (c.get-vehicle.ensures.value no_vehicle) ∙ c.in-Earliest.is in
     let model = c.in_ok-guide.ensures.model in
@@ -78,9 +85,7 @@ returns-in-Tight-clause-known c =
     let v = c.args.v in
     let list : List ℕ = route c.args.routes.now.lists v in
     let kept : KeptList = c.index-kept.result.now in
-    let len = c.len.ensures in
-    let under = c.if-v-len.false in
-    let low : v < length c.self.inside.lists.items = omega (arith, len, under) in
+    let low : v < length c.self.inside.lists.items = omega (arith, c.len.ensures, c.if-v-len.false) in
     let same = c.in_ok-guide.ensures.vehicle in
     let rule : (vehicle_at m v).schedule ≡ Tight = ap (λ (w : Vehicle). w.schedule) (c.get-vehicle.ensures.value no_vehicle) ∙ c.in-Tight.is in
     let known = c.tight_after.ensures.known in
@@ -90,36 +95,10 @@ returns-in-Tight-clause-known c =
 
 pub earliest_after-requires : goal.earliest_after-requires
 earliest_after-requires c =
-    let m = c.args.at.now.model.now in
-    let d = c.args.at.now.d in
-    let v = c.args.v in
-    let g = c.in_ok-guide.guide in
     let e = c.in_ok-guide.ensures in
-    let lists : List (List ℕ) = c.args.routes.now.lists in
-    let kept : KeptList = c.index-kept.result.now in
-    let len = c.len.ensures in
-    let under = c.if-v-len.false in
-    let is = read-kept m d v lists c.self.inside.lists.items c.args.self.now c.self.view_is c.requires.kept kept (omega (arith, len, under)) c.index-kept.ensures in
-    let rule : (vehicle_at m v).schedule ≡ Earliest = ap (λ (w : Vehicle). w.schedule) (c.get-vehicle.ensures.value no_vehicle) ∙ c.in-Earliest.is in
-    record {
-      by = record { runs = e.runs; rule_is = of-guide g m d v (runs_of g) e.model e.dimension e.vehicle refl (λ m d v runs. (vehicle_at m v).schedule ≡ Earliest) rule };
-      of_old = of-guide g m d v (runs_of g) e.model e.dimension e.vehicle refl (λ m d v runs. IsKept m d v (route lists v) kept) is;
-    }
+    record { by = rule-so c.in_ok-guide.guide e.model e.dimension e.vehicle e.runs (c.get-vehicle.ensures.value no_vehicle) c.in-Earliest.is; of_old = read-kept c.in_ok-guide.guide c.args.routes.now.lists e.model e.dimension e.vehicle c.self.view_is c.requires.kept (omega (arith, c.len.ensures, c.if-v-len.false)) c.index-kept.ensures }
 
 pub tight_after-requires-clause-kept : goal.tight_after-requires-clause-kept
 tight_after-requires-clause-kept c =
-    let m = c.args.at.now.model.now in
-    let d = c.args.at.now.d in
-    let v = c.args.v in
-    let g = c.in_ok-guide.guide in
     let e = c.in_ok-guide.ensures in
-    let lists : List (List ℕ) = c.args.routes.now.lists in
-    let kept : KeptList = c.index-kept.result.now in
-    let len = c.len.ensures in
-    let under = c.if-v-len.false in
-    let is = read-kept m d v lists c.self.inside.lists.items c.args.self.now c.self.view_is c.requires.kept kept (omega (arith, len, under)) c.index-kept.ensures in
-    let rule : (vehicle_at m v).schedule ≡ Tight = ap (λ (w : Vehicle). w.schedule) (c.get-vehicle.ensures.value no_vehicle) ∙ c.in-Tight.is in
-    record {
-      by = record { runs = e.runs; rule_is = of-guide g m d v (runs_of g) e.model e.dimension e.vehicle refl (λ m d v runs. (vehicle_at m v).schedule ≡ Tight) rule };
-      of_old = of-guide g m d v (runs_of g) e.model e.dimension e.vehicle refl (λ m d v runs. IsKept m d v (route lists v) kept) is;
-    }
+    record { by = rule-so c.in_ok-guide.guide e.model e.dimension e.vehicle e.runs (c.get-vehicle.ensures.value no_vehicle) c.in-Tight.is; of_old = read-kept c.in_ok-guide.guide c.args.routes.now.lists e.model e.dimension e.vehicle c.self.view_is c.requires.kept (omega (arith, c.len.ensures, c.if-v-len.false)) c.index-kept.ensures }

@@ -94,7 +94,7 @@ returns-clause-known c =
 pub returns-then-is_empty-clause-known : goal.returns-then-is_empty-clause-known
 returns-then-is_empty-clause-known c =
     let none = none_from_test _ _ c.if-is_empty.true c.is_empty.ensures in
-    (λ e. absurd (false≢true e), λ told. (let some = told.room in absurd (omega (arith, none, some))))
+    (λ e. absurd (false≢true e), λ told. (absurd (omega (arith, none, told.room))))
 
 pub returns-then-not-has_ways-clause-known : goal.returns-then-not-has_ways-clause-known
 returns-then-not-has_ways-clause-known c =

@@ -16,13 +16,8 @@ use Rattle.vr_costfilter.proofs.kept.KeptList.timing_from.Goals as goal
 pub invariant_of-asked : goal.invariant_of-asked
 invariant_of-asked c =
     let asked = c.args.asked.now in
-    let g = asked.guide.now in
-    let ends = c.args.self.now.between in
     let e = c.between-kept.ensures in
-    record {
-      sound = of-guide c.between-kept.result g.model.now g.d g.v (between_runs (runs_of g) ends.start ends.last) e.model e.dimension e.vehicle e.runs
-          (λ model d v runs. AreJoined model v asked.routes.now.lists asked.pieces.now) asked.sound;
-    }
+    record { sound = of-guide c.between-kept.result e.model e.dimension e.vehicle e.runs (λ model d v runs. AreJoined model v asked.routes.now.lists asked.pieces.now) asked.sound }
 
 pub after-requires-clause-allows : goal.after-requires-clause-allows
 after-requires-clause-allows c =
@@ -31,37 +26,24 @@ after-requires-clause-allows c =
     let e = c.between-kept.ensures in
     let s = c.args.start in
     let list : List ℕ = new_list c.args.asked.now in
-    of-guide c.between-kept.result g.model.now g.d g.v (between_runs (runs_of g) ends.start ends.last) e.model e.dimension e.vehicle e.runs
-    (λ model d v runs. AllowsRuns model d v (starting runs (only (to_z w64 (of_z w64 s)))) list (chosen_line model d v list))
+    of-guide c.between-kept.result e.model e.dimension e.vehicle e.runs (λ model d v runs. AllowsRuns model d v (starting runs (only (to_z w64 (of_z w64 s)))) list (chosen_line model d v list))
     (subst (λ (x : ℤ). AllowsRuns g.model.now g.d g.v (between_runs (runs_of g) x ends.last) list (chosen_line g.model.now g.d g.v list)) (sym (read-cumul s c.requires.start)) c.requires.allows)
 
 pub after-requires-clause-known : goal.after-requires-clause-known
 after-requires-clause-known c =
     let asked = c.args.asked.now in
-    let g = asked.guide.now in
-    let ends = c.args.self.now.between in
     let e = c.between-kept.ensures in
-    let kept = c.args.self.now.steps in
     let lists : List (List ℕ) = asked.routes.now.lists in
     let by = c.requires.kept.by in
-    of-guide c.between-kept.result g.model.now g.d g.v (between_runs (runs_of g) ends.start ends.last) e.model e.dimension e.vehicle e.runs
-    (λ model d v runs. AreKnownSteps model d v runs (route lists v) kept)
-    (record { stages = (c.requires.kept.of_old.tight by.rule_is (runs_of g) by.runs).told (let n = c.requires.many in omega (arith, n)); many = c.requires.many; few = asked.sound.short })
+    of-guide c.between-kept.result e.model e.dimension e.vehicle e.runs (λ model d v runs. AreKnownSteps model d v runs (route lists v) c.args.self.now.steps)
+    (record { stages = (c.requires.kept.of_old.tight by.rule_is (runs_of asked.guide.now) by.runs).told (omega (arith, c.requires.many)); many = c.requires.many; few = asked.sound.short })
 
 pub returns-clause-known : goal.returns-clause-known
 returns-clause-known c =
-    let g = c.args.asked.now.guide.now in
-    let ends = c.args.self.now.between in
-    let list : List ℕ = new_list c.args.asked.now in
     let e = c.between-kept.ensures in
-    by-guide c.between-kept.result g.model.now g.d g.v (between_runs (runs_of g) ends.start ends.last) e.model e.dimension e.vehicle e.runs
-    (λ model d v runs. is_some c.after.result ≡ is_feasible (chosen_line model d v list)) c.after.ensures.known
+    by-guide c.between-kept.result e.model e.dimension e.vehicle e.runs (λ model d v runs. is_some c.after.result ≡ is_feasible (chosen_line model d v (new_list c.args.asked.now))) c.after.ensures.known
 
 pub returns-clause-timing : goal.returns-clause-timing
 returns-clause-timing c =
-    let g = c.args.asked.now.guide.now in
-    let ends = c.args.self.now.between in
-    let list : List ℕ = new_list c.args.asked.now in
     let e = c.between-kept.ensures in
-    by-guide c.between-kept.result g.model.now g.d g.v (between_runs (runs_of g) ends.start ends.last) e.model e.dimension e.vehicle e.runs
-    (λ model d v runs. IfSome c.after.result (IsTiming model d v list)) c.after.ensures.timing
+    by-guide c.between-kept.result e.model e.dimension e.vehicle e.runs (λ model d v runs. IfSome c.after.result (IsTiming model d v (new_list c.args.asked.now))) c.after.ensures.timing

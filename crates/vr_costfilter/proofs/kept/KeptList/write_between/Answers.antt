@@ -1,8 +1,7 @@
 use Rattle.std.proofs.Common.{◌∙◌, sym, subst, arith}
 use Rattle.std.proofs.lemmas.Bool.{false≢true}
-use Rattle.vr_costfilter.specs.GuideRuns.{runs_of}
 use Rattle.vr_costfilter.specs.Led.{AreFewVisits}
-use Rattle.vr_costfilter.specs.Runs.{between_runs, AllowsRuns}
+use Rattle.vr_costfilter.specs.Runs.{AllowsRuns}
 use Rattle.vr_costfilter.specs.Steps.{HasStages}
 use Rattle.vr_costfilter.proofs.KeptCumulLemmas.{stages-none}
 use Rattle.vr_costfilter.proofs.GuideLemmas.{by-guide, of-guide}
@@ -11,18 +10,15 @@ use Rattle.vr_costfilter.proofs.kept.KeptList.write_between.Goals as goal
 pub returns-then-led-clause-stages : goal.returns-then-led-clause-stages
 returns-then-led-clause-stages c =
     let g = c.args.led.now.guide.now in
-    stages-none g.model.now g.d g.v _ c.args.led.now.list.now _ (let n = c.requires.none in omega (arith, n))
+    stages-none g.model.now g.d g.v _ c.args.led.now.list.now _ (omega (arith, c.requires.none))
 
 pub invariant_of-write : goal.invariant_of-write
 invariant_of-write c = record { sound = subst (λ model. AreFewVisits model c.args.led.now.list.now) (sym c.between-between.ensures.model) c.args.led.now.sound }
 
 pub returns-clause-stages : goal.returns-clause-stages
 returns-clause-stages c =
-    let g = c.args.led.now.guide.now in
     let e = c.between-between.ensures in
-    let ends = c.ends-ends.result in
-    by-guide c.between-between.result g.model.now g.d g.v (between_runs (runs_of g) ends.start ends.last) e.model e.dimension e.vehicle e.runs
-    (λ model d v runs. HasStages model d v runs c.args.led.now.list.now c.write.new.self) c.write.ensures.stages
+    by-guide c.between-between.result e.model e.dimension e.vehicle e.runs (λ model d v runs. HasStages model d v runs c.args.led.now.list.now c.write.new.self) c.write.ensures.stages
 
 pub returns-then-led-clause-told : goal.returns-then-led-clause-told
 returns-then-led-clause-told c soft = absurd (false≢true (sym soft ∙ c.if-led.true))
@@ -35,8 +31,6 @@ returns-clause-told c soft = c.ends-ends.ensures.ends
 
 pub returns-clause-all : goal.returns-clause-all
 returns-clause-all c soft L by feasible =
-    let g = c.args.led.now.guide.now in
     let e = c.between-between.ensures in
-    let ends = c.ends-ends.result in
     c.write.ensures.all L
-    (of-guide c.between-between.result g.model.now g.d g.v (between_runs (runs_of g) ends.start ends.last) e.model e.dimension e.vehicle e.runs (λ model d v runs. AllowsRuns model d v runs c.args.led.now.list.now L) by) feasible
+    (of-guide c.between-between.result e.model e.dimension e.vehicle e.runs (λ model d v runs. AllowsRuns model d v runs c.args.led.now.list.now L) by) feasible

@@ -31,7 +31,7 @@ returns-then-is_empty-clause-kept c =
     let g = c.args.led.now.guide.now in
     record {
       earliest = λ rule runs are. absurd (other-rule (sym rule ∙ c.requires.rule_is));
-      tight = λ rule runs are. stages-none g.model.now g.d g.v _ c.args.led.now.list.now _ (let n = c.forget.ensures.none in omega (arith, n));
+      tight = λ rule runs are. stages-none g.model.now g.d g.v _ c.args.led.now.list.now _ (omega (arith, c.forget.ensures.none));
       between = c.forget.ensures.between;
       ends = c.forget.ensures.ends g.model.now g.d g.v c.args.led.now.list.now;
       whole = λ tour one feasible room. absurd (no-room (vehicle_at g.model.now g.v).schedule (length c.forget.new.self.ends.items) c.requires.rule_is room (let none = none_from_test _ _ c.if-is_empty.true c.is_empty.ensures in omega (arith, none)));
@@ -56,7 +56,7 @@ returns-clause-kept c =
         room = (let many = length-set items 0 new in let same = ap length c.write_between.ensures.ends in let some = some_from_test _ _ c.if-is_empty.false c.is_empty.ensures in omega (arith, many, same, some));
         ways = λ other. subst (λ (l : List KeptWays). length (slice_index_or l 0 other).ways.items ≡ length list + 1) (sym c.write_between.ensures.ends)
             (subst (λ (k : KeptWays). length k.ways.items ≡ length list + 1) (sym (get_or-set_same items 0 new other (let some = some_from_test _ _ c.if-is_empty.false c.is_empty.ensures in omega (arith, some))))
-            (let many = c.write.ensures.ways.many in omega (arith, many)));
+            (omega (arith, c.write.ensures.ways.many)));
       });
     }
   where

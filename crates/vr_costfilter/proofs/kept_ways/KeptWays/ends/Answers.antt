@@ -70,8 +70,8 @@ returns c =
     let is = c.way_through-whole.ensures ∙ whole-kept g list c.args.self.now c.requires c.deref.result.now c.deref-2.result.now c.deref.ensures.0 c.deref-2.ensures.0 in
     let start = c.ends_by-ends.ensures.start in
     let last = c.ends_by-ends.ensures.last in
-    let start_read = start-small g.model.now whole small c.ends_by-ends.result.start start ∙ start ∙ ap start_by is in
-    let last_read = ap (λ (x : ℤ). to_z w64 (of_z w64 x)) last ∙ end-read g.model.now whole small ∙ ap last_by is in
+    let start_read = start-small small c.ends_by-ends.result.start start ∙ start ∙ ap start_by is in
+    let last_read = ap (λ (x : ℤ). to_z w64 (of_z w64 x)) last ∙ end-read small ∙ ap last_by is in
     record {
       ends = record {
         last = read-cumul c.within_horizon-2.result c.within_horizon-2.ensures.range ∙ c.within_horizon-2.ensures.value ∙ ap nearest_cumul last_read;

@@ -9,9 +9,7 @@ use Rattle.vr_costfilter.proofs.kept_ways.KeptWays.write_rests.Goals as goal
 
 pub rest_before-rest-requires-clause-rest : goal.rest_before-rest-requires-clause-rest
 rest_before-rest-requires-clause-rest c =
-    let few = c.args.led.now.sound.few in
-    let low = c.loop-k-test.true in
-    rest-more c.args.led.now.guide.now.model.now c.loop-k.k 1000 c.loop-k.rest (omega (arith, few, low)) c.loop-k.invariant.range
+    rest-more c.args.led.now.guide.now.model.now c.loop-k.k 1000 c.loop-k.rest (omega (arith, c.args.led.now.sound.few, c.loop-k-test.true)) c.loop-k.invariant.range
 
 pub loop-k-preserved : goal.loop-k-preserved
 loop-k-preserved c =

@@ -12,9 +12,7 @@ use Rattle.vr_costfilter.proofs.kept_ways.KeptWays.write_ways.Goals as goal
 
 pub way_to_visit-way-requires-clause-way : goal.way_to_visit-way-requires-clause-way
 way_to_visit-way-requires-clause-way c =
-    let few = c.args.led.now.sound.few in
-    let low = c.loop-k-test.true in
-    way-more c.args.led.now.guide.now.model.now c.loop-k.k 3000 c.loop-k.way (omega (arith, few, low)) c.loop-k.invariant.range
+    way-more c.args.led.now.guide.now.model.now c.loop-k.k 3000 c.loop-k.way (omega (arith, c.args.led.now.sound.few, c.loop-k-test.true)) c.loop-k.invariant.range
 
 pub loop-k-preserved : goal.loop-k-preserved
 loop-k-preserved c =

@@ -27,8 +27,7 @@ loop-k-init c =
 pub step_back-requires-clause-node : goal.step_back-requires-clause-node
 step_back-requires-clause-node c =
     let long = ordered-long c.args.self.now.reversed c.args.self.now.nodes.now in
-    let low = c.loop-k-test.true in
-    subst (λ node. IsTrue (is_visit c.args.self.now.guide.now.model.now node)) (sym c.node_in-node.ensures) (c.args.self.now.sound.visits (length c.args.self.now.nodes.now - 1 - c.loop-k.k) 0 (omega (arith, long, low)))
+    subst (λ node. IsTrue (is_visit c.args.self.now.guide.now.model.now node)) (sym c.node_in-node.ensures) (c.args.self.now.sound.visits (length c.args.self.now.nodes.now - 1 - c.loop-k.k) 0 (omega (arith, long, c.loop-k-test.true)))
 
 pub step_back-requires-clause-room : goal.step_back-requires-clause-room
 step_back-requires-clause-room c =
@@ -36,11 +35,9 @@ step_back-requires-clause-room c =
     let nodes : List ℕ = cond c.args.self.now.reversed (reverse c.args.self.now.nodes.now) c.args.self.now.nodes.now in
     let rest : List ℕ = drop (length c.args.self.now.nodes.now - c.loop-k.k) nodes in
     let long = ordered-long c.args.self.now.reversed c.args.self.now.nodes.now in
-    let low = c.loop-k-test.true in
-    let room = c.requires.room in
     let many = back-many g.model.now g.d g.v (runs_of g) rest c.args.next c.loop-k.first c.args.trail.now.steps.items c.loop-k.trail.steps.items c.loop-k.invariant.back in
     let left = length-drop (length c.args.self.now.nodes.now - c.loop-k.k) nodes in
-    omega (arith, long, low, room, many, left)
+    omega (arith, long, c.loop-k-test.true, c.requires.room, many, left)
 
 pub loop-k-preserved : goal.loop-k-preserved
 loop-k-preserved c =
@@ -61,8 +58,7 @@ pub returns-clause-back : goal.returns-clause-back
 returns-clause-back c =
     let g = c.args.self.now.guide.now in
     let nodes : List ℕ = cond c.args.self.now.reversed (reverse c.args.self.now.nodes.now) c.args.self.now.nodes.now in
-    let done = c.loop-k-test.false in
-    let all : length c.args.self.now.nodes.now - c.loop-k.k ≡ 0 = omega (arith, done) in
+    let all : length c.args.self.now.nodes.now - c.loop-k.k ≡ 0 = omega (arith, c.loop-k-test.false) in
     subst (λ i. WentBack g.model.now g.d g.v (runs_of g) (drop i nodes) c.args.next c.args.trail.now.steps.items c.loop-k.trail.steps.items c.loop-k.first) all c.loop-k.invariant.back
 
 pub returns-clause-value : goal.returns-clause-value

@@ -10,8 +10,7 @@ use Rattle.vr_costfilter.proofs.led.LedChain.way_along.Goals as goal
 pub way_to_visit-gone-requires-clause-node : goal.way_to_visit-gone-requires-clause-node
 way_to_visit-gone-requires-clause-node c =
     let long = ordered-long c.args.self.now.reversed c.args.self.now.nodes.now in
-    let low = c.loop-k-test.true in
-    subst (λ node. IsTrue (is_visit c.args.self.now.guide.now.model.now node)) (sym c.node_in.ensures) (c.args.self.now.sound.visits c.loop-k.k 0 (omega (arith, long, low)))
+    subst (λ node. IsTrue (is_visit c.args.self.now.guide.now.model.now node)) (sym c.node_in.ensures) (c.args.self.now.sound.visits c.loop-k.k 0 (omega (arith, long, c.loop-k-test.true)))
 
 pub way_to_visit-gone-requires-clause-way : goal.way_to_visit-gone-requires-clause-way
 way_to_visit-gone-requires-clause-way c =
@@ -20,11 +19,9 @@ way_to_visit-gone-requires-clause-way c =
     let nodes : List ℕ = cond c.args.self.now.reversed (reverse c.args.self.now.nodes.now) c.args.self.now.nodes.now in
     let k = c.loop-k.k in
     let long = ordered-long c.args.self.now.reversed c.args.self.now.nodes.now in
-    let few = c.args.self.now.sound.few in
-    let low = c.loop-k-test.true in
     subst (IsWayOf g.model.now 3000) (sym c.loop-k.invariant)
-    (way-more g.model.now (2000 + k) 3000 (way_along g.model.now g.d g.v (runs_of g) c.args.way (take k nodes)) (omega (arith, few, long, low))
-    (along-part g.model.now h.well_formed g.d g.v h.dimension h.vehicle (runs_of g) h.visits nodes c.args.self.now.sound.visits 2000 c.args.way c.requires k (omega (arith, long, low))))
+    (way-more g.model.now (2000 + k) 3000 (way_along g.model.now g.d g.v (runs_of g) c.args.way (take k nodes)) (omega (arith, c.args.self.now.sound.few, long, c.loop-k-test.true))
+    (along-part g.model.now h.well_formed g.d g.v h.dimension h.vehicle (runs_of g) h.visits nodes c.args.self.now.sound.visits 2000 c.args.way c.requires k (omega (arith, long, c.loop-k-test.true))))
 
 pub loop-k-preserved : goal.loop-k-preserved
 loop-k-preserved c =
@@ -32,6 +29,5 @@ loop-k-preserved c =
     let nodes : List ℕ = cond c.args.self.now.reversed (reverse c.args.self.now.nodes.now) c.args.self.now.nodes.now in
     let k = c.loop-k.k in
     let long = ordered-long c.args.self.now.reversed c.args.self.now.nodes.now in
-    let low = c.loop-k-test.true in
     c.way_to_visit-gone.ensures ∙ ap₂ (λ way node. way_to_visit g.model.now g.d g.v (runs_of g) way node) c.loop-k.invariant c.node_in.ensures
-    ∙ sym (fold_more (way_to_visit g.model.now g.d g.v (runs_of g)) c.args.way nodes k 0 (omega (arith, long, low)))
+    ∙ sym (fold_more (way_to_visit g.model.now g.d g.v (runs_of g)) c.args.way nodes k 0 (omega (arith, long, c.loop-k-test.true)))

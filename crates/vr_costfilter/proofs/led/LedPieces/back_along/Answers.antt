@@ -36,9 +36,8 @@ invariant_of-one c =
     let lists : List (List ℕ) = c.args.self.now.routes.now.lists in
     let pieces : List Piece = c.args.self.now.pieces.now in
     let k : ℕ = length pieces - 1 - c.loop-k.k in
-    let low = c.loop-k-test.true in
     let h = c.args.self.now.sound in
-    record { sound = piece-of c.args.self.now.guide.now.model.now lists pieces h k first_piece (omega (arith, low)) }
+    record { sound = piece-of c.args.self.now.guide.now.model.now lists pieces h k first_piece (omega (arith, c.loop-k-test.true)) }
 
 pub back_along-requires-clause-room : goal.back_along-requires-clause-room
 back_along-requires-clause-room c =
@@ -49,13 +48,12 @@ back_along-requires-clause-room c =
     let n = length pieces in
     let rest : List ℕ = joined lists (drop (n - k) pieces) in
     let piece : List ℕ = nodes_of lists (slice_index_or pieces (n - 1 - k) first_piece) in
-    let room = c.requires.room in
     let many = back-many g.model.now g.d g.v (runs_of g) rest c.args.next c.loop-k.first c.args.trail.now.steps.items c.loop-k.trail.steps.items c.loop-k.invariant.back in
     let all = ap length (joined_rest lists pieces (n - (k + 1))) in
     let two = length-append (joined lists (take (n - (k + 1)) pieces)) (joined lists (drop (n - (k + 1)) pieces)) in
     let one = ap length (joined-one lists pieces k c.loop-k-test.true) in
     let parts = length-append piece rest in
-    omega (arith, room, many, all, two, one, parts)
+    omega (arith, c.requires.room, many, all, two, one, parts)
 
 pub loop-k-preserved : goal.loop-k-preserved
 loop-k-preserved c =
@@ -74,8 +72,7 @@ loop-k-preserved c =
 pub returns-clause-back : goal.returns-clause-back
 returns-clause-back c =
     let g = c.args.self.now.guide.now in
-    let done = c.loop-k-test.false in
-    let all : length c.args.self.now.pieces.now - c.loop-k.k ≡ 0 = omega (arith, done) in
+    let all : length c.args.self.now.pieces.now - c.loop-k.k ≡ 0 = omega (arith, c.loop-k-test.false) in
     subst (λ i. WentBack g.model.now g.d g.v (runs_of g) (joined c.args.self.now.routes.now.lists (drop i c.args.self.now.pieces.now)) c.args.next c.args.trail.now.steps.items c.loop-k.trail.steps.items c.loop-k.first) all c.loop-k.invariant.back
 
 pub returns-clause-value : goal.returns-clause-value

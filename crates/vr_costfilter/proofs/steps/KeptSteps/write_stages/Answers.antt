@@ -37,15 +37,11 @@ to_visit-requires-clause-step c =
 
 pub to_visit-requires-clause-stage : goal.to_visit-requires-clause-stage
 to_visit-requires-clause-stage c =
-    let few = c.args.led.now.sound.few in
-    let low = c.loop-k-test.true in
-    stage-more c.args.led.now.guide.now.model.now (suc c.loop-k.k) 4000 c.loop-k.stage (omega (arith, few, low)) c.loop-k.invariant.range
+    stage-more c.args.led.now.guide.now.model.now (suc c.loop-k.k) 4000 c.loop-k.stage (omega (arith, c.args.led.now.sound.few, c.loop-k-test.true)) c.loop-k.invariant.range
 
 pub to_end-requires : goal.to_end-requires
 to_end-requires c =
-    let few = c.args.led.now.sound.few in
-    let end = c.loop-k.auto.k-end in
-    record { stage = stage-more c.args.led.now.guide.now.model.now (suc c.loop-k.k) 4000 c.loop-k.stage (omega (arith, few, end)) c.loop-k.invariant.range }
+    record { stage = stage-more c.args.led.now.guide.now.model.now (suc c.loop-k.k) 4000 c.loop-k.stage (omega (arith, c.args.led.now.sound.few, c.loop-k.auto.k-end)) c.loop-k.invariant.range }
 
 pub loop-k-init : goal.loop-k-init
 loop-k-init c =
@@ -98,11 +94,8 @@ loop-k-preserved c =
 
 pub returns-in-Some-to_end-clause-all : goal.returns-in-Some-to_end-clause-all
 returns-in-Some-to_end-clause-all c L by feasible =
-    let end = c.loop-k.auto.k-end in
-    let done = c.loop-k-test.false in
-    let many = c.loop-k.invariant.many in
     let two = length-append c.loop-k.self.stages.items (c.in-Some-to_end.end ∷ []) in
-    ap length c.push-in-Some-to_end.ensures.items ∙ omega (arith, many, two, end, done)
+    ap length c.push-in-Some-to_end.ensures.items ∙ omega (arith, c.loop-k.invariant.many, two, c.loop-k.auto.k-end, c.loop-k-test.false)
 
 pub returns-in-None-clause-all : goal.returns-in-None-clause-all
 returns-in-None-clause-all c L by feasible =
@@ -137,9 +130,7 @@ returns-in_default-to_end-clause-all c L by feasible =
     let i = c.loop-k.invariant in
     let list : List ℕ = c.args.led.now.list.now in
     let steps : List Step = steps_of c.args.self.now in
-    let end = c.loop-k.auto.k-end in
-    let done = c.loop-k-test.false in
-    let all : c.loop-k.k ≡ length list = omega (arith, end, done) in
+    let all : c.loop-k.k ≡ length list = omega (arith, c.loop-k.auto.k-end, c.loop-k-test.false) in
     let long = many-steps g.model.now g.d g.v (runs_of g) list steps c.requires.steps.steps_are in
     let out : Option Stage = setting_out g.model.now g.d g.v (runs_of g) (first_of steps (end_step g.model.now g.v (runs_of g))) in
     let there = i.stages.each c.loop-k.k c.loop-k.stage (omega arith) ∙ ap (λ (s : Stage). Some s) (i.last c.loop-k.stage) in
@@ -156,9 +147,7 @@ returns-in-Some-to_end-clause-stages c =
     let old : List Stage = c.loop-k.self.stages.items in
     let new : List Stage = c.push-in-Some-to_end.new.self.items in
     let e = c.in-Some-to_end.ensures in
-    let end = c.loop-k.auto.k-end in
-    let done = c.loop-k-test.false in
-    let all : c.loop-k.k ≡ length list = omega (arith, end, done) in
+    let all : c.loop-k.k ≡ length list = omega (arith, c.loop-k.auto.k-end, c.loop-k-test.false) in
     let many : length old ≡ suc (length list) = i.many ∙ ap suc all in
     let whole = stages-whole g.model.now g.d g.v (runs_of g) list steps c.requires.steps.steps_are c.requires.steps.known old new c.in-Some-to_end.end long many (subst (λ k. AreStages g.model.now g.d g.v (runs_of g) steps k old) all i.stages) c.push-in-Some-to_end.ensures.items
     (λ other. ap (to_end g.model.now g.d g.v (runs_of g)) (ap (λ k. slice_index_or old k other) (sym all) ∙ i.last other) ∙ sym e.value)

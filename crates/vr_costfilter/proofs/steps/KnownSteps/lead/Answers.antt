@@ -1,19 +1,19 @@
-use Rattle.std.proofs.Common.{◌≡◌, ◌∙◌, ◌+◌, ◌-◌, ◌++◌, List, [], ◌∷◌, ℕ, Some, drop, length, take, ap, sym, subst, arith}
-use Rattle.std.specs.Prelude.{IsTrue, pos, slice_index_or}
+use Rattle.std.proofs.Common.{◌≡◌, ◌∙◌, ◌+◌, ◌-◌, ◌<◌, ◌≤◌, ◌++◌, List, [], ◌∷◌, ℕ, Some, drop, length, take, ap, sym, subst, arith}
+use Rattle.std.specs.Prelude.{pos, slice_index_or}
 use Rattle.std.specs.Option.{option_and_then}
 use Rattle.std.proofs.lemmas.Int.{ints}
-use Rattle.std.proofs.lemmas.List.{drop_all, get_or-take, length-drop, length-reverse, length-take-le, take-append-drop}
-use Rattle.vr_model.specs.tables.Numbers.{horizon}
-use Rattle.vr_model.specs.tables.Tables.{is_visit}
-use Rattle.vr_model.specs.tables.WellFormed.{IsIn}
+use Rattle.std.proofs.lemmas.List.{drop_all, get_or-take, length-drop, length-take-le, take-append-drop}
+use Rattle.vr_model.specs.declared.records.Model.{Model}
 use Rattle.vr_costfilter.specs.Floors.{before, end_step, WentBack}
 use Rattle.vr_costfilter.specs.GuideRuns.{runs_of}
-use Rattle.vr_costfilter.specs.Steps.{steps_of}
+use Rattle.vr_costfilter.specs.Runs.{Runs}
+use Rattle.vr_costfilter.specs.Steps.{steps_of, AreKnownSteps}
 use Rattle.vr_costfilter.specs.declared.guides.Stage.{Stage}
+use Rattle.vr_costfilter.specs.declared.steps.KeptSteps.{KeptSteps}
 use Rattle.vr_costfilter.specs.declared.trails.Step.{Step}
 use Rattle.vr_costfilter.proofs.FirstLemmas.{begin-none, led-begin, went-begin}
-use Rattle.vr_costfilter.proofs.FloorLemmas.{back-many, back-more, back-none, back-one, drop-one, node-of, step-read, visit-step}
-use Rattle.vr_costfilter.proofs.KeptCumulLemmas.{items-many}
+use Rattle.vr_costfilter.proofs.FloorLemmas.{back-many, back-more, back-none, back-one, drop-one, node-of, visit-step}
+use Rattle.vr_costfilter.proofs.KeptCumulLemmas.{step-inside, step-known, step-there}
 use Rattle.vr_costfilter.proofs.MetLemmas.{led-kept, led-none}
 use Rattle.vr_costfilter.proofs.steps.KnownSteps.lead.Goals as goal
 
@@ -32,27 +32,19 @@ loop-k-init c =
     }
 
 pub bounds-deref-list : goal.bounds-deref-list
-bounds-deref-list c =
-    let g = c.args.self.now.guide.now in
-    let told = c.args.self.now.sound.stages in
-    let many = items-many g.model.now g.d g.v (runs_of g) c.args.self.now.list.now c.args.self.now.kept.now.trail.steps.items told.steps_are in
-    let read = ap length c.deref.ensures.0 in
-    let le = c.requires.place in
-    let low = c.loop-k-test.true in
-    omega (arith, many, read, le, low)
+bounds-deref-list c = step-inside c.args.self.now.sound c.deref.ensures.0 (c.args.front - 1 - c.loop-k.k) (omega (arith, c.requires.place, c.loop-k-test.true))
 
 pub before-requires-clause-node : goal.before-requires-clause-node
-before-requires-clause-node c =
-    let g = c.args.self.now.guide.now in
-    let told = c.args.self.now.sound.stages in
-    let items : List Step = c.args.self.now.kept.now.trail.steps.items in
-    let many = items-many g.model.now g.d g.v (runs_of g) c.args.self.now.list.now items told.steps_are in
-    let long = length-reverse items in
-    let le = c.requires.place in
-    let low = c.loop-k-test.true in
-    let place : ℕ = c.args.front - 1 - c.loop-k.k in
-    subst (λ (s : Step). IsTrue (is_visit g.model.now s.node)) (sym (step-read items c.deref.result.now (length c.args.self.now.list.now) place no_step no_step c.deref.ensures.0 many (omega (arith, le, low))))
-    (told.known place no_step (omega (arith, le, low, many, long))).visit
+before-requires-clause-node c = (step-known c.args.self.now.sound c.deref.ensures.0 (c.args.front - 1 - c.loop-k.k) (omega (arith, c.requires.place, c.loop-k-test.true)) no_step).visit
+
+-- the visit that is read comes before those that were walked along
+next-node : {model : Model} {d v : ℕ} {runs : Runs} {list : List ℕ} {kept : KeptSteps} {read : List Step} → AreKnownSteps model d v runs list kept → read ≡ kept.trail.steps.items → (front k : ℕ) → k < front → front ≤ length list
+    → drop (front - (k + 1)) (take front list) ≡ (slice_index_or read (length list - 1 - (front - 1 - k)) no_step).node ∷ drop (front - k) (take front list)
+next-node {model} {d} {v} {runs} {list} {kept} {read} sound is front k low le =
+    let place : ℕ = front - 1 - k in
+    let there : (slice_index_or read (length list - 1 - place) no_step).node ≡ slice_index_or (take front list) place 0 =
+    ap (λ (s : Step). s.node) (step-there sound is place (omega (arith, le, low)) no_step no_step) ∙ node-of model d v runs list (steps_of kept) sound.stages.steps_are place no_step (omega (arith, le, low)) ∙ sym (get_or-take front list place 0 (omega (arith, low))) in
+    drop-one (take front list) front k 0 (length-take-le front list le) low ∙ ap (λ x. x ∷ drop (front - k) (take front list)) (sym there)
 
 pub returns-then-step-kept-clause-led : goal.returns-then-step-kept-clause-led
 returns-then-step-kept-clause-led c =
@@ -61,24 +53,20 @@ returns-then-step-kept-clause-led c =
     let front = c.args.front in
     let k = c.loop-k.k in
     let place : ℕ = front - 1 - k in
-    let items : List Step = c.args.self.now.kept.now.trail.steps.items in
     let stages : List Stage = c.args.self.now.kept.now.stages.items in
     let steps : List Step = steps_of c.args.self.now.kept.now in
     let end : Step = end_step g.model.now g.v (runs_of g) in
     let told = c.args.self.now.sound.stages in
-    let many = items-many g.model.now g.d g.v (runs_of g) list items told.steps_are in
-    let long = length-reverse items in
     let le = c.requires.place in
     let low = c.loop-k-test.true in
-    let read = step-read items c.deref.result.now (length list) place no_step end c.deref.ensures.0 many (omega (arith, le, low)) in
-    let known = told.known place end (omega (arith, le, low, many, long)) in
+    let inside : place < length list = omega (arith, le, low) in
+    let read = step-there c.args.self.now.sound c.deref.ensures.0 place inside no_step end in
     let step = c.in-Some.step in
     let value = subst (λ (s : Step). before g.model.now g.d g.v (runs_of g) s.node c.loop-k.first ≡ Some step) read (sym c.in-Some.ensures.value) in
     let mine = c.in-Some.ensures.range.floor in
-    let yours : IsIn (pos 0) horizon (slice_index_or c.deref.result.now (length list - 1 - place) no_step).floor = subst (λ (s : Step). IsIn (pos 0) horizon s.floor) (sym read) known.floor in
-    let test = c.if-step-kept.true in
-    let same : step.floor ≡ (slice_index_or c.deref.result.now (length list - 1 - place) no_step).floor = omega (arith, ints, test, mine.at_least, mine.at_most, yours.at_least, yours.at_most) in
-    let first = step-read items c.deref-then-step-kept.result.now (length list) 0 no_step end c.deref-then-step-kept.ensures.0 many (omega (arith, le, low)) in
+    let yours = (step-known c.args.self.now.sound c.deref.ensures.0 place inside no_step).floor in
+    let same : step.floor ≡ (slice_index_or c.deref.result.now (length list - 1 - place) no_step).floor = omega (arith, ints, c.if-step-kept.true, mine.at_least, mine.at_most, yours.at_least, yours.at_most) in
+    let first = step-there c.args.self.now.sound c.deref-then-step-kept.ensures.0 0 (omega (arith, le, low)) no_step end in
     let here : length list - 1 - 0 ≡ length list - 1 = omega arith in
     let at : front - k ≡ place + 1 = omega (arith, low) in
     let back = subst (λ i. WentBack g.model.now g.d g.v (runs_of g) (drop i (take front list)) c.args.next c.args.trail.now.steps.items c.loop-k.trail.steps.items c.loop-k.first) at c.loop-k.invariant.back in
@@ -96,21 +84,12 @@ returns-in-None-clause-first c =
     let list : List ℕ = c.args.self.now.list.now in
     let front = c.args.front in
     let k = c.loop-k.k in
-    let place : ℕ = front - 1 - k in
-    let items : List Step = c.args.self.now.kept.now.trail.steps.items in
     let nodes : List ℕ = take front list in
-    let told = c.args.self.now.sound.stages in
-    let many = items-many g.model.now g.d g.v (runs_of g) list items told.steps_are in
-    let le = c.requires.place in
-    let low = c.loop-k-test.true in
-    let read = step-read items c.deref.result.now (length list) place no_step no_step c.deref.ensures.0 many (omega (arith, le, low)) in
-    let node : ℕ = (slice_index_or c.deref.result.now (length list - 1 - place) no_step).node in
-    let there : node ≡ slice_index_or nodes place 0 =
-    ap (λ (s : Step). s.node) read ∙ node-of g.model.now g.d g.v (runs_of g) list (steps_of c.args.self.now.kept.now) told.steps_are place no_step (omega (arith, le, low)) ∙ sym (get_or-take front list place 0 (omega (arith, low))) in
+    let node : ℕ = (slice_index_or c.deref.result.now (length list - 1 - (front - 1 - k)) no_step).node in
     let rest : List ℕ = drop (front - k) nodes in
     let ahead : List ℕ = take (front - (k + 1)) nodes in
     let split : nodes ≡ ahead ++ (node ∷ rest) =
-    sym (take-append-drop (front - (k + 1)) nodes) ∙ ap (λ l. ahead ++ l) (drop-one nodes front k 0 (length-take-le front list le) low ∙ ap (λ x. x ∷ rest) (sym there)) in
+    sym (take-append-drop (front - (k + 1)) nodes) ∙ ap (λ l. ahead ++ l) (next-node c.args.self.now.sound c.deref.ensures.0 front k c.loop-k-test.true c.requires.place) in
     let gone = went-begin g.model.now g.d g.v (runs_of g) rest c.args.next c.loop-k.first c.args.trail.now.steps.items c.loop-k.trail.steps.items c.loop-k.invariant.back in
     sym (begin-none g.model.now g.d g.v (runs_of g) nodes ahead (node ∷ rest) c.args.next split
     (ap (option_and_then (before g.model.now g.d g.v (runs_of g) node)) gone ∙ sym c.in-None.ensures.value))
@@ -122,9 +101,7 @@ push-requires c =
     let long = length-take-le c.args.front c.args.self.now.list.now c.requires.place in
     let left = length-drop (c.args.front - c.loop-k.k) nodes in
     let many = back-many g.model.now g.d g.v (runs_of g) (drop (c.args.front - c.loop-k.k) nodes) c.args.next c.loop-k.first c.args.trail.now.steps.items c.loop-k.trail.steps.items c.loop-k.invariant.back in
-    let room = c.requires.room in
-    let low = c.loop-k-test.true in
-    (omega arith, omega (arith, long, left, many, room, low))
+    (omega arith, omega (arith, long, left, many, c.requires.room, c.loop-k-test.true))
 
 pub loop-k-preserved : goal.loop-k-preserved
 loop-k-preserved c =
@@ -132,23 +109,14 @@ loop-k-preserved c =
     let list : List ℕ = c.args.self.now.list.now in
     let front = c.args.front in
     let k = c.loop-k.k in
-    let place : ℕ = front - 1 - k in
-    let items : List Step = c.args.self.now.kept.now.trail.steps.items in
     let nodes : List ℕ = take front list in
-    let told = c.args.self.now.sound.stages in
-    let many = items-many g.model.now g.d g.v (runs_of g) list items told.steps_are in
-    let le = c.requires.place in
-    let low = c.loop-k-test.true in
-    let read = step-read items c.deref.result.now (length list) place no_step no_step c.deref.ensures.0 many (omega (arith, le, low)) in
-    let node : ℕ = (slice_index_or c.deref.result.now (length list - 1 - place) no_step).node in
-    let there : node ≡ slice_index_or nodes place 0 =
-    ap (λ (s : Step). s.node) read ∙ node-of g.model.now g.d g.v (runs_of g) list (steps_of c.args.self.now.kept.now) told.steps_are place no_step (omega (arith, le, low)) ∙ sym (get_or-take front list place 0 (omega (arith, low))) in
+    let node : ℕ = (slice_index_or c.deref.result.now (length list - 1 - (front - 1 - k)) no_step).node in
     let e = c.in-Some.ensures in
     let step = c.in-Some.step in
     let one = back-one g.model.now g.d g.v (runs_of g) node c.loop-k.first step c.loop-k.trail.steps.items c.push.new.self.items (sym e.value) e.range c.push.ensures.items in
     record {
       back = back-more g.model.now g.d g.v (runs_of g) (node ∷ []) (drop (front - k) nodes) (drop (front - (k + 1)) nodes) c.args.next c.loop-k.first step c.args.trail.now.steps.items c.loop-k.trail.steps.items c.push.new.self.items
-          (drop-one nodes front k 0 (length-take-le front list le) low ∙ ap (λ x. x ∷ drop (front - k) nodes) (sym there)) c.loop-k.invariant.back one;
+          (next-node c.args.self.now.sound c.deref.ensures.0 front k c.loop-k-test.true c.requires.place) c.loop-k.invariant.back one;
       range = visit-step g.model.now step e.range;
     }
 
@@ -156,8 +124,7 @@ pub returns-clause-led : goal.returns-clause-led
 returns-clause-led c =
     let g = c.args.self.now.guide.now in
     let nodes : List ℕ = take c.args.front c.args.self.now.list.now in
-    let done = c.loop-k-test.false in
-    let all : c.args.front - c.loop-k.k ≡ 0 = omega (arith, done) in
+    let all : c.args.front - c.loop-k.k ≡ 0 = omega (arith, c.loop-k-test.false) in
     let back = subst (λ i. WentBack g.model.now g.d g.v (runs_of g) (drop i nodes) c.args.next c.args.trail.now.steps.items c.loop-k.trail.steps.items c.loop-k.first) all c.loop-k.invariant.back in
     led-none g.model.now g.d g.v (runs_of g) (steps_of c.args.self.now.kept.now) nodes c.args.next c.loop-k.first c.args.trail.now.steps.items c.loop-k.trail.steps.items back c.loop-k.invariant.range
 

@@ -7,7 +7,7 @@ use Rattle.vr_costfilter.specs.Stages.{along, setting_out, IsStageOf}
 use Rattle.vr_costfilter.specs.declared.guides.Stage.{Stage}
 use Rattle.vr_costfilter.specs.declared.steps.Outset.{Outset}
 use Rattle.vr_costfilter.specs.declared.trails.Step.{Step}
-use Rattle.vr_costfilter.proofs.KeptCumulLemmas.{kept-small}
+use Rattle.vr_costfilter.proofs.KeptCumulLemmas.{stage-known}
 use Rattle.vr_costfilter.proofs.MetLemmas.{met-kept, met-start}
 use Rattle.vr_costfilter.proofs.steps.KnownSteps.meet.Goals as goal
 
@@ -18,7 +18,7 @@ pub returns-then-lead-eq0-clause-met : goal.returns-then-lead-eq0-clause-met
 returns-then-lead-eq0-clause-met c =
     let g = c.args.self.now.guide.now in
     let lead = c.args.lead in
-    let none : lead.place ≡ 0 = (let test = c.if-lead-eq0.true in omega (arith, test)) in
+    let none : lead.place ≡ 0 = omega (arith, c.if-lead-eq0.true) in
     out-met c.at_floor.result (λ met. setting_out g.model.now g.d g.v (runs_of g) lead.first ≡ Some met.stage) (λ met. met.start ≡ met.stage.cumul) (λ met. met.more ≡ pos 0) (λ met. IsStageOf g.model.now 1002 met.stage)
     (HasSetOut g.model.now g.d g.v (runs_of g) g.start (steps_of c.args.self.now.kept.now) lead)
     (λ met out start more range. met-start g.model.now g.d g.v (runs_of g) (steps_of c.args.self.now.kept.now) lead met none out start more range)
@@ -32,7 +32,7 @@ pub returns-then-lead-eq0-clause-value : goal.returns-then-lead-eq0-clause-value
 returns-then-lead-eq0-clause-value c =
     let g = c.args.self.now.guide.now in
     let lead = c.args.lead in
-    let none : lead.place ≡ 0 = (let test = c.if-lead-eq0.true in omega (arith, test)) in
+    let none : lead.place ≡ 0 = omega (arith, c.if-lead-eq0.true) in
     c.at_floor.ensures.value ∙ ap (λ n. along g.model.now g.d g.v (runs_of g) (setting_out g.model.now g.d g.v (runs_of g) lead.first) (take n (steps_of c.args.self.now.kept.now))) (sym none)
 
 pub returns-clause-met : goal.returns-clause-met
@@ -43,14 +43,12 @@ returns-clause-met c =
     let list : List ℕ = c.args.self.now.list.now in
     let stages : List Stage = c.args.self.now.kept.now.stages.items in
     let told = c.args.self.now.sound.stages in
-    let test = c.if-lead-eq0.false in
-    let few = c.args.self.now.sound.few in
     let place = c.requires.lead.place in
     let stage = ap (λ (l : List Stage). slice_index_or l lead.place no_stage) c.deref.ensures.0 in
     let first = ap (λ (l : List Stage). slice_index_or l 0 no_stage) c.deref-2.ensures.0 in
-    let start = kept-small g.model.now g.d g.v (runs_of g) list steps stages c.deref-2.result.now told c.deref-2.ensures.0 few 0 no_stage (omega arith) in
-    let range = kept-small g.model.now g.d g.v (runs_of g) list steps stages c.deref.result.now told c.deref.ensures.0 few lead.place no_stage place in
-    met-kept g.model.now g.d g.v (runs_of g) list steps stages told lead _ no_stage (omega (arith, test)) place c.requires.lead.kept stage
+    let start = stage-known c.args.self.now.sound c.deref-2.ensures.0 0 no_stage (omega arith) in
+    let range = stage-known c.args.self.now.sound c.deref.ensures.0 lead.place no_stage place in
+    met-kept g.model.now g.d g.v (runs_of g) list steps stages told lead _ no_stage (omega (arith, c.if-lead-eq0.false)) place c.requires.lead.kept stage
     (read-cumul (slice_index_or c.deref-2.result.now 0 no_stage).cumul start.cumul ∙ ap (λ (s : Stage). s.cumul) first) refl range
 
 pub returns-clause-value : goal.returns-clause-value

@@ -17,9 +17,7 @@ way_after-way-requires-clause-vehicle c =
     let m = c.args.self.now.model in
     let well = subst IsWellFormed (ap (λ s. s.model) c.self.view_is) c.self.invariant.well_formed in
     let many = (small m well c.args.routes.now.lists h.valid).many in
-    let known = c.requires.vehicle in
-    let same = c.of-guide.ensures.vehicle in
-    omega (arith, many, known, same)
+    omega (arith, many, c.requires.vehicle, c.of-guide.ensures.vehicle)
 
 pub way_after-way-requires-clause-nodes_before : goal.way_after-way-requires-clause-nodes_before
 way_after-way-requires-clause-nodes_before c =
@@ -63,28 +61,22 @@ returns-clause-span c =
     let model = g.model ∙ ap (λ s. s.model) c.self.view_is in
     let e = c.way_after-way.ensures.value ∙ guided (λ m d v. whole_way m d v list) c.of-guide.result m c.args.d c.args.v model g.dimension g.vehicle in
     let s = c.span_by-span.ensures ∙ (guided (λ m d v. span_by m d v c.way_after-way.result) c.of-guide.result m c.args.d c.args.v model g.dimension g.vehicle ∙ ap (span_by m c.args.d c.args.v) e) in
-    let fits = c.span_by-span.type_inv in
-    let read : to_z w64 (of_z w64 c.span_by-span.result) ≡ c.span_by-span.result = omega (arith, ints, fits) in
+    let read : to_z w64 (of_z w64 c.span_by-span.result) ≡ c.span_by-span.result = omega (arith, ints, c.span_by-span.type_inv) in
     let a = c.min-2.ensures.value ∙ ap (λ x. int_min x (pos 68719476736)) (read ∙ s) in
     let m = int_min_is span (pos 68719476736) in
     let n = int_min_is (pos 68719476736) span in
-    let fits_min = c.min-2.type_inv in
-    let same : to_z w64 (of_z w64 c.min-2.result) ≡ int_min (pos 68719476736) span = omega (arith, ints, a, m, n, fits_min) in
+    let same : to_z w64 (of_z w64 c.min-2.result) ≡ int_min (pos 68719476736) span = omega (arith, ints, a, m, n, c.min-2.type_inv) in
     let b = c.max.ensures.value ∙ ap (λ x. int_max x (negsuc 68719476735)) same in
     let x = int_max_is (int_min (pos 68719476736) span) (negsuc 68719476735) in
     let y = int_max_is (negsuc 68719476735) (int_min (pos 68719476736) span) in
-    let fits_max = c.max.type_inv in
-    omega (arith, ints, b, x, y, fits_max)
+    omega (arith, ints, b, x, y, c.max.type_inv)
 
 pub returns-clause-span_range : goal.returns-clause-span_range
 returns-clause-span_range c =
-    let fits = c.span_by-span.type_inv in
-    let read : to_z w64 (of_z w64 c.span_by-span.result) ≡ c.span_by-span.result = omega (arith, ints, fits) in
+    let read : to_z w64 (of_z w64 c.span_by-span.result) ≡ c.span_by-span.result = omega (arith, ints, c.span_by-span.type_inv) in
     let a = c.min-2.ensures.value ∙ ap (λ x. int_min x (pos 68719476736)) read in
     let m = int_min_is c.span_by-span.result (pos 68719476736) in
-    let fits_min = c.min-2.type_inv in
-    let same : to_z w64 (of_z w64 c.min-2.result) ≡ c.min-2.result = omega (arith, ints, fits_min) in
+    let same : to_z w64 (of_z w64 c.min-2.result) ≡ c.min-2.result = omega (arith, ints, c.min-2.type_inv) in
     let b = c.max.ensures.value ∙ ap (λ x. int_max x (negsuc 68719476735)) same in
     let x = int_max_is c.min-2.result (negsuc 68719476735) in
-    let fits_max = c.max.type_inv in
-    record { at_least = omega (arith, ints, a, m, b, x, fits_max); at_most = omega (arith, ints, a, m, b, x, fits_max) }
+    record { at_least = omega (arith, ints, a, m, b, x, c.max.type_inv); at_most = omega (arith, ints, a, m, b, x, c.max.type_inv) }

@@ -23,7 +23,7 @@ write_list-requires-clause-vehicle c =
     let well = subst IsWellFormed (ap (λ s. s.model) c.self.view_is) c.self.invariant.well_formed in
     let many = (small c.args.self.now.model well c.args.routes.now.lists c.requires.stands.valid).many in
     let known = c.requires.made.makes.parts_are.each_vehicle c.loop-k.k no_part low in
-    subst (λ m. c.vehicle.result < length m.vehicles) (sym c.loop-k.invariant.model) (let e = c.vehicle.ensures in omega (arith, e, known, many))
+    subst (λ m. c.vehicle.result < length m.vehicles) (sym c.loop-k.invariant.model) (omega (arith, c.vehicle.ensures, known, many))
 
 pub write_list-requires-clause-nodes : goal.write_list-requires-clause-nodes
 write_list-requires-clause-nodes c =

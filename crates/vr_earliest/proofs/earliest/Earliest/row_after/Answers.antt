@@ -15,8 +15,7 @@ after-requires-clause-vehicle c =
     let lists : List (List ℕ) = c.args.routes.now.lists in
     let many = are_lists-count model lists (are-lists model lists c.requires.stands.valid) in
     let known = c.requires.parts.each_vehicle c.loop-k.k no_part low in
-    let same = c.vehicle.ensures in
-    omega (arith, many, known, same)
+    omega (arith, many, known, c.vehicle.ensures)
 
 pub after-requires-clause-nodes : goal.after-requires-clause-nodes
 after-requires-clause-nodes c =
@@ -36,9 +35,6 @@ loop-k-preserved c =
     let Told : ℕ → Early → Type 0 = λ j early. IsEarlyPart model lists c.args.d (part_at c.args.change.now j) early in
     let told : IsEarly model c.args.d part.vehicle (joined lists part.pieces) new = subst (λ v. IsEarly model c.args.d v (joined lists part.pieces) new) c.vehicle.ensures
     (subst (λ pieces. IsEarly model c.args.d c.vehicle.result (joined lists pieces) new) c.pieces.ensures.value (record { last = e.last; span = e.span; last_range = e.last_range; span_range = e.span_range })) in
-    let few = c.parts-k-end.ensures.few in
-    let low = c.loop-k-test.true in
-    let many = i.many in
     record {
       many = length-set row k new ∙ i.many;
       each = λ j under. elim (cases_lt j k) [
@@ -46,12 +42,10 @@ loop-k-preserved c =
         | inr past ↦ (
             let here : k ≡ j = omega (arith, under, past) in
             subst (λ n. Told n (slice_index_or (slice_set row k new) n no_early)) here
-            (subst (Told k) (sym (get_or-set_same row k new no_early (omega (arith, few, low, many)))) told))
+            (subst (Told k) (sym (get_or-set_same row k new no_early (omega (arith, c.parts-k-end.ensures.few, c.loop-k-test.true, i.many)))) told))
       ];
     }
 
 pub returns : goal.returns
 returns c k low =
-    let n = c.parts-k-end.ensures.value in
-    let end = c.loop-k-test.false in
-    c.loop-k.invariant.each k (omega (arith, n, end, low))
+    c.loop-k.invariant.each k (omega (arith, c.parts-k-end.ensures.value, c.loop-k-test.false, low))

@@ -18,26 +18,21 @@ loop-d-preserved c =
     let d = c.loop-d.d in
     let out : List (List Early) = c.loop-d.out in
     let kept = ap (λ s. s.kept) c.self.view_is in
-    let n = c.len-d-end.ensures in
-    let low = c.loop-d-test.true in
     elim c.if-not-is_empty.branch [
       | then-not-is_empty w ↦ (
           let row : List Early = w.row_after.result in
           let few = (subst IsWellFormed (ap (λ s. s.model) c.self.view_is) c.self.invariant.well_formed).number_of_dimensions in
-          let many = c.requires.stands.ways.many in
           let all = ap (λ (l : List (List KeptWays)). length l) kept in
           let set = w.set.ensures.row in
           subst (AreTold model lists parts (d + 1)) (sym (w.out-is ∙ set))
-          (told-more model lists parts d out c.loop-d.invariant row (omega (arith, few, many, all, n, low)) (ap (λ (l : List (List Early)). length l) (sym set) ∙ w.set.ensures.many) w.row_after.ensures))
+          (told-more model lists parts d out c.loop-d.invariant row (omega (arith, few, c.requires.stands.ways.many, all, c.len-d-end.ensures, c.loop-d-test.true)) (ap (λ (l : List (List Early)). length l) (sym set) ∙ w.set.ensures.many) w.row_after.ensures))
       | else-not-is_empty w ↦ (
           let none = w.if-not-is_empty.false in
-          let some = c.parts-few.ensures.some in
-          let value = c.parts-few.ensures.value in
-          let first = c.requires.parts.each_vehicle 0 no_part (omega (arith, some, value)) in
+          let first = c.requires.parts.each_vehicle 0 no_part (omega (arith, c.parts-few.ensures.some, c.parts-few.ensures.value)) in
           let one : List KeptWays = c.index.result.now in
           let is : one ≡ slice_index_or c.args.self.now.kept d one = c.index.ensures ∙ ap (λ (l : List (List KeptWays)). slice_index_or l d one) kept in
           let all = ap (λ (l : List (List KeptWays)). length l) kept in
-          let here : HaveWays model d lists one = subst (HaveWays model d lists) (sym is) (c.requires.stands.ways.each d one (omega (arith, all, n, low))) in
+          let here : HaveWays model d lists one = subst (HaveWays model d lists) (sym is) (c.requires.stands.ways.each d one (omega (arith, all, c.len-d-end.ensures, c.loop-d-test.true))) in
           let empty = none_from_test _ _ none c.is_empty.ensures in
           let length_is = ap (λ (l : List KeptWays). length l) c.behind-self.view_is in
           subst (AreTold model lists parts (d + 1)) (sym w.out-is)
@@ -46,13 +41,8 @@ loop-d-preserved c =
 
 pub returns : goal.returns
 returns c =
-    let many = c.requires.stands.ways.many in
     let kept = ap (λ s. length s.kept) c.self.view_is in
-    let n = c.len-d-end.ensures in
-    let end = c.loop-d-test.false in
-    let value = c.parts-few.ensures.value in
-    let few = c.parts-few.ensures.few in
     record {
-      few = omega (arith, value, few);
-      each = λ d low paid. c.loop-d.invariant d (omega (arith, many, kept, n, end, low)) paid;
+      few = omega (arith, c.parts-few.ensures.value, c.parts-few.ensures.few);
+      each = λ d low paid. c.loop-d.invariant d (omega (arith, c.requires.stands.ways.many, kept, c.len-d-end.ensures, c.loop-d-test.false, low)) paid;
     }

@@ -10,9 +10,7 @@ use Rattle.vr_earliest.proofs.kept.KeptLists.of.Goals as goal
 pub of-requires-clause-vehicle : goal.of-requires-clause-vehicle
 of-requires-clause-vehicle c =
     let many = (small c.args.closed.model.now c.args.closed.well_formed c.args.routes.now.lists c.requires.valid).many in
-    let no_more = c.how_many-many.ensures.no_more in
-    let low = c.loop-v-test.true in
-    omega (arith, many, no_more, low)
+    omega (arith, many, c.how_many-many.ensures.no_more, c.loop-v-test.true)
 
 pub write-requires-clause-nodes : goal.write-requires-clause-nodes
 write-requires-clause-nodes c =

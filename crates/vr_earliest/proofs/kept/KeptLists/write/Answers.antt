@@ -14,13 +14,9 @@ returns-then-v-len c lists h known =
     let b = subst (λ d. HasWays m d c.of-guide.result.v list new) e.dimension a in
     let is = subst (λ v. HasWays m c.args.d v list new) e.vehicle b in
     let old = subst (HaveWays m c.args.d lists) (sym c.self.view_is) h in
-    let len = c.len.ensures in
-    let low = c.if-v-len.true in
-    kept-set m c.args.d lists c.self.inside.lists.items c.args.v list new old known (omega (arith, len, low)) is
+    kept-set m c.args.d lists c.self.inside.lists.items c.args.v list new old known (omega (arith, c.len.ensures, c.if-v-len.true)) is
 
 pub returns-else-v-len : goal.returns-else-v-len
 returns-else-v-len c lists h known =
-    let len = c.len.ensures in
-    let high = c.if-v-len.false in
     subst (HaveWays c.args.closed.model.now c.args.d (with_route lists c.args.v c.args.list.now)) c.self.view_is
-    (kept-stays c.args.closed.model.now c.args.d lists c.self.inside.lists.items c.args.v c.args.list.now (subst (HaveWays c.args.closed.model.now c.args.d lists) (sym c.self.view_is) h) (omega (arith, len, high)))
+    (kept-stays c.args.closed.model.now c.args.d lists c.self.inside.lists.items c.args.v c.args.list.now (subst (HaveWays c.args.closed.model.now c.args.d lists) (sym c.self.view_is) h) (omega (arith, c.len.ensures, c.if-v-len.false)))

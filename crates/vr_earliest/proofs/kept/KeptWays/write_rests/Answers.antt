@@ -8,9 +8,7 @@ use Rattle.vr_earliest.proofs.kept.KeptWays.write_rests.Goals as goal
 
 pub before-rest-requires-clause-rest : goal.before-rest-requires-clause-rest
 before-rest-requires-clause-rest c =
-    let few = c.requires.few in
-    let low = c.loop-k-test.true in
-    rest-more c.args.guide.now.model.now c.loop-k.k 1000 c.loop-k.rest (omega (arith, few, low)) c.loop-k.invariant.range
+    rest-more c.args.guide.now.model.now c.loop-k.k 1000 c.loop-k.rest (omega (arith, c.requires.few, c.loop-k-test.true)) c.loop-k.invariant.range
 
 pub loop-k-preserved : goal.loop-k-preserved
 loop-k-preserved c =

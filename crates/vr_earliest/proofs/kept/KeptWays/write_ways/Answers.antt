@@ -10,9 +10,7 @@ use Rattle.vr_earliest.proofs.kept.KeptWays.write_ways.Goals as goal
 
 pub to_visit-way-requires-clause-way : goal.to_visit-way-requires-clause-way
 to_visit-way-requires-clause-way c =
-    let few = c.requires.few in
-    let low = c.loop-k-test.true in
-    way-more c.args.guide.now.model.now c.loop-k.k 10000 c.loop-k.way (omega (arith, few, low)) c.loop-k.invariant.range
+    way-more c.args.guide.now.model.now c.loop-k.k 10000 c.loop-k.way (omega (arith, c.requires.few, c.loop-k-test.true)) c.loop-k.invariant.range
 
 pub loop-k-preserved : goal.loop-k-preserved
 loop-k-preserved c =

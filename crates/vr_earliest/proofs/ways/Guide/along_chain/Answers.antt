@@ -10,11 +10,9 @@ to_visit-gone-requires-clause-way c =
     let nodes : List ℕ = cond c.args.reversed (reverse c.args.chain.now) c.args.chain.now in
     let k = c.loop-k.k in
     let long = ordered-long c.args.reversed c.args.chain.now in
-    let few = c.requires.few in
-    let low = c.loop-k-test.true in
     subst (IsWayOf m 10000) (sym c.loop-k.invariant)
-    (way-more m (9000 + k) 10000 (along m c.args.self.now.d c.args.self.now.v c.args.way (take k nodes)) (omega (arith, few, low))
-    (along-part m c.args.self.now.sound.well_formed c.args.self.now.d c.args.self.now.v c.args.self.now.sound.dimension c.args.self.now.sound.vehicle c.args.self.now.floors.now.visits.items c.args.self.now.sound.floors_are.visits nodes c.requires.nodes 9000 c.args.way c.requires.way k (omega (arith, long, low))))
+    (way-more m (9000 + k) 10000 (along m c.args.self.now.d c.args.self.now.v c.args.way (take k nodes)) (omega (arith, c.requires.few, c.loop-k-test.true))
+    (along-part m c.args.self.now.sound.well_formed c.args.self.now.d c.args.self.now.v c.args.self.now.sound.dimension c.args.self.now.sound.vehicle c.args.self.now.floors.now.visits.items c.args.self.now.sound.floors_are.visits nodes c.requires.nodes 9000 c.args.way c.requires.way k (omega (arith, long, c.loop-k-test.true))))
 
 pub loop-k-preserved : goal.loop-k-preserved
 loop-k-preserved c =
@@ -22,6 +20,5 @@ loop-k-preserved c =
     let nodes : List ℕ = cond c.args.reversed (reverse c.args.chain.now) c.args.chain.now in
     let k = c.loop-k.k in
     let long = ordered-long c.args.reversed c.args.chain.now in
-    let low = c.loop-k-test.true in
     c.to_visit-gone.ensures ∙ ap₂ (λ way node. to_visit m c.args.self.now.d c.args.self.now.v way node) c.loop-k.invariant c.node_in.ensures
-    ∙ sym (fold_more (to_visit m c.args.self.now.d c.args.self.now.v) c.args.way nodes k 0 (omega (arith, long, low)))
+    ∙ sym (fold_more (to_visit m c.args.self.now.d c.args.self.now.v) c.args.way nodes k 0 (omega (arith, long, c.loop-k-test.true)))

@@ -17,9 +17,7 @@ along_piece-gone-requires-clause-nodes c = all_at (λ node. node < c.args.self.n
 
 pub along_piece-gone-requires-clause-way : goal.along_piece-gone-requires-clause-way
 along_piece-gone-requires-clause-way c =
-    let few = c.requires.few in
-    let low = c.loop-k-test.true in
-    way-more c.args.self.now.model.now (1000 + 1000 * c.loop-k.k) 9000 c.loop-k.gone (omega (arith, few, low)) c.loop-k.invariant.range
+    way-more c.args.self.now.model.now (1000 + 1000 * c.loop-k.k) 9000 c.loop-k.gone (omega (arith, c.requires.few, c.loop-k-test.true)) c.loop-k.invariant.range
 
 pub loop-k-preserved : goal.loop-k-preserved
 loop-k-preserved c =
@@ -31,18 +29,15 @@ loop-k-preserved c =
     let piece = slice_index_or c.args.pieces.now k first_piece in
     let nodes : List ℕ = nodes_of lists piece in
     let e = c.along_piece-gone.ensures in
-    let few = e.few in
     let all = all_at (λ node. node < m.nodes) lists c.args.pieces.now k first_piece c.loop-k-test.true c.requires.nodes in
     record {
       value = e.value ∙ ap (λ way. along m d v way nodes) c.loop-k.invariant.value
           ∙ sym (ap (along m d v c.args.way) (joined_next lists c.args.pieces.now k first_piece c.loop-k-test.true) ∙ fold-append (to_visit m d v) c.args.way (joined lists (take k c.args.pieces.now)) nodes);
       range = subst (IsWayOf m (1000 + 1000 * (k + 1))) (sym e.value)
-          (way-more m (1000 + 1000 * k + length nodes) (1000 + 1000 * (k + 1)) (along m d v c.loop-k.gone nodes) (omega (arith, few))
+          (way-more m (1000 + 1000 * k + length nodes) (1000 + 1000 * (k + 1)) (along m d v c.loop-k.gone nodes) (omega (arith, e.few))
           (along-way m c.args.self.now.sound.well_formed d v c.args.self.now.sound.dimension c.args.self.now.sound.vehicle c.args.self.now.floors.now.visits.items c.args.self.now.sound.floors_are.visits nodes all (1000 + 1000 * k) c.loop-k.gone c.loop-k.invariant.range));
     }
 
 pub returns-clause-range : goal.returns-clause-range
 returns-clause-range c =
-    let few = c.requires.few in
-    let end = c.loop-k.auto.k-end in
-    way-more c.args.self.now.model.now (1000 + 1000 * c.loop-k.k) 9000 c.loop-k.gone (omega (arith, few, end)) c.loop-k.invariant.range
+    way-more c.args.self.now.model.now (1000 + 1000 * c.loop-k.k) 9000 c.loop-k.gone (omega (arith, c.requires.few, c.loop-k.auto.k-end)) c.loop-k.invariant.range

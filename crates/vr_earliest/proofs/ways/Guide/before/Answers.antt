@@ -11,10 +11,7 @@ use Rattle.vr_earliest.proofs.ways.Guide.before.Goals as goal
 pub overflow_add-index : goal.overflow_add-index
 overflow_add-index c =
     let f = (floor-at _ _ c.args.self.now.floors.now.visits.items c.args.self.now.sound.floors_are.visits c.args.node c.requires.node c.index.result.now c.index.ensures).range in
-    let f_low = f.at_least in let f_high = f.at_most in
-    let a = c.transit.ensures.least in let b = c.transit.ensures.greatest in
-    let low = c.requires.rest.low in let high = c.requires.rest.high in
-    omega (arith, ints, f_low, f_high, a, b, low, high)
+    omega (arith, ints, f.at_least, f.at_most, c.transit.ensures.least, c.transit.ensures.greatest, c.requires.rest.low, c.requires.rest.high)
 
 pub returns : goal.returns
 returns c =
@@ -23,16 +20,14 @@ returns c =
     let t = transit m c.args.self.now.d c.args.self.now.v c.args.node rest.at in
     let floor = visit_floor m c.args.self.now.d c.args.node in
     let f = floor-at _ _ c.args.self.now.floors.now.visits.items c.args.self.now.sound.floors_are.visits c.args.node c.requires.node c.index.result.now c.index.ensures in
-    let f_is = f.is in let f_low = f.range.at_least in let f_high = f.range.at_most in
     let e = c.transit.ensures.value in let a = c.transit.ensures.least in let b = c.transit.ensures.greatest in
     let low = c.requires.rest.low in let high = c.requires.rest.high in
-    let early = c.requires.rest.early in let late = c.requires.rest.late in
     let transits : to_z w64 (of_z w64 (to_z w64 (of_z w64 c.transit.result) +ℤ to_z w64 (of_z w64 rest.transits))) ≡ t +ℤ rest.transits = omega (arith, ints, e, a, b, low, high) in
-    let here : to_z w64 (of_z w64 c.index.result.now) ≡ floor = omega (arith, ints, f_is, f_low, f_high) in
+    let here : to_z w64 (of_z w64 c.index.result.now) ≡ floor = omega (arith, ints, f.is, f.range.at_least, f.range.at_most) in
     let sum : to_z w64 (of_z w64 (to_z w64 (of_z w64 c.index.result.now) +ℤ to_z w64 (of_z w64 (to_z w64 (of_z w64 c.transit.result) +ℤ to_z w64 (of_z w64 rest.transits))))) ≡ floor +ℤ (t +ℤ rest.transits) =
-    omega (arith, ints, here, transits, e, a, b, low, high, f_is, f_low, f_high) in
-    let other : to_z w64 (of_z w64 rest.least_end) ≡ rest.least_end = omega (arith, ints, early, late) in
+    omega (arith, ints, here, transits, e, a, b, low, high, f.is, f.range.at_least, f.range.at_most) in
+    let other : to_z w64 (of_z w64 rest.least_end) ≡ rest.least_end = omega (arith, ints, c.requires.rest.early, c.requires.rest.late) in
     let is = c.max.ensures.value ∙ ap₂ (λ x y. int_max x y) sum other in
     let n = int_max_is (floor +ℤ (t +ℤ rest.transits)) rest.least_end in
-    let read : to_z w64 (of_z w64 c.max.result) ≡ int_max (floor +ℤ (t +ℤ rest.transits)) rest.least_end = omega (arith, ints, is, n, e, a, b, low, high, early, late, f_is, f_low, f_high) in
+    let read : to_z w64 (of_z w64 c.max.result) ≡ int_max (floor +ℤ (t +ℤ rest.transits)) rest.least_end = omega (arith, ints, is, n, e, a, b, low, high, c.requires.rest.early, c.requires.rest.late, f.is, f.range.at_least, f.range.at_most) in
     ap₂ (λ (x y : ℤ). (let r : Rest = record { at = c.args.node; transits = x; least_end = y } in r)) transits read

@@ -8,14 +8,11 @@ use Rattle.vr_earliest.proofs.ways.Guide.to_visit.Goals as goal
 pub to_node-requires-clause-floor : goal.to_node-requires-clause-floor
 to_node-requires-clause-floor c =
     let f = (floor-at _ _ c.args.self.now.floors.now.visits.items c.args.self.now.sound.floors_are.visits c.args.node c.requires.node c.index.result.now c.index.ensures).range in
-    let low = f.at_least in
-    let high = f.at_most in
-    record { at_least = omega (arith, ints, low, high); at_most = omega (arith, ints, low, high) }
+    record { at_least = omega (arith, ints, f.at_least, f.at_most); at_most = omega (arith, ints, f.at_least, f.at_most) }
 
 pub returns : goal.returns
 returns c =
     let s = c.args.self.now in
     let f = floor-at _ _ s.floors.now.visits.items c.args.self.now.sound.floors_are.visits c.args.node c.requires.node c.index.result.now c.index.ensures in
-    let is = f.is in let low = f.range.at_least in let high = f.range.at_most in
-    let floor : to_z w64 (of_z w64 c.index.result.now) ≡ visit_floor s.model.now s.d c.args.node = omega (arith, ints, is, low, high) in
+    let floor : to_z w64 (of_z w64 c.index.result.now) ≡ visit_floor s.model.now s.d c.args.node = omega (arith, ints, f.is, f.range.at_least, f.range.at_most) in
     c.to_node.ensures ∙ ap (λ x. to_node s.model.now s.d s.v c.args.way c.args.node x) floor
