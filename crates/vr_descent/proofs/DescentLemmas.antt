@@ -1,5 +1,5 @@
 -- Greedy descent, scan by scan.
-use Rattle.std.proofs.Common.{◌≡◌, ◌∙◌, ℕ, suc, ◌+◌, ◌-◌, ◌≤◌, true, false, cond, List, [], ◌∷◌, refl, sym, ap, arith}
+use Rattle.std.proofs.Common.{◌≡◌, ◌∙◌, ℕ, suc, ◌+◌, ◌-◌, ◌≤◌, true, false, cond, List, refl, sym, ap, arith}
 use Rattle.std.specs.Prelude.{ℤ, pos, ◌-ℤ◌, int_lt, ◌&&◌, ◌==◌, ◌≤ℤ◌}
 use Rattle.std.proofs.lemmas.Int.{ints}
 use Rattle.vr_model.specs.moves.Moves.{apply, moves}
@@ -11,7 +11,6 @@ use Rattle.vr_model.specs.search.Outcomes.{SearchState, Outcome, accepted, tried
 use Rattle.vr_model.specs.search.Descents.{improves, descended, descent_from, descent}
 use Rattle.vr_model.specs.declared.records.Model.{Model}
 use Rattle.vr_model.specs.declared.records.End.TheVariants.{Optimum, Tries, Solutions}
-use Rattle.vr_model.specs.declared.search.Event.{Event}
 use Rattle.vr_model.specs.declared.search.Limit.{Limit}
 use Rattle.vr_model.specs.declared.search.Kind.TheVariants as kind
 use Rattle.vr_model.specs.declared.neighbours.Move.{Move}
@@ -20,8 +19,6 @@ use Rattle.vr_routes.specs.Judging.{cost_change}
 use Rattle.vr_descent.specs.Scanned.{is_acceptable, takes_less}
 use Rattle.vr_descent.specs.Searching.{events_after, move_event, scan_of, behind}
 use Rattle.vr_descent.proofs.EndLemmas.{accepted_where}
-use Rattle.vr_descent.proofs.GoingOn.{Goes}
-use Rattle.vr_watch.proofs.ToldLemmas.{told_nothing}
 
 less : (a b : ℤ) → int_lt (a -ℤ b) (pos 0) ≡ int_lt a b
 less a b = Prim.grind (arith, ints)
@@ -44,11 +41,6 @@ module _ (model : Model) (limit : Limit) where
   unfolding descent
   at_start lists = let all : limit.tries ≡ limit.tries - 0 = omega arith in
       ap (λ tries. with_event (event_at model (begun lists) kind.First) (descent_from model limit (suc tries) (begun lists))) all
-
-  -- the descent begins with the first event
-  pub begins : {W : Type 0} (after : W → List Event → List ℕ) (lists : List (List ℕ)) (ws : List W)
-      → Goes after (descent model lists limit) (behind (event_at model (begun lists) kind.First ∷ []) (from_here lists 0 1)) ws ws
-  begins after lists ws = record { told = []; outcome = at_start lists; heard = told_nothing after ws }
 
   module _ (lists : List (List ℕ)) (used found : ℕ) where
     -- enough solutions were found

@@ -1,8 +1,9 @@
 -- The best lists so far, and others beside them.
-use Rattle.std.proofs.Common.{◌≡◌, ◌∙◌, ℕ, Bool, true, false, cond, List, refl, ap, ap₂, arith}
+use Rattle.std.proofs.Common.{◌≡◌, ◌∙◌, ℕ, Bool, true, false, cond, List, refl, sym, ap, ap₂, subst, arith}
 use Rattle.std.proofs.lemmas.Int.{ints}
-use Rattle.std.specs.Prelude.{ℤ, int_lt, ◌≤ℤ◌}
+use Rattle.std.specs.Prelude.{ℤ, int_lt, ◌≤ℤ◌, IsTrue}
 use Rattle.vr_model.specs.routes.Costs.{cost}
+use Rattle.vr_model.specs.routes.Rules.{is_valid}
 use Rattle.vr_model.specs.search.Outcomes.{cheaper}
 use Rattle.vr_model.specs.declared.records.Model.{Model}
 use Rattle.vr_routes.specs.Tours.{Tours}
@@ -29,3 +30,10 @@ kept_no_dearer best routes now most h = go (int_lt now best.cost) refl
     go : (b : Bool) → int_lt now best.cost ≡ b → (cond b (record { routes = routes; cost = now }) best).cost ≤ℤ most
     go true e = Prim.grind (arith, ints)
     go false e = h
+
+-- what is kept of the best and of routes that are offered is the best
+pub kept_is_best : (model : Model) (visits : List ℕ) (best offered : Incumbent) (routes : Tours) (now : ℤ) → IsBest model visits best → offered ≡ kept best routes now → visits ≡ routes.visits → now ≡ cost model routes.lists → IsTrue (is_valid model routes.lists)
+    → IsBest model routes.visits offered
+kept_is_best model visits best offered routes now is_best is same costs valid =
+    subst (λ b. IsBest model routes.visits b) (sym is) (better model routes.visits best (record { routes = routes; cost = now }) (int_lt now best.cost)
+    (record { costs = is_best.costs; valid = is_best.valid; same_visits = is_best.same_visits ∙ same }) (record { costs = costs; valid = valid; same_visits = refl }))

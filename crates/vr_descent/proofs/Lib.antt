@@ -9,3 +9,6 @@ pub mod PassedLemmas
 pub mod OrderLemmas
 pub mod RefusedLemmas
 pub mod IncumbentLemmas
+pub mod Beginnings
+pub mod ScanGave
+pub mod DescentStands

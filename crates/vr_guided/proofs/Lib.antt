@@ -21,3 +21,4 @@ pub mod TermLemmas
 pub mod SavingLemmas
 pub mod SpareLemmas
 pub mod GuidedStay
+pub mod StandLemmas

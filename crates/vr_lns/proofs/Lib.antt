@@ -5,3 +5,4 @@ pub mod RoundLemmas
 pub mod BoundLemmas
 pub mod SearchLemmas
 pub mod AnswerLemmas
+pub mod RoundGave

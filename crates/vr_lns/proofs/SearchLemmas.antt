@@ -9,7 +9,6 @@ use Rattle.vr_model.specs.declared.search.Event.{Event}
 use Rattle.vr_model.specs.declared.search.Limit.{Limit}
 use Rattle.vr_model.specs.declared.search.Kind.TheVariants as kind
 use Rattle.vr_watch.specs.Told.{Told, ToldInPart}
-use Rattle.vr_watch.proofs.ToldLemmas.{told_nothing}
 use Rattle.vr_descent.proofs.GoingOn.{breaks_off, Goes, goes_as, goes_more, goes_to_end}
 use Rattle.vr_descent.specs.Searching.{behind}
 use Rattle.vr_lns.specs.Cuts.{improves}
@@ -34,10 +33,6 @@ module _ (model : Model) (most : ℕ) (limit : Limit) where
   unfolding path_lns
   at_start lists = let all : limit.tries ≡ limit.tries - 0 = omega arith in
       ap (λ tries. with_event (event_at model (begun lists) kind.First) (path_lns_from model most limit (suc tries) (begun lists))) all
-
-  -- nothing was told yet
-  pub begins : {W : Type 0} (after : W → List Event → List ℕ) (lists : List (List ℕ)) (ws : List W) → Goes after (path_lns model lists limit most) (path_lns model lists limit most) ws ws
-  begins after lists ws = record { told = []; outcome = refl; heard = told_nothing after ws }
 
   module _ (lists : List (List ℕ)) (used found : ℕ) where
     -- what is left of the search after a round
@@ -68,9 +63,6 @@ module _ (model : Model) (most : ℕ) (limit : Limit) where
     -- enough solutions were found
     pub on_enough : (found == limit.solutions) ≡ true → from_here lists used found ≡ ended (standing lists used found) Solutions
     on_enough e = enough model most limit (limit.tries - used) (standing lists used found) e
-
-pub same_count : (a b : ℕ) → a ≡ b → (a == b) ≡ true
-same_count a b e = Prim.grind arith
 
 -- ---- what is told, and what is left
 

@@ -1,14 +1,10 @@
 use Rattle.std.proofs.Common.{◌≡◌, ◌≤◌, ◌+◌, ◌*◌, ◌-◌}
-use Rattle.std.specs.Prelude.{◌≤ℤ◌}
-use Rattle.vr_model.specs.routes.Costs.{cost}
-use Rattle.vr_model.specs.search.Descents.{descent}
 use Rattle.vr_routes.specs.Judging.{HoldSame}
 use Rattle.vr_descent.specs.Scanned.{takes_less}
-use Rattle.vr_descent.proofs.GoingOn.{Goes}
 use Rattle.vr_known.specs.Blocks.{Learns}
 use Rattle.vr_known.specs.Locality.{HasNoGlobalSpans}
 use Rattle.vr_descent.specs.Refused.{AreRefused}
-use Rattle.vr_descent.proofs.DescentLemmas.{from_here}
+use Rattle.vr_descent.proofs.DescentStands.{Descends}
 use Rattle.vr_descent.proofs.descending.descend.Given as goal
 
 -- the whole descent is the descent from here, behind what was told
@@ -16,14 +12,9 @@ abbrev pub invariant-scans : goal.invariant-scans
 invariant-scans g l = record {
   model : g.J.Judge.model l.judge ≡ l.model;
   holds : HoldSame l.model (g.J.Judge.committed l.judge) l.routes;
-  costs : l.at.cost ≡ cost l.model l.routes.lists;
-  no_dearer : cost l.model l.routes.lists ≤ℤ cost l.model l.fn.routes.lists;
-  used : l.at.used ≤ l.limit.tries;
-  some : 1 ≤ l.at.found;
-  found : l.at.found ≤ l.limit.solutions;
+  descends : Descends (λ w. (goal.Watch-dyn g (w.vtable, w.value)).after w.value) l.model l.limit l.fn.routes.lists l.fn.watch.items l.watch.items l.routes l.at;
   asked : g.J.Judge.asked l.judge ≤ g.J.Judge.asked l.fn.judge + l.at.used;
   looked : g.J.Judge.looked l.judge ≤ g.J.Judge.looked l.fn.judge + 3 * l.at.used;
-  goes : Goes (λ w. (goal.Watch-dyn g (w.vtable, w.value)).after w.value) (descent l.model l.fn.routes.lists l.limit) (from_here l.model l.limit l.routes.lists l.at.used l.at.found) l.fn.watch.items l.watch.items;
   known : AreRefused l.model takes_less l.routes.lists l.known;
   learns : Learns l.known → HasNoGlobalSpans l.model;
 }

@@ -1,38 +1,44 @@
-use Rattle.std.proofs.Common.{◌≡◌, ◌∙◌, [], ◌∷◌, sym, ap, subst, arith, w64, to_z, of_z}
+use Rattle.std.proofs.Common.{◌≡◌, ◌∙◌, ℕ, [], ◌∷◌, sym, ap, subst, arith}
 use Rattle.std.proofs.lemmas.Int.{ints}
-use Rattle.vr_model.specs.routes.Costs.{cost}
-use Rattle.vr_model.specs.declared.search.Kind.TheVariants as kind
 use Rattle.vr_watch.specs.Told.{Told, ToldInPart}
-use Rattle.vr_model.proofs.routes.CostFits.{costs_are_bounded}
 use Rattle.vr_model.proofs.tables.Refusals.{on_err}
-use Rattle.vr_descent.proofs.GoingOn.{breaks_within, ends_within, goes_nowhere}
-use Rattle.vr_tabu.specs.Standing.{IsBegun}
+use Rattle.vr_descent.proofs.Beginnings.{at_first, cost_read, first, first_event, first_in_part, first_told}
+use Rattle.vr_descent.proofs.GoingOn.{Goes, breaks_within, ends_within, goes_nowhere}
+use Rattle.vr_model.specs.declared.search.Limit.{Limit}
+use Rattle.vr_tabu.specs.Standing.{IsBegun, from_state}
 use Rattle.vr_tabu.specs.TabuSearches.{tabu_search}
 use Rattle.vr_tabu.specs.declared.searching.Bounds.{Bounds}
 use Rattle.vr_tabu.proofs.SearchLemmas.{at_start}
-use Rattle.vr_tabu.proofs.StartLemmas.{begun_stands, first, first_in_part, first_told, rest, rest_is}
+use Rattle.vr_tabu.proofs.StartLemmas.{begun_stands, rest, rest_is}
+use Rattle.vr_tabu.proofs.searching.tabu.Given.{Over}
+use Rattle.vr_tabu.proofs.searching.tabu.Goals.{In_ok-note_all, In_ok-state}
 use Rattle.vr_tabu.proofs.searching.tabu.Goals as goal
+
+abbrev within : Limit → ℕ → Bounds
+within limit tenure = record { limit = limit; tenure = tenure }
+
+-- the first event was told
+noted : (g : Over) (c : In_ok-note_all g) → Goes (λ w. (goal.Watch-dyn g (w.vtable, w.value)).after w.value) (tabu_search c.args.model.now c.args.routes.now.lists c.args.limit c.args.tenure) (rest c.args.model.now (within c.args.limit c.args.tenure) c.args.routes.now.lists) c.args.watch.now.items c.note_all.new.watch.items
+noted g c =
+    first_told (λ w. (goal.Watch-dyn g (w.vtable, w.value)).after w.value) (tabu_search c.args.model.now c.args.routes.now.lists c.args.limit c.args.tenure) (rest c.args.model.now (within c.args.limit c.args.tenure) c.args.routes.now.lists) (first c.args.model.now c.args.routes.now.lists) (at_start c.args.model.now (within c.args.limit c.args.tenure) c.args.routes.now.lists) _ _
+    (subst (λ event. Told (λ w. (goal.Watch-dyn g (w.vtable, w.value)).after w.value) c.args.watch.now.items c.note_all.new.watch.items (event ∷ [])) (first_event c.args.model.now c.requires.well_formed c.args.routes.now.lists c.requires.holds.valid c.args.first_cost c.requires.first_cost c.event.result c.event.ensures) c.in_ok-note_all.ensures.told)
+
+-- the search begins where the definition does, and what is left is what is left behind the first event
+begins : (g : Over) (c : In_ok-state g) → IsBegun c.args.model.now c.args.routes.now (at_first c.args.model.now c.args.routes.now.lists) c.in_ok-state.state
+begins g c =
+    subst (λ k. IsBegun c.args.model.now c.args.routes.now (record { used = 0; found = 1; cost = k }) c.in_ok-state.state) (cost_read c.args.model.now c.requires.well_formed c.args.routes.now.lists c.requires.holds.valid c.args.first_cost c.requires.first_cost) c.in_ok-state.ensures
+
+same : (g : Over) (c : In_ok-state g) → from_state c.args.model.now (within c.args.limit c.args.tenure) c.args.routes.now.lists c.in_ok-state.state ≡ (rest c.args.model.now (within c.args.limit c.args.tenure) c.args.routes.now.lists)
+same g c = rest_is c.args.model.now (within c.args.limit c.args.tenure) c.args.routes.now c.in_ok-state.state (begins g c)
 
 pub returns-in_err-note_all-clause-told_in_part : goal.returns-in_err-note_all-clause-told_in_part
 returns-in_err-note_all-clause-told_in_part g c =
-    let model = c.args.model.now in
-    let lists = c.args.routes.now.lists in
-    let fits = costs_are_bounded model c.requires.well_formed lists c.requires.holds.valid in
-    let costs : to_z w64 (of_z w64 c.args.first_cost) ≡ cost model lists = omega (arith, ints, c.requires.first_cost, fits.least, fits.greatest) in
-    let bounds : Bounds = record { limit = c.args.limit; tenure = c.args.tenure } in
-    let event : c.event.result ≡ first model bounds lists = c.event.ensures ∙ ap (λ k. record { tries = 0; kind = kind.First; cost = k }) costs in
-    on_err c.from_residual.result (first_in_part model bounds lists (λ w. (goal.Watch-dyn g (w.vtable, w.value)).after w.value) _ _ (subst (λ e. ToldInPart (λ w. (goal.Watch-dyn g (w.vtable, w.value)).after w.value) c.args.watch.now.items c.note_all.new.watch.items (e ∷ [])) event c.in_err-note_all.ensures.told_in_part))
+    on_err c.from_residual.result (first_in_part (λ w. (goal.Watch-dyn g (w.vtable, w.value)).after w.value) (tabu_search c.args.model.now c.args.routes.now.lists c.args.limit c.args.tenure) (rest c.args.model.now (within c.args.limit c.args.tenure) c.args.routes.now.lists) (first c.args.model.now c.args.routes.now.lists) (at_start c.args.model.now (within c.args.limit c.args.tenure) c.args.routes.now.lists) _ _
+    (subst (λ event. ToldInPart (λ w. (goal.Watch-dyn g (w.vtable, w.value)).after w.value) c.args.watch.now.items c.note_all.new.watch.items (event ∷ [])) (first_event c.args.model.now c.requires.well_formed c.args.routes.now.lists c.requires.holds.valid c.args.first_cost c.requires.first_cost c.event.result c.event.ensures) c.in_err-note_all.ensures.told_in_part))
 
 pub returns-in_err-state-clause-told_in_part : goal.returns-in_err-state-clause-told_in_part
 returns-in_err-state-clause-told_in_part g c =
-    let model = c.args.model.now in
-    let lists = c.args.routes.now.lists in
-    let fits = costs_are_bounded model c.requires.well_formed lists c.requires.holds.valid in
-    let costs : to_z w64 (of_z w64 c.args.first_cost) ≡ cost model lists = omega (arith, ints, c.requires.first_cost, fits.least, fits.greatest) in
-    let bounds : Bounds = record { limit = c.args.limit; tenure = c.args.tenure } in
-    let event : c.event.result ≡ first model bounds lists = c.event.ensures ∙ ap (λ k. record { tries = 0; kind = kind.First; cost = k }) costs in
-    let noted = first_told model bounds lists (λ w. (goal.Watch-dyn g (w.vtable, w.value)).after w.value) _ _ (subst (λ e. Told (λ w. (goal.Watch-dyn g (w.vtable, w.value)).after w.value) c.args.watch.now.items c.note_all.new.watch.items (e ∷ [])) event c.in_ok-note_all.ensures.told) in
-    on_err c.from_residual-in_err-state.result (goes_nowhere (λ w. (goal.Watch-dyn g (w.vtable, w.value)).after w.value) (tabu_search model lists c.args.limit c.args.tenure) (rest model bounds lists) _ _ noted)
+    on_err c.from_residual-in_err-state.result (goes_nowhere (λ w. (goal.Watch-dyn g (w.vtable, w.value)).after w.value) (tabu_search c.args.model.now c.args.routes.now.lists c.args.limit c.args.tenure) (rest c.args.model.now (within c.args.limit c.args.tenure) c.args.routes.now.lists) _ _ (noted g (goal.at.returns-in_err-state-clause-told_in_part g c).In_ok-note_all))
 
 pub search-requires-clause-bounds : goal.search-requires-clause-bounds
 search-requires-clause-bounds g c =
@@ -40,114 +46,50 @@ search-requires-clause-bounds g c =
 
 pub search-requires-clause-stands : goal.search-requires-clause-stands
 search-requires-clause-stands g c =
-    let model = c.args.model.now in
-    let lists = c.args.routes.now.lists in
-    let fits = costs_are_bounded model c.requires.well_formed lists c.requires.holds.valid in
-    let costs : to_z w64 (of_z w64 c.args.first_cost) ≡ cost model lists = omega (arith, ints, c.requires.first_cost, fits.least, fits.greatest) in
-    let bounds : Bounds = record { limit = c.args.limit; tenure = c.args.tenure } in
-    let begins = subst (λ k. IsBegun model c.args.routes.now (record { used = 0; found = 1; cost = k }) c.in_ok-state.state) costs c.in_ok-state.ensures in
-    begun_stands model bounds c.args.routes.now c.in_ok-state.state begins _ c.requires.holds c.requires.one_solution
+    begun_stands c.args.model.now (within c.args.limit c.args.tenure) c.args.routes.now c.in_ok-state.state (begins g (goal.at.search-requires-clause-stands g c).In_ok-state) _ c.requires.holds c.requires.one_solution
 
 pub returns-in_err-end-clause-told_in_part : goal.returns-in_err-end-clause-told_in_part
 returns-in_err-end-clause-told_in_part g c =
-    let model = c.args.model.now in
-    let lists = c.args.routes.now.lists in
-    let fits = costs_are_bounded model c.requires.well_formed lists c.requires.holds.valid in
-    let costs : to_z w64 (of_z w64 c.args.first_cost) ≡ cost model lists = omega (arith, ints, c.requires.first_cost, fits.least, fits.greatest) in
-    let bounds : Bounds = record { limit = c.args.limit; tenure = c.args.tenure } in
-    let event : c.event.result ≡ first model bounds lists = c.event.ensures ∙ ap (λ k. record { tries = 0; kind = kind.First; cost = k }) costs in
-    let noted = first_told model bounds lists (λ w. (goal.Watch-dyn g (w.vtable, w.value)).after w.value) _ _ (subst (λ e. Told (λ w. (goal.Watch-dyn g (w.vtable, w.value)).after w.value) c.args.watch.now.items c.note_all.new.watch.items (e ∷ [])) event c.in_ok-note_all.ensures.told) in
-    let begins = subst (λ k. IsBegun model c.args.routes.now (record { used = 0; found = 1; cost = k }) c.in_ok-state.state) costs c.in_ok-state.ensures in
-    let same = rest_is model bounds c.args.routes.now c.in_ok-state.state begins in
-    on_err c.from_residual-in_err-end.result (breaks_within (λ w. (goal.Watch-dyn g (w.vtable, w.value)).after w.value) (tabu_search model lists c.args.limit c.args.tenure) (rest model bounds lists) _ _ _ noted (subst (λ o. ToldInPart (λ w. (goal.Watch-dyn g (w.vtable, w.value)).after w.value) c.note_all.new.watch.items c.search.new.watch.items o.events) same c.in_err-end.ensures.told_in_part))
+    let at = goal.at.returns-in_err-end-clause-told_in_part g c in
+    on_err c.from_residual-in_err-end.result (breaks_within (λ w. (goal.Watch-dyn g (w.vtable, w.value)).after w.value) (tabu_search c.args.model.now c.args.routes.now.lists c.args.limit c.args.tenure) (rest c.args.model.now (within c.args.limit c.args.tenure) c.args.routes.now.lists) _ _ _ (noted g at.In_ok-note_all)
+    (subst (λ o. ToldInPart (λ w. (goal.Watch-dyn g (w.vtable, w.value)).after w.value) c.note_all.new.watch.items c.search.new.watch.items o.events) (same g at.In_ok-state) c.in_err-end.ensures.told_in_part))
 
 pub returns-in_err-end-clause-asked_at_most : goal.returns-in_err-end-clause-asked_at_most
 returns-in_err-end-clause-asked_at_most g c =
-    let model = c.args.model.now in
-    let lists = c.args.routes.now.lists in
-    let fits = costs_are_bounded model c.requires.well_formed lists c.requires.holds.valid in
-    let costs : to_z w64 (of_z w64 c.args.first_cost) ≡ cost model lists = omega (arith, ints, c.requires.first_cost, fits.least, fits.greatest) in
-    let begins = subst (λ k. IsBegun model c.args.routes.now (record { used = 0; found = 1; cost = k }) c.in_ok-state.state) costs c.in_ok-state.ensures in
-    let used = ap (λ p. p.used) begins.at_is in
+    let used = ap (λ p. p.used) (begins g (goal.at.returns-in_err-end-clause-asked_at_most g c).In_ok-state).at_is in
     on_err c.from_residual-in_err-end.result (omega (arith, used, c.in_err-end.ensures.asked_at_most))
 
 pub returns-in_err-end-clause-looked_at_most : goal.returns-in_err-end-clause-looked_at_most
 returns-in_err-end-clause-looked_at_most g c =
-    let model = c.args.model.now in
-    let lists = c.args.routes.now.lists in
-    let fits = costs_are_bounded model c.requires.well_formed lists c.requires.holds.valid in
-    let costs : to_z w64 (of_z w64 c.args.first_cost) ≡ cost model lists = omega (arith, ints, c.requires.first_cost, fits.least, fits.greatest) in
-    let begins = subst (λ k. IsBegun model c.args.routes.now (record { used = 0; found = 1; cost = k }) c.in_ok-state.state) costs c.in_ok-state.ensures in
-    let used = ap (λ p. p.used) begins.at_is in
+    let used = ap (λ p. p.used) (begins g (goal.at.returns-in_err-end-clause-looked_at_most g c).In_ok-state).at_is in
     on_err c.from_residual-in_err-end.result (omega (arith, used, c.in_err-end.ensures.looked_at_most))
 
 pub returns-clause-report : goal.returns-clause-report
 returns-clause-report g c =
-    let model = c.args.model.now in
-    let lists = c.args.routes.now.lists in
-    let fits = costs_are_bounded model c.requires.well_formed lists c.requires.holds.valid in
-    let costs : to_z w64 (of_z w64 c.args.first_cost) ≡ cost model lists = omega (arith, ints, c.requires.first_cost, fits.least, fits.greatest) in
-    let bounds : Bounds = record { limit = c.args.limit; tenure = c.args.tenure } in
-    let begins = subst (λ k. IsBegun model c.args.routes.now (record { used = 0; found = 1; cost = k }) c.in_ok-state.state) costs c.in_ok-state.ensures in
-    let same = rest_is model bounds c.args.routes.now c.in_ok-state.state begins in
-    let start = at_start model bounds lists in
-    c.report.ensures ∙ (sym (ap (λ o. o.report) c.in_ok-end.ensures.outcome) ∙ (ap (λ o. o.report) same ∙ sym (ap (λ o. o.report) start)))
+    c.report.ensures ∙ sym (ap (λ o. o.report) c.in_ok-end.ensures.outcome) ∙ (ap (λ o. o.report) (same g (goal.at.returns-clause-report g c).In_ok-state) ∙ sym (ap (λ o. o.report) (at_start c.args.model.now (within c.args.limit c.args.tenure) c.args.routes.now.lists)))
 
 pub returns-clause-last : goal.returns-clause-last
 returns-clause-last g c =
-    let model = c.args.model.now in
-    let lists = c.args.routes.now.lists in
-    let fits = costs_are_bounded model c.requires.well_formed lists c.requires.holds.valid in
-    let costs : to_z w64 (of_z w64 c.args.first_cost) ≡ cost model lists = omega (arith, ints, c.requires.first_cost, fits.least, fits.greatest) in
-    let bounds : Bounds = record { limit = c.args.limit; tenure = c.args.tenure } in
-    let begins = subst (λ k. IsBegun model c.args.routes.now (record { used = 0; found = 1; cost = k }) c.in_ok-state.state) costs c.in_ok-state.ensures in
-    let same = rest_is model bounds c.args.routes.now c.in_ok-state.state begins in
-    let start = at_start model bounds lists in
-    sym (ap (λ o. o.last) c.in_ok-end.ensures.outcome) ∙ (ap (λ o. o.last) same ∙ sym (ap (λ o. o.last) start))
+    sym (ap (λ o. o.last) c.in_ok-end.ensures.outcome) ∙ (ap (λ o. o.last) (same g (goal.at.returns-clause-last g c).In_ok-state) ∙ sym (ap (λ o. o.last) (at_start c.args.model.now (within c.args.limit c.args.tenure) c.args.routes.now.lists)))
 
 pub returns-clause-best : goal.returns-clause-best
 returns-clause-best g c =
-    let model = c.args.model.now in
-    let lists = c.args.routes.now.lists in
-    let fits = costs_are_bounded model c.requires.well_formed lists c.requires.holds.valid in
-    let costs : to_z w64 (of_z w64 c.args.first_cost) ≡ cost model lists = omega (arith, ints, c.requires.first_cost, fits.least, fits.greatest) in
-    let bounds : Bounds = record { limit = c.args.limit; tenure = c.args.tenure } in
-    let begins = subst (λ k. IsBegun model c.args.routes.now (record { used = 0; found = 1; cost = k }) c.in_ok-state.state) costs c.in_ok-state.ensures in
-    let same = rest_is model bounds c.args.routes.now c.in_ok-state.state begins in
-    let start = at_start model bounds lists in
-    sym (ap (λ o. o.best) c.in_ok-end.ensures.outcome) ∙ (ap (λ o. o.best) same ∙ sym (ap (λ o. o.best) start))
+    sym (ap (λ o. o.best) c.in_ok-end.ensures.outcome) ∙ (ap (λ o. o.best) (same g (goal.at.returns-clause-best g c).In_ok-state) ∙ sym (ap (λ o. o.best) (at_start c.args.model.now (within c.args.limit c.args.tenure) c.args.routes.now.lists)))
 
 pub returns-clause-told : goal.returns-clause-told
 returns-clause-told g c =
-    let model = c.args.model.now in
-    let lists = c.args.routes.now.lists in
-    let fits = costs_are_bounded model c.requires.well_formed lists c.requires.holds.valid in
-    let costs : to_z w64 (of_z w64 c.args.first_cost) ≡ cost model lists = omega (arith, ints, c.requires.first_cost, fits.least, fits.greatest) in
-    let bounds : Bounds = record { limit = c.args.limit; tenure = c.args.tenure } in
-    let event : c.event.result ≡ first model bounds lists = c.event.ensures ∙ ap (λ k. record { tries = 0; kind = kind.First; cost = k }) costs in
-    let noted = first_told model bounds lists (λ w. (goal.Watch-dyn g (w.vtable, w.value)).after w.value) _ _ (subst (λ e. Told (λ w. (goal.Watch-dyn g (w.vtable, w.value)).after w.value) c.args.watch.now.items c.note_all.new.watch.items (e ∷ [])) event c.in_ok-note_all.ensures.told) in
-    let begins = subst (λ k. IsBegun model c.args.routes.now (record { used = 0; found = 1; cost = k }) c.in_ok-state.state) costs c.in_ok-state.ensures in
-    let same = rest_is model bounds c.args.routes.now c.in_ok-state.state begins in
-    ends_within (λ w. (goal.Watch-dyn g (w.vtable, w.value)).after w.value) (tabu_search model lists c.args.limit c.args.tenure) (rest model bounds lists) _ _ _ noted (subst (λ o. Told (λ w. (goal.Watch-dyn g (w.vtable, w.value)).after w.value) c.note_all.new.watch.items c.search.new.watch.items o.events) same c.in_ok-end.ensures.told)
+    let at = goal.at.returns-clause-told g c in
+    ends_within (λ w. (goal.Watch-dyn g (w.vtable, w.value)).after w.value) (tabu_search c.args.model.now c.args.routes.now.lists c.args.limit c.args.tenure) (rest c.args.model.now (within c.args.limit c.args.tenure) c.args.routes.now.lists) _ _ _ (noted g at.In_ok-note_all)
+    (subst (λ o. Told (λ w. (goal.Watch-dyn g (w.vtable, w.value)).after w.value) c.note_all.new.watch.items c.search.new.watch.items o.events) (same g at.In_ok-state) c.in_ok-end.ensures.told)
 
 pub returns-clause-asked : goal.returns-clause-asked
 returns-clause-asked g c =
-    let model = c.args.model.now in
-    let lists = c.args.routes.now.lists in
-    let fits = costs_are_bounded model c.requires.well_formed lists c.requires.holds.valid in
-    let costs : to_z w64 (of_z w64 c.args.first_cost) ≡ cost model lists = omega (arith, ints, c.requires.first_cost, fits.least, fits.greatest) in
-    let begins = subst (λ k. IsBegun model c.args.routes.now (record { used = 0; found = 1; cost = k }) c.in_ok-state.state) costs c.in_ok-state.ensures in
-    let used = ap (λ p. p.used) begins.at_is in
+    let used = ap (λ p. p.used) (begins g (goal.at.returns-clause-asked g c).In_ok-state).at_is in
     omega (arith, used, ap (λ r. r.tries) c.report.ensures, c.in_ok-end.ensures.asked)
 
 pub returns-clause-looked : goal.returns-clause-looked
 returns-clause-looked g c =
-    let model = c.args.model.now in
-    let lists = c.args.routes.now.lists in
-    let fits = costs_are_bounded model c.requires.well_formed lists c.requires.holds.valid in
-    let costs : to_z w64 (of_z w64 c.args.first_cost) ≡ cost model lists = omega (arith, ints, c.requires.first_cost, fits.least, fits.greatest) in
-    let begins = subst (λ k. IsBegun model c.args.routes.now (record { used = 0; found = 1; cost = k }) c.in_ok-state.state) costs c.in_ok-state.ensures in
-    let used = ap (λ p. p.used) begins.at_is in
+    let used = ap (λ p. p.used) (begins g (goal.at.returns-clause-looked g c).In_ok-state).at_is in
     omega (arith, used, ap (λ r. r.tries) c.report.ensures, c.in_ok-end.ensures.looked)
 
 pub returns-clause-no_more_tries : goal.returns-clause-no_more_tries
@@ -172,12 +114,7 @@ returns-clause-same_visits g c =
 
 pub returns-clause-no_dearer : goal.returns-clause-no_dearer
 returns-clause-no_dearer g c =
-    let model = c.args.model.now in
-    let lists = c.args.routes.now.lists in
-    let fits = costs_are_bounded model c.requires.well_formed lists c.requires.holds.valid in
-    let costs : to_z w64 (of_z w64 c.args.first_cost) ≡ cost model lists = omega (arith, ints, c.requires.first_cost, fits.least, fits.greatest) in
-    let begins = subst (λ k. IsBegun model c.args.routes.now (record { used = 0; found = 1; cost = k }) c.in_ok-state.state) costs c.in_ok-state.ensures in
-    let first_cost = ap (λ b. b.cost) begins.best_is in
+    let first_cost = ap (λ b. b.cost) (begins g (goal.at.returns-clause-no_dearer g c).In_ok-state).best_is in
     let kept = c.in_ok-end.ensures.stands.best.costs in
     let less = c.in_ok-end.ensures.no_dearer in
     omega (arith, ints, kept, less, first_cost)

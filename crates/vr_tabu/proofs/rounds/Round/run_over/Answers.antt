@@ -8,11 +8,25 @@ use Rattle.vr_tabu.specs.Rounds.{tries_of}
 use Rattle.vr_tabu.specs.Tabus.{tabus_of}
 use Rattle.vr_model.proofs.tables.Refusals.{on_err}
 use Rattle.vr_descent.proofs.PassedLemmas.{at_or_behind, looks_few}
-use Rattle.vr_tabu.proofs.RoundLemmas.{all_moves, all_tried, at_most, best_of, cut_off, exact, one_more, one_tried, pass_over, tries_end}
+use Rattle.vr_tabu.proofs.RoundLemmas.{IsLeft, all_moves, all_tried, at_most, best_of, cut_off, exact, one_more, one_tried, pass_over, tries_end}
+use Rattle.vr_tabu.proofs.rounds.Round.run_over.Given.{Over}
+use Rattle.vr_tabu.proofs.rounds.Round.run_over.Goals.{In-Some, In_default}
 use Rattle.vr_tabu.proofs.rounds.Round.run_over.Goals as goal
 
 fits : (rest : ℕ) → rest ≤ 1000000000 → rest < 2 ^ 64
 fits rest few = omega (arith, few)
+
+-- what is left of the moves behind those that were passed over, where a move is tried ..
+before : (g : Over) (c : In-Some g) → IsLeft c.args.self.now.model.now (tabus_of c.args.self.now.state.now.tabus) c.args.self.now.state.now.best.routes.lists c.args.self.now.routes.now.lists c.loop-mv.best c.loop-mv.length c.in-Some.ensures.takes.behind c.next_open.new.length
+before g c =
+    let i = c.loop-mv.invariant in
+    pass_over c.args.self.now.model.now (tabus_of c.args.self.now.state.now.tabus) c.args.self.now.state.now.best.routes.lists c.args.self.now.routes.now.lists c.loop-mv.best c.args.self.now.ceiling c.loop-mv.list c.in-Some.ensures.takes.behind c.loop-mv.length c.next_open.new.length i.known c.args.self.now.bounded c.in-Some.ensures.takes.passes i.counted i.moves i.left
+
+-- .. and where none is left
+at_end : (g : Over) (c : In_default g) → IsLeft c.args.self.now.model.now (tabus_of c.args.self.now.state.now.tabus) c.args.self.now.state.now.best.routes.lists c.args.self.now.routes.now.lists c.loop-mv.best c.loop-mv.length c.in_default.ensures.takes.behind c.next_open.new.length
+at_end g c =
+    let i = c.loop-mv.invariant in
+    pass_over c.args.self.now.model.now (tabus_of c.args.self.now.state.now.tabus) c.args.self.now.state.now.best.routes.lists c.args.self.now.routes.now.lists c.loop-mv.best c.args.self.now.ceiling c.loop-mv.list c.in_default.ensures.takes.behind c.loop-mv.length c.next_open.new.length i.known c.args.self.now.bounded c.in_default.ensures.takes.passes i.counted i.moves i.left
 
 pub loop-mv-init : goal.loop-mv-init
 loop-mv-init g c =
@@ -33,31 +47,22 @@ loop-mv-init g c =
 
 pub returns-then-length-rest-clause-ends : goal.returns-then-length-rest-clause-ends
 returns-then-length-rest-clause-ends g c =
-    let model = c.args.self.now.model.now in
-    let lists = c.args.self.now.routes.now.lists in
-    let tabus = tabus_of c.args.self.now.state.now.tabus in
-    let best = c.args.self.now.state.now.best.routes.lists in
-    let i = c.loop-mv.invariant in
     let t = c.in-Some.ensures.takes in
-    let is = pass_over model tabus best lists c.loop-mv.best c.args.self.now.ceiling c.loop-mv.list t.behind c.loop-mv.length c.next_open.new.length i.known c.args.self.now.bounded t.passes i.counted i.moves i.left in
-    let all = all_with is.at (length t.behind) (length c.next_open.new.list) (length (moves model lists)) is.sum (ap length t.first) in
+    let is = before g (goal.at.returns-then-length-rest-clause-ends g c).In-Some in
+    let all = all_with is.at (length t.behind) (length c.next_open.new.list) (length (moves c.args.self.now.model.now c.args.self.now.routes.now.lists)) is.sum (ap length t.first) in
     let counts = is.counts in
     let most = at_most is.at in
-    cut_off model tabus best lists (is.at + 1) c.args.rest (omega (arith, counts, most, c.if-length-rest.true)) all
+    cut_off c.args.self.now.model.now (tabus_of c.args.self.now.state.now.tabus) c.args.self.now.state.now.best.routes.lists c.args.self.now.routes.now.lists (is.at + 1) c.args.rest (omega (arith, counts, most, c.if-length-rest.true)) all
   where
     all_with : (at behind left all : ℕ) → at + behind ≡ all → behind ≡ suc left → at + 1 ≤ all
     all_with at behind left all sum e = omega (arith, sum, e)
 
 pub loop-mv-preserved : goal.loop-mv-preserved
 loop-mv-preserved g c =
-    let model = c.args.self.now.model.now in
-    let lists = c.args.self.now.routes.now.lists in
-    let tabus = tabus_of c.args.self.now.state.now.tabus in
-    let best = c.args.self.now.state.now.best.routes.lists in
     let i = c.loop-mv.invariant in
     let e = c.in_ok-best.ensures in
     let t = c.in-Some.ensures.takes in
-    let is = pass_over model tabus best lists c.loop-mv.best c.args.self.now.ceiling c.loop-mv.list t.behind c.loop-mv.length c.next_open.new.length i.known c.args.self.now.bounded t.passes i.counted i.moves i.left in
+    let is = before g (goal.at.loop-mv-preserved g c).In-Some in
     let counts = is.counts in
     let from = is.from in
     let under = c.if-length-rest.false in
@@ -71,50 +76,34 @@ loop-mv-preserved g c =
       asked = omega (arith, e.asked, same, i.asked, from, at);
       looked = omega (arith, e.looked, looks, i.looked, from, at);
       within = omega (arith, under);
-      counted = one_more c.next_open.new.length (length c.next_open.new.list) (length (moves model lists)) (ap (λ n. n + suc (length c.next_open.new.list)) at ∙ (ap (λ ms. is.at + length ms) (sym t.first) ∙ is.sum));
-      moves = and_right (is_move model lists c.in-Some.mv) (list_all (is_move model lists) c.next_open.new.list) (ap (list_all (is_move model lists)) (sym t.first) ∙ is.moves);
+      counted = one_more c.next_open.new.length (length c.next_open.new.list) (length (moves c.args.self.now.model.now c.args.self.now.routes.now.lists)) (ap (λ n. n + suc (length c.next_open.new.list)) at ∙ (ap (λ ms. is.at + length ms) (sym t.first) ∙ is.sum));
+      moves = and_right (is_move c.args.self.now.model.now c.args.self.now.routes.now.lists c.in-Some.mv) (list_all (is_move c.args.self.now.model.now c.args.self.now.routes.now.lists) c.next_open.new.list) (ap (list_all (is_move c.args.self.now.model.now c.args.self.now.routes.now.lists)) (sym t.first) ∙ is.moves);
       known = e.known;
-      left = one_tried model tabus best lists c.loop-mv.best c.in_ok-best.best c.in-Some.mv t.behind c.next_open.new.list t.first e.best is.left;
+      left = one_tried c.args.self.now.model.now (tabus_of c.args.self.now.state.now.tabus) c.args.self.now.state.now.best.routes.lists c.args.self.now.routes.now.lists c.loop-mv.best c.in_ok-best.best c.in-Some.mv t.behind c.next_open.new.list t.first e.best is.left;
     }
 
 pub returns-then-length-rest-2-clause-ends : goal.returns-then-length-rest-2-clause-ends
 returns-then-length-rest-2-clause-ends g c =
-    let model = c.args.self.now.model.now in
-    let lists = c.args.self.now.routes.now.lists in
-    let tabus = tabus_of c.args.self.now.state.now.tabus in
-    let best = c.args.self.now.state.now.best.routes.lists in
-    let i = c.loop-mv.invariant in
-    let t = c.in_default.ensures.takes in
-    let is = pass_over model tabus best lists c.loop-mv.best c.args.self.now.ceiling c.loop-mv.list t.behind c.loop-mv.length c.next_open.new.length i.known c.args.self.now.bounded t.passes i.counted i.moves i.left in
+    let is = at_end g (goal.at.returns-then-length-rest-2-clause-ends g c).In_default in
     let counts = is.counts in
     let sum = is.sum in
     let most = at_most is.at in
-    cut_off model tabus best lists is.at c.args.rest (omega (arith, counts, most, c.if-length-rest-2.true)) (omega (arith, sum))
+    cut_off c.args.self.now.model.now (tabus_of c.args.self.now.state.now.tabus) c.args.self.now.state.now.best.routes.lists c.args.self.now.routes.now.lists is.at c.args.rest (omega (arith, counts, most, c.if-length-rest-2.true)) (omega (arith, sum))
 
 pub returns-clause-ends : goal.returns-clause-ends
 returns-clause-ends g c =
-    let model = c.args.self.now.model.now in
-    let lists = c.args.self.now.routes.now.lists in
-    let tabus = tabus_of c.args.self.now.state.now.tabus in
-    let best = c.args.self.now.state.now.best.routes.lists in
-    let i = c.loop-mv.invariant in
     let t = c.in_default.ensures.takes in
-    let is = pass_over model tabus best lists c.loop-mv.best c.args.self.now.ceiling c.loop-mv.list t.behind c.loop-mv.length c.next_open.new.length i.known c.args.self.now.bounded t.passes i.counted i.moves i.left in
+    let is = at_end g (goal.at.returns-clause-ends g c).In_default in
     let counts = is.counts in
     let under = c.if-length-rest-2.false in
     let few = c.requires.rest in
     let at : c.next_open.new.length ≡ is.at = counts ∙ exact is.at (omega (arith, counts, under, few)) in
-    c.end_of.ensures ∙ all_tried model tabus best lists c.next_open.new.length c.args.rest c.loop-mv.best t.behind t.first.0 (ap (λ n. n + length t.behind) at ∙ is.sum) (omega (arith, under)) i.known is.left
+    c.end_of.ensures ∙ all_tried c.args.self.now.model.now (tabus_of c.args.self.now.state.now.tabus) c.args.self.now.state.now.best.routes.lists c.args.self.now.routes.now.lists c.next_open.new.length c.args.rest c.loop-mv.best t.behind t.first.0 (ap (λ n. n + length t.behind) at ∙ is.sum) (omega (arith, under)) c.loop-mv.invariant.known is.left
 
 pub returns-clause-asked : goal.returns-clause-asked
 returns-clause-asked g c =
     let i = c.loop-mv.invariant in
-    let t = c.in_default.ensures.takes in
-    let model = c.args.self.now.model.now in
-    let lists = c.args.self.now.routes.now.lists in
-    let tabus = tabus_of c.args.self.now.state.now.tabus in
-    let best = c.args.self.now.state.now.best.routes.lists in
-    let is = pass_over model tabus best lists c.loop-mv.best c.args.self.now.ceiling c.loop-mv.list t.behind c.loop-mv.length c.next_open.new.length i.known c.args.self.now.bounded t.passes i.counted i.moves i.left in
+    let is = at_end g (goal.at.returns-clause-asked g c).In_default in
     let counts = is.counts in
     let from = is.from in
     let under = c.if-length-rest-2.false in
