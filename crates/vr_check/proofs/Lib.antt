@@ -6,6 +6,7 @@ pub mod Sums
 pub mod Totalling
 pub mod Nothing
 pub mod PrintedLists
+pub mod KeptLemmas
 pub mod Distinct
 pub mod Valid
 pub mod Scheduled

@@ -1,15 +1,12 @@
 -- A line of which each number is looked up where it is asked for.
-use Rattle.std.specs.Prelude.{◌≡◌, ℕ, ◌<◌, ◌+◌, ◌^◌, ◌==◌, ◌&&◌, ◌||◌, not, Bool, ℤ, pos, IsTrue, List, length}
+use Rattle.std.specs.Prelude.{ℕ, ◌+◌, ◌==◌, ◌&&◌, ◌||◌, not, Bool, ℤ, pos, List, length}
 use Rattle.std.specs.Prelude.{slice_index_or, Option, None}
-use Rattle.std.specs.List.{list_all}
 use Rattle.vr_model.specs.tables.Numbers.{number_at, is_same_number}
-use Rattle.vr_model.specs.tables.Tables.{is_visit, dimension_at}
+use Rattle.vr_model.specs.tables.Tables.{dimension_at}
 use Rattle.vr_model.specs.routes.Routes.{stops}
 use Rattle.vr_model.specs.schedules.Lines.{Line, line, stop_rows, stop_allows}
-use Rattle.vr_model.specs.tables.WellFormed.{IsWellFormed}
 use Rattle.vr_model.specs.declared.records.StopRow.{StopRow}
 use Rattle.vr_check.specs.declared.asked.Asked.{Asked}
-use Rattle.vr_printed.specs.declared.printed.PrintedPlan.{PrintedPlan}
 
 -- the line that is asked
 abbrev pub line_of : Asked → Line
@@ -30,20 +27,6 @@ stop_rows_of it = stop_rows (dimension_at it.model.now it.d) it.v it.list.now
 -- the row of stop k
 abbrev pub row_at_stop : Asked → ℕ → Option StopRow
 row_at_stop it k = slice_index_or (stop_rows_of it) k None
-
--- its model is well formed, its numbers are in range, and its list holds visits
-pub record IsAsked (it : Asked) : Type 0 where
-  pub well_formed : IsWellFormed it.model.now
-  pub dimension : it.d < length it.model.now.dimensions
-  pub vehicle : it.v < length it.model.now.vehicles
-  pub visits : IsTrue (list_all (is_visit it.model.now) it.list.now)
-  pub short : length it.list.now < 2 ^ 61
-
--- a plan has a cumul for each stop, a slack for each arc, and a start for each break
-pub record FitsLine (it : Asked) (plan : PrintedPlan) : Type 0 where
-  pub cumuls : length plan.cumuls ≡ arcs_of it + 1
-  pub slacks : length plan.slacks ≡ arcs_of it
-  pub breaks : length plan.breaks ≡ length (line_of it).breaks
 
 -- the start is 0 where the dimension fixes it
 abbrev pub is_start_free : Asked → ℕ → ℤ → Bool

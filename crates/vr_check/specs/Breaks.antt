@@ -1,22 +1,15 @@
 -- Breaks of a line as a plan takes them.
-use Rattle.std.specs.Prelude.{Bool, length, ◌≡◌, ℕ, ℤ, pos, cond}
+use Rattle.std.specs.Prelude.{Bool, length, ℕ, ℤ, pos, cond}
 use Rattle.std.specs.List.{list_any}
 use Rattle.vr_model.specs.tables.Numbers.{below}
 use Rattle.vr_model.specs.schedules.Lines.{Line}
 use Rattle.vr_model.specs.schedules.Schedules.{Plan, is_inside, break_at}
 use Rattle.vr_printed.specs.Printed.{plan_of}
-use Rattle.vr_check.specs.Asked.{FitsLine, IsAsked, line_of}
 use Rattle.vr_check.specs.declared.breaks.Taken.{Taken}
 
 -- the plan
 abbrev pub plan_of_taken : Taken → Plan
 plan_of_taken it = plan_of it.plan.now
-
--- its rows are the breaks of its line, and its plan fits the line
-pub record IsTaken (it : Taken) : Type 0 where
-  pub asked : IsAsked it.asked
-  pub rows : it.rows.now ≡ (line_of it.asked).breaks
-  pub fits : FitsLine it.asked it.plan.now
 
 -- break i lies inside some arc
 abbrev pub is_inside_some : Line → Plan → ℕ → Bool

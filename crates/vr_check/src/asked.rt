@@ -1,5 +1,6 @@
 //! A line of which each number is looked up where it is asked for.
 
+ghost use Rattle.std.proofs.Props.{props};
 ghost use Rattle.std.specs.Prelude.{◌≡◌, ◌<◌, ◌≤◌, ◌+◌, ◌^◌, ◌≤ℤ◌, neg_ℤ, pos, not, length, slice_index_or};
 ghost use Rattle.std.specs.List.{list_all};
 ghost use Rattle.std.specs.Option.{option_copied};
@@ -9,8 +10,8 @@ ghost use Rattle.vr_model.specs.schedules.Lines.{in_window, row_allows, stop_all
 ghost use Rattle.vr_model.specs.schedules.Schedules as schedules;
 ghost use Rattle.vr_model.specs.schedules.Schedules.{arc_at};
 ghost use Rattle.vr_model.specs.tables.WellFormed.{IsStopRow, WherePresent};
-ghost use Rattle.vr_check.specs.Asked as asked_lines;
-ghost use Rattle.vr_check.specs.Asked.{IsAsked, arcs_of, line_of, row_at_stop};
+ghost use Rattle.vr_model.specs.tables.WellFormedOnce.{IsWellFormed-prop};
+ghost use Rattle.vr_check.specs.Kept.{IsLineOf};
 
 use vr_model::{BreakRow, Dimension, Interval, Model, StopRow};
 
@@ -21,6 +22,7 @@ pub(crate) struct Asked<'a> {
     pub(crate) d: usize,
     pub(crate) v: usize,
     pub(crate) list: &'a [u32],
+    pub ghost known: { IsLineOf model.now d v list.now } by { Prim.hlevel (props, IsWellFormed-prop) },
 }
 
 // Whether a number lies in an interval.
@@ -81,9 +83,11 @@ fn capacity_of(dimension: &Dimension, v: usize) -> i64
 }
 
 impl<'a> Asked<'a> {
+    ghost use Rattle.vr_check.specs.Asked as asked_lines;
+    ghost use Rattle.vr_check.specs.Asked.{arcs_of, line_of, row_at_stop};
+
     // The number of the vehicle.
     fn vehicle(&self) -> u32
-        requires { IsAsked self.now }
         ensures { result ≡ self.now.v }
     {
         self.v as u32
@@ -91,7 +95,6 @@ impl<'a> Asked<'a> {
 
     // The dimension.
     fn dimension(&self) -> &'a Dimension
-        requires { self.now.d < length self.now.model.now.dimensions }
         ensures { result.now ≡ slice_index_or self.now.model.now.dimensions self.now.d no_dimension }
     {
         self.model.dimensions.get(self.d)
@@ -99,7 +102,6 @@ impl<'a> Asked<'a> {
 
     /// The row of a stop.
     pub(crate) fn row(&self, k: usize) -> Option<&'a StopRow>
-        requires asked { IsAsked self.now }
         requires stop { k ≤ arcs_of self.now }
         ensures value { option_copied result ≡ row_at_stop self.now k }
         ensures valid { WherePresent IsStopRow (option_copied result) }
@@ -116,7 +118,6 @@ impl<'a> Asked<'a> {
 
     // Whether a cumul is 0 where it must be.
     fn is_start_free(&self, k: usize, x: i64) -> bool
-        requires { IsAsked self.now }
         ensures { result ≡ asked_lines.is_start_free self.now k x }
     {
         k != 0 || !self.dimension().fix_start || x == 0
@@ -124,7 +125,6 @@ impl<'a> Asked<'a> {
 
     /// Whether a stop allows a cumul.
     pub(crate) fn allows(&self, k: usize, x: i64) -> bool
-        requires asked { IsAsked self.now }
         requires stop { k ≤ arcs_of self.now }
         ensures { result ≡ schedules.allows (line_of self.now) k x }
     {
@@ -134,7 +134,6 @@ impl<'a> Asked<'a> {
 
     /// How many arcs there are.
     pub(crate) fn arcs(&self) -> usize
-        requires asked { IsAsked self.now }
         ensures count { result ≡ arcs_of self.now }
         ensures line { result ≡ length (line_of self.now).arcs }
     {
@@ -143,7 +142,6 @@ impl<'a> Asked<'a> {
 
     // The node at a stop.
     fn node(&self, k: usize) -> u32
-        requires asked { IsAsked self.now }
         requires stop { k ≤ arcs_of self.now }
         ensures value { result ≡ asked_lines.stop_node self.now k }
         ensures within { result < self.now.model.now.nodes }
@@ -159,7 +157,6 @@ impl<'a> Asked<'a> {
 
     /// The transit of an arc.
     pub(crate) fn transit(&self, k: usize) -> i64
-        requires asked { IsAsked self.now }
         requires arc { k < arcs_of self.now }
         ensures value { result ≡ (arc_at (line_of self.now) k).transit }
         ensures least { neg_ℤ (pos (2 ^ 31)) ≤ℤ result }
@@ -172,7 +169,6 @@ impl<'a> Asked<'a> {
 
     /// The visit time at the start of an arc.
     pub(crate) fn visit(&self, k: usize) -> i64
-        requires asked { IsAsked self.now }
         requires arc { k < arcs_of self.now }
         ensures value { result ≡ (arc_at (line_of self.now) k).visit }
     {
@@ -181,7 +177,6 @@ impl<'a> Asked<'a> {
 
     /// The breaks, in order.
     pub(crate) fn breaks(&self) -> &'a [BreakRow]
-        requires asked { IsAsked self.now }
         ensures { result.now ≡ (line_of self.now).breaks }
     {
         self.dimension().breaks_of(self.vehicle())
@@ -189,7 +184,6 @@ impl<'a> Asked<'a> {
 
     /// The greatest slack.
     pub(crate) fn slack_max(&self) -> i64
-        requires asked { IsAsked self.now }
         ensures { result ≡ (line_of self.now).slack_max }
     {
         self.dimension().slack_max

@@ -1,16 +1,17 @@
 //! The rules on breaks.
 
+ghost use Rattle.std.proofs.Props.{props};
 ghost use Rattle.std.specs.Prelude.{◌≡◌, ◌<◌, ◌+◌, length};
 ghost use Rattle.vr_model.specs.schedules.Schedules as schedules;
 ghost use Rattle.vr_model.specs.schedules.Schedules.{both_sides, break_at, break_end, break_start, break_time};
 ghost use Rattle.vr_model.specs.deciding.ScheduleTests as schedule_tests;
-ghost use Rattle.vr_check.specs.Asked.{FitsLine, IsAsked, line_of};
+ghost use Rattle.vr_check.specs.Asked.{line_of};
+ghost use Rattle.vr_check.specs.Kept.{FitsLine};
 ghost use Rattle.vr_check.specs.Plans as plans;
-ghost use Rattle.vr_check.specs.Breaks as breaks;
-ghost use Rattle.vr_check.specs.Breaks.{IsTaken, plan_of_taken};
 ghost use Rattle.vr_printed.specs.Printed.{plan_of};
 
 use crate::asked::Asked;
+use crate::printed::LinePlan;
 use vr_model::BreakRow;
 use vr_printed::PrintedPlan;
 
@@ -20,39 +21,23 @@ pub(crate) struct Taken<'a> {
     pub(crate) asked: Asked<'a>,
     pub(crate) rows: &'a [BreakRow],
     pub(crate) plan: &'a PrintedPlan,
+    pub ghost rows_are: { rows.now ≡ (line_of asked).breaks } by { Prim.hlevel props },
+    pub ghost fits: { FitsLine asked.model.now asked.d asked.v asked.list.now plan.now },
+}
+
+/// One of the breaks of a line, as a plan takes it.
+#[derive(Clone, Copy)]
+pub(crate) struct TakenBreak<'a> {
+    pub(crate) taken: Taken<'a>,
+    pub(crate) i: usize,
+    pub ghost number: { i < length taken.rows.now },
 }
 
 impl Taken<'_> {
-    // Where a break starts.
-    fn start(&self, i: usize) -> i64
-        requires taken { IsTaken self.now }
-        requires break_number { i < length self.now.rows.now }
-        ensures { result ≡ break_start (plan_of_taken self.now) i }
-    {
-        *self.plan.breaks.get(i)
-    }
-
-    // How long a break takes.
-    fn duration(&self, i: usize) -> i64
-        requires taken { IsTaken self.now }
-        requires break_number { i < length self.now.rows.now }
-        ensures { result ≡ (break_at (line_of self.now.asked) i).duration }
-    {
-        self.rows[i].duration
-    }
-
-    // Where a break ends.
-    fn end(&self, i: usize) -> i128
-        requires taken { IsTaken self.now }
-        requires break_number { i < length self.now.rows.now }
-        ensures { result ≡ break_end (line_of self.now.asked) (plan_of_taken self.now) i }
-    {
-        i128::from(self.start(i)) + i128::from(self.duration(i))
-    }
+    ghost use Rattle.vr_check.specs.Breaks.{plan_of_taken};
 
     // The cumul of a stop.
     fn cumul(&self, k: usize) -> i64
-        requires taken { IsTaken self.now }
         requires stop { k < length self.now.plan.now.cumuls }
         ensures { result ≡ schedules.cumul (plan_of_taken self.now) k }
     {
@@ -61,113 +46,139 @@ impl Taken<'_> {
 
     // The slack of an arc.
     fn slack(&self, k: usize) -> i64
-        requires taken { IsTaken self.now }
         requires arc { k < length self.now.plan.now.slacks }
         ensures { result ≡ schedules.slack (plan_of_taken self.now) k }
     {
         *self.plan.slacks.get(k)
     }
+}
 
-    // Whether a break starts in its range.
-    fn starts_in_range(&self, i: usize) -> bool
-        requires taken { IsTaken self.now }
-        requires break_number { i < length self.now.rows.now }
-        ensures { result ≡ plans.starts_in_range (line_of self.now.asked) (plan_of_taken self.now) i }
+impl TakenBreak<'_> {
+    ghost use Rattle.vr_check.specs.Breaks as breaks;
+    ghost use Rattle.vr_check.specs.Breaks.{plan_of_taken};
+
+    // Where the break starts.
+    fn start(&self) -> i64
+        ensures { result ≡ break_start (plan_of_taken self.now.taken) self.now.i }
     {
-        self.rows[i].from <= self.start(i) && self.start(i) <= self.rows[i].to
+        *self.taken.plan.breaks.get(self.i)
     }
 
-    // Whether a break ends at or before the start of the next one.
-    fn ends_in_time(&self, i: usize) -> bool
-        requires taken { IsTaken self.now }
-        requires next { i + 1 < length self.now.rows.now }
-        ensures { result ≡ plans.ends_in_time (line_of self.now.asked) (plan_of_taken self.now) i }
+    // How long the break takes.
+    fn duration(&self) -> i64
+        ensures { result ≡ (break_at (line_of self.now.taken.asked) self.now.i).duration }
     {
-        self.end(i) <= i128::from(self.start(i + 1))
+        let rows = self.taken.rows;
+        rows[self.i].duration
     }
 
-    // Whether a break lies inside an arc.
-    fn is_inside(&self, i: usize, k: usize) -> bool
-        requires taken { IsTaken self.now }
-        requires break_number { i < length self.now.rows.now }
-        requires arc { k < length self.now.plan.now.slacks }
-        ensures { result ≡ schedules.is_inside (line_of self.now.asked) (plan_of_taken self.now) i k }
+    // Where the break ends.
+    fn end(&self) -> i128
+        ensures { result ≡ break_end (line_of self.now.taken.asked) (plan_of_taken self.now.taken) self.now.i }
     {
-        let free = i128::from(self.cumul(k)) + i128::from(self.asked.visit(k));
-        free <= i128::from(self.start(i)) && self.end(i) <= i128::from(self.cumul(k + 1))
+        i128::from(self.start()) + i128::from(self.duration())
     }
 
-    // Whether a break lies inside some arc.
-    fn is_inside_some(&self, i: usize) -> bool
-        requires taken { IsTaken self.now }
-        requires break_number { i < length self.now.rows.now }
-        ensures { result ≡ breaks.is_inside_some (line_of self.now.asked) (plan_of_taken self.now) i }
+    // Whether the break starts in its range.
+    fn starts_in_range(&self) -> bool
+        ensures { result
+            ≡ plans.starts_in_range (line_of self.now.taken.asked) (plan_of_taken self.now.taken) self.now.i }
     {
-        for k in 0..self.asked.arcs() {
-            if self.is_inside(i, k) {
+        let rows = self.taken.rows;
+        let row = rows[self.i];
+        row.from <= self.start() && self.start() <= row.to
+    }
+
+    // Whether the break lies inside an arc.
+    fn is_inside(&self, k: usize) -> bool
+        requires arc { k < length self.now.taken.plan.now.slacks }
+        ensures { result
+            ≡ schedules.is_inside (line_of self.now.taken.asked) (plan_of_taken self.now.taken) self.now.i k }
+    {
+        let taken = self.taken;
+        let free = i128::from(taken.cumul(k)) + i128::from(taken.asked.visit(k));
+        free <= i128::from(self.start()) && self.end() <= i128::from(taken.cumul(k + 1))
+    }
+
+    // Whether the break lies inside some arc.
+    fn is_inside_some(&self) -> bool
+        ensures { result
+            ≡ breaks.is_inside_some (line_of self.now.taken.asked) (plan_of_taken self.now.taken) self.now.i }
+    {
+        for k in 0..self.taken.asked.arcs() {
+            if self.is_inside(k) {
                 return true;
             }
         }
         false
     }
 
-    // Whether a break ends at or before the first stop.
-    fn is_before(&self, i: usize) -> bool
-        requires taken { IsTaken self.now }
-        requires break_number { i < length self.now.rows.now }
-        ensures { result ≡ schedules.is_before (line_of self.now.asked) (plan_of_taken self.now) i }
+    // Whether the break ends at or before the first stop.
+    fn is_before(&self) -> bool
+        ensures { result
+            ≡ schedules.is_before (line_of self.now.taken.asked) (plan_of_taken self.now.taken) self.now.i }
     {
-        self.end(i) <= i128::from(self.cumul(0))
+        self.end() <= i128::from(self.taken.cumul(0))
     }
 
-    // Whether a break starts at or after the last stop.
-    fn is_after(&self, i: usize) -> bool
-        requires taken { IsTaken self.now }
-        requires break_number { i < length self.now.rows.now }
-        ensures { result ≡ schedules.is_after (line_of self.now.asked) (plan_of_taken self.now) i }
+    // Whether the break starts at or after the last stop.
+    fn is_after(&self) -> bool
+        ensures { result ≡ schedules.is_after (line_of self.now.taken.asked) (plan_of_taken self.now.taken) self.now.i }
     {
-        self.cumul(self.asked.arcs()) <= self.start(i)
+        self.taken.cumul(self.taken.asked.arcs()) <= self.start()
     }
 
-    // Whether a break stands before the first stop, after the last one, or inside an arc.
-    fn is_placed(&self, i: usize) -> bool
-        requires taken { IsTaken self.now }
-        requires break_number { i < length self.now.rows.now }
-        ensures { result ≡ schedule_tests.is_placed both_sides (line_of self.now.asked) (plan_of_taken self.now) i }
+    // Whether the break stands before the first stop, after the last one, or inside an arc.
+    fn is_placed(&self) -> bool
+        ensures { result ≡ schedule_tests.is_placed both_sides (line_of self.now.taken.asked)
+            (plan_of_taken self.now.taken) self.now.i }
     {
-        self.is_before(i) || self.is_after(i) || self.is_inside_some(i)
+        self.is_before() || self.is_after() || self.is_inside_some()
     }
 
-    // How long a break lies inside an arc.
-    fn time_inside(&self, i: usize, k: usize) -> i64
-        requires taken { IsTaken self.now }
-        requires break_number { i < length self.now.rows.now }
-        requires arc { k < length self.now.plan.now.slacks }
-        ensures { result ≡ breaks.time_inside (line_of self.now.asked) (plan_of_taken self.now) k i }
+    // How long the break lies inside an arc.
+    fn time_inside(&self, k: usize) -> i64
+        requires arc { k < length self.now.taken.plan.now.slacks }
+        ensures { result
+            ≡ breaks.time_inside (line_of self.now.taken.asked) (plan_of_taken self.now.taken) k self.now.i }
     {
-        if self.is_inside(i, k) {
-            self.duration(i)
+        if self.is_inside(k) {
+            self.duration()
         } else {
             0
         }
     }
+}
+
+impl Taken<'_> {
+    ghost use Rattle.vr_check.specs.Breaks.{plan_of_taken};
+
+    // Whether a break ends at or before the start of the next one.
+    fn ends_in_time(&self, i: usize) -> bool
+        requires next { i + 1 < length self.now.rows.now }
+        ensures { result ≡ plans.ends_in_time (line_of self.now.asked) (plan_of_taken self.now) i }
+    {
+        let taken = *self;
+        let here = TakenBreak { taken, i };
+        let next = TakenBreak { taken, i: i + 1 };
+        here.end() <= i128::from(next.start())
+    }
 
     // The durations of the breaks inside an arc, added up.
     fn time(&self, k: usize) -> i128
-        requires taken { IsTaken self.now }
         requires arc { k < length self.now.plan.now.slacks }
         ensures { result ≡ break_time (line_of self.now.asked) (plan_of_taken self.now) k }
     {
         let mut total: i128 = 0;
         for i in 0..self.rows.len() {
-            total += i128::from(self.time_inside(i, k));
+            let one = TakenBreak { taken: *self, i };
+            total += i128::from(one.time_inside(k));
         }
         total
     }
 
     // Whether the slack of an arc is enough for the breaks inside it.
     fn carries(&self, k: usize) -> bool
-        requires taken { IsTaken self.now }
         requires arc { k < length self.now.plan.now.slacks }
         ensures { result ≡ plans.carries_breaks (line_of self.now.asked) (plan_of_taken self.now) k }
     {
@@ -176,11 +187,11 @@ impl Taken<'_> {
 
     // Whether each break starts in its range.
     fn all_in_range(&self) -> bool
-        requires { IsTaken self.now }
         ensures { result ≡ plans.all_in_range (line_of self.now.asked) (plan_of_taken self.now) }
     {
         for i in 0..self.rows.len() {
-            if !self.starts_in_range(i) {
+            let one = TakenBreak { taken: *self, i };
+            if !one.starts_in_range() {
                 return false;
             }
         }
@@ -189,7 +200,6 @@ impl Taken<'_> {
 
     // Whether each break ends at or before the start of the next one.
     fn all_in_time(&self) -> bool
-        requires { IsTaken self.now }
         ensures { result ≡ plans.all_in_time (line_of self.now.asked) (plan_of_taken self.now) }
     {
         for i in 0..self.rows.len().saturating_sub(1) {
@@ -202,11 +212,11 @@ impl Taken<'_> {
 
     // Whether each break stands in a place that it may have.
     fn all_placed(&self) -> bool
-        requires { IsTaken self.now }
         ensures { result ≡ plans.all_placed (line_of self.now.asked) (plan_of_taken self.now) }
     {
         for i in 0..self.rows.len() {
-            if !self.is_placed(i) {
+            let one = TakenBreak { taken: *self, i };
+            if !one.is_placed() {
                 return false;
             }
         }
@@ -215,7 +225,6 @@ impl Taken<'_> {
 
     // Whether each slack is enough for the breaks inside its arc.
     fn all_carried(&self) -> bool
-        requires { IsTaken self.now }
         ensures { result ≡ plans.all_carried (line_of self.now.asked) (plan_of_taken self.now) }
     {
         for k in 0..self.plan.slacks.len() {
@@ -228,7 +237,6 @@ impl Taken<'_> {
 
     // Whether all rules on breaks hold.
     fn are_right(&self) -> bool
-        requires { IsTaken self.now }
         ensures { result ≡ plans.are_breaks_right (line_of self.now.asked) (plan_of_taken self.now) }
     {
         self.all_in_range() && self.all_in_time() && self.all_placed() && self.all_carried()
@@ -236,15 +244,13 @@ impl Taken<'_> {
 }
 
 /// Whether breaks start in range, end in time, stand where they may, and fit into the slacks.
-pub(crate) fn are_breaks_right(asked: Asked<'_>, plan: &PrintedPlan) -> bool
-    requires asked { IsAsked asked }
-    requires fits { FitsLine asked plan.now }
-    ensures { result ≡ plans.are_breaks_right (line_of asked.entry) (plan_of plan.now) }
+pub(crate) fn are_breaks_right(of: &LinePlan<'_>) -> bool
+    ensures { result ≡ plans.are_breaks_right (line_of of.now.asked) (plan_of of.now.plan.now) }
 {
     let taken = Taken {
-        asked,
-        rows: asked.breaks(),
-        plan,
+        asked: of.asked,
+        rows: of.asked.breaks(),
+        plan: of.plan,
     };
     taken.are_right()
 }

@@ -2,7 +2,6 @@
 
 ghost use Rattle.std.specs.Prelude.{◌≡◌, IfOk, IsTrue};
 ghost use Rattle.serde_json.specs.View.{view};
-ghost use Rattle.vr_model.specs.routes.Routes.{are_lists};
 ghost use Rattle.vr_model.specs.tables.WellFormed.{IsWellFormed};
 ghost use Rattle.vr_printed.specs.Printed.{lists_of};
 ghost use Rattle.vr_printed.specs.Shape.{are_routes_shaped};
@@ -14,6 +13,7 @@ use crate::lists::{repeated, wrong_ends};
 use crate::numbers::{wrong_cost, wrong_first_cost, wrong_limits, wrong_parts};
 use crate::pairs::{refused, wrong_pair, wrong_policy};
 use crate::plans::{PlanRule, wrong_routes};
+use crate::printed::Solution;
 use crate::visits::{missing, wrong_dropped, wrong_group};
 use crate::{Finding, Rule};
 use serde_json::Value;
@@ -40,86 +40,82 @@ pub fn check(alloc: Global, model: &Model, solution: &Value) -> Result<Finding, 
 }
 
 // What the rules on lists find, and those behind them.
-fn lists_finding(
+fn lists_finding<'a>(
     alloc: Global,
-    closed: Closed<'_>,
-    printed: &Printed,
-    lists: &[Seq<u32>],
+    closed: Closed<'a>,
+    printed: &'a Printed,
+    lists: &'a [Seq<u32>],
 ) -> Result<Finding, NoMemory>
     requires lists { lists.now ≡ lists_of printed.now.routes }
     requires shaped { IsTrue (are_routes_shaped closed.model.now printed.now.routes) }
     ensures { IfOk result (λ found. found ≡ checks.lists_finding closed.entry.model.now printed.now lists.now) }
 {
-    if let Some(spot) = wrong_ends(closed.model, printed.routes.as_slice()) {
+    let routes = printed.routes.as_slice();
+    if let Some(spot) = wrong_ends(closed.model, routes) {
         return Ok(Rule::Ends.broken(spot));
     }
     if let Some(spot) = repeated(lists) {
         return Ok(Rule::Once.broken(spot));
     }
-    visits_finding(alloc, closed, printed, lists)
+    let solution = Solution {
+        closed,
+        printed,
+        lists,
+        routes,
+    };
+    visits_finding(alloc, &solution)
 }
 
 // What the rules on active visits, pairs and vehicles find, and those behind them.
-fn visits_finding(
-    alloc: Global,
-    closed: Closed<'_>,
-    printed: &Printed,
-    lists: &[Seq<u32>],
-) -> Result<Finding, NoMemory>
-    requires lists { lists.now ≡ lists_of printed.now.routes }
-    requires visits { IsTrue (are_lists closed.model.now lists.now) }
-    requires shaped { IsTrue (are_routes_shaped closed.model.now printed.now.routes) }
-    ensures { IfOk result (λ found. found ≡ checks.visits_finding closed.entry.model.now printed.now lists.now) }
+fn visits_finding(alloc: Global, solution: &Solution<'_>) -> Result<Finding, NoMemory>
+    ensures { IfOk result (λ found. found ≡ checks.visits_finding solution.now.closed.model.now
+        solution.now.printed.now solution.now.lists.now) }
 {
-    if let Some(spot) = wrong_dropped(closed.model, lists, printed.dropped.as_slice()) {
+    let model = solution.closed.model;
+    let lists = solution.lists;
+    if let Some(spot) = wrong_dropped(model, lists, solution.printed.dropped.as_slice()) {
         return Ok(Rule::Dropped.broken(spot));
     }
-    if let Some(spot) = missing(closed.model, lists) {
+    if let Some(spot) = missing(model, lists) {
         return Ok(Rule::Required.broken(spot));
     }
-    if let Some(spot) = wrong_group(closed.model, lists) {
+    if let Some(spot) = wrong_group(model, lists) {
         return Ok(Rule::Group.broken(spot));
     }
-    if let Some(spot) = wrong_pair(closed.model, lists) {
+    if let Some(spot) = wrong_pair(model, lists) {
         return Ok(Rule::Pair.broken(spot));
     }
-    if let Some(spot) = wrong_policy(alloc, closed.model, lists)? {
+    if let Some(spot) = wrong_policy(alloc, model, lists)? {
         return Ok(Rule::Policy.broken(spot));
     }
-    if let Some(spot) = refused(closed.model, lists) {
+    if let Some(spot) = refused(model, lists) {
         return Ok(Rule::Allowed.broken(spot));
     }
-    Ok(plans_finding(closed, printed, lists))
+    Ok(plans_finding(solution))
 }
 
 // What the rules on plans find, and those behind them.
-fn plans_finding(closed: Closed<'_>, printed: &Printed, lists: &[Seq<u32>]) -> Finding
-    requires lists { lists.now ≡ lists_of printed.now.routes }
-    requires shaped { IsTrue (are_routes_shaped closed.model.now printed.now.routes) }
-    requires visits { IsTrue (are_lists closed.model.now lists.now) }
-    ensures { result ≡ checks.plans_finding closed.entry.model.now printed.now }
+fn plans_finding(solution: &Solution<'_>) -> Finding
+    ensures { result ≡ checks.plans_finding solution.now.closed.model.now solution.now.printed.now }
 {
-    let routes = printed.routes.as_slice();
-    if let Some(spot) = wrong_routes(PlanRule::Cumul, closed, lists, routes) {
+    if let Some(spot) = wrong_routes(PlanRule::Cumul, solution) {
         return Rule::Cumul.broken(spot);
     }
-    if let Some(spot) = wrong_routes(PlanRule::Slack, closed, lists, routes) {
+    if let Some(spot) = wrong_routes(PlanRule::Slack, solution) {
         return Rule::Slack.broken(spot);
     }
-    if let Some(spot) = wrong_routes(PlanRule::Break, closed, lists, routes) {
+    if let Some(spot) = wrong_routes(PlanRule::Break, solution) {
         return Rule::Break.broken(spot);
     }
-    numbers_finding(closed, printed, lists)
+    numbers_finding(solution)
 }
 
 // What the rules on numbers find.
-fn numbers_finding(closed: Closed<'_>, printed: &Printed, lists: &[Seq<u32>]) -> Finding
-    requires lists { lists.now ≡ lists_of printed.now.routes }
-    requires shaped { IsTrue (are_routes_shaped closed.model.now printed.now.routes) }
-    requires visits { IsTrue (are_lists closed.model.now lists.now) }
-    ensures { result ≡ checks.numbers_finding closed.entry.model.now printed.now }
+fn numbers_finding(solution: &Solution<'_>) -> Finding
+    ensures { result ≡ checks.numbers_finding solution.now.closed.model.now solution.now.printed.now }
 {
-    if let Some(spot) = wrong_parts(closed, printed, lists) {
+    let printed = solution.printed;
+    if let Some(spot) = wrong_parts(solution) {
         return Rule::Parts.broken(spot);
     }
     if let Some(spot) = wrong_cost(printed) {
@@ -128,7 +124,7 @@ fn numbers_finding(closed: Closed<'_>, printed: &Printed, lists: &[Seq<u32>]) ->
     if let Some(spot) = wrong_first_cost(printed) {
         return Rule::FirstCost.broken(spot);
     }
-    if let Some(spot) = wrong_limits(closed.model, printed) {
+    if let Some(spot) = wrong_limits(solution.closed.model, printed) {
         return Rule::Limits.broken(spot);
     }
     Finding::Meets { cost: printed.cost }

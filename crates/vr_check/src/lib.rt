@@ -18,6 +18,7 @@ mod lists;
 mod numbers;
 mod pairs;
 mod plans;
+mod printed;
 mod softs;
 mod spans;
 mod visits;

@@ -1,13 +1,10 @@
 //! The rules on numbers: parts, cost, cost of the first solution, and limits.
 
-ghost use Rattle.std.specs.Prelude.{◌≡◌, ◌<◌, ◌^◌, ◌+ℤ◌, ◌*ℤ◌, ◌≤ℤ◌, pos, IsTrue};
+ghost use Rattle.std.specs.Prelude.{◌≡◌, ◌<◌, ◌^◌, ◌+ℤ◌, ◌*ℤ◌, ◌≤ℤ◌, pos};
 ghost use Rattle.vr_model.specs.tables.Numbers.{is_same_number, within};
 ghost use Rattle.vr_model.specs.tables.Limits.{greatest_cost};
 ghost use Rattle.vr_model.specs.tables.WellFormed.{IsIn};
 ghost use Rattle.vr_model.specs.routes.Costs.{sum_of};
-ghost use Rattle.vr_model.specs.routes.Routes.{are_lists};
-ghost use Rattle.vr_printed.specs.Printed.{lists_of};
-ghost use Rattle.vr_printed.specs.Shape.{are_routes_shaped};
 ghost use Rattle.vr_check.specs.Findings as findings;
 ghost use Rattle.vr_check.specs.Parts as part_rules;
 ghost use Rattle.vr_check.specs.Parts.{cost_broken, first_cost_broken, limits_broken, part_broken, parts_broken};
@@ -15,9 +12,10 @@ ghost use Rattle.vr_check.specs.Terms.{IsAround};
 
 use crate::costs::{arcs_of, fixed_of, penalty_of};
 use crate::finding::Spot;
+use crate::printed::Solution;
 use crate::softs::soft_of;
 use crate::spans::{global_of, span_of};
-use vr_model::{Closed, Model, Parts, Seq};
+use vr_model::{Model, Parts};
 use vr_printed::Printed;
 
 /// A coefficient times a number.
@@ -53,18 +51,16 @@ fn earlier(first: Option<Spot>, second: Option<Spot>) -> Option<Spot>
 }
 
 /// Where a printed part of the cost is not its value at the printed cumuls, the first in byte order of the names.
-pub(crate) fn wrong_parts(closed: Closed<'_>, printed: &Printed, lists: &[Seq<u32>]) -> Option<Spot>
-    requires lists { lists.now ≡ lists_of printed.now.routes }
-    requires visits { IsTrue (are_lists closed.model.now lists.now) }
-    requires shaped { IsTrue (are_routes_shaped closed.model.now printed.now.routes) }
-    ensures { result ≡ parts_broken closed.entry.model.now printed.now }
+pub(crate) fn wrong_parts(solution: &Solution<'_>) -> Option<Spot>
+    ensures { result ≡ parts_broken solution.now.closed.model.now solution.now.printed.now }
 {
-    let parts = &printed.parts;
-    let routes = printed.routes.as_slice();
-    let span = wrong_part(5, parts.span, span_of(closed, routes));
-    let soft = wrong_part(4, parts.soft, soft_of(closed, lists, routes));
+    let parts = &solution.printed.parts;
+    let closed = solution.closed;
+    let lists = solution.lists;
+    let span = wrong_part(5, parts.span, span_of(solution));
+    let soft = wrong_part(4, parts.soft, soft_of(solution));
     let penalty = wrong_part(3, parts.penalty, penalty_of(closed, lists));
-    let global = wrong_part(2, parts.global, global_of(closed, routes));
+    let global = wrong_part(2, parts.global, global_of(solution));
     let fixed = wrong_part(1, parts.fixed, fixed_of(closed, lists));
     let arcs = wrong_part(0, parts.arcs, arcs_of(closed, lists));
     let later = earlier(penalty, earlier(soft, span));

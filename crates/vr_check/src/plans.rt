@@ -1,25 +1,21 @@
 //! The rules on plans: cumuls, slacks and breaks.
 
-ghost use Rattle.std.specs.Prelude.{◌≡◌, ◌<◌, ◌^◌, IsTrue, length, pos};
-ghost use Rattle.std.specs.List.{list_all};
+ghost use Rattle.std.specs.Prelude.{◌≡◌, ◌<◌, length, pos};
 ghost use Rattle.vr_model.specs.tables.Numbers.{within};
-ghost use Rattle.vr_model.specs.tables.Tables.{is_visit};
-ghost use Rattle.vr_model.specs.routes.Routes.{are_lists};
 ghost use Rattle.vr_model.specs.schedules.Schedules.{cumul, slack};
 ghost use Rattle.vr_model.specs.deciding.ScheduleTests.{slack_is};
-ghost use Rattle.vr_check.specs.Asked.{FitsLine, IsAsked, line_of};
+ghost use Rattle.vr_check.specs.Asked.{line_of};
 ghost use Rattle.vr_check.specs.Plans as plans;
 ghost use Rattle.vr_check.specs.Plans.{break_broken, cumul_broken, plan_broken, route_broken, routes_broken};
 ghost use Rattle.vr_check.specs.Plans.{slack_broken};
 ghost use Rattle.vr_check.specs.Terms as terms;
-ghost use Rattle.vr_printed.specs.Printed.{lists_of, plan_of, visits_of};
-ghost use Rattle.vr_printed.specs.Shape.{are_routes_shaped, is_route_shaped};
+ghost use Rattle.vr_printed.specs.Printed.{plan_of};
 
 use crate::asked::Asked;
 use crate::breaks::are_breaks_right;
 use crate::finding::Spot;
-use vr_model::{Closed, Seq};
-use vr_printed::{PrintedPlan, PrintedRoute};
+use crate::printed::{LinePlan, Solution, VehicleRoute};
+use vr_printed::PrintedPlan;
 
 /// One of the rules that look at each plan.
 #[derive(Clone, Copy)]
@@ -30,15 +26,12 @@ pub(crate) enum PlanRule {
 }
 
 // Where a stop does not allow its cumul.
-fn refused_cumul(asked: Asked<'_>, plan: &PrintedPlan) -> Option<Spot>
-    requires asked { IsAsked asked }
-    requires fits { FitsLine asked plan.now }
-    requires vehicle { asked.v < 2 ^ 62 }
-    ensures { result ≡ cumul_broken (line_of asked.entry) asked.entry.v (plan_of plan.now) }
+fn refused_cumul(of: &LinePlan<'_>) -> Option<Spot>
+    ensures { result ≡ cumul_broken (line_of of.now.asked) of.now.asked.v (plan_of of.now.plan.now) }
 {
-    for k in 0..plan.cumuls.len() {
-        if !asked.allows(k, cumul_at(plan, k)) {
-            return Some(Spot::at(asked.v, k));
+    for k in 0..of.plan.cumuls.len() {
+        if !of.asked.allows(k, cumul_at(of.plan, k)) {
+            return Some(Spot::at(of.asked.v, k));
         }
     }
     None
@@ -61,24 +54,20 @@ pub(crate) fn cumul_at(plan: &PrintedPlan, k: usize) -> i64
 }
 
 // What the cumuls of an arc leave over its transit.
-fn left_over(asked: Asked<'_>, plan: &PrintedPlan, k: usize) -> i128
-    requires asked { IsAsked asked }
-    requires fits { FitsLine asked plan.now }
-    requires arc { k < length plan.now.slacks }
-    ensures { result ≡ terms.left_over (line_of asked.entry) (plan_of plan.now) k }
+fn left_over(of: &LinePlan<'_>, k: usize) -> i128
+    requires arc { k < length of.now.plan.now.slacks }
+    ensures { result ≡ terms.left_over (line_of of.now.asked) (plan_of of.now.plan.now) k }
 {
-    let span = i128::from(cumul_at(plan, k + 1)) - i128::from(cumul_at(plan, k));
-    span - i128::from(asked.transit(k))
+    let span = i128::from(cumul_at(of.plan, k + 1)) - i128::from(cumul_at(of.plan, k));
+    span - i128::from(of.asked.transit(k))
 }
 
 // Whether a slack is what its cumuls leave over the transit.
-fn is_left(asked: Asked<'_>, plan: &PrintedPlan, k: usize) -> bool
-    requires asked { IsAsked asked }
-    requires fits { FitsLine asked plan.now }
-    requires arc { k < length plan.now.slacks }
-    ensures { result ≡ slack_is (line_of asked.entry) (plan_of plan.now) k }
+fn is_left(of: &LinePlan<'_>, k: usize) -> bool
+    requires arc { k < length of.now.plan.now.slacks }
+    ensures { result ≡ slack_is (line_of of.now.asked) (plan_of of.now.plan.now) k }
 {
-    i128::from(slack_at(plan, k)) == left_over(asked, plan, k)
+    i128::from(slack_at(of.plan, k)) == left_over(of, k)
 }
 
 // Whether a slack is within its bounds.
@@ -89,82 +78,63 @@ fn is_bounded(greatest: i64, number: i64) -> bool
 }
 
 // Whether a slack is right.
-fn is_right_slack(asked: Asked<'_>, plan: &PrintedPlan, k: usize) -> bool
-    requires asked { IsAsked asked }
-    requires fits { FitsLine asked plan.now }
-    requires arc { k < length plan.now.slacks }
-    ensures { result ≡ plans.is_right_slack (line_of asked.entry) (plan_of plan.now) k }
+fn is_right_slack(of: &LinePlan<'_>, k: usize) -> bool
+    requires arc { k < length of.now.plan.now.slacks }
+    ensures { result ≡ plans.is_right_slack (line_of of.now.asked) (plan_of of.now.plan.now) k }
 {
-    is_left(asked, plan, k) && is_bounded(asked.slack_max(), slack_at(plan, k))
+    is_left(of, k) && is_bounded(of.asked.slack_max(), slack_at(of.plan, k))
 }
 
 // Where a slack is wrong.
-fn wrong_slack(asked: Asked<'_>, plan: &PrintedPlan) -> Option<Spot>
-    requires asked { IsAsked asked }
-    requires fits { FitsLine asked plan.now }
-    requires vehicle { asked.v < 2 ^ 62 }
-    ensures { result ≡ slack_broken (line_of asked.entry) asked.entry.v (plan_of plan.now) }
+fn wrong_slack(of: &LinePlan<'_>) -> Option<Spot>
+    ensures { result ≡ slack_broken (line_of of.now.asked) of.now.asked.v (plan_of of.now.plan.now) }
 {
-    for k in 0..plan.slacks.len() {
-        if !is_right_slack(asked, plan, k) {
-            return Some(Spot::at(asked.v, k));
+    for k in 0..of.plan.slacks.len() {
+        if !is_right_slack(of, k) {
+            return Some(Spot::at(of.asked.v, k));
         }
     }
     None
 }
 
 // Where the breaks of a plan are wrong.
-fn wrong_breaks(asked: Asked<'_>, plan: &PrintedPlan) -> Option<Spot>
-    requires asked { IsAsked asked }
-    requires fits { FitsLine asked plan.now }
-    requires vehicle { asked.v < 2 ^ 62 }
-    requires dimension { asked.d < 2 ^ 62 }
-    ensures { result ≡ break_broken (line_of asked.entry) asked.entry.d asked.entry.v (plan_of plan.now) }
+fn wrong_breaks(of: &LinePlan<'_>) -> Option<Spot>
+    ensures { result ≡ break_broken (line_of of.now.asked) of.now.asked.d of.now.asked.v (plan_of of.now.plan.now) }
 {
-    if are_breaks_right(asked, plan) {
+    if are_breaks_right(of) {
         None
     } else {
-        Some(Spot::at(asked.v, asked.d))
+        Some(Spot::at(of.asked.v, of.asked.d))
     }
 }
 
 // Where a rule is broken in a plan.
-fn wrong_plan(rule: PlanRule, asked: Asked<'_>, plan: &PrintedPlan) -> Option<Spot>
-    requires asked { IsAsked asked }
-    requires fits { FitsLine asked plan.now }
-    requires vehicle { asked.v < 2 ^ 62 }
-    requires dimension { asked.d < 2 ^ 62 }
-    ensures { result ≡ plan_broken rule (line_of asked.entry) asked.entry.d asked.entry.v (plan_of plan.now) }
+fn wrong_plan(rule: PlanRule, of: &LinePlan<'_>) -> Option<Spot>
+    ensures { result ≡ plan_broken rule (line_of of.now.asked) of.now.asked.d of.now.asked.v (plan_of of.now.plan.now) }
 {
     match rule {
-        PlanRule::Cumul => refused_cumul(asked, plan),
-        PlanRule::Slack => wrong_slack(asked, plan),
-        PlanRule::Break => wrong_breaks(asked, plan),
+        PlanRule::Cumul => refused_cumul(of),
+        PlanRule::Slack => wrong_slack(of),
+        PlanRule::Break => wrong_breaks(of),
     }
 }
 
 // Where a rule is broken in a route, dimension after dimension.
-fn wrong_route(
-    rule: PlanRule,
-    closed: Closed<'_>,
-    v: usize,
-    list: &[u32],
-    route: &PrintedRoute,
-) -> Option<Spot>
-    requires vehicle { v < length closed.model.now.vehicles }
-    requires list { list.now ≡ visits_of route.now }
-    requires visits { IsTrue (list_all (is_visit closed.model.now) list.now) }
-    requires shaped { IsTrue (is_route_shaped closed.model.now v route.now) }
-    ensures { result ≡ route_broken rule closed.entry.model.now v route.now }
+fn wrong_route(rule: PlanRule, on: &VehicleRoute<'_>) -> Option<Spot>
+    ensures { result ≡ route_broken rule on.now.closed.model.now on.now.v on.now.route.now }
 {
-    for d in 0..route.plans.len() {
+    for d in 0..on.route.plans.len() {
         let asked = Asked {
-            model: closed.model,
+            model: on.closed.model,
             d,
-            v,
-            list,
+            v: on.v,
+            list: on.list,
         };
-        let spot = wrong_plan(rule, asked, route.plans.get(d));
+        let of = LinePlan {
+            asked,
+            plan: on.route.plans.get(d),
+        };
+        let spot = wrong_plan(rule, &of);
         if spot.is_some() {
             return spot;
         }
@@ -173,19 +143,19 @@ fn wrong_route(
 }
 
 /// Where a rule is broken in a plan, vehicle after vehicle.
-pub(crate) fn wrong_routes(
-    rule: PlanRule,
-    closed: Closed<'_>,
-    lists: &[Seq<u32>],
-    routes: &[PrintedRoute],
-) -> Option<Spot>
-    requires lists { lists.now ≡ lists_of routes.now }
-    requires visits { IsTrue (are_lists closed.model.now lists.now) }
-    requires shaped { IsTrue (are_routes_shaped closed.model.now routes.now) }
-    ensures { result ≡ routes_broken rule closed.entry.model.now routes.now }
+pub(crate) fn wrong_routes(rule: PlanRule, solution: &Solution<'_>) -> Option<Spot>
+    ensures { result ≡ routes_broken rule solution.now.closed.model.now solution.now.routes.now }
 {
+    let lists = solution.lists;
+    let routes = solution.routes;
     for v in 0..routes.len() {
-        let spot = wrong_route(rule, closed, v, lists[v].as_slice(), &routes[v]);
+        let on = VehicleRoute {
+            closed: solution.closed,
+            v,
+            list: lists[v].as_slice(),
+            route: &routes[v],
+        };
+        let spot = wrong_route(rule, &on);
         if spot.is_some() {
             return spot;
         }

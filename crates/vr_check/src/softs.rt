@@ -1,25 +1,21 @@
 //! What printed cumuls cost above soft upper bounds, in 128 bits.
 
-ghost use Rattle.std.specs.Prelude.{◌≡◌, ◌<◌, ◌≤◌, ◌^◌, ◌-ℤ◌, pos, length, IsTrue};
+ghost use Rattle.std.specs.Prelude.{◌≡◌, ◌^◌, ◌-ℤ◌, pos, length};
 ghost use Rattle.std.specs.Int.{int_max};
-ghost use Rattle.std.specs.List.{list_all};
 ghost use Rattle.std.specs.Option.{option_copied};
 ghost use Rattle.vr_model.specs.tables.Numbers.{below, total_by};
-ghost use Rattle.vr_model.specs.tables.Tables.{is_visit};
 ghost use Rattle.vr_model.specs.tables.WellFormed.{IsSoft, IsStopRow, WherePresent};
 ghost use Rattle.vr_model.specs.routes.Costs as costs;
 ghost use Rattle.vr_model.specs.routes.Costs.{soft_part};
-ghost use Rattle.vr_model.specs.routes.Routes.{are_lists};
-ghost use Rattle.vr_printed.specs.Printed.{assignment_of, lists_of, visits_of};
-ghost use Rattle.vr_printed.specs.Shape.{are_routes_shaped, is_route_shaped};
-ghost use Rattle.vr_check.specs.Asked.{FitsLine, IsAsked, stop_rows_of};
+ghost use Rattle.vr_printed.specs.Printed.{assignment_of};
+ghost use Rattle.vr_check.specs.Asked.{stop_rows_of};
 ghost use Rattle.vr_check.specs.Terms.{IsAround, soft_along, soft_in};
 
 use crate::asked::Asked;
 use crate::numbers::times;
 use crate::plans::cumul_at;
-use vr_model::{Closed, Seq, Soft, StopRow};
-use vr_printed::{PrintedPlan, PrintedRoute};
+use crate::printed::{LinePlan, Solution, VehicleRoute};
+use vr_model::{Soft, StopRow};
 
 // How far a cumul is above a bound.
 fn above(cumul: i64, bound: i64) -> i128
@@ -55,53 +51,55 @@ fn row_cost(row: Option<&StopRow>, cumul: i64) -> i128
 }
 
 // What the cumuls of a plan cost by the rows of their stops.
-fn soft_of_plan(asked: Asked<'_>, plan: &PrintedPlan) -> i128
-    requires asked { IsAsked asked }
-    requires few { length asked.list.now ≤ 1000 }
-    requires fits { FitsLine asked plan.now }
-    ensures value { result ≡ soft_along (stop_rows_of asked.entry) plan.now.cumuls }
+fn soft_of_plan(of: &LinePlan<'_>) -> i128
+    ensures value { result ≡ soft_along (stop_rows_of of.now.asked) of.now.plan.now.cumuls }
     ensures range { IsAround (2 ^ 116) result }
 {
     let mut total: i128 = 0;
-    for k in 0..plan.cumuls.len() {
-        total += row_cost(asked.row(k), cumul_at(plan, k));
+    for k in 0..of.plan.cumuls.len() {
+        total += row_cost(of.asked.row(k), cumul_at(of.plan, k));
     }
     total
 }
 
 // What the cumuls of a route cost by the rows of their stops.
-fn soft_of_route(closed: Closed<'_>, v: usize, list: &[u32], route: &PrintedRoute) -> i128
-    requires vehicle { v < length closed.model.now.vehicles }
-    requires list { list.now ≡ visits_of route.now }
-    requires visits { IsTrue (list_all (is_visit closed.model.now) list.now) }
-    requires few { length list.now ≤ 1000 }
-    requires shaped { IsTrue (is_route_shaped closed.model.now v route.now) }
-    ensures value { result ≡ total_by (soft_in closed.entry.model.now v route.now) (below (length route.now.plans)) }
+fn soft_of_route(on: &VehicleRoute<'_>) -> i128
+    ensures value { result
+        ≡ total_by (soft_in on.now.closed.model.now on.now.v on.now.route.now) (below (length on.now.route.now.plans)) }
     ensures range { IsAround (2 ^ 118) result }
 {
     let mut total: i128 = 0;
-    for d in 0..route.plans.len() {
+    for d in 0..on.route.plans.len() {
         let asked = Asked {
-            model: closed.model,
+            model: on.closed.model,
             d,
-            v,
-            list,
+            v: on.v,
+            list: on.list,
         };
-        total += soft_of_plan(asked, route.plans.get(d));
+        let of = LinePlan {
+            asked,
+            plan: on.route.plans.get(d),
+        };
+        total += soft_of_plan(&of);
     }
     total
 }
 
 /// The soft part.
-pub(crate) fn soft_of(closed: Closed<'_>, lists: &[Seq<u32>], routes: &[PrintedRoute]) -> i128
-    requires lists { lists.now ≡ lists_of routes.now }
-    requires visits { IsTrue (are_lists closed.model.now lists.now) }
-    requires shaped { IsTrue (are_routes_shaped closed.model.now routes.now) }
-    ensures { result ≡ soft_part closed.entry.model.now (assignment_of routes.now) }
+pub(crate) fn soft_of(solution: &Solution<'_>) -> i128
+    ensures { result ≡ soft_part solution.now.closed.model.now (assignment_of solution.now.routes.now) }
 {
+    let lists = solution.lists;
+    let routes = solution.routes;
     let mut total: i128 = 0;
     for v in 0..routes.len() {
-        total += soft_of_route(closed, v, lists[v].as_slice(), &routes[v]);
+        let on = VehicleRoute {
+            closed: solution.closed,
+            v,
+            list: lists[v].as_slice(),
+            route: &routes[v],
+        };
+        total += soft_of_route(&on);
     }
     total
 }

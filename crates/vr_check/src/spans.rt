@@ -7,13 +7,14 @@ ghost use Rattle.vr_model.specs.tables.WellFormed.{IsIn};
 ghost use Rattle.vr_model.specs.tables.Tables.{dimension_at};
 ghost use Rattle.vr_model.specs.routes.Costs.{global_part, global_span, span_part};
 ghost use Rattle.vr_printed.specs.Printed.{assignment_of};
-ghost use Rattle.vr_printed.specs.Shape.{are_routes_shaped, is_route_shaped, plan_in};
+ghost use Rattle.vr_printed.specs.Shape.{is_route_shaped, plan_in};
 ghost use Rattle.vr_check.specs.Terms as terms;
 ghost use Rattle.vr_check.specs.Terms.{IsAround, span_along, span_in};
 
 use crate::numbers::times;
 use crate::plans::cumul_at;
-use vr_model::{Closed, Model};
+use crate::printed::Solution;
+use vr_model::Closed;
 use vr_printed::{PrintedPlan, PrintedRoute};
 
 // The first cumul.
@@ -79,13 +80,13 @@ fn span_of_route(closed: Closed<'_>, v: usize, route: &PrintedRoute) -> i128
 }
 
 /// The span part.
-pub(crate) fn span_of(closed: Closed<'_>, routes: &[PrintedRoute]) -> i128
-    requires shaped { IsTrue (are_routes_shaped closed.model.now routes.now) }
-    ensures { result ≡ span_part closed.entry.model.now (assignment_of routes.now) }
+pub(crate) fn span_of(solution: &Solution<'_>) -> i128
+    ensures { result ≡ span_part solution.now.closed.model.now (assignment_of solution.now.routes.now) }
 {
+    let routes = solution.routes;
     let mut total: i128 = 0;
     for v in 0..routes.len() {
-        total += span_of_route(closed, v, &routes[v]);
+        total += span_of_route(solution.closed, v, &routes[v]);
     }
     total
 }
@@ -135,12 +136,12 @@ fn span_of_ends(ends: Option<Ends>) -> i128
 }
 
 // The span of all routes in a dimension: from the least start to the greatest end.
-fn global_span_of(model: &Model, routes: &[PrintedRoute], d: usize) -> i128
-    requires dimension { d < length model.now.dimensions }
-    requires shaped { IsTrue (are_routes_shaped model.now routes.now) }
-    ensures value { result ≡ global_span (assignment_of routes.now) d }
+fn global_span_of(solution: &Solution<'_>, d: usize) -> i128
+    requires dimension { d < length solution.now.closed.model.now.dimensions }
+    ensures value { result ≡ global_span (assignment_of solution.now.routes.now) d }
     ensures range { IsAround (2 ^ 66) result }
 {
+    let routes = solution.routes;
     let mut ends = None;
     for v in 0..routes.len() {
         ends = ends_with(ends, &routes[v], d);
@@ -158,24 +159,23 @@ fn global_coefficient(closed: Closed<'_>, d: usize) -> i64
 }
 
 // What the span of all routes costs in a dimension.
-fn global_cost(closed: Closed<'_>, routes: &[PrintedRoute], d: usize) -> i128
-    requires dimension { d < length closed.model.now.dimensions }
-    requires shaped { IsTrue (are_routes_shaped closed.model.now routes.now) }
-    ensures value { result ≡ terms.global_cost closed.entry.model.now (assignment_of routes.now) d }
+fn global_cost(solution: &Solution<'_>, d: usize) -> i128
+    requires dimension { d < length solution.now.closed.model.now.dimensions }
+    ensures value { result
+        ≡ terms.global_cost solution.now.closed.model.now (assignment_of solution.now.routes.now) d }
     ensures range { IsAround (2 ^ 106) result }
 {
-    let coefficient = global_coefficient(closed, d);
-    times(coefficient, global_span_of(closed.model, routes, d))
+    let coefficient = global_coefficient(solution.closed, d);
+    times(coefficient, global_span_of(solution, d))
 }
 
 /// The global part.
-pub(crate) fn global_of(closed: Closed<'_>, routes: &[PrintedRoute]) -> i128
-    requires shaped { IsTrue (are_routes_shaped closed.model.now routes.now) }
-    ensures { result ≡ global_part closed.entry.model.now (assignment_of routes.now) }
+pub(crate) fn global_of(solution: &Solution<'_>) -> i128
+    ensures { result ≡ global_part solution.now.closed.model.now (assignment_of solution.now.routes.now) }
 {
     let mut total: i128 = 0;
-    for d in 0..closed.model.dimensions.len() {
-        total += global_cost(closed, routes, d);
+    for d in 0..solution.closed.model.dimensions.len() {
+        total += global_cost(solution, d);
     }
     total
 }

@@ -20,6 +20,14 @@ goes_on next drawn n k words all low h =
       words_then = g.words_then;
     }
 
+-- one more was drawn, and stands behind those so far
+pub drawn_on : {A : Type 0} (next : Lcg → A × Lcg) (drawn longer : List A) (n k : ℕ) (words later : Lcg) {x : A} (all : List A × Lcg) → (x, later) ≡ next words → longer ≡ drawn ++ x ∷ [] → k < n → Goes next drawn (n - k) words all → Goes next longer (n - (k + 1)) later all
+drawn_on next drawn longer n k words later all here behind low h =
+    let is : longer ≡ drawn ++ (next words).0 ∷ [] = behind ∙ ap (λ p. drawn ++ p.0 ∷ []) here in
+    let there : later ≡ (next words).1 = ap (λ p. p.1) here in
+    subst (λ s. Goes next s (n - (k + 1)) later all) (sym is)
+    (subst (λ w. Goes next (drawn ++ (next words).0 ∷ []) (n - (k + 1)) w all) (sym there) (goes_on next drawn n k words all low h))
+
 pub stops : {A : Type 0} (next : Lcg → A × Lcg) (drawn : List A) (n k : ℕ) (words : Lcg) (all : List A × Lcg) → n ≤ k → Goes next drawn (n - k) words all → (drawn, words) ≡ all
 stops next drawn n k words all high h =
     let e : n - k ≡ 0 = omega (arith, high) in

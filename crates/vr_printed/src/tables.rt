@@ -65,6 +65,7 @@ impl Reader for PlanTable {
 }
 
 // The plan at a path.
+#[tactic(auto, unfolding(vr_json::specs::Reading::and_then, crate::specs::Tables::plan))]
 fn read_plan(alloc: Global, value: &Value, path: &Path) -> Result<PrintedPlan, ReadFail>
     ensures { Answers result (tables.plan path.now (view value.now)) }
 {
@@ -92,6 +93,7 @@ pub struct RouteTable {
     pub nodes: u32,
 }
 
+#[tactic(auto, unfolding(vr_json::specs::Reading::and_then, crate::specs::Tables::printed_route))]
 impl Reader for RouteTable {
     ghost use Rattle.vr_printed.specs.Tables.{printed_route};
 
@@ -153,6 +155,7 @@ impl Reader for PartsTable {
 }
 
 // The parts at a path.
+#[tactic(auto, unfolding(vr_json::specs::Reading::and_then, crate::specs::Tables::printed_parts))]
 fn read_parts(alloc: Global, value: &Value, path: &Path) -> Result<Parts, ReadFail>
     ensures { Answers result (tables.printed_parts path.now (view value.now)) }
 {
@@ -197,6 +200,7 @@ const FIELDS: [&str; 9] = [
     "tries",
 ];
 
+#[tactic(auto, unfolding(vr_json::specs::Reading::and_then, crate::specs::Tables::solution))]
 impl Reader for SolutionTable {
     ghost use Rattle.vr_printed.specs.Tables.{solution};
 

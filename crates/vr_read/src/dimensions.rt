@@ -62,6 +62,7 @@ impl Reader for EvaluatorTable {
 #[derive(Clone, Copy)]
 pub struct Capped;
 
+#[tactic(auto, unfolding(vr_json::specs::Reading::and_then, crate::specs::Dimensions::capped))]
 impl Reader for Capped {
     ghost use Rattle.vr_read.specs.Dimensions.{capped};
 
@@ -195,6 +196,7 @@ impl DimensionTable<'_> {
     }
 
     // The bounds and visit times.
+    #[tactic(auto, unfolding(vr_json::specs::Reading::and_then, crate::specs::Dimensions::bounds))]
     fn bounds(&self, alloc: Global, value: &Value, path: &Path) -> Result<Bounds, ReadFail>
         ensures { Answers result (dimension_tables.bounds self.now.nodes self.now.fleet path.now (view value.now)) }
     {
@@ -301,6 +303,7 @@ impl DimensionTable<'_> {
     }
 }
 
+#[tactic(auto, unfolding(vr_json::specs::Reading::and_then, crate::specs::Dimensions::dimension))]
 impl Reader for DimensionTable<'_> {
     ghost use Rattle.vr_read.specs.Dimensions.{dimension};
 

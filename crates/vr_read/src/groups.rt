@@ -56,6 +56,7 @@ pub struct GroupNode<'a> {
     pub groups: &'a [Group],
 }
 
+#[tactic(auto, unfolding(vr_json::specs::Reading::and_then, crate::specs::Visits::group_node))]
 impl Reader for GroupNode<'_> {
     ghost use Rattle.vr_read.specs.Visits.{group_node};
 
@@ -104,6 +105,7 @@ impl Reader for GroupTable<'_> {
 
 impl GroupTable<'_> {
     // The group at a path.
+    #[tactic(auto, unfolding(vr_json::specs::Reading::and_then, crate::specs::Visits::group))]
     fn read_at(
         &self,
         alloc: Global,
@@ -195,6 +197,7 @@ pub struct AllowedVehicle {
     pub fleet: u32,
 }
 
+#[tactic(auto, unfolding(vr_json::specs::Reading::and_then, crate::specs::Visits::allowed_vehicle))]
 impl Reader for AllowedVehicle {
     ghost use Rattle.vr_read.specs.Visits.{allowed_vehicle};
 

@@ -83,6 +83,7 @@ fn read_visit_tables(
 
 // The fields of a model from its dimensions on, in a model of so many nodes and matrices and of
 // these vehicles, whose number is `table.fleet`.
+#[tactic(auto, unfolding(vr_json::specs::Reading::and_then, crate::specs::Models::parts))]
 fn read_parts(
     alloc: Global,
     value: &Value,
@@ -116,6 +117,7 @@ fn read_parts(
 }
 
 // The fields of a model up to its vehicles.
+#[tactic(auto, unfolding(vr_json::specs::Reading::and_then, crate::specs::Models::base))]
 fn read_base(alloc: Global, value: &Value, path: &Path) -> Result<ModelBase, ReadFail>
     ensures { Answers result (models.base path.now (view value.now)) }
 {

@@ -26,6 +26,7 @@ use vr_model::{Dimension, First, Matrix, Model, NoMemory, Seq};
 /// has breaks or span costs and a negative transit of a vehicle between two nodes; then
 /// `UnlikeVehicles` at `search/first` where savings are asked for, though vehicles differ or rows of
 /// allowed vehicles are there. `path` is where the model stands.
+#[tactic(auto, unfolding(vr_json::specs::Reading::and_then, crate::specs::Rules::rules))]
 pub(crate) fn keep_rules(alloc: Global, model: &Model, path: &Path) -> Result<(), ReadFail>
     requires { HasModelParts model.now }
     ensures { Answers result (rules path.now model.now) }

@@ -185,6 +185,7 @@ impl Reader for SearchTable {
 
 impl SearchTable {
     // The search at a path.
+    #[tactic(auto, unfolding(vr_json::specs::Reading::and_then, crate::specs::Searches::search_row))]
     fn read_at(&self, alloc: Global, value: &Value, path: &Path) -> Result<SearchRow, ReadFail>
         ensures { Answers result (search_tables.search_row path.now (view value.now)) }
     {

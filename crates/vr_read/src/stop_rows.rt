@@ -180,6 +180,7 @@ impl Reader for BreakTable {
 
 impl BreakTable {
     // The break at a path.
+    #[tactic(auto, unfolding(vr_json::specs::Reading::and_then, crate::specs::StopRows::break_row))]
     fn read_at(&self, alloc: Global, value: &Value, path: &Path) -> Result<BreakRow, ReadFail>
         ensures { Answers result (stop_tables.break_row path.now (view value.now)) }
     {

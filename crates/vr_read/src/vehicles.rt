@@ -38,6 +38,7 @@ const SCHEDULE_RULES: [(&str, ScheduleRule); 2] = [
 
 impl VehicleTable {
     // Where the vehicle starts, and where it ends.
+    #[tactic(auto, unfolding(vr_json::specs::Reading::and_then, crate::specs::Vehicles::ends))]
     fn ends(&self, alloc: Global, value: &Value, path: &Path) -> Result<(u32, u32), ReadFail>
         ensures { Answers result (vehicle_tables.ends self.now.nodes path.now (view value.now)) }
     {
@@ -101,6 +102,7 @@ impl Reader for VehicleTable {
 
 impl VehicleTable {
     // The vehicle at a path.
+    #[tactic(auto, unfolding(vr_json::specs::Reading::and_then, crate::specs::Vehicles::vehicle))]
     fn read_at(&self, alloc: Global, value: &Value, path: &Path) -> Result<Vehicle, ReadFail>
         ensures { Answers result
             (vehicle_tables.vehicle self.now.format self.now.nodes self.now.matrices path.now (view value.now)) }
@@ -146,6 +148,7 @@ fn is_terminal(vehicles: &[Vehicle], node: u32) -> bool
         .any(|vehicle| vehicle.starts_or_ends_at(node))
 }
 
+#[tactic(auto, unfolding(vr_json::specs::Reading::and_then, crate::specs::Vehicles::visit))]
 impl Reader for Visit<'_> {
     ghost use Rattle.vr_read.specs.Vehicles.{visit};
 

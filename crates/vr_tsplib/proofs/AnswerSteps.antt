@@ -39,11 +39,6 @@ answers_value e = record { value = e; refused = λ fault is. cc }
 pub changed : {A : Type 0} {a : Result A ReadFail} {r s : Result A Fault} → r ≡ s → Answers a r → Answers a s
 changed {A} {a} e h = let P : Result A Fault → Type 0 = λ r. Answers a r in subst P e h
 
--- the failure of a call is the answer, of a function of the value
-pub again_seen : {A B : Type 0} {r : Result B Fault} {e : ReadFail} (g : A → B) (a : Result A ReadFail) → Answers {A = B} (Err e) r → IsErrAnd a (λ d. d ≡ e) → Answers (seen g a) r
-again_seen g (Ok x) h same = absurd same
-again_seen {e = e} g (Err d) h same = record { value = tt; refused = λ fault is. let fails : e ≡ Refused fault = cc in h.refused fault (ap Err fails) }
-
 -- the failure of a step is the answer
 pub stops_seen : {A B C : Type 0} {r : Result B Fault} {e : ReadFail} (g : A → C) (a : Result A ReadFail) (f : B → Result C Fault) → Answers {A = B} (Err e) r → IsErrAnd a (λ d. d ≡ e) → Answers (seen g a) (and_then r f)
 unfolding and_then

@@ -39,11 +39,6 @@ pub fails_seen : {A B : Type 0} {reading : Result B Flaw} {flaw : Flaw} (g : A �
 fails_seen g (Ok x) h same = absurd same
 fails_seen {flaw = flaw} g (Err e) h same = record { value = tt; flawed = λ other is. let one : flaw ≡ other = cc in h ∙ ap Err one }
 
--- the failure of a call is the answer
-pub again_seen : {A B : Type 0} {r : Result B Flaw} {e : LineFail} (g : A → B) (a : Result A LineFail) → Tells {A = B} (Err e) r → IsErrAnd a (λ d. d ≡ e) → Tells (seen g a) r
-again_seen g (Ok x) h same = absurd same
-again_seen {e = e} g (Err d) h same = record { value = tt; flawed = λ flaw is. let fails : e ≡ Flawed flaw = cc in h.flawed flaw (ap Err fails) }
-
 -- the failure of a step is the answer
 pub stops_seen : {A B C : Type 0} {r : Result B Flaw} {e : LineFail} (g : A → C) (a : Result A LineFail) (f : B → Result C Flaw) → Tells {A = B} (Err e) r → IsErrAnd a (λ d. d ≡ e) → Tells (seen g a) (and_then r f)
 unfolding and_then

@@ -40,6 +40,7 @@ impl State {
     }
 
     // Takes a row of coordinates, of so many that are to come.
+    #[tactic(auto, unfolding(vr_json::specs::Reading::and_then, crate::specs::Files::sites_line))]
     fn sites_line(&mut self, left: u32, line: &[u8]) -> Result<(), LineFail>
         ensures { Tells (seen (λ u. self.new) result) (files.sites_line left self.old line.now) }
     {
@@ -50,6 +51,7 @@ impl State {
     }
 
     // Takes the row of a demand, of so many that are to come.
+    #[tactic(auto, unfolding(vr_json::specs::Reading::and_then, crate::specs::Files::demands_line))]
     fn demands_line(&mut self, left: u32, line: &[u8]) -> Result<(), LineFail>
         ensures { Tells (seen (λ u. self.new) result) (files.demands_line left self.old line.now) }
     {
@@ -71,6 +73,7 @@ impl State {
     }
 
     // Takes a line with words.
+    #[tactic(auto, unfolding(vr_json::specs::Reading::and_then, crate::specs::Files::head_line))]
     fn line_at(&mut self, line: &[u8]) -> Result<(), LineFail>
         ensures { Tells (seen (λ u. self.new) result) (files.line_at self.old.head.place self.old line.now) }
     {
@@ -93,8 +96,7 @@ impl State {
         if is_wordless(line) {
             return Ok(());
         }
-        self.line_at(line)?;
-        Ok(())
+        self.line_at(line)
     }
 }
 

@@ -38,6 +38,5 @@ pub fn import(alloc: Global, bytes: &[u8], vehicles: u32) -> Result<Value, ReadF
     ensures { Answers (seen view result) (imported vehicles bytes.now) }
 {
     let state = read_lines(alloc, bytes)?;
-    let tree = model(alloc, vehicles, &state)?;
-    Ok(tree)
+    model(alloc, vehicles, &state)
 }

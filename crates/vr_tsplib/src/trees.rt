@@ -105,74 +105,87 @@ fn weight_at(weights: &[u64], k: u64) -> u64
     }
 }
 
+/// The weights of the arcs between so many nodes, as a file has them.
+#[derive(Clone, Copy)]
+pub(crate) struct FileWeights<'a> {
+    /// Whether each node has those to all lower ones alone.
+    pub(crate) lower: bool,
+    pub(crate) n: u64,
+    pub(crate) weights: &'a [u64],
+    pub ghost few: { n ≤ 1000 },
+}
+
 // The weight of two nodes, where the weights stand in a full matrix.
-fn full_weight(n: u64, weights: &[u64], i: u64, j: u64) -> u64
-    requires few { n ≤ 1000 }
-    requires first { i < n }
-    requires second { j < n }
-    ensures { result ≡ trees.full_weight n weights.now i j }
+fn full_weight(of: &FileWeights<'_>, i: u64, j: u64) -> u64
+    requires first { i < of.now.n }
+    requires second { j < of.now.n }
+    ensures { result ≡ trees.full_weight of.now.n of.now.weights.now i j }
 {
-    weight_at(weights, i * n + j)
+    weight_at(of.weights, i * of.n + j)
 }
 
 // The weight of two nodes, where each node has those to all lower ones.
-fn lower_weight(n: u64, weights: &[u64], i: u64, j: u64) -> u64
-    requires few { n ≤ 1000 }
-    requires first { i < n }
-    requires second { j < n }
-    ensures { result ≡ trees.lower_weight weights.now i j }
+fn lower_weight(of: &FileWeights<'_>, i: u64, j: u64) -> u64
+    requires first { i < of.now.n }
+    requires second { j < of.now.n }
+    ensures { result ≡ trees.lower_weight of.now.weights.now i j }
 {
     if i == j {
         return 0;
     }
     let hi = i.max(j);
     let lo = i.min(j);
-    weight_at(weights, hi * hi.saturating_sub(1) / 2 + lo)
+    weight_at(of.weights, hi * hi.saturating_sub(1) / 2 + lo)
 }
 
 // The weight of two nodes, where the weights stand in the file.
-fn weight(lower: bool, n: u64, weights: &[u64], i: u64, j: u64) -> u64
-    requires few { n ≤ 1000 }
-    requires first { i < n }
-    requires second { j < n }
-    ensures { result ≡ trees.weight lower n weights.now i j }
+fn weight(of: &FileWeights<'_>, i: u64, j: u64) -> u64
+    requires first { i < of.now.n }
+    requires second { j < of.now.n }
+    ensures { result ≡ trees.weight of.now.lower of.now.n of.now.weights.now i j }
 {
-    if lower {
-        lower_weight(n, weights, i, j)
+    if of.lower {
+        lower_weight(of, i, j)
     } else {
-        full_weight(n, weights, i, j)
+        full_weight(of, i, j)
     }
 }
 
 // The weights of a node.
-fn square_row(
-    alloc: Global,
-    lower: bool,
-    n: u64,
-    weights: &[u64],
-    i: u64,
-) -> Result<Value, NoMemory>
-    requires few { n ≤ 1000 }
-    requires node { i < n }
-    ensures { IfOk result (λ tree. view tree ≡ trees.square_row lower n weights.now i) }
+fn square_row(alloc: Global, of: &FileWeights<'_>, i: u64) -> Result<Value, NoMemory>
+    requires { i < of.now.n }
+    ensures { IfOk result (λ tree. view tree ≡ trees.square_row of.now.lower of.now.n of.now.weights.now i) }
 {
     let mut entries = Vec::new(alloc);
-    for j in 0..n {
-        entries.push(Value::from(weight(lower, n, weights, i, j)))?;
+    for j in 0..of.n {
+        entries.push(Value::from(weight(of, i, j)))?;
     }
     Ok(Value::Array(entries))
 }
 
 // The matrix of weights that stand in the file.
-fn square(alloc: Global, lower: bool, n: u64, weights: &[u64]) -> Result<Value, NoMemory>
-    requires { n ≤ 1000 }
-    ensures { IfOk result (λ tree. view tree ≡ trees.square lower n weights.now) }
+fn square(alloc: Global, of: &FileWeights<'_>) -> Result<Value, NoMemory>
+    ensures { IfOk result (λ tree. view tree ≡ trees.square of.now.lower of.now.n of.now.weights.now) }
 {
     let mut rows = Vec::new(alloc);
-    for i in 0..n {
-        rows.push(square_row(alloc, lower, n, weights, i)?)?;
+    for i in 0..of.n {
+        rows.push(square_row(alloc, of, i)?)?;
     }
     Ok(Value::Array(rows))
+}
+
+// The matrix of the weights that a file has.
+fn weighed(alloc: Global, lower: bool, n: u32, state: &State) -> Result<Value, NoMemory>
+    requires { n ≤ 1000 }
+    ensures { IfOk result (λ tree. view tree ≡ trees.square lower n state.now.weights) }
+{
+    let weights = state.weights.as_slice();
+    let of = FileWeights {
+        lower,
+        n: u64::from(n),
+        weights,
+    };
+    square(alloc, &of)
 }
 
 // The matrix.
@@ -186,8 +199,8 @@ fn matrix(alloc: Global, distances: Distances, n: u32, state: &State) -> Result<
             let places = sites(alloc, n, state.sites.as_slice())?;
             plane(alloc, &places)
         }
-        Distances::Full => square(alloc, false, u64::from(n), state.weights.as_slice()),
-        Distances::Lower => square(alloc, true, u64::from(n), state.weights.as_slice()),
+        Distances::Full => weighed(alloc, false, n, state),
+        Distances::Lower => weighed(alloc, true, n, state),
     }
 }
 

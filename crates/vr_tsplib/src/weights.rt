@@ -57,6 +57,5 @@ pub(crate) fn push_row(weights: &mut Seq<u64>, left: u64, line: &[u8]) -> Result
     ensures { Tells (seen (λ u. weights.new) result) (row_tables.row_behind left weights.old (words line.now)) }
 {
     refuse_if(!are_numbers(left, line), Flaw::FaultyLine)?;
-    push_weights(weights, line)?;
-    Ok(())
+    push_weights(weights, line)
 }

@@ -7,4 +7,4 @@ use Rattle.vr_check.specs.Plans.{slack_broken_at, slack_broken}
 use Rattle.vr_check.proofs.plans.wrong_slack.Given as goal
 
 abbrev pub invariant-loop-k : goal.invariant-loop-k
-invariant-loop-k l = first_of (slack_broken_at (line_of l.fn.asked) l.fn.asked.v (plan_of l.plan)) (from_to l.k (length l.plan.slacks)) ≡ slack_broken (line_of l.fn.asked) l.fn.asked.v (plan_of l.plan)
+invariant-loop-k l = first_of (slack_broken_at (line_of l.of.asked) l.of.asked.v (plan_of l.of.plan.now)) (from_to l.k (length l.of.plan.now.slacks)) ≡ slack_broken (line_of l.of.asked) l.of.asked.v (plan_of l.of.plan.now)

@@ -1,55 +1,25 @@
-use Rattle.std.proofs.Common.{◌≡◌, ◌∙◌, ◌<◌, [], length, arith, sym, ap, subst}
-use Rattle.std.proofs.lemmas.Int.{ints}
+use Rattle.std.proofs.Common.{◌≡◌, ◌∙◌, ◌<◌, [], length, ◌^◌, arith, sym, ap}
 use Rattle.vr_model.specs.tables.Numbers.{total_by, below}
-use Rattle.vr_model.proofs.tables.Totals.{total_by-more}
-use Rattle.std.specs.Prelude.{IsTrue}
-use Rattle.std.proofs.lemmas.List.{get_or_default, length-map}
-use Rattle.vr_printed.specs.Printed.{no_route, visits_of}
-use Rattle.vr_printed.specs.Shape.{is_route_shaped}
-use Rattle.vr_printed.specs.declared.printed.PrintedRoute.{PrintedRoute}
-use Rattle.vr_printed.proofs.Shaped.{route_shaped, routes_count}
-use Rattle.std.specs.List.{list_all}
-use Rattle.vr_model.specs.tables.Tables.{is_visit}
-use Rattle.vr_model.proofs.routes.Lists.{route-visits, route-few}
+use Rattle.vr_check.proofs.Totalling.{one_more}
+use Rattle.std.proofs.lemmas.List.{get_or_default}
+use Rattle.vr_printed.specs.Printed.{no_route}
+use Rattle.vr_printed.proofs.Shaped.{routes_count}
 use Rattle.vr_check.specs.Terms.{soft_in}
+use Rattle.vr_check.proofs.KeptLemmas.{route_at}
 use Rattle.vr_check.proofs.PlanSums.{over_printed, soft_is}
 use Rattle.vr_check.proofs.softs.soft_of.Goals as goal
 
-pub soft_of_route-total-requires-clause-shaped : goal.soft_of_route-total-requires-clause-shaped
-soft_of_route-total-requires-clause-shaped c =
-    let Shaped = λ (route : PrintedRoute). IsTrue (is_route_shaped c.args.closed.model.now c.loop-v.v route) in
-    subst Shaped (get_or_default c.args.routes.now c.loop-v.v no_route c.index-routes-v.result c.loop-v-test.true ∙ sym c.index-routes-v.is)
-    (route_shaped c.args.closed.model.now c.args.routes.now c.requires.shaped c.loop-v.v c.loop-v-test.true)
-
-pub soft_of_route-total-requires-clause-visits : goal.soft_of_route-total-requires-clause-visits
-soft_of_route-total-requires-clause-visits c =
-    let low : c.loop-v.v < length c.args.lists.now = omega (arith, c.loop-v-test.true, ap length c.requires.lists, length-map c.args.routes.now visits_of) in
-    let list = c.as_slice.ensures ∙ (c.index-lists-v.is ∙ get_or_default c.args.lists.now c.loop-v.v c.index-lists-v.result [] low) in
-    subst (λ list. IsTrue (list_all (is_visit c.args.closed.model.now) list)) (sym list) (route-visits c.args.closed.model.now c.args.lists.now c.loop-v.v c.requires.visits)
-
-pub soft_of_route-total-requires-clause-few : goal.soft_of_route-total-requires-clause-few
-soft_of_route-total-requires-clause-few c =
-    let low : c.loop-v.v < length c.args.lists.now = omega (arith, c.loop-v-test.true, ap length c.requires.lists, length-map c.args.routes.now visits_of) in
-    let list = c.as_slice.ensures ∙ (c.index-lists-v.is ∙ get_or_default c.args.lists.now c.loop-v.v c.index-lists-v.result [] low) in
-    omega (arith, ap length list, route-few c.args.closed.model.now c.args.lists.now c.loop-v.v c.requires.visits, c.args.closed.well_formed.number_of_nodes.1)
+pub invariant_of-on : goal.invariant_of-on
+invariant_of-on c = let of = c.args.solution.now in record { sound = route_at of.closed.model.now of.printed.now of.lists.now of.routes.now of.sound of.closed.well_formed c.loop-v.v c.loop-v-test.true c.as_slice.result.now c.index-lists-v.result c.index-routes-v.result c.as_slice.ensures c.index-lists-v.is c.index-routes-v.is }
 
 pub loop-v-preserved : goal.loop-v-preserved
 loop-v-preserved c =
-    let cost = c.soft_of_route-total.ensures in
-    let value : c.soft_of_route-total.result ≡ over_printed c.args.routes.now (soft_in c.args.closed.model.now) c.loop-v.v = c.soft_of_route-total.ensures.value ∙ ap (λ route. total_by (soft_in c.args.closed.model.now c.loop-v.v route) (below (length route.plans))) (c.index-routes-v.is ∙ get_or_default c.args.routes.now c.loop-v.v c.index-routes-v.result no_route c.loop-v-test.true) in
-    let more = total_by-more (over_printed c.args.routes.now (soft_in c.args.closed.model.now)) c.loop-v.v in
-    let so_far = c.loop-v.invariant in
-    let count = routes_count c.args.closed.model.now c.args.routes.now c.requires.shaped in
-    let most = c.args.closed.well_formed.number_of_vehicles.at_most in
-    record {
-      sum = omega (arith, ints, value, more, cost.range.at_least, cost.range.at_most, so_far.sum, so_far.range.at_least, so_far.range.at_most, count, most, c.loop-v-test.true);
-      range = record {
-        at_least = omega (arith, ints, cost.range.at_least, cost.range.at_most, so_far.range.at_least, so_far.range.at_most, count, most, c.loop-v-test.true);
-        at_most = omega (arith, ints, cost.range.at_least, cost.range.at_most, so_far.range.at_least, so_far.range.at_most, count, most, c.loop-v-test.true);
-      };
-    }
+    let value : c.soft_of_route-total.result ≡ over_printed c.args.solution.now.routes.now (soft_in c.args.solution.now.closed.model.now) c.loop-v.v = c.soft_of_route-total.ensures.value ∙ ap (λ route. total_by (soft_in c.args.solution.now.closed.model.now c.loop-v.v route) (below (length route.plans))) (c.index-routes-v.is ∙ get_or_default c.args.solution.now.routes.now c.loop-v.v c.index-routes-v.result no_route c.loop-v-test.true) in
+    let count = routes_count c.args.solution.now.closed.model.now c.args.solution.now.routes.now c.args.solution.now.sound.shaped in
+    let most = c.args.solution.now.closed.well_formed.number_of_vehicles.at_most in
+    one_more (over_printed c.args.solution.now.routes.now (soft_in c.args.solution.now.closed.model.now)) (2 ^ 118) c.loop-v.v c.soft_of_route-total.result c.loop-v.invariant value c.soft_of_route-total.ensures.range (omega (arith, count, most, c.loop-v-test.true))
 
 pub returns : goal.returns
 returns c =
-    let e : c.loop-v.v ≡ length c.args.routes.now = omega (arith, c.loop-v-test.false, c.loop-v.auto.v-end) in
-    c.loop-v.invariant.sum ∙ ap (λ n. total_by (over_printed c.args.routes.now (soft_in c.args.closed.model.now)) (below n)) e ∙ sym (soft_is c.args.closed.model.now c.args.routes.now c.requires.shaped)
+    let e : c.loop-v.v ≡ length c.args.solution.now.routes.now = omega (arith, c.loop-v-test.false, c.loop-v.auto.v-end) in
+    c.loop-v.invariant.sum ∙ ap (λ n. total_by (over_printed c.args.solution.now.routes.now (soft_in c.args.solution.now.closed.model.now)) (below n)) e ∙ sym (soft_is c.args.solution.now.closed.model.now c.args.solution.now.routes.now c.args.solution.now.sound.shaped)

@@ -1,6 +1,6 @@
-use Rattle.std.proofs.Common.{◌≡◌, ◌<◌, ◌≤◌, arith}
+use Rattle.std.proofs.Common.{◌≡◌, ◌<◌, ◌≤◌, ◌^◌, arith}
 use Rattle.std.proofs.lemmas.Int.{ints}
-use Rattle.vr_model.proofs.tables.Totals.{total_by-more}
+use Rattle.vr_check.proofs.Totalling.{one_more}
 use Rattle.vr_printed.proofs.Shaped.{lengths_of, plans_few}
 use Rattle.vr_check.specs.Terms.{span_in}
 use Rattle.vr_check.proofs.spans.span_of_route.Goals as goal
@@ -15,18 +15,9 @@ span_cost-total-requires-clause-cumuls c =
 
 pub loop-d-preserved : goal.loop-d-preserved
 loop-d-preserved c =
-    let cost = c.span_cost-total.ensures in
     let value : c.span_cost-total.result ≡ span_in c.args.closed.model.now c.args.v c.args.route.now c.loop-d.d = c.span_cost-total.ensures.value in
-    let more = total_by-more (span_in c.args.closed.model.now c.args.v c.args.route.now) c.loop-d.d in
-    let so_far = c.loop-d.invariant in
     let few : c.loop-d.d < 4 = omega (arith, c.loop-d-test.true, c.len-d-end.ensures, plans_few c.args.closed.model.now c.args.v c.args.route.now c.requires.shaped, c.args.closed.well_formed.number_of_dimensions) in
-    record {
-      sum = omega (arith, ints, value, more, cost.range.at_least, cost.range.at_most, so_far.sum, so_far.range.at_least, so_far.range.at_most, few, c.loop-d-test.true);
-      range = record {
-        at_least = omega (arith, ints, cost.range.at_least, cost.range.at_most, so_far.range.at_least, so_far.range.at_most, few, c.loop-d-test.true);
-        at_most = omega (arith, ints, cost.range.at_least, cost.range.at_most, so_far.range.at_least, so_far.range.at_most, few, c.loop-d-test.true);
-      };
-    }
+    one_more (span_in c.args.closed.model.now c.args.v c.args.route.now) (2 ^ 106) c.loop-d.d c.span_cost-total.result c.loop-d.invariant value c.span_cost-total.ensures.range (omega (arith, few))
 
 pub overflow_add-total : goal.overflow_add-total
 overflow_add-total c =

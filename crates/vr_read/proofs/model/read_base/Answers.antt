@@ -4,14 +4,6 @@ use Rattle.vr_json.proofs.Readings.{field_length}
 use Rattle.vr_read.specs.Models.{base}
 use Rattle.vr_read.proofs.model.read_base.Goals as goal
 
-pub returns-in_err-format : goal.returns-in_err-format
-unfolding base
-returns-in_err-format c = stops _ _ c.in_err-format.ensures c.from_residual.ensures.1
-
-pub returns-in_err-nodes : goal.returns-in_err-nodes
-unfolding base
-returns-in_err-nodes c = then _ c.in_ok-format.ensures (stops _ _ c.in_err-nodes.ensures c.from_residual-in_err-nodes.ensures.1)
-
 pub returns-in_err-matrices : goal.returns-in_err-matrices
 unfolding base
 returns-in_err-matrices c = then _ c.in_ok-format.ensures (then _ c.in_ok-nodes.ensures (stops _ _ c.in_err-matrices.ensures c.from_residual-in_err-matrices.ensures.1))

@@ -17,7 +17,7 @@ returns-then-stop_lets c =
     let lets : c.stop_lets.result ≡ stop_allows (number_at (dimension_at it.model.now it.d).capacities it.v) (row_at_stop it c.args.k) c.args.x
     = c.stop_lets.ensures ∙ ap (λ row. at row (read64 c.capacity_of-capacity.result) (read64 c.args.x)) c.row.ensures.value ∙ ap₂ (at (row_at_stop it c.args.k)) capacity same in
     c.is_start_free.ensures ∙ ap (is_start_free it c.args.k) same ∙ sym (ap (λ b. b && is_start_free it c.args.k c.args.x) (sym lets ∙ c.if-stop_lets.true))
-    ∙ allows_by_its_row it.model.now it.d it.v it.list.now (capacity_high it.model.now c.requires.asked.well_formed it.d it.v c.requires.asked.dimension c.requires.asked.vehicle) c.args.k c.args.x c.requires.stop
+    ∙ allows_by_its_row it.model.now it.d it.v it.list.now (capacity_high it.model.now it.known.well_formed it.d it.v it.known.dimension it.known.vehicle) c.args.k c.args.x c.requires.stop
 
 pub returns-else-stop_lets : goal.returns-else-stop_lets
 returns-else-stop_lets c =
@@ -28,4 +28,4 @@ returns-else-stop_lets c =
     let lets : c.stop_lets.result ≡ stop_allows (number_at (dimension_at it.model.now it.d).capacities it.v) (row_at_stop it c.args.k) c.args.x
     = c.stop_lets.ensures ∙ ap (λ row. at row (read64 c.capacity_of-capacity.result) (read64 c.args.x)) c.row.ensures.value ∙ ap₂ (at (row_at_stop it c.args.k)) capacity same in
     c.if-stop_lets.false ∙ sym (ap (λ b. b && is_start_free it c.args.k c.args.x) (sym lets ∙ c.if-stop_lets.false))
-    ∙ allows_by_its_row it.model.now it.d it.v it.list.now (capacity_high it.model.now c.requires.asked.well_formed it.d it.v c.requires.asked.dimension c.requires.asked.vehicle) c.args.k c.args.x c.requires.stop
+    ∙ allows_by_its_row it.model.now it.d it.v it.list.now (capacity_high it.model.now it.known.well_formed it.d it.v it.known.dimension it.known.vehicle) c.args.k c.args.x c.requires.stop

@@ -3,18 +3,6 @@ use Rattle.vr_json.proofs.Steps.{then, stops, gives}
 use Rattle.vr_printed.specs.Tables.{solution}
 use Rattle.vr_printed.proofs.tables.SolutionTableReader.read.Goals as goal
 
-pub returns-in_err-cost : goal.returns-in_err-cost
-unfolding solution
-returns-in_err-cost c = rw (← c.in_ok-path.ensures) (stops _ _ c.in_err-cost.ensures c.from_residual-in_err-cost.ensures.1)
-
-pub returns-in_err-dropped : goal.returns-in_err-dropped
-unfolding solution
-returns-in_err-dropped c = rw (← c.in_ok-path.ensures) (then _ c.in_ok-cost.ensures (stops _ _ c.in_err-dropped.ensures c.from_residual-in_err-dropped.ensures.1))
-
-pub returns-in_err-first_cost : goal.returns-in_err-first_cost
-unfolding solution
-returns-in_err-first_cost c = rw (← c.in_ok-path.ensures) (then _ c.in_ok-cost.ensures (then _ c.in_ok-dropped.ensures (stops _ _ c.in_err-first_cost.ensures c.from_residual-in_err-first_cost.ensures.1)))
-
 pub returns-in_err-parts : goal.returns-in_err-parts
 unfolding solution
 returns-in_err-parts c = rw (← c.in_ok-path.ensures) (then _ c.in_ok-cost.ensures (then _ c.in_ok-dropped.ensures (then _ c.in_ok-first_cost.ensures (stops _ _ c.in_err-parts.ensures c.from_residual-in_err-parts.ensures.1))))

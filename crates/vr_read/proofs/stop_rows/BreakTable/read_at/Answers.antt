@@ -3,22 +3,6 @@ use Rattle.vr_json.proofs.Steps.{then, stops, gives, asked}
 use Rattle.vr_read.specs.StopRows.{break_row}
 use Rattle.vr_read.proofs.stop_rows.BreakTable.read_at.Goals as goal
 
-pub returns-in_err-from : goal.returns-in_err-from
-unfolding break_row
-returns-in_err-from c = stops _ _ c.in_err-from.ensures c.from_residual.ensures.1
-
-pub returns-in_err-to : goal.returns-in_err-to
-unfolding break_row
-returns-in_err-to c = then _ c.in_ok-from.ensures (stops _ _ c.in_err-to.ensures c.from_residual-in_err-to.ensures.1)
-
-pub returns-in_err-duration : goal.returns-in_err-duration
-unfolding break_row
-returns-in_err-duration c = then _ c.in_ok-from.ensures (then _ c.in_ok-to.ensures (stops _ _ c.in_err-duration.ensures c.from_residual-in_err-duration.ensures.1))
-
-pub returns-in_err-known : goal.returns-in_err-known
-unfolding break_row
-returns-in_err-known c = then _ c.in_ok-from.ensures (then _ c.in_ok-to.ensures (then _ c.in_ok-duration.ensures (stops _ _ c.in_err-known.ensures c.from_residual-in_err-known.ensures.1)))
-
 pub returns-in_err-refuse_if : goal.returns-in_err-refuse_if
 unfolding break_row
 returns-in_err-refuse_if c = then _ c.in_ok-from.ensures (then _ c.in_ok-to.ensures (then _ c.in_ok-duration.ensures (then _ c.in_ok-known.ensures (stops _ _ (asked _ (search rules) c.here.ensures c.in_err-refuse_if.ensures) c.from_residual-in_err-refuse_if.ensures.1))))

@@ -2,15 +2,8 @@ use Rattle.std.proofs.Common.{sym, ap₂, ◌∙◌}
 use Rattle.vr_tsplib.specs.Files.{at_place, demands_line}
 use Rattle.vr_tsplib.specs.Rows.{demand_row}
 use Rattle.vr_tsplib.specs.Texts.{words}
-use Rattle.vr_tsplib.proofs.Chains.{halts}
-use Rattle.vr_tsplib.proofs.TellSteps.{fails_seen, gives, known}
+use Rattle.vr_tsplib.proofs.TellSteps.{gives, known}
 use Rattle.vr_tsplib.proofs.files.State.demands_line.Goals as goal
-
-pub returns-in_err-row : goal.returns-in_err-row
-unfolding demands_line
-returns-in_err-row c =
-    let same = ap₂ (λ n rows. demand_row n rows (words c.args.line.now)) (sym c.node_count.ensures) (sym c.as_slice.ensures) in
-    fails_seen _ c.from_residual.result (halts _ (same ∙ sym c.in_err-row.ensures)) c.from_residual.ensures.1
 
 pub returns : goal.returns
 unfolding demands_line

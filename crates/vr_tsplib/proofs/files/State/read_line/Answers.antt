@@ -1,7 +1,7 @@
 use Rattle.std.proofs.Common.{Ok, sym, ap, ◌∙◌}
 use Rattle.std.specs.Prelude.{if◌then◌else◌}
 use Rattle.vr_tsplib.specs.Files.{line_at, read_line}
-use Rattle.vr_tsplib.proofs.TellSteps.{again_seen, changed, tells_value}
+use Rattle.vr_tsplib.proofs.TellSteps.{changed, tells_value}
 use Rattle.vr_tsplib.proofs.files.State.read_line.Goals as goal
 
 pub returns-then-is_wordless : goal.returns-then-is_wordless
@@ -10,15 +10,8 @@ returns-then-is_wordless c =
     let state = c.args.self.now in
     tells_value (ap (λ b. if b then Ok state else line_at state.head.place state c.args.line.now) (sym c.is_wordless.ensures ∙ c.if-is_wordless.true))
 
-pub returns-in_err-line_at : goal.returns-in_err-line_at
-unfolding read_line
-returns-in_err-line_at c =
-    let state = c.args.self.now in
-    changed (ap (λ b. if b then Ok state else line_at state.head.place state c.args.line.now) (sym c.is_wordless.ensures ∙ c.if-is_wordless.false))
-    (again_seen _ c.from_residual.result c.in_err-line_at.ensures c.from_residual.ensures.1)
-
 pub returns : goal.returns
 unfolding read_line
 returns c =
     let state = c.args.self.now in
-    changed (ap (λ b. if b then Ok state else line_at state.head.place state c.args.line.now) (sym c.is_wordless.ensures ∙ c.if-is_wordless.false)) c.in_ok-line_at.ensures
+    changed (ap (λ b. if b then Ok state else line_at state.head.place state c.args.line.now) (sym c.is_wordless.ensures ∙ c.if-is_wordless.false)) c.line_at.ensures

@@ -1,9 +1,0 @@
-use Rattle.std.proofs.Common.{◌∙◌, ap, ap₂}
-use Rattle.std.specs.Prelude.{int_le}
-use Rattle.vr_model.specs.schedules.Schedules.{cumul}
-use Rattle.vr_check.specs.Breaks.{plan_of_taken}
-use Rattle.vr_check.proofs.Widths.{narrow}
-use Rattle.vr_check.proofs.breaks.Taken.is_after.Goals as goal
-
-pub returns : goal.returns
-returns c = ap₂ int_le (narrow c.cumul.result c.cumul.type_inv ∙ c.cumul.ensures ∙ ap (cumul (plan_of_taken c.args.self.now)) c.arcs.ensures.line) (narrow c.start.result c.start.type_inv ∙ c.start.ensures)
