@@ -37,96 +37,50 @@ fn committed<P: CostPart>(part: &mut P, routes: &Routes, change: &Change) -> Res
     Ok(added)
 }
 
-fn arcs_added(
-    alloc: Global,
-    closed: Closed<'_>,
-    routes: &Routes,
-    change: &Change,
-) -> Result<i64, NoMemory>
-    requires of_model { routes.now.visits ≡ visits closed.model.now }
-    requires valid { IsTrue (is_valid closed.model.now routes.now.lists) }
-    requires made { IsMadeOn routes.now change.now }
-    requires valid_after { IsTrue (is_valid closed.model.now (changed routes.now.lists change.now)) }
-{
-    let mut part = ArcCost::open(alloc, closed.model, routes)?;
-    committed(&mut part, routes, change)
+// A change of valid routes of a model, after which the lists are valid.
+#[derive(Clone, Copy)]
+struct ValidChange<'d> {
+    closed: Closed<'d>,
+    routes: &'d Routes,
+    change: &'d Change,
+    ghost of_model: { routes.now.visits ≡ visits closed.model.now },
+    ghost valid: { IsTrue (is_valid closed.model.now routes.now.lists) },
+    ghost valid_after: { IsTrue (is_valid closed.model.now (changed routes.now.lists change.now)) },
 }
 
-fn fixed_added(closed: Closed<'_>, routes: &Routes, change: &Change) -> Result<i64, NoMemory>
-    requires of_model { routes.now.visits ≡ visits closed.model.now }
-    requires valid { IsTrue (is_valid closed.model.now routes.now.lists) }
-    requires made { IsMadeOn routes.now change.now }
-    requires valid_after { IsTrue (is_valid closed.model.now (changed routes.now.lists change.now)) }
+fn arcs_added(alloc: Global, at: ValidChange<'_>) -> Result<i64, NoMemory>
+    requires made { IsMadeOn at.routes.now at.change.now }
 {
-    let mut part = FixedCost::open(closed.model, routes)?;
-    committed(&mut part, routes, change)
+    let mut part = ArcCost::open(alloc, at.closed.model, at.routes)?;
+    committed(&mut part, at.routes, at.change)
 }
 
-fn groups_added(
-    alloc: Global,
-    closed: Closed<'_>,
-    routes: &Routes,
-    change: &Change,
-) -> Result<i64, NoMemory>
-    requires of_model { routes.now.visits ≡ visits closed.model.now }
-    requires valid { IsTrue (is_valid closed.model.now routes.now.lists) }
-    requires made { IsMadeOn routes.now change.now }
-    requires valid_after { IsTrue (is_valid closed.model.now (changed routes.now.lists change.now)) }
+fn fixed_added(at: ValidChange<'_>) -> Result<i64, NoMemory>
+    requires made { IsMadeOn at.routes.now at.change.now }
 {
-    let mut part = GroupCost::open(alloc, closed.model, routes)?;
-    committed(&mut part, routes, change)
+    let mut part = FixedCost::open(at.closed.model, at.routes)?;
+    committed(&mut part, at.routes, at.change)
 }
 
-fn plans_added(
-    alloc: Global,
-    closed: Closed<'_>,
-    routes: &Routes,
-    change: &Change,
-) -> Result<i64, NoMemory>
-    requires of_model { routes.now.visits ≡ visits closed.model.now }
-    requires valid { IsTrue (is_valid closed.model.now routes.now.lists) }
-    requires made { IsMadeOn routes.now change.now }
-    requires valid_after { IsTrue (is_valid closed.model.now (changed routes.now.lists change.now)) }
+fn groups_added(alloc: Global, at: ValidChange<'_>) -> Result<i64, NoMemory>
+    requires made { IsMadeOn at.routes.now at.change.now }
 {
-    let mut part = PlanCost::open(alloc, closed.model, routes)?;
-    committed(&mut part, routes, change)
+    let mut part = GroupCost::open(alloc, at.closed.model, at.routes)?;
+    committed(&mut part, at.routes, at.change)
 }
 
-fn spans_added(
-    alloc: Global,
-    closed: Closed<'_>,
-    routes: &Routes,
-    change: &Change,
-) -> Result<i64, NoMemory>
-    requires of_model { routes.now.visits ≡ visits closed.model.now }
-    requires valid { IsTrue (is_valid closed.model.now routes.now.lists) }
-    requires made { IsMadeOn routes.now change.now }
-    requires valid_after { IsTrue (is_valid closed.model.now (changed routes.now.lists change.now)) }
+fn plans_added(alloc: Global, at: ValidChange<'_>) -> Result<i64, NoMemory>
+    requires made { IsMadeOn at.routes.now at.change.now }
 {
-    let mut part = GlobalSpan::open(alloc, closed.model, routes)?;
-    committed(&mut part, routes, change)
+    let mut part = PlanCost::open(alloc, at.closed.model, at.routes)?;
+    committed(&mut part, at.routes, at.change)
 }
 
-// What a change adds to a part of the cost.
-fn added(
-    alloc: Global,
-    closed: Closed<'_>,
-    routes: &Routes,
-    part: Part,
-    change: &Change,
-) -> Result<i64, NoMemory>
-    requires of_model { routes.now.visits ≡ visits closed.model.now }
-    requires valid { IsTrue (is_valid closed.model.now routes.now.lists) }
-    requires made { IsMadeOn routes.now change.now }
-    requires valid_after { IsTrue (is_valid closed.model.now (changed routes.now.lists change.now)) }
+fn spans_added(alloc: Global, at: ValidChange<'_>) -> Result<i64, NoMemory>
+    requires made { IsMadeOn at.routes.now at.change.now }
 {
-    match part {
-        Part::Arcs => arcs_added(alloc, closed, routes, change),
-        Part::Fixed => fixed_added(closed, routes, change),
-        Part::Groups => groups_added(alloc, closed, routes, change),
-        Part::Plans => plans_added(alloc, closed, routes, change),
-        Part::Spans => spans_added(alloc, closed, routes, change),
-    }
+    let mut part = GlobalSpan::open(alloc, at.closed.model, at.routes)?;
+    committed(&mut part, at.routes, at.change)
 }
 
 /// Whether a move of valid routes adds so much to a part of the cost: not where it is no move of them, or the lists
@@ -148,7 +102,19 @@ pub(crate) fn adds(
     if !stays_valid(alloc, closed, routes, mv, &change)? {
         return Ok(false);
     }
-    Ok(added(alloc, closed, routes, part, &change)? == wanted)
+    let at = ValidChange {
+        closed,
+        routes,
+        change: &change,
+    };
+    let added = match part {
+        Part::Arcs => arcs_added(alloc, at),
+        Part::Fixed => fixed_added(at),
+        Part::Groups => groups_added(alloc, at),
+        Part::Plans => plans_added(alloc, at),
+        Part::Spans => spans_added(alloc, at),
+    };
+    Ok(added? == wanted)
 }
 
 // The second vehicle loses its only visit.
