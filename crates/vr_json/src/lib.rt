@@ -1,4 +1,11 @@
 //! Readers of the fields of a JSON value, and a builder of JSON trees.
+//!
+//! A reader is a value that reads one kind: a number in a range, a word, an array of something, a table of fields. Each
+//! stands beside its definition (`specs/`): it answers the value, or the code of the fault and the path where it
+//! stands, and the first fault in the order of the table is the answer. A tree is built field by field, in the order of
+//! bytes, and `to_line` prints it.
+//!
+//! `vr_read`, `vr_printed` and `vr_tsplib` read and build by it, and `vr_app` prints each reply.
 #![tactic(auto)]
 
 mod arrays;

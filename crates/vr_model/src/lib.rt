@@ -1,4 +1,11 @@
 //! The records of a routing model, and the definitions that every layer above cites.
+//!
+//! A model is plain records of whole numbers, as a file gives them (`records`); a look-up stands at the smallest record
+//! that answers it. Beside the code, `specs/` says what the whole product means: which lists are open and valid, which
+//! schedule a line chooses, what routes cost, what each move and each search makes of lists.
+//!
+//! All above holds of models that are well formed: each number is in its range (`limits`), each index in its table.
+//! `Closed` is such a model as a value. `Seq`, `Text` and `Steps` are what contracts see as a list, bytes and a number.
 #![tactic(auto)]
 
 mod closed;
