@@ -1,9 +1,9 @@
 //! Readers of the fields of a JSON value, and a builder of JSON trees.
 //!
-//! A reader is a value that reads one kind: a number in a range, a word, an array of something, a table of fields. Each
-//! stands beside its definition (`specs/`): it answers the value, or the code of the fault and the path where it
-//! stands, and the first fault in the order of the table is the answer. A tree is built field by field, in the order of
-//! bytes, and `to_line` prints it.
+//! A reader is a value that reads one kind: a number in a range, a word, an array of something, an object by a table of
+//! its fields. Each stands beside its definition (`specs/`): it answers the value, or the code of the fault and the
+//! path where it stands, and the first fault in the order of the table is the answer. A tree is built field by field,
+//! in the order of bytes, and `to_line` prints it.
 //!
 //! `vr_read`, `vr_printed` and `vr_tsplib` read and build by it, and `vr_app` prints each reply.
 #![tactic(auto)]
@@ -16,6 +16,7 @@ mod leaves;
 mod path;
 mod place;
 mod reader;
+mod table;
 mod tree;
 
 pub use arrays::{Array, ForEach, TwoEntries, copies};
@@ -26,4 +27,5 @@ pub use leaves::{Below, Choice, Count, Flag, Whole};
 pub use path::Path;
 pub use place::{Place, Step};
 pub use reader::{Reader, maybe, optional, refuse_if, required, settle};
-pub use tree::{Tree, to_line};
+pub use table::{Fields, Object, Table};
+pub use tree::{Tree, one_entry, text_value, to_line};

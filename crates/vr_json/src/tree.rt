@@ -1,11 +1,11 @@
 //! Trees that are built and printed.
 
 ghost use Rattle.std.specs.Prelude.{◌≡◌, ◌≤◌, false, IfOk, OnOk, Some};
-ghost use Rattle.serde_json.specs.Data.{depth, no_members, object, put};
+ghost use Rattle.serde_json.specs.Data.{depth, no_members, object, put, string};
 ghost use Rattle.serde_json.specs.Read.{max_depth, read};
 ghost use Rattle.serde_json.specs.View.{view};
 ghost use Rattle.serde_json.specs.Written.{has_float};
-ghost use Rattle.vr_json.specs.Trees.{line_of};
+ghost use Rattle.vr_json.specs.Trees.{line_of, one};
 
 use serde_json::{Map, Value};
 use std::alloc::Global;
@@ -47,6 +47,22 @@ impl Tree {
     {
         Value::Object(self.members)
     }
+}
+
+/// An array of one entry.
+pub fn one_entry(alloc: Global, entry: Value) -> Result<Value, NoMemory>
+    ensures { IfOk result (λ tree. view tree ≡ one (view entry)) }
+{
+    let mut all = Vec::new(alloc);
+    all.push(entry)?;
+    Ok(Value::Array(all))
+}
+
+/// A text as a value.
+pub fn text_value(alloc: Global, text: &str) -> Result<Value, NoMemory>
+    ensures { IfOk result (λ tree. view tree ≡ string text.now) }
+{
+    Ok(Value::String(String::from_str(alloc, text)?))
 }
 
 /// A tree as one line: its compact text, with the keys of each object in byte order, and a line feed.

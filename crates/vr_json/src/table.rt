@@ -1,0 +1,126 @@
+//! Tables: readers of objects, field by field.
+
+ghost use Rattle.std.specs.Prelude.{List, [], ℕ, Result, map};
+ghost use Rattle.serde_json.specs.Data.{Data};
+ghost use Rattle.serde_json.specs.View.{view};
+ghost use Rattle.vr_json.specs.Paths.{name_path};
+ghost use Rattle.vr_json.specs.Reading as reading;
+ghost use Rattle.vr_json.specs.Reading.{Answers};
+
+use crate::{
+    Array, Cause, Path, Place, ReadFail, Reader, known, maybe, optional, refuse_if, required,
+};
+use serde_json::Value;
+use std::alloc::Global;
+use vr_model::Seq;
+
+/// The fields of a value that stands at a path. A value that is no object has none, and is refused by whatever is asked
+/// of its fields.
+#[derive(Clone, Copy)]
+pub struct Fields<'v, 'p> {
+    pub alloc: Global,
+    pub value: &'v Value,
+    pub path: &'p Path,
+}
+
+impl Fields<'_, '_> {
+    /// A field that must be there, as `required` says.
+    pub fn required<R: Reader>(self, name: &str, reader: &R) -> Result<R::Item, ReadFail>
+        ensures { Answers result
+            (reading.required name.now (R.reads reader.now []) self.entry.path.now (view self.entry.value.now)) }
+    {
+        required(self.alloc, self.value, name, self.path, reader)
+    }
+
+    /// A field that may be absent, with its value then, as `optional` says.
+    pub fn optional<R: Reader>(
+        self,
+        name: &str,
+        absent: R::Item,
+        reader: &R,
+    ) -> Result<R::Item, ReadFail>
+        ensures { Answers result
+            (reading.optional name.now absent (R.reads reader.now []) self.entry.path.now (view self.entry.value.now)) }
+    {
+        optional(self.alloc, self.value, name, self.path, absent, reader)
+    }
+
+    /// An array in a field that may be absent, and has no entries then, as `optional` says.
+    pub fn optional_array<R: Reader>(
+        self,
+        name: &str,
+        array: &Array<R>,
+    ) -> Result<Seq<R::Item>, ReadFail>
+        ensures { let read = reading.array array.now.lo array.now.hi (R.reads array.now.entry) in
+            Answers result (reading.optional name.now [] read self.entry.path.now (view self.entry.value.now)) }
+    {
+        let none = Seq::new(self.alloc);
+        optional(self.alloc, self.value, name, self.path, none, array)
+    }
+
+    /// A field that may be absent, with no value then, as `maybe` says.
+    pub fn maybe<R: Reader>(self, name: &str, reader: &R) -> Result<Option<R::Item>, ReadFail>
+        ensures { Answers result
+            (reading.maybe name.now (R.reads reader.now []) self.entry.path.now (view self.entry.value.now)) }
+    {
+        maybe(self.alloc, self.value, name, self.path, reader)
+    }
+
+    /// Refuses a field of another name, as `known` says.
+    pub fn known(self, names: &[&str]) -> Result<(), ReadFail>
+        ensures { Answers result
+            (reading.known (map (λ name. name.now) names.now) self.entry.path.now (view self.entry.value.now)) }
+    {
+        known(self.alloc, self.value, names, self.path)
+    }
+
+    /// Refuses the field of this name where a rule is broken.
+    pub fn refuse_if(self, broken: bool, cause: Cause, name: &str) -> Result<(), ReadFail>
+        ensures { Answers result (reading.refuse_if broken cause (name_path self.entry.path.now name.now)) }
+    {
+        refuse_if(self.alloc, broken, cause, self.path.field(name))
+    }
+}
+
+/// Reads an object by its fields.
+pub trait Table {
+    ghost use Rattle.vr_json.specs.declared.fault.Fault.{Fault as FaultOf};
+
+    /// What is read.
+    type Row: Drop;
+
+    ghost reads: { Self → List Self.Row → List ℕ → Data → Result Self.Row FaultOf };
+
+    /// The row of these fields, beside the rows that stand before it in its array.
+    fn read_row(&self, earlier: &[Self::Row], fields: Fields<'_, '_>) -> Result<Self::Row, ReadFail>
+        ensures { Answers result
+            (reads self.now earlier.now fields.entry.path.now (view fields.entry.value.now)) };
+}
+
+/// An object of which a table reads the fields.
+#[derive(Drop)]
+pub struct Object<T>(pub T);
+
+impl<T: Table> Reader for Object<T> {
+    type Item = T::Row;
+
+    ghost reads = { λ it earlier path d. T.reads it.0 earlier path d };
+
+    fn read(
+        &self,
+        alloc: Global,
+        earlier: &[T::Row],
+        value: &Value,
+        place: Place<'_>,
+    ) -> Result<T::Row, ReadFail> {
+        let path = place.path()?;
+        self.0.read_row(
+            earlier,
+            Fields {
+                alloc,
+                value,
+                path: &path,
+            },
+        )
+    }
+}
