@@ -1,13 +1,9 @@
 //! The tables of a printed solution.
 
-ghost use Rattle.serde_json.specs.View.{view};
-ghost use Rattle.vr_json.specs.Reading.{Answers};
-ghost use Rattle.vr_printed.specs.Tables as tables;
-
 use crate::{Printed, PrintedPlan, PrintedRoute};
 use serde_json::Value;
 use std::alloc::Global;
-use vr_json::{Array, Below, Choice, Path, Place, ReadFail, Reader, Whole, known, required, text};
+use vr_json::{Array, Below, Choice, Fields, Object, Place, ReadFail, Reader, Table, Whole, text};
 use vr_model::{Parts, Text};
 
 // Any whole number of 64 bits.
@@ -45,46 +41,36 @@ impl Reader for AnyText {
 #[derive(Clone, Copy)]
 pub struct PlanTable;
 
-impl Reader for PlanTable {
+#[tactic(auto, unfolding(vr_json::specs::Reading::and_then, crate::specs::Tables::plan))]
+impl Table for PlanTable {
     ghost use Rattle.vr_printed.specs.Tables.{plan};
 
-    type Item = PrintedPlan;
+    type Row = PrintedPlan;
 
     ghost reads = { λ it earlier path d. plan path d };
 
-    fn read(
+    fn read_row(
         &self,
-        alloc: Global,
         _earlier: &[PrintedPlan],
-        value: &Value,
-        place: Place<'_>,
+        fields: Fields<'_, '_>,
     ) -> Result<PrintedPlan, ReadFail> {
-        let path = place.path()?;
-        read_plan(alloc, value, &path)
+        let numbers = Array {
+            lo: 0,
+            hi: usize::MAX,
+            entry: ANY_WHOLE,
+        };
+        let breaks = fields.required("breaks", &numbers)?;
+        let cumuls = fields.required("cumuls", &numbers)?;
+        let name = fields.required("name", &AnyText)?;
+        let slacks = fields.required("slacks", &numbers)?;
+        fields.known(&["breaks", "cumuls", "name", "slacks"])?;
+        Ok(PrintedPlan {
+            name,
+            cumuls,
+            slacks,
+            breaks,
+        })
     }
-}
-
-// The plan at a path.
-#[tactic(auto, unfolding(vr_json::specs::Reading::and_then, crate::specs::Tables::plan))]
-fn read_plan(alloc: Global, value: &Value, path: &Path) -> Result<PrintedPlan, ReadFail>
-    ensures { Answers result (tables.plan path.now (view value.now)) }
-{
-    let numbers = Array {
-        lo: 0,
-        hi: usize::MAX,
-        entry: ANY_WHOLE,
-    };
-    let breaks = required(alloc, value, "breaks", path, &numbers)?;
-    let cumuls = required(alloc, value, "cumuls", path, &numbers)?;
-    let name = required(alloc, value, "name", path, &AnyText)?;
-    let slacks = required(alloc, value, "slacks", path, &numbers)?;
-    known(alloc, value, &["breaks", "cumuls", "name", "slacks"], path)?;
-    Ok(PrintedPlan {
-        name,
-        cumuls,
-        slacks,
-        breaks,
-    })
 }
 
 /// A route, in a model of so many nodes.
@@ -94,35 +80,32 @@ pub struct RouteTable {
 }
 
 #[tactic(auto, unfolding(vr_json::specs::Reading::and_then, crate::specs::Tables::printed_route))]
-impl Reader for RouteTable {
+impl Table for RouteTable {
     ghost use Rattle.vr_printed.specs.Tables.{printed_route};
 
-    type Item = PrintedRoute;
+    type Row = PrintedRoute;
 
     ghost reads = { λ it earlier path d. printed_route it.nodes path d };
 
-    fn read(
+    fn read_row(
         &self,
-        alloc: Global,
         _earlier: &[PrintedRoute],
-        value: &Value,
-        place: Place<'_>,
+        fields: Fields<'_, '_>,
     ) -> Result<PrintedRoute, ReadFail> {
-        let path = place.path()?;
         let table = Array {
             lo: 0,
             hi: usize::MAX,
-            entry: PlanTable,
+            entry: Object(PlanTable),
         };
         let numbers = Array {
             lo: 0,
             hi: usize::MAX,
             entry: Below { count: self.nodes },
         };
-        let plans = required(alloc, value, "dimensions", &path, &table)?;
-        let nodes = required(alloc, value, "nodes", &path, &numbers)?;
-        let vehicle = required(alloc, value, "vehicle", &path, &ANY_WHOLE)?;
-        known(alloc, value, &["dimensions", "nodes", "vehicle"], &path)?;
+        let plans = fields.required("dimensions", &table)?;
+        let nodes = fields.required("nodes", &numbers)?;
+        let vehicle = fields.required("vehicle", &ANY_WHOLE)?;
+        fields.known(&["dimensions", "nodes", "vehicle"])?;
         Ok(PrintedRoute {
             vehicle,
             nodes,
@@ -135,50 +118,31 @@ impl Reader for RouteTable {
 #[derive(Clone, Copy)]
 pub struct PartsTable;
 
-impl Reader for PartsTable {
+#[tactic(auto, unfolding(vr_json::specs::Reading::and_then, crate::specs::Tables::printed_parts))]
+impl Table for PartsTable {
     ghost use Rattle.vr_printed.specs.Tables.{printed_parts};
 
-    type Item = Parts;
+    type Row = Parts;
 
     ghost reads = { λ it earlier path d. printed_parts path d };
 
-    fn read(
-        &self,
-        alloc: Global,
-        _earlier: &[Parts],
-        value: &Value,
-        place: Place<'_>,
-    ) -> Result<Parts, ReadFail> {
-        let path = place.path()?;
-        read_parts(alloc, value, &path)
+    fn read_row(&self, _earlier: &[Parts], fields: Fields<'_, '_>) -> Result<Parts, ReadFail> {
+        let arcs = fields.required("arcs", &ANY_WHOLE)?;
+        let fixed = fields.required("fixed", &ANY_WHOLE)?;
+        let global = fields.required("global", &ANY_WHOLE)?;
+        let penalty = fields.required("penalty", &ANY_WHOLE)?;
+        let soft = fields.required("soft", &ANY_WHOLE)?;
+        let span = fields.required("span", &ANY_WHOLE)?;
+        fields.known(&["arcs", "fixed", "global", "penalty", "soft", "span"])?;
+        Ok(Parts {
+            arcs,
+            fixed,
+            global,
+            penalty,
+            soft,
+            span,
+        })
     }
-}
-
-// The parts at a path.
-#[tactic(auto, unfolding(vr_json::specs::Reading::and_then, crate::specs::Tables::printed_parts))]
-fn read_parts(alloc: Global, value: &Value, path: &Path) -> Result<Parts, ReadFail>
-    ensures { Answers result (tables.printed_parts path.now (view value.now)) }
-{
-    let arcs = required(alloc, value, "arcs", path, &ANY_WHOLE)?;
-    let fixed = required(alloc, value, "fixed", path, &ANY_WHOLE)?;
-    let global = required(alloc, value, "global", path, &ANY_WHOLE)?;
-    let penalty = required(alloc, value, "penalty", path, &ANY_WHOLE)?;
-    let soft = required(alloc, value, "soft", path, &ANY_WHOLE)?;
-    let span = required(alloc, value, "span", path, &ANY_WHOLE)?;
-    known(
-        alloc,
-        value,
-        &["arcs", "fixed", "global", "penalty", "soft", "span"],
-        path,
-    )?;
-    Ok(Parts {
-        arcs,
-        fixed,
-        global,
-        penalty,
-        soft,
-        span,
-    })
 }
 
 /// A solution, in a model of so many nodes.
@@ -201,21 +165,14 @@ const FIELDS: [&str; 9] = [
 ];
 
 #[tactic(auto, unfolding(vr_json::specs::Reading::and_then, crate::specs::Tables::solution))]
-impl Reader for SolutionTable {
+impl Table for SolutionTable {
     ghost use Rattle.vr_printed.specs.Tables.{solution};
 
-    type Item = Printed;
+    type Row = Printed;
 
     ghost reads = { λ it earlier path d. solution it.nodes path d };
 
-    fn read(
-        &self,
-        alloc: Global,
-        _earlier: &[Printed],
-        value: &Value,
-        place: Place<'_>,
-    ) -> Result<Printed, ReadFail> {
-        let path = place.path()?;
+    fn read_row(&self, _earlier: &[Printed], fields: Fields<'_, '_>) -> Result<Printed, ReadFail> {
         let node = Below { count: self.nodes };
         let numbers = Array {
             lo: 0,
@@ -225,7 +182,7 @@ impl Reader for SolutionTable {
         let table = Array {
             lo: 0,
             hi: usize::MAX,
-            entry: RouteTable { nodes: self.nodes },
+            entry: Object(RouteTable { nodes: self.nodes }),
         };
         let statuses = [("ROUTING_SUCCESS", ())];
         let stops = [
@@ -236,16 +193,16 @@ impl Reader for SolutionTable {
         ];
         let status = Choice { words: &statuses };
         let stop = Choice { words: &stops };
-        let cost = required(alloc, value, "cost", &path, &ANY_WHOLE)?;
-        let dropped = required(alloc, value, "dropped", &path, &numbers)?;
-        let first_cost = required(alloc, value, "first_cost", &path, &ANY_WHOLE)?;
-        let parts = required(alloc, value, "parts", &path, &PartsTable)?;
-        let routes = required(alloc, value, "routes", &path, &table)?;
-        let solutions = required(alloc, value, "solutions", &path, &ANY_WHOLE)?;
-        required(alloc, value, "status", &path, &status)?;
-        required(alloc, value, "stop", &path, &stop)?;
-        let tries = required(alloc, value, "tries", &path, &ANY_WHOLE)?;
-        known(alloc, value, &FIELDS, &path)?;
+        let cost = fields.required("cost", &ANY_WHOLE)?;
+        let dropped = fields.required("dropped", &numbers)?;
+        let first_cost = fields.required("first_cost", &ANY_WHOLE)?;
+        let parts = fields.required("parts", &Object(PartsTable))?;
+        let routes = fields.required("routes", &table)?;
+        let solutions = fields.required("solutions", &ANY_WHOLE)?;
+        fields.required("status", &status)?;
+        fields.required("stop", &stop)?;
+        let tries = fields.required("tries", &ANY_WHOLE)?;
+        fields.known(&FIELDS)?;
         Ok(Printed {
             cost,
             dropped,

@@ -5,9 +5,10 @@ ghost use Rattle.std.specs.List.{All, list_all};
 ghost use Rattle.vr_model.specs.tables.ModelRules as model_rules;
 ghost use Rattle.vr_model.specs.tables.Numbers.{are_same_by};
 ghost use Rattle.vr_read.specs.Alike as alike;
-ghost use Rattle.vr_read.specs.ModelParts.{HasModelParts, HasVehicle};
+ghost use Rattle.vr_read.specs.ModelParts.{HasVehicle};
 
-use vr_model::{BreakRow, Dimension, Interval, Model, Policy, ScheduleRule, Soft, StopRow};
+use crate::tabled::Tabled;
+use vr_model::{BreakRow, Dimension, Interval, Policy, ScheduleRule, Soft, StopRow};
 
 // Values that are the same or not.
 trait Alike {
@@ -159,12 +160,12 @@ fn are_alike_in_all(dimensions: &[Dimension], v: u32, w: u32) -> bool
 
 // Whether two vehicles are alike: the same start, end, cost matrix, fixed cost, policy and rule of
 // schedules, and alike in each dimension.
-fn are_alike(model: &Model, v: u32, w: u32) -> bool
-    requires parts { HasModelParts model.now }
-    requires one { v < length model.now.vehicles }
-    requires other { w < length model.now.vehicles }
-    ensures { result ≡ model_rules.are_alike model.now v w }
+fn are_alike(of: Tabled<'_>, v: u32, w: u32) -> bool
+    requires one { v < length of.model.now.vehicles }
+    requires other { w < length of.model.now.vehicles }
+    ensures { result ≡ model_rules.are_alike of.entry.model.now v w }
 {
+    let model = of.model;
     let one = model.vehicles.get(v as usize);
     let other = model.vehicles.get(w as usize);
     one.start == other.start
@@ -177,13 +178,12 @@ fn are_alike(model: &Model, v: u32, w: u32) -> bool
 }
 
 // Whether some vehicle is not like vehicle `v`.
-fn differs_from_some(model: &Model, v: u32) -> bool
-    requires parts { HasModelParts model.now }
-    requires vehicle { v < length model.now.vehicles }
-    ensures { result ≡ alike.differs_from_some model.now v }
+fn differs_from_some(of: Tabled<'_>, v: u32) -> bool
+    requires { v < length of.model.now.vehicles }
+    ensures { result ≡ alike.differs_from_some of.entry.model.now v }
 {
-    for w in 0..model.vehicles.len() as u32 {
-        if !are_alike(model, v, w) {
+    for w in 0..of.model.vehicles.len() as u32 {
+        if !are_alike(of, v, w) {
             return true;
         }
     }
@@ -191,12 +191,11 @@ fn differs_from_some(model: &Model, v: u32) -> bool
 }
 
 /// Whether some two vehicles are not alike.
-pub(crate) fn vehicles_differ(model: &Model) -> bool
-    requires { HasModelParts model.now }
-    ensures { result ≡ model_rules.vehicles_differ model.now }
+pub(crate) fn vehicles_differ(of: Tabled<'_>) -> bool
+    ensures { result ≡ model_rules.vehicles_differ of.entry.model.now }
 {
-    for v in 0..model.vehicles.len() as u32 {
-        if differs_from_some(model, v) {
+    for v in 0..of.model.vehicles.len() as u32 {
+        if differs_from_some(of, v) {
             return true;
         }
     }

@@ -5,20 +5,19 @@ ghost use Rattle.std.specs.List.{list_any};
 ghost use Rattle.vr_model.specs.tables.ModelRules as model_rules;
 ghost use Rattle.vr_model.specs.tables.Numbers.{is_same_number};
 ghost use Rattle.vr_model.specs.tables.WellFormed.{IsDimension, IsEvaluator};
-ghost use Rattle.vr_read.specs.ModelParts.{HasModelParts};
 ghost use Rattle.vr_read.specs.Backward as backward;
 ghost use Rattle.vr_read.specs.Backward.{is_backward_dimension};
 
-use vr_model::{Dimension, Evaluator, Model};
+use crate::tabled::Tabled;
+use vr_model::{Dimension, Evaluator};
 
 /// Whether a dimension has breaks or span costs, and some vehicle a negative transit in it between
 /// two distinct nodes.
-pub(crate) fn goes_back(model: &Model, dimension: &Dimension) -> bool
-    requires parts { HasModelParts model.now }
-    requires dimension { IsDimension model.now dimension.now }
-    ensures { result ≡ is_backward_dimension model.now dimension.now }
+pub(crate) fn goes_back(of: Tabled<'_>, dimension: &Dimension) -> bool
+    requires dimension { IsDimension of.model.now dimension.now }
+    ensures { result ≡ is_backward_dimension of.entry.model.now dimension.now }
 {
-    (has_breaks(dimension) || has_span_costs(dimension)) && has_backward_vehicle(model, dimension)
+    (has_breaks(dimension) || has_span_costs(dimension)) && has_backward_vehicle(of, dimension)
 }
 
 // Whether some vehicle has a break.
@@ -56,13 +55,12 @@ fn has_span_costs(dimension: &Dimension) -> bool
 
 // Whether the evaluator of some vehicle goes back. Each evaluator that is used is looked at once,
 // however many vehicles use it.
-fn has_backward_vehicle(model: &Model, dimension: &Dimension) -> bool
-    requires parts { HasModelParts model.now }
-    requires dimension { IsDimension model.now dimension.now }
-    ensures { result ≡ backward.has_backward_vehicle model.now dimension.now }
+fn has_backward_vehicle(of: Tabled<'_>, dimension: &Dimension) -> bool
+    requires dimension { IsDimension of.model.now dimension.now }
+    ensures { result ≡ backward.has_backward_vehicle of.entry.model.now dimension.now }
 {
     for k in 0..dimension.evaluators.len() {
-        if is_used_backward(model, dimension, k as u32) {
+        if is_used_backward(of, dimension, k as u32) {
             return true;
         }
     }
@@ -70,14 +68,13 @@ fn has_backward_vehicle(model: &Model, dimension: &Dimension) -> bool
 }
 
 // Whether evaluator `k` of a dimension goes back, and some vehicle uses it.
-fn is_used_backward(model: &Model, dimension: &Dimension, k: u32) -> bool
-    requires parts { HasModelParts model.now }
-    requires dimension { IsDimension model.now dimension.now }
+fn is_used_backward(of: Tabled<'_>, dimension: &Dimension, k: u32) -> bool
+    requires dimension { IsDimension of.model.now dimension.now }
     requires evaluator { k < length dimension.now.evaluators }
-    ensures { result ≡ backward.is_used_backward model.now dimension.now k }
+    ensures { result ≡ backward.is_used_backward of.entry.model.now dimension.now k }
 {
     is_used(dimension.vehicle_evaluators.as_slice(), k)
-        && is_backward(model, dimension.evaluators.get(k as usize))
+        && is_backward(of, dimension.evaluators.get(k as usize))
 }
 
 // Whether a number is among the vehicles' ones.
@@ -88,13 +85,12 @@ fn is_used(numbers: &[u32], k: u32) -> bool
 }
 
 // Whether an evaluator gives a negative transit between two distinct nodes.
-fn is_backward(model: &Model, evaluator: &Evaluator) -> bool
-    requires parts { HasModelParts model.now }
-    requires evaluator { IsEvaluator model.now evaluator.now }
-    ensures { result ≡ backward.is_backward model.now evaluator.now }
+fn is_backward(of: Tabled<'_>, evaluator: &Evaluator) -> bool
+    requires evaluator { IsEvaluator of.model.now evaluator.now }
+    ensures { result ≡ backward.is_backward of.entry.model.now evaluator.now }
 {
-    for i in 0..model.nodes {
-        if is_backward_from(model, evaluator, i) {
+    for i in 0..of.model.nodes {
+        if is_backward_from(of, evaluator, i) {
             return true;
         }
     }
@@ -102,14 +98,13 @@ fn is_backward(model: &Model, evaluator: &Evaluator) -> bool
 }
 
 // Whether an evaluator gives a negative transit from node `i` to another.
-fn is_backward_from(model: &Model, evaluator: &Evaluator, i: u32) -> bool
-    requires parts { HasModelParts model.now }
-    requires evaluator { IsEvaluator model.now evaluator.now }
-    requires origin { i < model.now.nodes }
-    ensures { result ≡ backward.is_backward_from model.now evaluator.now i }
+fn is_backward_from(of: Tabled<'_>, evaluator: &Evaluator, i: u32) -> bool
+    requires evaluator { IsEvaluator of.model.now evaluator.now }
+    requires origin { i < of.model.now.nodes }
+    ensures { result ≡ backward.is_backward_from of.entry.model.now evaluator.now i }
 {
-    for j in 0..model.nodes {
-        if is_backward_arc(model, evaluator, i, j) {
+    for j in 0..of.model.nodes {
+        if is_backward_arc(of, evaluator, i, j) {
             return true;
         }
     }
@@ -117,12 +112,11 @@ fn is_backward_from(model: &Model, evaluator: &Evaluator, i: u32) -> bool
 }
 
 // Whether an evaluator gives a negative transit from node `i` to node `j`, which is another.
-fn is_backward_arc(model: &Model, evaluator: &Evaluator, i: u32, j: u32) -> bool
-    requires parts { HasModelParts model.now }
-    requires evaluator { IsEvaluator model.now evaluator.now }
-    requires origin { i < model.now.nodes }
-    requires target { j < model.now.nodes }
-    ensures { result ≡ backward.is_backward_arc model.now evaluator.now i j }
+fn is_backward_arc(of: Tabled<'_>, evaluator: &Evaluator, i: u32, j: u32) -> bool
+    requires evaluator { IsEvaluator of.model.now evaluator.now }
+    requires origin { i < of.model.now.nodes }
+    requires target { j < of.model.now.nodes }
+    ensures { result ≡ backward.is_backward_arc of.entry.model.now evaluator.now i j }
 {
-    i != j && evaluator.transit(model, i, j) < 0
+    i != j && evaluator.transit(of.model, i, j) < 0
 }

@@ -11,8 +11,8 @@ use crate::{StopTable, VehicleBreaksTable, Visit};
 use serde_json::Value;
 use std::alloc::Global;
 use vr_json::{
-    Array, Below, Cause, Flag, ForEach, Path, Place, ReadFail, Reader, Whole, copies, known, maybe,
-    optional, refuse_if, required, text,
+    Array, Below, Cause, Fields, Flag, ForEach, Object, Place, ReadFail, Reader, Table, Whole,
+    copies, refuse_if, text,
 };
 use vr_model::limits::{GREATEST_COEFFICIENT, GREATEST_VALUE, HORIZON, LEAST_VALUE};
 use vr_model::{Dimension, Evaluator, Seq, StopRow, Text, Vehicle, VehicleBreaks};
@@ -24,21 +24,19 @@ pub struct EvaluatorTable {
     pub matrices: u32,
 }
 
-impl Reader for EvaluatorTable {
+#[tactic(auto, unfolding(vr_json::specs::Reading::and_then, crate::specs::Dimensions::evaluator))]
+impl Table for EvaluatorTable {
     ghost use Rattle.vr_read.specs.Dimensions.{evaluator};
 
-    type Item = Evaluator;
+    type Row = Evaluator;
 
     ghost reads = { λ it earlier path d. evaluator it.nodes it.matrices path d };
 
-    fn read(
+    fn read_row(
         &self,
-        alloc: Global,
         _earlier: &[Evaluator],
-        value: &Value,
-        place: Place<'_>,
+        fields: Fields<'_, '_>,
     ) -> Result<Evaluator, ReadFail> {
-        let path = place.path()?;
         let number = Below {
             count: self.matrices,
         };
@@ -50,10 +48,9 @@ impl Reader for EvaluatorTable {
                 hi: GREATEST_VALUE,
             },
         };
-        let matrix = maybe(alloc, value, "matrix", &path, &number)?;
-        let none = Seq::new(alloc);
-        let values = optional(alloc, value, "values", &path, none, &numbers)?;
-        known(alloc, value, &["matrix", "values"], &path)?;
+        let matrix = fields.maybe("matrix", &number)?;
+        let values = fields.optional_array("values", &numbers)?;
+        fields.known(&["matrix", "values"])?;
         Ok(Evaluator { matrix, values })
     }
 }
@@ -167,28 +164,27 @@ pub struct DimensionTable<'a> {
 
 impl DimensionTable<'_> {
     // The evaluators.
-    fn transits(&self, alloc: Global, value: &Value, path: &Path) -> Result<Transits, ReadFail>
-        ensures { Answers result
-            (dimension_tables.transits self.now.nodes self.now.matrices self.now.fleet path.now (view value.now)) }
+    fn transits(&self, fields: Fields<'_, '_>) -> Result<Transits, ReadFail>
+        ensures { Answers result (dimension_tables.transits self.now.nodes self.now.matrices self.now.fleet
+            fields.entry.path.now (view fields.entry.value.now)) }
     {
         let evaluators = Array {
             lo: 1,
             hi: 8,
-            entry: EvaluatorTable {
+            entry: Object(EvaluatorTable {
                 nodes: self.nodes,
                 matrices: self.matrices,
-            },
+            }),
         };
-        let evaluators = required(alloc, value, "evaluators", path, &evaluators)?;
+        let evaluators = fields.required("evaluators", &evaluators)?;
         let count = evaluators.len() as u32;
         let numbers = Array {
             lo: self.fleet as usize,
             hi: self.fleet as usize,
             entry: Below { count },
         };
-        let zeros = copies(alloc, 0, self.fleet as usize)?;
-        let name = "vehicle_evaluators";
-        let vehicle_evaluators = optional(alloc, value, name, path, zeros, &numbers)?;
+        let zeros = copies(fields.alloc, 0, self.fleet as usize)?;
+        let vehicle_evaluators = fields.optional("vehicle_evaluators", zeros, &numbers)?;
         Ok(Transits {
             evaluators,
             vehicle_evaluators,
@@ -197,8 +193,9 @@ impl DimensionTable<'_> {
 
     // The bounds and visit times.
     #[tactic(auto, unfolding(vr_json::specs::Reading::and_then, crate::specs::Dimensions::bounds))]
-    fn bounds(&self, alloc: Global, value: &Value, path: &Path) -> Result<Bounds, ReadFail>
-        ensures { Answers result (dimension_tables.bounds self.now.nodes self.now.fleet path.now (view value.now)) }
+    fn bounds(&self, fields: Fields<'_, '_>) -> Result<Bounds, ReadFail>
+        ensures { Answers result (dimension_tables.bounds self.now.nodes self.now.fleet
+            fields.entry.path.now (view fields.entry.value.now)) }
     {
         let by_vehicle = ForEach {
             count: self.fleet as usize,
@@ -212,11 +209,11 @@ impl DimensionTable<'_> {
                 hi: GREATEST_VALUE,
             },
         };
-        let slack_max = required(alloc, value, "slack_max", path, &Capped)?;
-        let capacities = required(alloc, value, "capacity", path, &by_vehicle)?;
-        let fix_start = optional(alloc, value, "fix_start", path, false, &Flag)?;
-        let zeros = copies(alloc, 0i64, self.nodes as usize)?;
-        let visit = optional(alloc, value, "visit", path, zeros, &times)?;
+        let slack_max = fields.required("slack_max", &Capped)?;
+        let capacities = fields.required("capacity", &by_vehicle)?;
+        let fix_start = fields.optional("fix_start", false, &Flag)?;
+        let zeros = copies(fields.alloc, 0i64, self.nodes as usize)?;
+        let visit = fields.optional("visit", zeros, &times)?;
         Ok(Bounds {
             slack_max,
             capacities,
@@ -226,33 +223,27 @@ impl DimensionTable<'_> {
     }
 
     // The rows of starts or of ends, in the field `name`.
-    fn vehicle_rows(
-        &self,
-        alloc: Global,
-        value: &Value,
-        name: &str,
-        path: &Path,
-    ) -> Result<Seq<StopRow>, ReadFail>
-        ensures { Answers result
-            (dimension_tables.vehicle_rows name.now self.now.fleet path.now (view value.now)) }
+    fn vehicle_rows(&self, fields: Fields<'_, '_>, name: &str) -> Result<Seq<StopRow>, ReadFail>
+        ensures { Answers result (dimension_tables.vehicle_rows name.now self.now.fleet
+            fields.entry.path.now (view fields.entry.value.now)) }
     {
         let key = Below { count: self.fleet };
         let rows = Array {
             lo: 0,
             hi: 100,
-            entry: StopTable {
+            entry: Object(StopTable {
                 name: "vehicle",
                 key,
-            },
+            }),
         };
-        let none = Seq::new(alloc);
-        optional(alloc, value, name, path, none, &rows)
+        fields.optional_array(name, &rows)
     }
 
     // The rows of stops, and the breaks.
-    fn rows(&self, alloc: Global, value: &Value, path: &Path) -> Result<Rows, ReadFail>
-        ensures { Answers result
-            (dimension_tables.rows self.now.nodes self.now.fleet self.now.vehicles.now path.now (view value.now)) }
+    #[tactic(auto, unfolding(vr_json::specs::Reading::and_then, crate::specs::Dimensions::rows))]
+    fn rows(&self, fields: Fields<'_, '_>) -> Result<Rows, ReadFail>
+        ensures { Answers result (dimension_tables.rows self.now.nodes self.now.fleet self.now.vehicles.now
+            fields.entry.path.now (view fields.entry.value.now)) }
     {
         let key = Visit {
             nodes: self.nodes,
@@ -261,21 +252,19 @@ impl DimensionTable<'_> {
         let of_visits = Array {
             lo: 0,
             hi: 1000,
-            entry: StopTable { name: "node", key },
+            entry: Object(StopTable { name: "node", key }),
         };
         let of_breaks = Array {
             lo: 0,
             hi: 100,
-            entry: VehicleBreaksTable {
+            entry: Object(VehicleBreaksTable {
                 vehicles: self.fleet,
-            },
+            }),
         };
-        let none = Seq::new(alloc);
-        let nodes = optional(alloc, value, "nodes", path, none, &of_visits)?;
-        let starts = self.vehicle_rows(alloc, value, "starts", path)?;
-        let ends = self.vehicle_rows(alloc, value, "ends", path)?;
-        let none = Seq::new(alloc);
-        let breaks = optional(alloc, value, "breaks", path, none, &of_breaks)?;
+        let nodes = fields.optional_array("nodes", &of_visits)?;
+        let starts = self.vehicle_rows(fields, "starts")?;
+        let ends = self.vehicle_rows(fields, "ends")?;
+        let breaks = fields.optional_array("breaks", &of_breaks)?;
         Ok(Rows {
             nodes,
             starts,
@@ -285,8 +274,9 @@ impl DimensionTable<'_> {
     }
 
     // The coefficients of spans.
-    fn span_costs(&self, alloc: Global, value: &Value, path: &Path) -> Result<SpanCosts, ReadFail>
-        ensures { Answers result (dimension_tables.span_costs self.now.fleet path.now (view value.now)) }
+    fn span_costs(&self, fields: Fields<'_, '_>) -> Result<SpanCosts, ReadFail>
+        ensures { Answers result
+            (dimension_tables.span_costs self.now.fleet fields.entry.path.now (view fields.entry.value.now)) }
     {
         let cost = Whole {
             lo: 0,
@@ -296,35 +286,32 @@ impl DimensionTable<'_> {
             count: self.fleet as usize,
             entry: cost,
         };
-        let zeros = copies(alloc, 0i64, self.fleet as usize)?;
-        let by_vehicle = optional(alloc, value, "span_cost", path, zeros, &costs)?;
-        let global = optional(alloc, value, "global_span_cost", path, 0, &cost)?;
+        let zeros = copies(fields.alloc, 0i64, self.fleet as usize)?;
+        let by_vehicle = fields.optional("span_cost", zeros, &costs)?;
+        let global = fields.optional("global_span_cost", 0, &cost)?;
         Ok(SpanCosts { by_vehicle, global })
     }
 }
 
 #[tactic(auto, unfolding(vr_json::specs::Reading::and_then, crate::specs::Dimensions::dimension))]
-impl Reader for DimensionTable<'_> {
+impl Table for DimensionTable<'_> {
     ghost use Rattle.vr_read.specs.Dimensions.{dimension};
 
-    type Item = Dimension;
+    type Row = Dimension;
 
     ghost reads = { λ it earlier path d. dimension it.nodes it.matrices it.fleet it.vehicles.now earlier path d };
 
-    fn read(
+    fn read_row(
         &self,
-        alloc: Global,
         earlier: &[Dimension],
-        value: &Value,
-        place: Place<'_>,
+        fields: Fields<'_, '_>,
     ) -> Result<Dimension, ReadFail> {
-        let path = place.path()?;
-        let name = required(alloc, value, "name", &path, &Name { earlier })?;
-        let transits = self.transits(alloc, value, &path)?;
-        let bounds = self.bounds(alloc, value, &path)?;
-        let rows = self.rows(alloc, value, &path)?;
-        let span_costs = self.span_costs(alloc, value, &path)?;
-        known(alloc, value, &FIELDS, &path)?;
+        let name = fields.required("name", &Name { earlier })?;
+        let transits = self.transits(fields)?;
+        let bounds = self.bounds(fields)?;
+        let rows = self.rows(fields)?;
+        let span_costs = self.span_costs(fields)?;
+        fields.known(&FIELDS)?;
         Ok(Dimension {
             name,
             evaluators: transits.evaluators,

@@ -2,8 +2,6 @@
 
 ghost use Rattle.std.specs.Prelude.{◌≡◌, ◌||◌, ◌==◌};
 ghost use Rattle.std.specs.List.{list_any};
-ghost use Rattle.serde_json.specs.View.{view};
-ghost use Rattle.vr_json.specs.Reading.{Answers};
 ghost use Rattle.vr_model.specs.routes.Routes.{holds};
 ghost use Rattle.vr_read.specs.Visits as visit_tables;
 
@@ -11,8 +9,7 @@ use crate::Visit;
 use serde_json::Value;
 use std::alloc::Global;
 use vr_json::{
-    Array, Below, Cause, Count, Path, Place, ReadFail, Reader, Whole, known, maybe, optional,
-    refuse_if, required,
+    Array, Below, Cause, Count, Fields, Place, ReadFail, Reader, Table, Whole, refuse_if,
 };
 use vr_model::limits::GREATEST_COST;
 use vr_model::{Allowed, Group, Pair, Vehicle};
@@ -84,39 +81,15 @@ pub struct GroupTable<'a> {
     pub visit: Visit<'a>,
 }
 
-impl Reader for GroupTable<'_> {
+#[tactic(auto, unfolding(vr_json::specs::Reading::and_then, crate::specs::Visits::group))]
+impl Table for GroupTable<'_> {
     ghost use Rattle.vr_read.specs.Visits.{group};
 
-    type Item = Group;
+    type Row = Group;
 
     ghost reads = { λ it earlier path d. group it.visit.nodes it.visit.vehicles.now earlier path d };
 
-    fn read(
-        &self,
-        alloc: Global,
-        earlier: &[Group],
-        value: &Value,
-        place: Place<'_>,
-    ) -> Result<Group, ReadFail> {
-        let path = place.path()?;
-        self.read_at(alloc, earlier, value, &path)
-    }
-}
-
-impl GroupTable<'_> {
-    // The group at a path.
-    #[tactic(auto, unfolding(vr_json::specs::Reading::and_then, crate::specs::Visits::group))]
-    fn read_at(
-        &self,
-        alloc: Global,
-        earlier: &[Group],
-        value: &Value,
-        path: &Path,
-    ) -> Result<Group, ReadFail>
-        ensures { Answers result
-            (visit_tables.group self.now.visit.nodes self.now.visit.vehicles.now earlier.now
-            path.now (view value.now)) }
-    {
+    fn read_row(&self, earlier: &[Group], fields: Fields<'_, '_>) -> Result<Group, ReadFail> {
         let members = Array {
             lo: 1,
             hi: 1000,
@@ -129,11 +102,11 @@ impl GroupTable<'_> {
             lo: 0,
             hi: GREATEST_COST,
         };
-        let nodes = required(alloc, value, "nodes", path, &members)?;
+        let nodes = fields.required("nodes", &members)?;
         let count = nodes.len() as u32;
-        let penalty = maybe(alloc, value, "penalty", path, &cost)?;
-        let max = optional(alloc, value, "max", path, 1, &Count { lo: 1, hi: count })?;
-        known(alloc, value, &["nodes", "penalty", "max"], path)?;
+        let penalty = fields.maybe("penalty", &cost)?;
+        let max = fields.optional("max", 1, &Count { lo: 1, hi: count })?;
+        fields.known(&["nodes", "penalty", "max"])?;
         Ok(Group {
             nodes,
             penalty,
@@ -148,45 +121,21 @@ pub struct PairTable<'a> {
     pub visit: Visit<'a>,
 }
 
-impl Reader for PairTable<'_> {
+#[tactic(auto, unfolding(vr_json::specs::Reading::and_then, crate::specs::Visits::pair))]
+impl Table for PairTable<'_> {
     ghost use Rattle.vr_read.specs.Visits.{pair};
 
-    type Item = Pair;
+    type Row = Pair;
 
     ghost reads = { λ it earlier path d. pair it.visit.nodes it.visit.vehicles.now earlier path d };
 
-    fn read(
-        &self,
-        alloc: Global,
-        earlier: &[Pair],
-        value: &Value,
-        place: Place<'_>,
-    ) -> Result<Pair, ReadFail> {
-        let path = place.path()?;
-        self.read_at(alloc, earlier, value, &path)
-    }
-}
-
-impl PairTable<'_> {
-    // The pair at a path.
-    fn read_at(
-        &self,
-        alloc: Global,
-        earlier: &[Pair],
-        value: &Value,
-        path: &Path,
-    ) -> Result<Pair, ReadFail>
-        ensures { Answers result
-            (visit_tables.pair self.now.visit.nodes self.now.visit.vehicles.now earlier.now
-            path.now (view value.now)) }
-    {
-        let pickup = required(alloc, value, "pickup", path, &self.visit)?;
-        let paired = is_paired(earlier, pickup);
-        refuse_if(alloc, paired, Cause::Repeated, path.field("pickup"))?;
-        let delivery = required(alloc, value, "delivery", path, &self.visit)?;
+    fn read_row(&self, earlier: &[Pair], fields: Fields<'_, '_>) -> Result<Pair, ReadFail> {
+        let pickup = fields.required("pickup", &self.visit)?;
+        fields.refuse_if(is_paired(earlier, pickup), Cause::Repeated, "pickup")?;
+        let delivery = fields.required("delivery", &self.visit)?;
         let stands = is_paired(earlier, delivery) || pickup == delivery;
-        refuse_if(alloc, stands, Cause::Repeated, path.field("delivery"))?;
-        known(alloc, value, &["pickup", "delivery"], path)?;
+        fields.refuse_if(stands, Cause::Repeated, "delivery")?;
+        fields.known(&["pickup", "delivery"])?;
         Ok(Pair { pickup, delivery })
     }
 }
@@ -225,35 +174,23 @@ pub struct AllowedTable<'a> {
     pub fleet: u32,
 }
 
-impl Reader for AllowedTable<'_> {
+impl Table for AllowedTable<'_> {
     ghost use Rattle.vr_read.specs.Visits.{allowed};
 
-    type Item = Allowed;
+    type Row = Allowed;
 
     ghost reads = { λ it earlier path d. allowed it.visit.nodes it.fleet it.visit.vehicles.now earlier path d };
 
-    fn read(
-        &self,
-        alloc: Global,
-        earlier: &[Allowed],
-        value: &Value,
-        place: Place<'_>,
-    ) -> Result<Allowed, ReadFail> {
-        let path = place.path()?;
+    fn read_row(&self, earlier: &[Allowed], fields: Fields<'_, '_>) -> Result<Allowed, ReadFail> {
         let permitted = Array {
             lo: 1,
             hi: self.fleet as usize,
             entry: AllowedVehicle { fleet: self.fleet },
         };
-        let node = required(alloc, value, "node", &path, &self.visit)?;
-        refuse_if(
-            alloc,
-            has_allowed(earlier, node),
-            Cause::Repeated,
-            path.field("node"),
-        )?;
-        let vehicles = required(alloc, value, "vehicles", &path, &permitted)?;
-        known(alloc, value, &["node", "vehicles"], &path)?;
+        let node = fields.required("node", &self.visit)?;
+        fields.refuse_if(has_allowed(earlier, node), Cause::Repeated, "node")?;
+        let vehicles = fields.required("vehicles", &permitted)?;
+        fields.known(&["node", "vehicles"])?;
         Ok(Allowed { node, vehicles })
     }
 }

@@ -16,6 +16,7 @@ mod model;
 mod model_rules;
 mod searches;
 mod stop_rows;
+mod tabled;
 mod vehicles;
 
 pub use dimensions::DimensionTable;

@@ -9,13 +9,14 @@ ghost use Rattle.vr_read.specs.Models as models;
 use crate::matrices::MatrixTable;
 use crate::model_rules::keep_rules;
 use crate::searches::default_search;
+use crate::tabled::Tabled;
 use crate::{
     AllowedTable, DimensionTable, FormatNumber, GroupTable, PairTable, SearchTable, VehicleTable,
     Visit,
 };
 use serde_json::Value;
 use std::alloc::Global;
-use vr_json::{Array, Count, Path, ReadFail, known, optional, required};
+use vr_json::{Array, Count, Fields, Object, Path, ReadFail};
 use vr_model::{Allowed, Dimension, Group, Matrix, Model, Pair, SearchRow, Seq, Vehicle};
 
 // The fields of a model up to its vehicles.
@@ -43,37 +44,33 @@ pub struct ModelParts {
 }
 
 // The groups, pairs and allowed rows, in a model of so many vehicles, of which a visit is none's start or end.
+#[tactic(auto, unfolding(vr_json::specs::Reading::and_then, crate::specs::Models::visit_tables))]
 fn read_visit_tables(
-    alloc: Global,
-    value: &Value,
-    path: &Path,
+    fields: Fields<'_, '_>,
     visit: Visit<'_>,
     fleet: u32,
 ) -> Result<VisitTables, ReadFail>
-    ensures { Answers result
-        (models.visit_tables visit.entry.nodes fleet visit.entry.vehicles.now path.now (view value.now)) }
+    ensures { Answers result (models.visit_tables visit.entry.nodes fleet visit.entry.vehicles.now
+        fields.entry.path.now (view fields.entry.value.now)) }
 {
     let table = Array {
         lo: 0,
         hi: 1000,
-        entry: GroupTable { visit },
+        entry: Object(GroupTable { visit }),
     };
-    let none = Seq::new(alloc);
-    let groups = optional(alloc, value, "groups", path, none, &table)?;
+    let groups = fields.optional_array("groups", &table)?;
     let table = Array {
         lo: 0,
         hi: 500,
-        entry: PairTable { visit },
+        entry: Object(PairTable { visit }),
     };
-    let none = Seq::new(alloc);
-    let pairs = optional(alloc, value, "pairs", path, none, &table)?;
+    let pairs = fields.optional_array("pairs", &table)?;
     let table = Array {
         lo: 0,
         hi: 1000,
-        entry: AllowedTable { visit, fleet },
+        entry: Object(AllowedTable { visit, fleet }),
     };
-    let none = Seq::new(alloc);
-    let allowed = optional(alloc, value, "allowed", path, none, &table)?;
+    let allowed = fields.optional_array("allowed", &table)?;
     Ok(VisitTables {
         groups,
         pairs,
@@ -84,15 +81,10 @@ fn read_visit_tables(
 // The fields of a model from its dimensions on, in a model of so many nodes and matrices and of
 // these vehicles, whose number is `table.fleet`.
 #[tactic(auto, unfolding(vr_json::specs::Reading::and_then, crate::specs::Models::parts))]
-fn read_parts(
-    alloc: Global,
-    value: &Value,
-    path: &Path,
-    table: DimensionTable<'_>,
-) -> Result<ModelParts, ReadFail>
+fn read_parts(fields: Fields<'_, '_>, table: DimensionTable<'_>) -> Result<ModelParts, ReadFail>
     ensures { Answers result
         (models.parts table.entry.nodes table.entry.matrices table.entry.fleet table.entry.vehicles.now
-        path.now (view value.now)) }
+        fields.entry.path.now (view fields.entry.value.now)) }
 {
     let visit = Visit {
         nodes: table.nodes,
@@ -102,13 +94,12 @@ fn read_parts(
     let table = Array {
         lo: 0,
         hi: 4,
-        entry: table,
+        entry: Object(table),
     };
-    let none = Seq::new(alloc);
-    let dimensions = optional(alloc, value, "dimensions", path, none, &table)?;
-    let tables = read_visit_tables(alloc, value, path, visit, fleet)?;
-    let usual = default_search(alloc)?;
-    let search = optional(alloc, value, "search", path, usual, &SearchTable)?;
+    let dimensions = fields.optional_array("dimensions", &table)?;
+    let tables = read_visit_tables(fields, visit, fleet)?;
+    let usual = default_search(fields.alloc)?;
+    let search = fields.optional("search", usual, &Object(SearchTable))?;
     Ok(ModelParts {
         dimensions,
         tables,
@@ -118,29 +109,28 @@ fn read_parts(
 
 // The fields of a model up to its vehicles.
 #[tactic(auto, unfolding(vr_json::specs::Reading::and_then, crate::specs::Models::base))]
-fn read_base(alloc: Global, value: &Value, path: &Path) -> Result<ModelBase, ReadFail>
-    ensures { Answers result (models.base path.now (view value.now)) }
+fn read_base(fields: Fields<'_, '_>) -> Result<ModelBase, ReadFail>
+    ensures { Answers result (models.base fields.entry.path.now (view fields.entry.value.now)) }
 {
-    let format = required(alloc, value, "format", path, &FormatNumber)?;
-    let nodes = Count { lo: 1, hi: 1000 };
-    let nodes = required(alloc, value, "nodes", path, &nodes)?;
+    let format = fields.required("format", &FormatNumber)?;
+    let nodes = fields.required("nodes", &Count { lo: 1, hi: 1000 })?;
     let table = Array {
         lo: 1,
         hi: 16,
         entry: MatrixTable { nodes },
     };
-    let matrices = required(alloc, value, "matrices", path, &table)?;
+    let matrices = fields.required("matrices", &table)?;
     let count = matrices.len() as u32;
     let table = Array {
         lo: 1,
         hi: 100,
-        entry: VehicleTable {
+        entry: Object(VehicleTable {
             format,
             nodes,
             matrices: count,
-        },
+        }),
     };
-    let vehicles = required(alloc, value, "vehicles", path, &table)?;
+    let vehicles = fields.required("vehicles", &table)?;
     Ok(ModelBase {
         nodes,
         matrices,
@@ -149,10 +139,10 @@ fn read_base(alloc: Global, value: &Value, path: &Path) -> Result<ModelBase, Rea
 }
 
 // The table of a model, without the rules on the whole model.
-fn read_table(alloc: Global, value: &Value, path: &Path) -> Result<Model, ReadFail>
-    ensures { Answers result (models.model_table path.now (view value.now)) }
+fn read_table(fields: Fields<'_, '_>) -> Result<Model, ReadFail>
+    ensures { Answers result (models.model_table fields.entry.path.now (view fields.entry.value.now)) }
 {
-    let base = read_base(alloc, value, path)?;
+    let base = read_base(fields)?;
     let matrices = base.matrices.len() as u32;
     let fleet = base.vehicles.len() as u32;
     let vehicles = base.vehicles.as_slice();
@@ -162,8 +152,8 @@ fn read_table(alloc: Global, value: &Value, path: &Path) -> Result<Model, ReadFa
         fleet,
         vehicles,
     };
-    let parts = read_parts(alloc, value, path, table)?;
-    known(alloc, value, &FIELDS, path)?;
+    let parts = read_parts(fields, table)?;
+    fields.known(&FIELDS)?;
     Ok(Model {
         nodes: base.nodes,
         matrices: base.matrices,
@@ -186,8 +176,9 @@ pub fn read_model(alloc: Global, value: &Value, path: &Path) -> Result<Model, Re
     ensures found { Answers result (models.read_model path.now (view value.now)) }
     ensures well_formed { IfOk result IsWellFormed }
 {
-    let model = read_table(alloc, value, path)?;
-    keep_rules(alloc, &model, path)?;
+    let model = read_table(Fields { alloc, value, path })?;
+    let tabled = Tabled { model: &model };
+    keep_rules(alloc, tabled, path)?;
     Ok(model)
 }
 

@@ -7,14 +7,14 @@ ghost use Rattle.vr_json.specs.Reading as reading;
 ghost use Rattle.vr_json.specs.Reading.{Answers};
 ghost use Rattle.vr_model.specs.tables.ModelRules as model_rules;
 ghost use Rattle.vr_model.specs.tables.ModelRules.{greatest_entry, is_large, is_negative};
-ghost use Rattle.vr_model.specs.tables.WellFormed.{IsDimension, IsEvaluator, IsVehicle, WherePresent};
+ghost use Rattle.vr_model.specs.tables.WellFormed.{IsEvaluator, WherePresent};
 ghost use Rattle.vr_model.specs.declared.records.Matrix.{Matrix as MatrixOf};
-ghost use Rattle.vr_read.specs.ModelParts.{HasModelParts};
 ghost use Rattle.vr_read.specs.Rules.{costs_rule, dimension_entries_rule, entries_rule, rules, savings_rule};
 ghost use Rattle.vr_read.specs.Rules.{transits_rule};
 
 use crate::alike::vehicles_differ;
 use crate::backward::goes_back;
+use crate::tabled::Tabled;
 use std::alloc::Global;
 use vr_json::{Cause, Path, ReadFail, refuse_if};
 use vr_model::limits::GREATEST_VALUE;
@@ -27,14 +27,13 @@ use vr_model::{Dimension, First, Matrix, Model, NoMemory, Seq};
 /// `UnlikeVehicles` at `search/first` where savings are asked for, though vehicles differ or rows of
 /// allowed vehicles are there. `path` is where the model stands.
 #[tactic(auto, unfolding(vr_json::specs::Reading::and_then, crate::specs::Rules::rules))]
-pub(crate) fn keep_rules(alloc: Global, model: &Model, path: &Path) -> Result<(), ReadFail>
-    requires { HasModelParts model.now }
-    ensures { Answers result (rules path.now model.now) }
+pub(crate) fn keep_rules(alloc: Global, of: Tabled<'_>, path: &Path) -> Result<(), ReadFail>
+    ensures { Answers result (rules path.now of.entry.model.now) }
 {
-    keep_costs(alloc, model, path)?;
-    keep_entries(alloc, model, path)?;
-    keep_transits(alloc, model, path)?;
-    keep_savings(alloc, model, path)
+    keep_costs(alloc, of, path)?;
+    keep_entries(alloc, of, path)?;
+    keep_transits(alloc, of, path)?;
+    keep_savings(alloc, of, path)
 }
 
 // Refuses the field of entry `k` of an array where a rule is broken.
@@ -78,10 +77,10 @@ fn negative_matrices(alloc: Global, matrices: &[Matrix]) -> Result<Seq<bool>, No
 }
 
 // The cost matrix of each vehicle has no negative entry.
-fn keep_costs(alloc: Global, model: &Model, path: &Path) -> Result<(), ReadFail>
-    requires { All (IsVehicle model.now) model.now.vehicles }
-    ensures { Answers result (costs_rule path.now model.now) }
+fn keep_costs(alloc: Global, of: Tabled<'_>, path: &Path) -> Result<(), ReadFail>
+    ensures { Answers result (costs_rule path.now of.entry.model.now) }
 {
+    let model = of.model;
     let vehicles = path.name("vehicles")?;
     let negative = negative_matrices(alloc, model.matrices.as_slice())?;
     for v in 0..model.vehicles.len() {
@@ -128,10 +127,10 @@ fn keep_dimension_entries(
 }
 
 // The matrix of each evaluator of each dimension has no entry that is too large.
-fn keep_entries(alloc: Global, model: &Model, path: &Path) -> Result<(), ReadFail>
-    requires { All (IsDimension model.now) model.now.dimensions }
-    ensures { Answers result (entries_rule path.now model.now) }
+fn keep_entries(alloc: Global, of: Tabled<'_>, path: &Path) -> Result<(), ReadFail>
+    ensures { Answers result (entries_rule path.now of.entry.model.now) }
 {
+    let model = of.model;
     let dimensions = path.name("dimensions")?;
     for d in 0..model.dimensions.len() {
         let place = dimensions.item(d)?;
@@ -141,13 +140,13 @@ fn keep_entries(alloc: Global, model: &Model, path: &Path) -> Result<(), ReadFai
 }
 
 // No dimension with breaks or span costs goes back.
-fn keep_transits(alloc: Global, model: &Model, path: &Path) -> Result<(), ReadFail>
-    requires { HasModelParts model.now }
-    ensures { Answers result (transits_rule path.now model.now) }
+fn keep_transits(alloc: Global, of: Tabled<'_>, path: &Path) -> Result<(), ReadFail>
+    ensures { Answers result (transits_rule path.now of.entry.model.now) }
 {
+    let model = of.model;
     let dimensions = path.name("dimensions")?;
     for d in 0..model.dimensions.len() {
-        let broken = goes_back(model, model.dimensions.get(d));
+        let broken = goes_back(of, model.dimensions.get(d));
         refuse_if(alloc, broken, Cause::NegativeTransit, dimensions.entry(d))?;
     }
     Ok(())
@@ -161,22 +160,20 @@ fn is_savings(first: First) -> bool
 }
 
 // Whether savings are asked for, though vehicles differ or rows of allowed vehicles are there.
-fn cannot_save(model: &Model) -> bool
-    requires { HasModelParts model.now }
-    ensures { result ≡ model_rules.cannot_save model.now }
+fn cannot_save(of: Tabled<'_>) -> bool
+    ensures { result ≡ model_rules.cannot_save of.entry.model.now }
 {
-    is_savings(model.search.first) && (vehicles_differ(model) || !model.allowed.is_empty())
+    is_savings(of.model.search.first) && (vehicles_differ(of) || !of.model.allowed.is_empty())
 }
 
 // Savings are asked for only of vehicles that are alike, with no rows of allowed vehicles.
-fn keep_savings(alloc: Global, model: &Model, path: &Path) -> Result<(), ReadFail>
-    requires { HasModelParts model.now }
-    ensures { Answers result (savings_rule path.now model.now) }
+fn keep_savings(alloc: Global, of: Tabled<'_>, path: &Path) -> Result<(), ReadFail>
+    ensures { Answers result (savings_rule path.now of.entry.model.now) }
 {
     let search = path.name("search")?;
     refuse_if(
         alloc,
-        cannot_save(model),
+        cannot_save(of),
         Cause::UnlikeVehicles,
         search.field("first"),
     )

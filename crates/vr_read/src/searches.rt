@@ -10,7 +10,7 @@ ghost use Rattle.vr_read.specs.Searches as search_tables;
 use serde_json::Value;
 use std::alloc::Global;
 use vr_json::{
-    Array, Cause, Choice, Count, Path, Place, ReadFail, Reader, TwoEntries, Whole, known, optional,
+    Array, Cause, Choice, Count, Fields, Place, ReadFail, Reader, Table, TwoEntries, Whole,
     refuse_if,
 };
 use vr_model::{First, Improve, Neighbourhood, NoMemory, SearchRow, Seq};
@@ -136,21 +136,21 @@ pub struct SearchChoices {
 }
 
 // The first solution, the improvement and the limits of a search.
-fn choices(alloc: Global, value: &Value, path: &Path) -> Result<SearchChoices, ReadFail>
-    ensures { Answers result (search_tables.choices path.now (view value.now)) }
+fn choices(fields: Fields<'_, '_>) -> Result<SearchChoices, ReadFail>
+    ensures { Answers result (search_tables.choices fields.entry.path.now (view fields.entry.value.now)) }
 {
     let strategy = Choice { words: &STRATEGIES };
     let cheapest = First::PathCheapestArc;
-    let first = optional(alloc, value, "first", path, cheapest, &strategy)?;
+    let first = fields.optional("first", cheapest, &strategy)?;
     let improvement = Choice {
         words: &IMPROVEMENTS,
     };
     let descent = Improve::GreedyDescent;
-    let improve = optional(alloc, value, "improve", path, descent, &improvement)?;
+    let improve = fields.optional("improve", descent, &improvement)?;
     let count = Count { lo: 0, hi: MOST };
-    let tries = optional(alloc, value, "tries", path, TRIES, &count)?;
+    let tries = fields.optional("tries", TRIES, &count)?;
     let count = Count { lo: 1, hi: MOST };
-    let solutions = optional(alloc, value, "solutions", path, MOST, &count)?;
+    let solutions = fields.optional("solutions", MOST, &count)?;
     Ok(SearchChoices {
         first,
         improve,
@@ -164,48 +164,36 @@ fn choices(alloc: Global, value: &Value, path: &Path) -> Result<SearchChoices, R
 #[derive(Clone, Copy)]
 pub struct SearchTable;
 
-impl Reader for SearchTable {
+#[tactic(auto, unfolding(vr_json::specs::Reading::and_then, crate::specs::Searches::search_row))]
+impl Table for SearchTable {
     ghost use Rattle.vr_read.specs.Searches.{search_row};
 
-    type Item = SearchRow;
+    type Row = SearchRow;
 
     ghost reads = { λ it earlier path d. search_row path d };
 
-    fn read(
+    fn read_row(
         &self,
-        alloc: Global,
         _earlier: &[SearchRow],
-        value: &Value,
-        place: Place<'_>,
+        fields: Fields<'_, '_>,
     ) -> Result<SearchRow, ReadFail> {
-        let path = place.path()?;
-        self.read_at(alloc, value, &path)
-    }
-}
-
-impl SearchTable {
-    // The search at a path.
-    #[tactic(auto, unfolding(vr_json::specs::Reading::and_then, crate::specs::Searches::search_row))]
-    fn read_at(&self, alloc: Global, value: &Value, path: &Path) -> Result<SearchRow, ReadFail>
-        ensures { Answers result (search_tables.search_row path.now (view value.now)) }
-    {
-        let choices = choices(alloc, value, path)?;
+        let choices = choices(fields)?;
         let weight = TwoEntries {
             entry: Whole { lo: 1, hi: 1000 },
         };
-        let lambda = optional(alloc, value, "lambda", path, (1, 10), &weight)?;
+        let lambda = fields.optional("lambda", (1, 10), &weight)?;
         let words = Array {
             lo: 0,
             hi: 11,
             entry: NeighbourhoodTable,
         };
-        let all = Neighbourhood::all(alloc)?;
-        let neighbourhoods = optional(alloc, value, "neighbourhoods", path, all, &words)?;
+        let all = Neighbourhood::all(fields.alloc)?;
+        let neighbourhoods = fields.optional("neighbourhoods", all, &words)?;
         let count = Count { lo: 1, hi: 100 };
-        let cut = optional(alloc, value, "cut", path, CUT, &count)?;
+        let cut = fields.optional("cut", CUT, &count)?;
         let count = Count { lo: 1, hi: 1000 };
-        let tenure = optional(alloc, value, "tenure", path, TENURE, &count)?;
-        known(alloc, value, &FIELDS, path)?;
+        let tenure = fields.optional("tenure", TENURE, &count)?;
+        fields.known(&FIELDS)?;
         Ok(SearchRow {
             first: choices.first,
             improve: choices.improve,

@@ -9,8 +9,8 @@ ghost use Rattle.vr_read.specs.StopRows as stop_tables;
 use serde_json::Value;
 use std::alloc::Global;
 use vr_json::{
-    Array, Below, Cause, Path, Place, ReadFail, Reader, TwoEntries, Whole, known, maybe, optional,
-    refuse_if, required,
+    Array, Below, Cause, Fields, Object, Place, ReadFail, Reader, Table, TwoEntries, Whole,
+    refuse_if,
 };
 use vr_model::limits::{GREATEST_COEFFICIENT, HORIZON};
 use vr_model::{BreakRow, Interval, Seq, Soft, StopRow, VehicleBreaks};
@@ -47,29 +47,22 @@ impl Reader for IntervalTable {
 #[derive(Clone, Copy)]
 pub struct SoftTable;
 
-impl Reader for SoftTable {
+impl Table for SoftTable {
     ghost use Rattle.vr_read.specs.StopRows.{soft};
 
-    type Item = Soft;
+    type Row = Soft;
 
     ghost reads = { λ it earlier path d. soft path d };
 
-    fn read(
-        &self,
-        alloc: Global,
-        _earlier: &[Soft],
-        value: &Value,
-        place: Place<'_>,
-    ) -> Result<Soft, ReadFail> {
-        let path = place.path()?;
+    fn read_row(&self, _earlier: &[Soft], fields: Fields<'_, '_>) -> Result<Soft, ReadFail> {
         let cumul = Whole { lo: 0, hi: HORIZON };
         let cost = Whole {
             lo: 0,
             hi: GREATEST_COEFFICIENT,
         };
-        let bound = required(alloc, value, "bound", &path, &cumul)?;
-        let coefficient = required(alloc, value, "coefficient", &path, &cost)?;
-        known(alloc, value, &["bound", "coefficient"], &path)?;
+        let bound = fields.required("bound", &cumul)?;
+        let coefficient = fields.required("coefficient", &cost)?;
+        fields.known(&["bound", "coefficient"])?;
         Ok(Soft { bound, coefficient })
     }
 }
@@ -83,18 +76,18 @@ pub struct StopLimits {
 }
 
 // The window, the forbidden intervals and the soft bound of a row.
-fn limits(alloc: Global, value: &Value, path: &Path) -> Result<StopLimits, ReadFail>
-    ensures { Answers result (stop_tables.limits path.now (view value.now)) }
+#[tactic(auto, unfolding(vr_json::specs::Reading::and_then, crate::specs::StopRows::limits))]
+fn limits(fields: Fields<'_, '_>) -> Result<StopLimits, ReadFail>
+    ensures { Answers result (stop_tables.limits fields.entry.path.now (view fields.entry.value.now)) }
 {
     let intervals = Array {
         lo: 0,
         hi: 16,
         entry: IntervalTable,
     };
-    let window = maybe(alloc, value, "window", path, &IntervalTable)?;
-    let none = Seq::new(alloc);
-    let forbidden = optional(alloc, value, "forbidden", path, none, &intervals)?;
-    let soft = maybe(alloc, value, "soft", path, &SoftTable)?;
+    let window = fields.maybe("window", &IntervalTable)?;
+    let forbidden = fields.optional_array("forbidden", &intervals)?;
+    let soft = fields.maybe("soft", &Object(SoftTable))?;
     Ok(StopLimits {
         window,
         forbidden,
@@ -116,36 +109,19 @@ fn has_row(rows: &[StopRow], key: u32) -> bool
     rows.iter().any(|row| row.key == key)
 }
 
-impl<K: Reader<Item = u32>> Reader for StopTable<'_, K> {
+impl<K: Reader<Item = u32>> Table for StopTable<'_, K> {
     ghost use Rattle.std.specs.Prelude.{[]};
     ghost use Rattle.vr_read.specs.StopRows.{stop_row};
 
-    type Item = StopRow;
+    type Row = StopRow;
 
     ghost reads = { λ it earlier path d. stop_row it.name.now (K.reads it.key []) earlier path d };
 
-    fn read(
-        &self,
-        alloc: Global,
-        earlier: &[StopRow],
-        value: &Value,
-        place: Place<'_>,
-    ) -> Result<StopRow, ReadFail> {
-        let path = place.path()?;
-        let key = required(alloc, value, self.name, &path, &self.key)?;
-        refuse_if(
-            alloc,
-            has_row(earlier, key),
-            Cause::Repeated,
-            path.field(self.name),
-        )?;
-        let limits = limits(alloc, value, &path)?;
-        known(
-            alloc,
-            value,
-            &[self.name, "window", "forbidden", "soft"],
-            &path,
-        )?;
+    fn read_row(&self, earlier: &[StopRow], fields: Fields<'_, '_>) -> Result<StopRow, ReadFail> {
+        let key = fields.required(self.name, &self.key)?;
+        fields.refuse_if(has_row(earlier, key), Cause::Repeated, self.name)?;
+        let limits = limits(fields)?;
+        fields.known(&[self.name, "window", "forbidden", "soft"])?;
         Ok(StopRow {
             key,
             window: limits.window,
@@ -159,38 +135,26 @@ impl<K: Reader<Item = u32>> Reader for StopTable<'_, K> {
 #[derive(Clone, Copy)]
 pub struct BreakTable;
 
-impl Reader for BreakTable {
+#[tactic(auto, unfolding(vr_json::specs::Reading::and_then, crate::specs::StopRows::break_row))]
+impl Table for BreakTable {
     ghost use Rattle.vr_read.specs.StopRows.{break_row};
 
-    type Item = BreakRow;
+    type Row = BreakRow;
 
     ghost reads = { λ it earlier path d. break_row path d };
 
-    fn read(
+    fn read_row(
         &self,
-        alloc: Global,
         _earlier: &[BreakRow],
-        value: &Value,
-        place: Place<'_>,
+        fields: Fields<'_, '_>,
     ) -> Result<BreakRow, ReadFail> {
-        let path = place.path()?;
-        self.read_at(alloc, value, &path)
-    }
-}
-
-impl BreakTable {
-    // The break at a path.
-    #[tactic(auto, unfolding(vr_json::specs::Reading::and_then, crate::specs::StopRows::break_row))]
-    fn read_at(&self, alloc: Global, value: &Value, path: &Path) -> Result<BreakRow, ReadFail>
-        ensures { Answers result (stop_tables.break_row path.now (view value.now)) }
-    {
         let cumul = Whole { lo: 0, hi: HORIZON };
         let length = Whole { lo: 1, hi: HORIZON };
-        let from = required(alloc, value, "from", path, &cumul)?;
-        let to = required(alloc, value, "to", path, &cumul)?;
-        let duration = required(alloc, value, "duration", path, &length)?;
-        known(alloc, value, &["from", "to", "duration"], path)?;
-        refuse_if(alloc, to < from, Cause::Reversed, path.here())?;
+        let from = fields.required("from", &cumul)?;
+        let to = fields.required("to", &cumul)?;
+        let duration = fields.required("duration", &length)?;
+        fields.known(&["from", "to", "duration"])?;
+        refuse_if(fields.alloc, to < from, Cause::Reversed, fields.path.here())?;
         Ok(BreakRow { from, to, duration })
     }
 }
@@ -208,53 +172,30 @@ fn has_breaks(entries: &[VehicleBreaks], vehicle: u32) -> bool
     entries.iter().any(|entry| entry.vehicle == vehicle)
 }
 
-impl Reader for VehicleBreaksTable {
+impl Table for VehicleBreaksTable {
     ghost use Rattle.vr_read.specs.StopRows.{vehicle_breaks};
 
-    type Item = VehicleBreaks;
+    type Row = VehicleBreaks;
 
     ghost reads = { λ it earlier path d. vehicle_breaks it.vehicles earlier path d };
 
-    fn read(
+    fn read_row(
         &self,
-        alloc: Global,
         earlier: &[VehicleBreaks],
-        value: &Value,
-        place: Place<'_>,
+        fields: Fields<'_, '_>,
     ) -> Result<VehicleBreaks, ReadFail> {
-        let path = place.path()?;
-        self.read_at(alloc, earlier, value, &path)
-    }
-}
-
-impl VehicleBreaksTable {
-    // The breaks of a vehicle at a path.
-    fn read_at(
-        &self,
-        alloc: Global,
-        earlier: &[VehicleBreaks],
-        value: &Value,
-        path: &Path,
-    ) -> Result<VehicleBreaks, ReadFail>
-        ensures { Answers result (stop_tables.vehicle_breaks self.now.vehicles earlier.now path.now (view value.now)) }
-    {
         let number = Below {
             count: self.vehicles,
         };
         let breaks = Array {
             lo: 1,
             hi: 8,
-            entry: BreakTable,
+            entry: Object(BreakTable),
         };
-        let vehicle = required(alloc, value, "vehicle", path, &number)?;
-        refuse_if(
-            alloc,
-            has_breaks(earlier, vehicle),
-            Cause::Repeated,
-            path.field("vehicle"),
-        )?;
-        let rows = required(alloc, value, "breaks", path, &breaks)?;
-        known(alloc, value, &["vehicle", "breaks"], path)?;
+        let vehicle = fields.required("vehicle", &number)?;
+        fields.refuse_if(has_breaks(earlier, vehicle), Cause::Repeated, "vehicle")?;
+        let rows = fields.required("breaks", &breaks)?;
+        fields.known(&["vehicle", "breaks"])?;
         Ok(VehicleBreaks { vehicle, rows })
     }
 }

@@ -8,10 +8,7 @@ ghost use Rattle.vr_read.specs.Vehicles as vehicle_tables;
 use crate::Format;
 use serde_json::Value;
 use std::alloc::Global;
-use vr_json::{
-    Below, Cause, Choice, Path, Place, ReadFail, Reader, Whole, known, optional, refuse_if,
-    required,
-};
+use vr_json::{Below, Cause, Choice, Fields, Place, ReadFail, Reader, Table, Whole, refuse_if};
 use vr_model::limits::GREATEST_COST;
 use vr_model::{Policy, ScheduleRule, Vehicle};
 
@@ -39,18 +36,20 @@ const SCHEDULE_RULES: [(&str, ScheduleRule); 2] = [
 impl VehicleTable {
     // Where the vehicle starts, and where it ends.
     #[tactic(auto, unfolding(vr_json::specs::Reading::and_then, crate::specs::Vehicles::ends))]
-    fn ends(&self, alloc: Global, value: &Value, path: &Path) -> Result<(u32, u32), ReadFail>
-        ensures { Answers result (vehicle_tables.ends self.now.nodes path.now (view value.now)) }
+    fn ends(&self, fields: Fields<'_, '_>) -> Result<(u32, u32), ReadFail>
+        ensures { Answers result
+            (vehicle_tables.ends self.now.nodes fields.entry.path.now (view fields.entry.value.now)) }
     {
         let node = Below { count: self.nodes };
-        let start = required(alloc, value, "start", path, &node)?;
-        let end = required(alloc, value, "end", path, &node)?;
+        let start = fields.required("start", &node)?;
+        let end = fields.required("end", &node)?;
         Ok((start, end))
     }
 
     // By which rule the vehicle chooses its schedules: the earliest, where the format has no such field.
-    fn schedule(&self, alloc: Global, value: &Value, path: &Path) -> Result<ScheduleRule, ReadFail>
-        ensures { Answers result (vehicle_tables.schedule self.now.format path.now (view value.now)) }
+    fn schedule(&self, fields: Fields<'_, '_>) -> Result<ScheduleRule, ReadFail>
+        ensures { Answers result
+            (vehicle_tables.schedule self.now.format fields.entry.path.now (view fields.entry.value.now)) }
     {
         match self.format {
             Format::One => Ok(ScheduleRule::Earliest),
@@ -58,55 +57,34 @@ impl VehicleTable {
                 let rule = Choice {
                     words: &SCHEDULE_RULES,
                 };
-                let earliest = ScheduleRule::Earliest;
-                optional(alloc, value, "schedule", path, earliest, &rule)
+                fields.optional("schedule", ScheduleRule::Earliest, &rule)
             }
         }
     }
 
     // Refuses a vehicle with a field that the format does not have.
-    fn keep_fields(&self, alloc: Global, value: &Value, path: &Path) -> Result<(), ReadFail>
-        ensures { Answers result (known (vehicle_tables.fields self.now.format) path.now (view value.now)) }
+    fn keep_fields(&self, fields: Fields<'_, '_>) -> Result<(), ReadFail>
+        ensures { Answers result
+            (known (vehicle_tables.fields self.now.format) fields.entry.path.now (view fields.entry.value.now)) }
     {
         match self.format {
-            Format::One => {
-                let fields = ["start", "end", "costs", "fixed", "policy"];
-                known(alloc, value, &fields, path)
-            }
+            Format::One => fields.known(&["start", "end", "costs", "fixed", "policy"]),
             Format::Two => {
-                let fields = ["start", "end", "costs", "fixed", "policy", "schedule"];
-                known(alloc, value, &fields, path)
+                fields.known(&["start", "end", "costs", "fixed", "policy", "schedule"])
             }
         }
     }
 }
 
-impl Reader for VehicleTable {
+#[tactic(auto, unfolding(vr_json::specs::Reading::and_then, crate::specs::Vehicles::vehicle))]
+impl Table for VehicleTable {
     ghost use Rattle.vr_read.specs.Vehicles.{vehicle};
 
-    type Item = Vehicle;
+    type Row = Vehicle;
 
     ghost reads = { λ it earlier path d. vehicle it.format it.nodes it.matrices path d };
 
-    fn read(
-        &self,
-        alloc: Global,
-        _earlier: &[Vehicle],
-        value: &Value,
-        place: Place<'_>,
-    ) -> Result<Vehicle, ReadFail> {
-        let path = place.path()?;
-        self.read_at(alloc, value, &path)
-    }
-}
-
-impl VehicleTable {
-    // The vehicle at a path.
-    #[tactic(auto, unfolding(vr_json::specs::Reading::and_then, crate::specs::Vehicles::vehicle))]
-    fn read_at(&self, alloc: Global, value: &Value, path: &Path) -> Result<Vehicle, ReadFail>
-        ensures { Answers result
-            (vehicle_tables.vehicle self.now.format self.now.nodes self.now.matrices path.now (view value.now)) }
-    {
+    fn read_row(&self, _earlier: &[Vehicle], fields: Fields<'_, '_>) -> Result<Vehicle, ReadFail> {
         let matrix = Below {
             count: self.matrices,
         };
@@ -114,13 +92,13 @@ impl VehicleTable {
             lo: 0,
             hi: GREATEST_COST,
         };
-        let ends = self.ends(alloc, value, path)?;
-        let costs = optional(alloc, value, "costs", path, 0, &matrix)?;
-        let fixed = optional(alloc, value, "fixed", path, 0, &cost)?;
+        let ends = self.ends(fields)?;
+        let costs = fields.optional("costs", 0, &matrix)?;
+        let fixed = fields.optional("fixed", 0, &cost)?;
         let policy = Choice { words: &POLICIES };
-        let policy = optional(alloc, value, "policy", path, Policy::Any, &policy)?;
-        let schedule = self.schedule(alloc, value, path)?;
-        self.keep_fields(alloc, value, path)?;
+        let policy = fields.optional("policy", Policy::Any, &policy)?;
+        let schedule = self.schedule(fields)?;
+        self.keep_fields(fields)?;
         Ok(Vehicle {
             start: ends.0,
             end: ends.1,

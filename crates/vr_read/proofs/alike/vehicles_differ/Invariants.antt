@@ -6,4 +6,4 @@ use Rattle.vr_read.specs.Alike.{differs_from_some}
 use Rattle.vr_read.proofs.alike.vehicles_differ.Given as goal
 
 abbrev pub invariant-loop-v : goal.invariant-loop-v
-invariant-loop-v l = list_any (differs_from_some l.model) (from_to l.v (length l.model.vehicles)) ≡ vehicles_differ l.model
+invariant-loop-v l = list_any (differs_from_some l.of.model.now) (from_to l.v (length l.of.model.now.vehicles)) ≡ vehicles_differ l.of.model.now

@@ -18,16 +18,16 @@ by_evaluator model dimension h =
 
 pub returns-then-is_used_backward : goal.returns-then-is_used_backward
 returns-then-is_used_backward c =
-    let model = c.args.model.now in let dimension = c.args.dimension.now in
+    let model = c.args.of.model.now in let dimension = c.args.dimension.now in
     test_finds (is_used_backward model dimension) (length dimension.evaluators) c.loop-k.k c.loop-k.invariant (omega arith) (sym c.is_used_backward.ensures ∙ c.if-is_used_backward.true)
     ∙ by_evaluator model dimension c.requires.dimension
 
 pub loop-k-preserved : goal.loop-k-preserved
 loop-k-preserved c =
-    let model = c.args.model.now in let dimension = c.args.dimension.now in
+    let model = c.args.of.model.now in let dimension = c.args.dimension.now in
     test_goes_on (is_used_backward model dimension) (length dimension.evaluators) c.loop-k.k c.loop-k.invariant (omega arith) (sym c.is_used_backward.ensures ∙ c.if-is_used_backward.false)
 
 pub returns : goal.returns
 returns c =
-    let model = c.args.model.now in let dimension = c.args.dimension.now in
+    let model = c.args.of.model.now in let dimension = c.args.dimension.now in
     test_ends (is_used_backward model dimension) (length dimension.evaluators) c.loop-k.k c.loop-k.invariant (omega arith) ∙ by_evaluator model dimension c.requires.dimension

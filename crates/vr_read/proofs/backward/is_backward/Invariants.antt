@@ -5,4 +5,4 @@ use Rattle.vr_read.specs.Backward.{is_backward, is_backward_from}
 use Rattle.vr_read.proofs.backward.is_backward.Given as goal
 
 abbrev pub invariant-loop-i : goal.invariant-loop-i
-invariant-loop-i l = list_any (is_backward_from l.model l.evaluator) (from_to l.i l.model.nodes) ≡ is_backward l.model l.evaluator
+invariant-loop-i l = list_any (is_backward_from l.of.model.now l.evaluator) (from_to l.i l.of.model.now.nodes) ≡ is_backward l.of.model.now l.evaluator

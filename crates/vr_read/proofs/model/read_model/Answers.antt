@@ -5,8 +5,8 @@ use Rattle.vr_read.specs.Models.{read_model}
 use Rattle.vr_read.proofs.WellFormedModels.{has_parts_answer, well_formed_answer}
 use Rattle.vr_read.proofs.model.read_model.Goals as goal
 
-pub keep_rules-requires : goal.keep_rules-requires
-keep_rules-requires c = has_parts_answer c.args.path.now (view c.args.value.now) c.in_ok-model.ensures
+pub invariant_of-tabled : goal.invariant_of-tabled
+invariant_of-tabled c = record { parts = has_parts_answer c.args.path.now (view c.args.value.now) c.in_ok-model.ensures }
 
 pub returns-in_err-model-clause-found : goal.returns-in_err-model-clause-found
 unfolding read_model

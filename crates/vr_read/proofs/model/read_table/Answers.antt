@@ -22,7 +22,7 @@ unfolding model_table
 returns c = then _ c.in_ok-base.ensures (then _ (rw (c.len-matrices.ensures, c.len-fleet.ensures, c.as_slice-vehicles.ensures) at c.in_ok-parts.ensures) (then _ c.in_ok-known.ensures (gives (search rules))))
 
 pub overflow_cast-matrices : goal.overflow_cast-matrices
-overflow_cast-matrices c = let within = base_lengths c.args.path.now (view c.args.value.now) c.in_ok-base.ensures in omega (arith, within.0, c.len-matrices.ensures)
+overflow_cast-matrices c = let within = base_lengths c.args.fields.path.now (view c.args.fields.value.now) c.in_ok-base.ensures in omega (arith, within.0, c.len-matrices.ensures)
 
 pub overflow_cast-fleet : goal.overflow_cast-fleet
-overflow_cast-fleet c = let within = base_lengths c.args.path.now (view c.args.value.now) c.in_ok-base.ensures in omega (arith, within.1, c.len-fleet.ensures)
+overflow_cast-fleet c = let within = base_lengths c.args.fields.path.now (view c.args.fields.value.now) c.in_ok-base.ensures in omega (arith, within.1, c.len-fleet.ensures)

@@ -1,0 +1,12 @@
+//! A model whose table was read, before the rules on the whole of it are asked.
+
+ghost use Rattle.vr_read.specs.ModelParts.{HasModelParts, HasModelParts-prop};
+
+use vr_model::Model;
+
+/// A model that its table gives: each of its parts is in range.
+#[derive(Clone, Copy)]
+pub(crate) struct Tabled<'a> {
+    pub(crate) model: &'a Model,
+    pub ghost parts: { HasModelParts model.now } by { HasModelParts-prop model.now },
+}
