@@ -1,5 +1,5 @@
 -- What a solution keeps of each of its routes, and a route of each of its plans.
-use Rattle.std.proofs.Common.{◌≡◌, ◌<◌, ℕ, List, [], get_or, length, sym, ap, subst, ◌∙◌, arith}
+use Rattle.std.proofs.Common.{◌≡◌, ◌<◌, ◌≤◌, ℕ, List, [], get_or, length, sym, ap, subst, ◌∙◌, arith}
 use Rattle.std.specs.Prelude.{IsTrue, slice_index_or}
 use Rattle.std.specs.List.{list_all}
 use Rattle.std.proofs.lemmas.List.{get_or_default, length-map}
@@ -13,7 +13,7 @@ use Rattle.vr_printed.specs.Shape.{is_route_shaped, plan_in}
 use Rattle.vr_printed.specs.declared.printed.Printed.{Printed}
 use Rattle.vr_printed.specs.declared.printed.PrintedPlan.{PrintedPlan}
 use Rattle.vr_printed.specs.declared.printed.PrintedRoute.{PrintedRoute}
-use Rattle.vr_printed.proofs.Shaped.{lengths_of, route_shaped, routes_count, visits_long}
+use Rattle.vr_printed.proofs.Shaped.{lengths_of, plans_few, route_shaped, routes_count, visits_long}
 use Rattle.vr_check.specs.Kept.{FitsLine, IsLineOf, IsRouteOf, IsSolutionOf}
 use Rattle.vr_check.proofs.PrintedLists.{route_is}
 
@@ -21,6 +21,10 @@ module _ (model : Model) (printed : Printed) (lists : List (List ℕ)) (routes :
   -- there are no more lists than routes
   pub lists_count : length lists ≡ length routes
   lists_count = ap length of.lists_are ∙ length-map routes visits_of
+
+  -- there are at most a hundred routes
+  pub few_routes : IsWellFormed model → length routes ≤ 100
+  few_routes well = omega (arith, routes_count model routes of.shaped, well.number_of_vehicles.at_most)
 
   -- the route of a vehicle
   route_kept : IsWellFormed model → (v : ℕ) → v < length routes → (list : List ℕ) (other : PrintedRoute) → list ≡ route lists v → other ≡ slice_index_or routes v no_route → IsRouteOf model v list other
@@ -33,8 +37,8 @@ module _ (model : Model) (printed : Printed) (lists : List (List ℕ)) (routes :
   }
 
   -- the route of a vehicle, as indices into lists and routes give its parts
-  pub route_at : IsWellFormed model → (v : ℕ) → v < length routes → (list at : List ℕ) (other : PrintedRoute) → list ≡ at → at ≡ get_or lists v at → other ≡ get_or routes v other → IsRouteOf model v list other
-  route_at well v low list at other same l r =
+  pub route_kept_at : IsWellFormed model → (v : ℕ) → v < length routes → (list at : List ℕ) (other : PrintedRoute) → list ≡ at → at ≡ get_or lists v at → other ≡ get_or routes v other → IsRouteOf model v list other
+  route_kept_at well v low list at other same l r =
       let there : v < length lists = omega (arith, low, lists_count) in
       route_kept well v low list other (same ∙ (l ∙ get_or_default lists v at [] there)) (r ∙ get_or_default routes v other no_route low)
 
@@ -53,3 +57,7 @@ module _ (model : Model) (v : ℕ) (list : List ℕ) (route : PrintedRoute) (of 
         slacks = omega (arith, lengths.slacks, lengths.nodes, long);
         breaks = lengths.breaks;
       })
+
+-- a route has at most four plans
+pub four_plans : (model : Model) (v : ℕ) (list : List ℕ) (route : PrintedRoute) → IsRouteOf model v list route → IsWellFormed model → length route.plans ≤ 4
+four_plans model v list route of well = omega (arith, plans_few model v route of.shaped, well.number_of_dimensions)

@@ -28,6 +28,10 @@ stop_rows_of it = stop_rows (dimension_at it.model.now it.d) it.v it.list.now
 abbrev pub row_at_stop : Asked → ℕ → Option StopRow
 row_at_stop it k = slice_index_or (stop_rows_of it) k None
 
+-- the capacity of the vehicle and the row of stop k allow a cumul
+abbrev pub is_let : Asked → ℕ → ℤ → Bool
+is_let it k x = stop_allows (number_at (dimension_at it.model.now it.d).capacities it.v) (row_at_stop it k) x
+
 -- the start is 0 where the dimension fixes it
 abbrev pub is_start_free : Asked → ℕ → ℤ → Bool
 is_start_free it k x = not (k == 0) || (not (dimension_at it.model.now it.d).fix_start || is_same_number x (pos 0))

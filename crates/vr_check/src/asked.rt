@@ -116,6 +116,15 @@ impl<'a> Asked<'a> {
         }
     }
 
+    // Whether the capacity and the row of a stop allow a cumul.
+    fn is_let(&self, k: usize, x: i64) -> bool
+        requires stop { k ≤ arcs_of self.now }
+        ensures { result ≡ asked_lines.is_let self.now k x }
+    {
+        let capacity = capacity_of(self.dimension(), self.v);
+        stop_lets(capacity, self.row(k), x)
+    }
+
     // Whether a cumul is 0 where it must be.
     fn is_start_free(&self, k: usize, x: i64) -> bool
         ensures { result ≡ asked_lines.is_start_free self.now k x }
@@ -128,8 +137,7 @@ impl<'a> Asked<'a> {
         requires stop { k ≤ arcs_of self.now }
         ensures { result ≡ schedules.allows (line_of self.now) k x }
     {
-        let capacity = capacity_of(self.dimension(), self.v);
-        stop_lets(capacity, self.row(k), x) && self.is_start_free(k, x)
+        self.is_let(k, x) && self.is_start_free(k, x)
     }
 
     /// How many arcs there are.

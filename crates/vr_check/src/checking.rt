@@ -51,7 +51,7 @@ fn lists_finding<'a>(
     ensures { IfOk result (λ found. found ≡ checks.lists_finding closed.entry.model.now printed.now lists.now) }
 {
     let routes = printed.routes.as_slice();
-    if let Some(spot) = wrong_ends(closed.model, routes) {
+    if let Some(spot) = wrong_ends(closed, routes) {
         return Ok(Rule::Ends.broken(spot));
     }
     if let Some(spot) = repeated(lists) {
@@ -79,16 +79,16 @@ fn visits_finding(alloc: Global, solution: &Solution<'_>) -> Result<Finding, NoM
     if let Some(spot) = missing(model, lists) {
         return Ok(Rule::Required.broken(spot));
     }
-    if let Some(spot) = wrong_group(model, lists) {
+    if let Some(spot) = wrong_group(solution.closed, lists) {
         return Ok(Rule::Group.broken(spot));
     }
-    if let Some(spot) = wrong_pair(model, lists) {
+    if let Some(spot) = wrong_pair(solution.closed, lists) {
         return Ok(Rule::Pair.broken(spot));
     }
-    if let Some(spot) = wrong_policy(alloc, model, lists)? {
+    if let Some(spot) = wrong_policy(alloc, solution)? {
         return Ok(Rule::Policy.broken(spot));
     }
-    if let Some(spot) = refused(model, lists) {
+    if let Some(spot) = refused(solution) {
         return Ok(Rule::Allowed.broken(spot));
     }
     Ok(plans_finding(solution))

@@ -1,77 +1,53 @@
 //! The parts of the cost that lists have by themselves: arcs, fixed costs and penalties, in 128 bits.
 
-ghost use Rattle.std.specs.Prelude.{◌≡◌, ◌<◌, ◌≤◌, ◌^◌, ◌≤ℤ◌, ◌-ℤ◌, ◌*ℤ◌, cond, pos, length, IsTrue};
-ghost use Rattle.std.specs.List.{list_all};
-ghost use Rattle.vr_model.specs.routes.Costs.{arcs_part, fixed_part, penalty_for, penalty_part};
-ghost use Rattle.vr_model.specs.routes.Routes.{are_lists, is_empty, route_cost};
+ghost use Rattle.std.specs.Prelude.{◌≡◌, ◌^◌, ◌≤ℤ◌, ◌-ℤ◌, cond, pos};
+ghost use Rattle.vr_model.specs.routes.Costs.{penalty_for, penalty_part};
+ghost use Rattle.vr_model.specs.routes.Routes.{is_empty, route_cost};
 ghost use Rattle.vr_model.specs.routes.Rules.{active_in};
-ghost use Rattle.vr_model.specs.tables.Tables.{is_visit, vehicle_at};
+ghost use Rattle.vr_model.specs.tables.Tables.{vehicle_at};
 ghost use Rattle.vr_model.specs.tables.Limits.{greatest_cost};
 ghost use Rattle.vr_model.specs.tables.WellFormed.{IsIn, WherePresent};
 ghost use Rattle.vr_check.specs.Terms.{IsAround};
 
 use crate::numbers::times;
+use crate::printed::VehicleRoute;
 use crate::visits::active_in as count_active;
 use vr_model::{Closed, Group, Seq};
 
-// The costs of the arcs that a vehicle takes with a list, added up.
-fn arcs_of_route(closed: Closed<'_>, v: usize, list: &[u32]) -> i128
-    requires vehicle { v < length closed.model.now.vehicles }
-    requires visits { IsTrue (list_all (is_visit closed.model.now) list.now) }
-    ensures value { result ≡ route_cost closed.entry.model.now v list.now }
+/// The costs of the arcs of a route, added up.
+pub(crate) fn arcs_of_route(on: &VehicleRoute<'_>) -> i128
+    ensures value { result ≡ route_cost on.now.closed.model.now on.now.v on.now.list.now }
     ensures low { pos 0 ≤ℤ result }
     ensures high { result ≤ℤ pos (2 ^ 104) }
 {
+    let model = on.closed.model;
+    let list = on.list;
     if list.is_empty() {
         return 0;
     }
-    let ends = closed.model.vehicles.get(v);
+    let v = on.v as u32;
+    let ends = model.vehicles.get(on.v);
     let mut at = ends.start;
     let mut total: i128 = 0;
     for &node in list {
-        total += i128::from(closed.model.arc_cost(v as u32, at, node));
+        total += i128::from(model.arc_cost(v, at, node));
         at = node;
     }
-    total + i128::from(closed.model.arc_cost(v as u32, at, ends.end))
+    total + i128::from(model.arc_cost(v, at, ends.end))
 }
 
-/// The arcs part.
-pub(crate) fn arcs_of(closed: Closed<'_>, lists: &[Seq<u32>]) -> i128
-    requires vehicles { length lists.now ≤ length closed.model.now.vehicles }
-    requires visits { IsTrue (are_lists closed.model.now lists.now) }
-    ensures { result ≡ arcs_part closed.entry.model.now lists.now }
-{
-    let mut total: i128 = 0;
-    for v in 0..lists.len() {
-        total += arcs_of_route(closed, v, lists[v].as_slice());
-    }
-    total
-}
-
-// What the use of a vehicle costs with a list.
-fn fixed_of_route(closed: Closed<'_>, v: usize, list: &[u32]) -> i64
-    requires vehicle { v < length closed.model.now.vehicles }
-    ensures value { result ≡ cond (is_empty list.now) (pos 0) (vehicle_at closed.entry.model.now v).fixed }
+/// What the use of the vehicle of a route costs.
+pub(crate) fn fixed_of_route(on: &VehicleRoute<'_>) -> i64
+    ensures value { result
+        ≡ cond (is_empty on.now.list.now) (pos 0) (vehicle_at on.now.closed.model.now on.now.v).fixed }
     ensures low { pos 0 ≤ℤ result }
     ensures high { result ≤ℤ pos (2 ^ 40) }
 {
-    if list.is_empty() {
+    if on.list.is_empty() {
         0
     } else {
-        closed.model.vehicles.get(v).fixed
+        on.closed.model.vehicles.get(on.v).fixed
     }
-}
-
-/// The fixed part.
-pub(crate) fn fixed_of(closed: Closed<'_>, lists: &[Seq<u32>]) -> i128
-    requires vehicles { length lists.now ≤ length closed.model.now.vehicles }
-    ensures { result ≡ fixed_part closed.entry.model.now lists.now }
-{
-    let mut total: i128 = 0;
-    for v in 0..lists.len() {
-        total += i128::from(fixed_of_route(closed, v, lists[v].as_slice()));
-    }
-    total
 }
 
 // How many nodes fewer of a group are active than may be.

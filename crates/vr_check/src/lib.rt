@@ -21,6 +21,7 @@ mod plans;
 mod printed;
 mod softs;
 mod spans;
+mod totals;
 mod visits;
 
 pub use checking::check;

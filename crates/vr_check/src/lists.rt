@@ -6,7 +6,7 @@ ghost use Rattle.vr_check.specs.Lists.{ends_broken, ends_broken_of, once_broken,
 
 use crate::finding::Spot;
 use crate::held::{holds, is_active};
-use vr_model::{Model, Seq};
+use vr_model::{Closed, Model, Seq};
 use vr_printed::PrintedRoute;
 
 // Whether the node at a place of a route is one that may stand there.
@@ -26,11 +26,11 @@ fn is_right_node(model: &Model, vehicle: usize, nodes: &[u32], k: usize) -> bool
 }
 
 // The first place of a route where another node should stand.
-fn wrong_node(model: &Model, vehicle: usize, nodes: &[u32]) -> Option<Spot>
-    requires vehicle { vehicle < length model.now.vehicles }
-    requires few { length model.now.vehicles ≤ 100 }
-    ensures { result ≡ ends_broken_of model.now vehicle nodes.now }
+fn wrong_node(closed: Closed<'_>, vehicle: usize, nodes: &[u32]) -> Option<Spot>
+    requires { vehicle < length closed.model.now.vehicles }
+    ensures { result ≡ ends_broken_of closed.entry.model.now vehicle nodes.now }
 {
+    let model = closed.model;
     for k in 0..nodes.len() {
         if !is_right_node(model, vehicle, nodes, k) {
             return Some(Spot::at(vehicle, k));
@@ -40,13 +40,12 @@ fn wrong_node(model: &Model, vehicle: usize, nodes: &[u32]) -> Option<Spot>
 }
 
 /// Where a route does not begin at its start or end at its end, or another entry is no visit.
-pub(crate) fn wrong_ends(model: &Model, routes: &[PrintedRoute]) -> Option<Spot>
-    requires vehicles { length routes.now ≤ length model.now.vehicles }
-    requires few { length model.now.vehicles ≤ 100 }
-    ensures { result ≡ ends_broken model.now routes.now }
+pub(crate) fn wrong_ends(closed: Closed<'_>, routes: &[PrintedRoute]) -> Option<Spot>
+    requires { length routes.now ≤ length closed.model.now.vehicles }
+    ensures { result ≡ ends_broken closed.entry.model.now routes.now }
 {
     for v in 0..routes.len() {
-        let spot = wrong_node(model, v, routes[v].nodes.as_slice());
+        let spot = wrong_node(closed, v, routes[v].nodes.as_slice());
         if spot.is_some() {
             return spot;
         }

@@ -10,11 +10,11 @@ ghost use Rattle.vr_check.specs.Parts as part_rules;
 ghost use Rattle.vr_check.specs.Parts.{cost_broken, first_cost_broken, limits_broken, part_broken, parts_broken};
 ghost use Rattle.vr_check.specs.Terms.{IsAround};
 
-use crate::costs::{arcs_of, fixed_of, penalty_of};
+use crate::costs::penalty_of;
 use crate::finding::Spot;
 use crate::printed::Solution;
-use crate::softs::soft_of;
-use crate::spans::{global_of, span_of};
+use crate::spans::global_of;
+use crate::totals::{arcs_of, fixed_of, soft_of, span_of};
 use vr_model::{Model, Parts};
 use vr_printed::Printed;
 
@@ -55,14 +55,16 @@ pub(crate) fn wrong_parts(solution: &Solution<'_>) -> Option<Spot>
     ensures { result ≡ parts_broken solution.now.closed.model.now solution.now.printed.now }
 {
     let parts = &solution.printed.parts;
-    let closed = solution.closed;
-    let lists = solution.lists;
     let span = wrong_part(5, parts.span, span_of(solution));
     let soft = wrong_part(4, parts.soft, soft_of(solution));
-    let penalty = wrong_part(3, parts.penalty, penalty_of(closed, lists));
+    let penalty = wrong_part(
+        3,
+        parts.penalty,
+        penalty_of(solution.closed, solution.lists),
+    );
     let global = wrong_part(2, parts.global, global_of(solution));
-    let fixed = wrong_part(1, parts.fixed, fixed_of(closed, lists));
-    let arcs = wrong_part(0, parts.arcs, arcs_of(closed, lists));
+    let fixed = wrong_part(1, parts.fixed, fixed_of(solution));
+    let arcs = wrong_part(0, parts.arcs, arcs_of(solution));
     let later = earlier(penalty, earlier(soft, span));
     earlier(arcs, earlier(fixed, earlier(global, later)))
 }

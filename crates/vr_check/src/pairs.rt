@@ -1,6 +1,6 @@
 //! The rules on pairs, policies and allowed vehicles.
 
-ghost use Rattle.std.specs.Prelude.{◌≡◌, ◌<◌, ◌≤◌, ◌^◌, ◌==◌, find, length, map, IfOk};
+ghost use Rattle.std.specs.Prelude.{◌≡◌, ◌==◌, find, map, IfOk};
 ghost use Rattle.std.specs.List.{list_all};
 ghost use Rattle.vr_model.specs.moves.Moves as moves;
 ghost use Rattle.vr_model.specs.routes.Rules as rules;
@@ -12,8 +12,9 @@ ghost use Rattle.vr_check.specs.Terms.{places_of};
 
 use crate::finding::Spot;
 use crate::held::holds;
+use crate::printed::{Solution, VehicleRoute};
 use std::alloc::Global;
-use vr_model::{Model, NoMemory, Pair, Policy, Seq};
+use vr_model::{Closed, Model, NoMemory, Pair, Policy, Seq};
 
 // Whether a node stands in a list and another one behind it.
 fn comes_before(list: &[u32], first: u32, second: u32) -> bool
@@ -43,10 +44,10 @@ fn is_served(lists: &[Seq<u32>], pair: &Pair) -> bool
 }
 
 /// Where one node of a pair is active and the other is not, or stands in another list, or before the pickup.
-pub(crate) fn wrong_pair(model: &Model, lists: &[Seq<u32>]) -> Option<Spot>
-    requires { length model.now.pairs ≤ 500 }
-    ensures { result ≡ pair_broken model.now lists.now }
+pub(crate) fn wrong_pair(closed: Closed<'_>, lists: &[Seq<u32>]) -> Option<Spot>
+    ensures { result ≡ pair_broken closed.entry.model.now lists.now }
 {
+    let model = closed.model;
     for p in 0..model.pairs.len() {
         if !is_served(lists, model.pairs.get(p)) {
             return Some(Spot::of_none(p));
@@ -118,32 +119,23 @@ fn all_in_order(policy: Policy, places: &[Places]) -> bool
 }
 
 // Whether the policy of a vehicle holds of each two pairs of its list.
-fn keeps_policy(
-    alloc: Global,
-    model: &Model,
-    vehicle: usize,
-    list: &[u32],
-) -> Result<bool, NoMemory>
-    requires { vehicle < length model.now.vehicles }
-    ensures { IfOk result (λ keeps. keeps ≡ rules.keeps_policy model.now vehicle list.now) }
+fn keeps_policy(alloc: Global, on: &VehicleRoute<'_>) -> Result<bool, NoMemory>
+    ensures { IfOk result (λ keeps. keeps ≡ rules.keeps_policy on.now.closed.model.now on.now.v on.now.list.now) }
 {
-    let places = places_in(alloc, model, list)?;
-    let policy = model.vehicles.get(vehicle).policy;
+    let model = on.closed.model;
+    let places = places_in(alloc, model, on.list)?;
+    let policy = model.vehicles.get(on.v).policy;
     Ok(all_in_order(policy, places.as_slice()))
 }
 
 /// Where the policy of a vehicle fails.
-pub(crate) fn wrong_policy(
-    alloc: Global,
-    model: &Model,
-    lists: &[Seq<u32>],
-) -> Result<Option<Spot>, NoMemory>
-    requires vehicles { length lists.now ≤ length model.now.vehicles }
-    requires few { length lists.now ≤ 100 }
-    ensures { IfOk result (λ spot. spot ≡ policy_broken model.now lists.now) }
+pub(crate) fn wrong_policy(alloc: Global, solution: &Solution<'_>) -> Result<Option<Spot>, NoMemory>
+    ensures { IfOk result (λ spot. spot ≡ policy_broken solution.now.closed.model.now solution.now.lists.now) }
 {
+    let lists = solution.lists;
     for v in 0..lists.len() {
-        if !keeps_policy(alloc, model, v, lists[v].as_slice())? {
+        let on = solution.route(v);
+        if !keeps_policy(alloc, &on)? {
             return Ok(Some(Spot::of_vehicle(v)));
         }
     }
@@ -151,10 +143,12 @@ pub(crate) fn wrong_policy(
 }
 
 // The first place of a list whose visit does not allow the vehicle.
-fn refused_visit(model: &Model, vehicle: usize, list: &[u32]) -> Option<Spot>
-    requires { vehicle < 2 ^ 32 }
-    ensures { result ≡ allowed_broken_of model.now vehicle list.now }
+fn refused_visit(on: &VehicleRoute<'_>) -> Option<Spot>
+    ensures { result ≡ allowed_broken_of on.now.closed.model.now on.now.v on.now.list.now }
 {
+    let model = on.closed.model;
+    let vehicle = on.v;
+    let list = on.list;
     for (k, &node) in list.iter().enumerate() {
         if !model.allows_vehicle(vehicle as u32, node) {
             return Some(Spot::at(vehicle, k + 1));
@@ -164,12 +158,13 @@ fn refused_visit(model: &Model, vehicle: usize, list: &[u32]) -> Option<Spot>
 }
 
 /// Where a visit stands on a vehicle that it does not allow.
-pub(crate) fn refused(model: &Model, lists: &[Seq<u32>]) -> Option<Spot>
-    requires { length lists.now ≤ 100 }
-    ensures { result ≡ allowed_broken model.now lists.now }
+pub(crate) fn refused(solution: &Solution<'_>) -> Option<Spot>
+    ensures { result ≡ allowed_broken solution.now.closed.model.now solution.now.lists.now }
 {
+    let lists = solution.lists;
     for v in 0..lists.len() {
-        let spot = refused_visit(model, v, lists[v].as_slice());
+        let on = solution.route(v);
+        let spot = refused_visit(&on);
         if spot.is_some() {
             return spot;
         }

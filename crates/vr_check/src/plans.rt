@@ -11,7 +11,6 @@ ghost use Rattle.vr_check.specs.Plans.{slack_broken};
 ghost use Rattle.vr_check.specs.Terms as terms;
 ghost use Rattle.vr_printed.specs.Printed.{plan_of};
 
-use crate::asked::Asked;
 use crate::breaks::are_breaks_right;
 use crate::finding::Spot;
 use crate::printed::{LinePlan, Solution, VehicleRoute};
@@ -124,16 +123,7 @@ fn wrong_route(rule: PlanRule, on: &VehicleRoute<'_>) -> Option<Spot>
     ensures { result ≡ route_broken rule on.now.closed.model.now on.now.v on.now.route.now }
 {
     for d in 0..on.route.plans.len() {
-        let asked = Asked {
-            model: on.closed.model,
-            d,
-            v: on.v,
-            list: on.list,
-        };
-        let of = LinePlan {
-            asked,
-            plan: on.route.plans.get(d),
-        };
+        let of = on.plan(d);
         let spot = wrong_plan(rule, &of);
         if spot.is_some() {
             return spot;
@@ -146,15 +136,9 @@ fn wrong_route(rule: PlanRule, on: &VehicleRoute<'_>) -> Option<Spot>
 pub(crate) fn wrong_routes(rule: PlanRule, solution: &Solution<'_>) -> Option<Spot>
     ensures { result ≡ routes_broken rule solution.now.closed.model.now solution.now.routes.now }
 {
-    let lists = solution.lists;
     let routes = solution.routes;
     for v in 0..routes.len() {
-        let on = VehicleRoute {
-            closed: solution.closed,
-            v,
-            list: lists[v].as_slice(),
-            route: &routes[v],
-        };
+        let on = solution.route(v);
         let spot = wrong_route(rule, &on);
         if spot.is_some() {
             return spot;

@@ -1,6 +1,7 @@
 //! Printed solutions, routes and plans, each beside what the model says of it.
 
 ghost use Rattle.std.proofs.Props.{props};
+ghost use Rattle.std.specs.Prelude.{◌≡◌, ◌<◌, length};
 ghost use Rattle.vr_check.specs.Kept.{FitsLine, IsRouteOf, IsSolutionOf};
 
 use crate::asked::Asked;
@@ -17,6 +18,25 @@ pub(crate) struct Solution<'a> {
     pub ghost sound: { IsSolutionOf closed.model.now printed.now lists.now routes.now } by { Prim.hlevel props },
 }
 
+impl<'a> Solution<'a> {
+    ghost use Rattle.vr_check.specs.Handed.{parts_of_route, route_at};
+
+    /// The route of a vehicle.
+    pub(crate) fn route(&self, v: usize) -> VehicleRoute<'a>
+        requires { v < length self.now.routes.now }
+        ensures { parts_of_route result ≡ route_at self.now v }
+    {
+        let lists = self.lists;
+        let routes = self.routes;
+        VehicleRoute {
+            closed: self.closed,
+            v,
+            list: lists[v].as_slice(),
+            route: &routes[v],
+        }
+    }
+}
+
 /// The printed route of a vehicle, and the visits on it.
 #[derive(Clone, Copy)]
 pub(crate) struct VehicleRoute<'a> {
@@ -25,6 +45,27 @@ pub(crate) struct VehicleRoute<'a> {
     pub(crate) list: &'a [u32],
     pub(crate) route: &'a PrintedRoute,
     pub ghost sound: { IsRouteOf closed.model.now v list.now route.now },
+}
+
+impl<'a> VehicleRoute<'a> {
+    ghost use Rattle.vr_check.specs.Handed.{parts_of_plan, plan_at};
+
+    /// The plan in a dimension.
+    pub(crate) fn plan(&self, d: usize) -> LinePlan<'a>
+        requires { d < length self.now.route.now.plans }
+        ensures { parts_of_plan result ≡ plan_at self.now d }
+    {
+        let asked = Asked {
+            model: self.closed.model,
+            d,
+            v: self.v,
+            list: self.list,
+        };
+        LinePlan {
+            asked,
+            plan: self.route.plans.get(d),
+        }
+    }
 }
 
 /// A printed plan, and the line that it is of.

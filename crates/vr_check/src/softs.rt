@@ -1,20 +1,16 @@
 //! What printed cumuls cost above soft upper bounds, in 128 bits.
 
-ghost use Rattle.std.specs.Prelude.{◌≡◌, ◌^◌, ◌-ℤ◌, pos, length};
+ghost use Rattle.std.specs.Prelude.{◌≡◌, ◌^◌, ◌-ℤ◌, pos};
 ghost use Rattle.std.specs.Int.{int_max};
 ghost use Rattle.std.specs.Option.{option_copied};
-ghost use Rattle.vr_model.specs.tables.Numbers.{below, total_by};
 ghost use Rattle.vr_model.specs.tables.WellFormed.{IsSoft, IsStopRow, WherePresent};
 ghost use Rattle.vr_model.specs.routes.Costs as costs;
-ghost use Rattle.vr_model.specs.routes.Costs.{soft_part};
-ghost use Rattle.vr_printed.specs.Printed.{assignment_of};
 ghost use Rattle.vr_check.specs.Asked.{stop_rows_of};
-ghost use Rattle.vr_check.specs.Terms.{IsAround, soft_along, soft_in};
+ghost use Rattle.vr_check.specs.Terms.{IsAround, soft_along};
 
-use crate::asked::Asked;
 use crate::numbers::times;
 use crate::plans::cumul_at;
-use crate::printed::{LinePlan, Solution, VehicleRoute};
+use crate::printed::LinePlan;
 use vr_model::{Soft, StopRow};
 
 // How far a cumul is above a bound.
@@ -50,56 +46,14 @@ fn row_cost(row: Option<&StopRow>, cumul: i64) -> i128
     }
 }
 
-// What the cumuls of a plan cost by the rows of their stops.
-fn soft_of_plan(of: &LinePlan<'_>) -> i128
+/// What the cumuls of a plan cost by the rows of their stops.
+pub(crate) fn soft_of_plan(of: &LinePlan<'_>) -> i128
     ensures value { result ≡ soft_along (stop_rows_of of.now.asked) of.now.plan.now.cumuls }
     ensures range { IsAround (2 ^ 116) result }
 {
     let mut total: i128 = 0;
     for k in 0..of.plan.cumuls.len() {
         total += row_cost(of.asked.row(k), cumul_at(of.plan, k));
-    }
-    total
-}
-
-// What the cumuls of a route cost by the rows of their stops.
-fn soft_of_route(on: &VehicleRoute<'_>) -> i128
-    ensures value { result
-        ≡ total_by (soft_in on.now.closed.model.now on.now.v on.now.route.now) (below (length on.now.route.now.plans)) }
-    ensures range { IsAround (2 ^ 118) result }
-{
-    let mut total: i128 = 0;
-    for d in 0..on.route.plans.len() {
-        let asked = Asked {
-            model: on.closed.model,
-            d,
-            v: on.v,
-            list: on.list,
-        };
-        let of = LinePlan {
-            asked,
-            plan: on.route.plans.get(d),
-        };
-        total += soft_of_plan(&of);
-    }
-    total
-}
-
-/// The soft part.
-pub(crate) fn soft_of(solution: &Solution<'_>) -> i128
-    ensures { result ≡ soft_part solution.now.closed.model.now (assignment_of solution.now.routes.now) }
-{
-    let lists = solution.lists;
-    let routes = solution.routes;
-    let mut total: i128 = 0;
-    for v in 0..routes.len() {
-        let on = VehicleRoute {
-            closed: solution.closed,
-            v,
-            list: lists[v].as_slice(),
-            route: &routes[v],
-        };
-        total += soft_of_route(&on);
     }
     total
 }

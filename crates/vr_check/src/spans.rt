@@ -1,19 +1,19 @@
 //! What the spans of printed plans cost, in 128 bits.
 
-ghost use Rattle.std.specs.Prelude.{◌≡◌, ◌<◌, ◌^◌, length, pos, IsTrue};
-ghost use Rattle.vr_model.specs.tables.Numbers.{below, number_at, total_by};
+ghost use Rattle.std.specs.Prelude.{◌≡◌, ◌<◌, ◌^◌, length, pos};
+ghost use Rattle.vr_model.specs.tables.Numbers.{number_at};
 ghost use Rattle.vr_model.specs.tables.Limits.{greatest_cost};
 ghost use Rattle.vr_model.specs.tables.WellFormed.{IsIn};
 ghost use Rattle.vr_model.specs.tables.Tables.{dimension_at};
-ghost use Rattle.vr_model.specs.routes.Costs.{global_part, global_span, span_part};
+ghost use Rattle.vr_model.specs.routes.Costs.{global_part, global_span};
 ghost use Rattle.vr_printed.specs.Printed.{assignment_of};
-ghost use Rattle.vr_printed.specs.Shape.{is_route_shaped, plan_in};
+ghost use Rattle.vr_printed.specs.Shape.{plan_in};
 ghost use Rattle.vr_check.specs.Terms as terms;
 ghost use Rattle.vr_check.specs.Terms.{IsAround, span_along, span_in};
 
 use crate::numbers::times;
 use crate::plans::cumul_at;
-use crate::printed::Solution;
+use crate::printed::{Solution, VehicleRoute};
 use vr_model::Closed;
 use vr_printed::{PrintedPlan, PrintedRoute};
 
@@ -52,43 +52,14 @@ fn span_coefficient(closed: Closed<'_>, v: usize, d: usize) -> i64
     *closed.model.dimensions.get(d).span_costs.get(v)
 }
 
-// What the span of a plan of a route costs.
-fn span_cost(closed: Closed<'_>, v: usize, route: &PrintedRoute, d: usize) -> i128
-    requires vehicle { v < length closed.model.now.vehicles }
-    requires dimension { d < length closed.model.now.dimensions }
-    requires plan { d < length route.now.plans }
-    requires cumuls { 0 < length (plan_in route.now d).cumuls }
-    ensures value { result ≡ span_in closed.entry.model.now v route.now d }
+/// What the span of a plan of a route costs.
+pub(crate) fn span_cost(on: &VehicleRoute<'_>, d: usize) -> i128
+    requires { d < length on.now.route.now.plans }
+    ensures value { result ≡ span_in on.now.closed.model.now on.now.v on.now.route.now d }
     ensures range { IsAround (2 ^ 106) result }
 {
-    let coefficient = span_coefficient(closed, v, d);
-    times(coefficient, span_of_plan(route.plans.get(d)))
-}
-
-// What the spans of a route cost.
-fn span_of_route(closed: Closed<'_>, v: usize, route: &PrintedRoute) -> i128
-    requires vehicle { v < length closed.model.now.vehicles }
-    requires shaped { IsTrue (is_route_shaped closed.model.now v route.now) }
-    ensures value { result ≡ total_by (span_in closed.entry.model.now v route.now) (below (length route.now.plans)) }
-    ensures range { IsAround (2 ^ 108) result }
-{
-    let mut total: i128 = 0;
-    for d in 0..route.plans.len() {
-        total += span_cost(closed, v, route, d);
-    }
-    total
-}
-
-/// The span part.
-pub(crate) fn span_of(solution: &Solution<'_>) -> i128
-    ensures { result ≡ span_part solution.now.closed.model.now (assignment_of solution.now.routes.now) }
-{
-    let routes = solution.routes;
-    let mut total: i128 = 0;
-    for v in 0..routes.len() {
-        total += span_of_route(solution.closed, v, &routes[v]);
-    }
-    total
+    let coefficient = span_coefficient(on.closed, on.v, d);
+    times(coefficient, span_of_plan(on.route.plans.get(d)))
 }
 
 /// The least start and the greatest end of some routes in a dimension.

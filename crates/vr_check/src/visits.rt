@@ -1,6 +1,6 @@
 //! The rules on which visits are active.
 
-ghost use Rattle.std.specs.Prelude.{◌≡◌, ◌≤◌, length};
+ghost use Rattle.std.specs.Prelude.{◌≡◌};
 ghost use Rattle.vr_model.specs.moves.MoveTests as moves;
 ghost use Rattle.vr_model.specs.routes.Rules as rules;
 ghost use Rattle.vr_check.specs.Terms as terms;
@@ -9,7 +9,7 @@ ghost use Rattle.vr_check.specs.Visits.{dropped_broken, group_broken, required_b
 
 use crate::finding::Spot;
 use crate::held::{holds, is_active};
-use vr_model::{Group, Model, Seq};
+use vr_model::{Closed, Group, Model, Seq};
 
 // Whether a visit stands in no list.
 fn is_inactive(model: &Model, lists: &[Seq<u32>], node: u32) -> bool
@@ -99,10 +99,10 @@ fn has_right_number(lists: &[Seq<u32>], group: &Group) -> bool
 }
 
 /// Where too many nodes of a group are active, or without a penalty not exactly as many as may be.
-pub(crate) fn wrong_group(model: &Model, lists: &[Seq<u32>]) -> Option<Spot>
-    requires { length model.now.groups ≤ 1000 }
-    ensures { result ≡ group_broken model.now lists.now }
+pub(crate) fn wrong_group(closed: Closed<'_>, lists: &[Seq<u32>]) -> Option<Spot>
+    ensures { result ≡ group_broken closed.entry.model.now lists.now }
 {
+    let model = closed.model;
     for k in 0..model.groups.len() {
         if !has_right_number(lists, model.groups.get(k)) {
             return Some(Spot::of_none(k));

@@ -8,21 +8,21 @@ use Rattle.vr_check.proofs.costs.arcs_of_route.Goals as goal
 
 pub loop-node-preserved : goal.loop-node-preserved
 loop-node-preserved c =
-    let next = path_cost-drop c.args.closed.model.now c.args.v c.loop-node.at c.get-ends.result.now.end c.args.list.now c.loop-node.node-index c.loop-node-test.true in
+    let next = path_cost-drop c.args.on.now.closed.model.now c.args.on.now.v c.loop-node.at c.get-ends.result.now.end c.args.on.now.list.now c.loop-node.node-index c.loop-node-test.true in
     let arc = c.arc_cost.ensures in
     let so_far = c.loop-node.invariant in
     record {
       sum = omega (arith, ints, next, arc.value, arc.not_negative, arc.bound, so_far.sum, so_far.low, so_far.high, c.loop-node-test.true, c.from-total.ensures);
       low = omega (arith, ints, arc.not_negative, arc.bound, so_far.low, so_far.high, c.loop-node-test.true, c.from-total.ensures);
       high = omega (arith, ints, arc.not_negative, arc.bound, so_far.low, so_far.high, c.loop-node-test.true, c.from-total.ensures);
-      at = visit_at c.args.closed.model.now c.args.list.now c.loop-node.node-index 0 c.requires.visits c.loop-node-test.true;
+      at = visit_at c.args.on.now.closed.model.now c.args.on.now.list.now c.loop-node.node-index 0 c.args.on.now.sound.visits c.loop-node-test.true;
     }
 
 pub returns-clause-value : goal.returns-clause-value
 returns-clause-value c =
-    let model = c.args.closed.model.now in
-    let v = c.args.v in
-    let list = c.args.list.now in
+    let model = c.args.on.now.closed.model.now in
+    let v = c.args.on.now.v in
+    let list = c.args.on.now.list.now in
     let last = c.get-ends.result.now.end in
     let arc = c.arc_cost-2.ensures in
     let so_far = c.loop-node.invariant in

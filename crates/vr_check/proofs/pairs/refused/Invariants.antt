@@ -5,4 +5,4 @@ use Rattle.vr_check.specs.Pairs.{allowed_broken_in, allowed_broken}
 use Rattle.vr_check.proofs.pairs.refused.Given as goal
 
 abbrev pub invariant-loop-v : goal.invariant-loop-v
-invariant-loop-v l = first_of (allowed_broken_in l.model l.lists) (from_to l.v (length l.lists)) ≡ allowed_broken l.model l.lists
+invariant-loop-v l = first_of (allowed_broken_in l.solution.closed.model.now l.solution.lists.now) (from_to l.v (length l.solution.lists.now)) ≡ allowed_broken l.solution.closed.model.now l.solution.lists.now

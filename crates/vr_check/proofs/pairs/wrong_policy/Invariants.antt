@@ -5,4 +5,4 @@ use Rattle.vr_check.specs.Pairs.{policy_broken_in, policy_broken}
 use Rattle.vr_check.proofs.pairs.wrong_policy.Given as goal
 
 abbrev pub invariant-loop-v : goal.invariant-loop-v
-invariant-loop-v l = first_of (policy_broken_in l.model l.lists) (from_to l.v (length l.lists)) ≡ policy_broken l.model l.lists
+invariant-loop-v l = first_of (policy_broken_in l.solution.closed.model.now l.solution.lists.now) (from_to l.v (length l.solution.lists.now)) ≡ policy_broken l.solution.closed.model.now l.solution.lists.now
