@@ -1,17 +1,15 @@
 //! The tree of a generated model.
 
 ghost use Rattle.std.specs.Prelude.{◌≡◌, ◌∷◌, ◌+◌, [], map, length, All, ◌<◌, ◌≤◌, ◌^◌, IfOk};
-ghost use Rattle.serde_json.specs.Data.{string};
 ghost use Rattle.serde_json.specs.View.{view};
 ghost use Rattle.vr_model.specs.tables.Numbers.{below};
-ghost use Rattle.vr_json.specs.Trees as json_trees;
 ghost use Rattle.vr_json.specs.Trees.{count, listed};
 ghost use Rattle.vr_gen.specs.Generated as trees;
 
-use crate::draws::{Customer, Site, customers, sites, words_of};
+use crate::draws::{Customer, Site, repeated, words_of};
 use serde_json::{Value, json};
 use std::alloc::Global;
-use vr_json::Tree;
+use vr_json::{Tree, one_entry, text_value};
 use vr_model::{NoMemory, Seq};
 
 // How far two numbers are apart.
@@ -173,22 +171,6 @@ fn demands(alloc: Global, customers: &[Customer]) -> Result<Vec<u32>, NoMemory>
     Ok(all)
 }
 
-// An array of one entry.
-fn one(alloc: Global, entry: Value) -> Result<Value, NoMemory>
-    ensures { IfOk result (λ tree. view tree ≡ json_trees.one (view entry)) }
-{
-    let mut all = Vec::new(alloc);
-    all.push(entry)?;
-    Ok(Value::Array(all))
-}
-
-// A text as a value.
-fn text(alloc: Global, text: &str) -> Result<Value, NoMemory>
-    ensures { IfOk result (λ v. view v ≡ string text.now) }
-{
-    Ok(Value::String(String::from_str(alloc, text)?))
-}
-
 // How long it takes from node to node: the distance and the visits.
 fn transit(alloc: Global, services: &[u32]) -> Result<Value, NoMemory>
     ensures { IfOk result (λ tree. view tree ≡ trees.transit services.now) }
@@ -207,8 +189,8 @@ fn times(alloc: Global, customers: &[Customer]) -> Result<Value, NoMemory>
     let mut tree = Tree::new(alloc);
     tree.put("breaks", rests(alloc)?)?;
     tree.put("capacity", Value::from(20000u32))?;
-    tree.put("evaluators", one(alloc, transit(alloc, &services)?)?)?;
-    tree.put("name", text(alloc, "time")?)?;
+    tree.put("evaluators", one_entry(alloc, transit(alloc, &services)?)?)?;
+    tree.put("name", text_value(alloc, "time")?)?;
     tree.put("nodes", windows(alloc, customers)?)?;
     tree.put("slack_max", Value::from(20000u32))?;
     tree.put("visit", values(alloc, &services)?)?;
@@ -224,9 +206,9 @@ fn loads(alloc: Global, customers: &[Customer]) -> Result<Value, NoMemory>
     let evaluator = json!(in alloc; {"values": added})?;
     let mut tree = Tree::new(alloc);
     tree.put("capacity", Value::from(60u32))?;
-    tree.put("evaluators", one(alloc, evaluator)?)?;
+    tree.put("evaluators", one_entry(alloc, evaluator)?)?;
     tree.put("fix_start", Value::Bool(true))?;
-    tree.put("name", text(alloc, "load")?)?;
+    tree.put("name", text_value(alloc, "load")?)?;
     tree.put("slack_max", Value::from(0u32))?;
     Ok(tree.finish())
 }
@@ -248,7 +230,7 @@ fn model(alloc: Global, sites: &[Site], customers: &[Customer]) -> Result<Value,
     requires { length customers.now ≤ 60 }
     ensures { IfOk result (λ tree. view tree ≡ trees.model_of sites.now customers.now) }
 {
-    let matrices = one(alloc, matrix(alloc, sites)?)?;
+    let matrices = one_entry(alloc, matrix(alloc, sites)?)?;
     let mut tree = Tree::new(alloc);
     tree.put("dimensions", dimensions(alloc, customers)?)?;
     tree.put("format", Value::from(1u32))?;
@@ -266,8 +248,8 @@ pub fn generate(alloc: Global, number: u64) -> Result<Value, NoMemory>
     ensures { IfOk result (λ tree. view tree ≡ trees.generated number) }
 {
     let mut words = words_of(number);
-    let sites = sites(alloc, &mut words, 61)?;
-    let customers = customers(alloc, &mut words, 60)?;
+    let sites = repeated::<Site>(alloc, &mut words, 61)?;
+    let customers = repeated::<Customer>(alloc, &mut words, 60)?;
     let tree = model(alloc, sites.as_slice(), customers.as_slice())?;
     Ok(tree)
 }

@@ -25,7 +25,7 @@ use Rattle.vr_tsplib.specs.declared.summaries.Problem.{Problem}
 use Rattle.vr_tsplib.specs.Flaws.{at_line, refuse_if}
 use Rattle.vr_tsplib.specs.Texts.{is_empty, words, has_byte}
 use Rattle.vr_tsplib.specs.Numbers.{number, whole_in, count_in}
-use Rattle.vr_tsplib.specs.Heads.{no_head, nodes_of, keep, keep_name, keep_node_coord_type, keep_display_data_type, keep_type, keep_dimension, keep_capacity, keep_weight_type, keep_weight_format, keyword_parts, begin, begin_sites, begin_weights, begin_demands, begin_depot, weights_left, heading_line, outside_line}
+use Rattle.vr_tsplib.specs.Heads.{no_head, nodes_of, keep, keep_name, keep_node_coord_type, keep_display_data_type, keep_type, once_number, keep_dimension, keep_capacity, keep_weight_type, keep_weight_format, keyword_parts, begin, begin_sites, begin_weights, begin_demands, begin_depot, weights_left, heading_line, outside_line}
 use Rattle.vr_tsplib.specs.Rows.{coordinate, site_row, demand_row, weight, weights_behind, row_behind, depot_row, depot_end}
 use Rattle.vr_tsplib.specs.Files.{start, line_at, sites_line, demands_line, weights_line, head_line, read_line, read_lines, complete}
 use Rattle.vr_tsplib.specs.Ranges.{IsFew, IsInRange, IsLight, IsNear, IsProblem, IsSound, IsWithin}
@@ -36,13 +36,17 @@ counted : (lo hi : ℕ) (z : ℤ) → Ensures (IsWithin lo hi) (count_in lo hi z
 counted lo hi (pos n) = tested _ _ _ (λ e. let parts = and_parts (nat_le lo n) (nat_le n hi) e in (leb-true lo n parts.0, leb-true n hi parts.1))
 counted lo hi (negsuc n) = fails
 
-whole : (lo hi z : ℤ) → Ensures (λ x. (lo ≤ℤ x) × (x ≤ℤ hi)) (whole_in lo hi z)
-whole lo hi z = tested _ _ _ (within_is lo hi z)
-
 refused : (wrong : Bool) (flaw : Flaw) → Ensures (λ passed. wrong ≡ false) (refuse_if wrong flaw)
 unfolding refuse_if
 refused true flaw = fails
 refused false flaw = gives refl
+
+once_counted : (stood : Bool) (lo hi : ℕ) (value : List ℕ) → Ensures (λ n. (stood ≡ false) × IsWithin lo hi n) (once_number stood lo hi value)
+unfolding once_number
+once_counted stood lo hi value = after any_value λ z _. after (refused stood _) λ _ fresh. weaker (λ n within. (fresh, within)) (counted lo hi z)
+
+whole : (lo hi z : ℤ) → Ensures (λ x. (lo ≤ℤ x) × (x ≤ℤ hi)) (whole_in lo hi z)
+whole lo hi z = tested _ _ _ (within_is lo hi z)
 
 -- whichever case is read
 either : {A : Type 0} {P : A → Type 0} {x y : Result A Flaw} (b : Bool) → Ensures P x → Ensures P y → Ensures P (if b then x else y)
@@ -90,18 +94,18 @@ module _ (head : Head) (h : IsInRange head) where
   dimension_keeps : (value : List ℕ) → KeepsRange (keep_dimension head value)
   unfolding keep_dimension
   dimension_keeps value =
-      after any_value λ z _. after (refused (is_some head.nodes) _) λ _ fresh. after (counted 1 1000 z) λ n within.
+      after (once_counted (is_some head.nodes) 1 1000 value) λ n found.
       gives (record {
-        nodes = within;
+        nodes = found.1;
         capacity = h.capacity;
-        depot = no_depot head.nodes head.depot (IsWithin 1 n) fresh h.depot;
+        depot = no_depot head.nodes head.depot (IsWithin 1 n) found.0 h.depot;
       })
 
   capacity_keeps : (value : List ℕ) → KeepsRange (keep_capacity head value)
   unfolding keep_capacity
   capacity_keeps value =
-      after any_value λ z _. after any_value λ _ _. after (counted 0 68719476736 z) λ n within.
-      gives (record { nodes = h.nodes; capacity = within; depot = h.depot })
+      after (once_counted (is_some head.capacity) 0 68719476736 value) λ n found.
+      gives (record { nodes = h.nodes; capacity = found.1; depot = h.depot })
 
   weight_type_keeps : (value : List ℕ) → KeepsRange (keep_weight_type head value)
   unfolding keep_weight_type
@@ -131,23 +135,23 @@ module _ (head : Head) (h : IsInRange head) where
   sites_begin : KeepsRange (begin_sites head)
   unfolding begin_sites
   sites_begin =
-      after any_value λ _ _. after any_value λ n _. gives (same_numbers head (record head { has_sites = true; place = place.Sites n }) h refl refl refl)
+      after any_value λ n _. gives (same_numbers head (record head { has_sites = true; place = place.Sites n }) h refl refl refl)
 
   weights_begin : KeepsRange (begin_weights head)
   unfolding begin_weights
   weights_begin =
-      after any_value λ _ _. after any_value λ n _. after any_value λ left _.
+      after any_value λ n _. after any_value λ left _.
       gives (same_numbers head (record head { has_weights = true; place = weights_left left }) h refl refl refl)
 
   demands_begin : KeepsRange (begin_demands head)
   unfolding begin_demands
   demands_begin =
-      after any_value λ _ _. after any_value λ n _. gives (same_numbers head (record head { has_demands = true; place = place.Demands n }) h refl refl refl)
+      after any_value λ n _. gives (same_numbers head (record head { has_demands = true; place = place.Demands n }) h refl refl refl)
 
   depot_begins : KeepsRange (begin_depot head)
   unfolding begin_depot
   depot_begins =
-      after any_value λ _ _. after any_value λ n _. gives (same_numbers head (record head { has_depot = true; place = place.Depot }) h refl refl refl)
+      after any_value λ n _. gives (same_numbers head (record head { has_depot = true; place = place.Depot }) h refl refl refl)
 
   section_keeps : (section : Heading) → KeepsRange (begin section head)
   section_keeps heading.NodeCoordSection = sites_begin

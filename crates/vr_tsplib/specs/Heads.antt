@@ -74,6 +74,13 @@ no_head = record {
 abbrev pub nodes_of : Head → ℕ
 nodes_of head = unwrap_or head.nodes 0
 
+-- a number as the value of a keyword, which must not have stood before
+unfoldable pub once_number : Bool → ℕ → ℕ → List ℕ → Result ℕ Flaw
+once_number stood lo hi value = do
+  number ← one_number (words value)
+  fresh ← refuse_if stood Repeated
+  count_in lo hi number
+
 unfoldable pub keep_name : Head → Result Head Flaw
 keep_name head = do
   fresh ← refuse_if head.name Repeated
@@ -98,16 +105,12 @@ keep_type head value = do
 
 unfoldable pub keep_dimension : Head → List ℕ → Result Head Flaw
 keep_dimension head value = do
-  number ← one_number (words value)
-  fresh ← refuse_if (is_some head.nodes) Repeated
-  count ← count_in 1 1000 number
+  count ← once_number (is_some head.nodes) 1 1000 value
   Ok (record head { nodes = Some count })
 
 unfoldable pub keep_capacity : Head → List ℕ → Result Head Flaw
 keep_capacity head value = do
-  number ← one_number (words value)
-  fresh ← refuse_if (is_some head.capacity) Repeated
-  count ← count_in 0 68719476736 number
+  count ← once_number (is_some head.capacity) 0 68719476736 value
   Ok (record head { capacity = Some count })
 
 unfoldable pub keep_weight_type : Head → List ℕ → Result Head Flaw
@@ -162,29 +165,31 @@ weights_wanted (Some format) n = weights_of format n
 abbrev pub weights_left : ℕ → Place
 weights_left left = if left == 0 then Outside else Weights left
 
+-- how many nodes there are, where a section begins that must not have stood before
+unfoldable pub section_nodes : Head → Bool → Result ℕ Flaw
+section_nodes head stood = do
+  fresh ← refuse_if stood Repeated
+  ok_or head.nodes Missing
+
 unfoldable pub begin_sites : Head → Result Head Flaw
 begin_sites head = do
-  fresh ← refuse_if head.has_sites Repeated
-  n ← ok_or head.nodes Missing
+  n ← section_nodes head head.has_sites
   Ok (record head { has_sites = true; place = Sites n })
 
 unfoldable pub begin_weights : Head → Result Head Flaw
 begin_weights head = do
-  fresh ← refuse_if head.has_weights Repeated
-  n ← ok_or head.nodes Missing
+  n ← section_nodes head head.has_weights
   left ← ok_or (weights_wanted head.weight_format n) Missing
   Ok (record head { has_weights = true; place = weights_left left })
 
 unfoldable pub begin_demands : Head → Result Head Flaw
 begin_demands head = do
-  fresh ← refuse_if head.has_demands Repeated
-  n ← ok_or head.nodes Missing
+  n ← section_nodes head head.has_demands
   Ok (record head { has_demands = true; place = Demands n })
 
 unfoldable pub begin_depot : Head → Result Head Flaw
 begin_depot head = do
-  fresh ← refuse_if head.has_depot Repeated
-  n ← ok_or head.nodes Missing
+  n ← section_nodes head head.has_depot
   Ok (record head { has_depot = true; place = Depot })
 
 -- a section begins, or the file ends; each section stands once, and behind DIMENSION

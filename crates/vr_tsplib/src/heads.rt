@@ -1,6 +1,6 @@
 //! Keywords with their values: what the lines outside sections tell.
 
-ghost use Rattle.std.specs.Prelude.{◌≡◌};
+ghost use Rattle.std.specs.Prelude.{◌≡◌, ◌≤◌, IfOk};
 ghost use Rattle.vr_tsplib.specs.Heads as heads;
 
 use crate::flaws::{Flaw, refuse_if};
@@ -101,6 +101,18 @@ const WEIGHT_FORMATS: [(&str, WeightFormat); 3] = [
     ("FUNCTION", WeightFormat::Function),
 ];
 
+// A number as the value of a keyword, which must not have stood before.
+#[tactic(auto, unfolding(vr_json::specs::Reading::and_then, crate::specs::Heads::once_number))]
+fn once_number(stood: bool, lo: u64, hi: u64, value: &[u8]) -> Result<u64, Flaw>
+    ensures value { result ≡ heads.once_number stood lo hi value.now }
+    ensures within { IfOk result (λ n. n ≤ hi) }
+{
+    let number = one_number(value)?;
+    refuse_if(stood, Flaw::Repeated)?;
+    let count = count_in(number, lo, hi)?;
+    Ok(count)
+}
+
 // The most nodes, and the greatest capacity.
 const MOST_NODES: u64 = 1000;
 
@@ -188,9 +200,7 @@ impl Head {
     fn keep_dimension(self, value: &[u8]) -> Result<Head, Flaw>
         ensures { result ≡ heads.keep_dimension self value.now }
     {
-        let number = one_number(value)?;
-        refuse_if(self.nodes.is_some(), Flaw::Repeated)?;
-        let count = count_in(number, 1, MOST_NODES)?;
+        let count = once_number(self.nodes.is_some(), 1, MOST_NODES, value)?;
         Ok(Head {
             nodes: Some(count as u32),
             ..self
@@ -202,9 +212,7 @@ impl Head {
     fn keep_capacity(self, value: &[u8]) -> Result<Head, Flaw>
         ensures { result ≡ heads.keep_capacity self value.now }
     {
-        let number = one_number(value)?;
-        refuse_if(self.capacity.is_some(), Flaw::Repeated)?;
-        let count = count_in(number, 0, GREATEST_CAPACITY)?;
+        let count = once_number(self.capacity.is_some(), 0, GREATEST_CAPACITY, value)?;
         Ok(Head {
             capacity: Some(count),
             ..self

@@ -62,13 +62,22 @@ pub(crate) fn weights_left(left: u64) -> Place
 }
 
 impl Head {
+    // How many nodes there are, where a section begins that must not have stood before.
+    #[tactic(auto, unfolding(vr_json::specs::Reading::and_then, crate::specs::Heads::section_nodes))]
+    fn section_nodes(self, stood: bool) -> Result<u32, Flaw>
+        ensures { result ≡ heads.section_nodes self stood }
+    {
+        refuse_if(stood, Flaw::Repeated)?;
+        let n = self.nodes.ok_or(Flaw::Missing)?;
+        Ok(n)
+    }
+
     // The section of coordinates begins.
     #[tactic(auto, unfolding(vr_json::specs::Reading::and_then, crate::specs::Heads::begin_sites))]
     fn begin_sites(self) -> Result<Head, Flaw>
         ensures { result ≡ heads.begin_sites self }
     {
-        refuse_if(self.has_sites, Flaw::Repeated)?;
-        let n = self.nodes.ok_or(Flaw::Missing)?;
+        let n = self.section_nodes(self.has_sites)?;
         Ok(Head {
             has_sites: true,
             place: Place::Sites(n),
@@ -81,8 +90,7 @@ impl Head {
     fn begin_weights(self) -> Result<Head, Flaw>
         ensures { result ≡ heads.begin_weights self }
     {
-        refuse_if(self.has_weights, Flaw::Repeated)?;
-        let n = self.nodes.ok_or(Flaw::Missing)?;
+        let n = self.section_nodes(self.has_weights)?;
         let left = weights_wanted(self.weight_format, n).ok_or(Flaw::Missing)?;
         Ok(Head {
             has_weights: true,
@@ -96,8 +104,7 @@ impl Head {
     fn begin_demands(self) -> Result<Head, Flaw>
         ensures { result ≡ heads.begin_demands self }
     {
-        refuse_if(self.has_demands, Flaw::Repeated)?;
-        let n = self.nodes.ok_or(Flaw::Missing)?;
+        let n = self.section_nodes(self.has_demands)?;
         Ok(Head {
             has_demands: true,
             place: Place::Demands(n),
@@ -110,8 +117,7 @@ impl Head {
     fn begin_depot(self) -> Result<Head, Flaw>
         ensures { result ≡ heads.begin_depot self }
     {
-        refuse_if(self.has_depot, Flaw::Repeated)?;
-        self.nodes.ok_or(Flaw::Missing)?;
+        self.section_nodes(self.has_depot)?;
         Ok(Head {
             has_depot: true,
             place: Place::Depot,

@@ -2,10 +2,8 @@
 
 ghost use Rattle.std.specs.Prelude.{◌≡◌, ◌≤◌, ◌<◌, All, IfOk, map};
 ghost use Rattle.std.specs.List.{range_with_len};
-ghost use Rattle.serde_json.specs.Data.{string};
 ghost use Rattle.serde_json.specs.View.{view};
 ghost use Rattle.vr_model.specs.tables.Numbers.{below};
-ghost use Rattle.vr_json.specs.Trees as json_trees;
 ghost use Rattle.vr_tsplib.specs.Trees as trees;
 ghost use Rattle.vr_tsplib.specs.Rows as row_tables;
 ghost use Rattle.vr_tsplib.specs.Ranges.{IsNear};
@@ -16,24 +14,8 @@ use crate::rows::SiteRow;
 use crate::summaries::{Distances, Problem, demand_of};
 use serde_json::{Value, json};
 use std::alloc::Global;
-use vr_json::Tree;
+use vr_json::{Tree, one_entry, text_value};
 use vr_model::NoMemory;
-
-// An array of one entry.
-fn one(alloc: Global, entry: Value) -> Result<Value, NoMemory>
-    ensures { IfOk result (λ tree. view tree ≡ json_trees.one (view entry)) }
-{
-    let mut all = Vec::new(alloc);
-    all.push(entry)?;
-    Ok(Value::Array(all))
-}
-
-// A text as a value.
-fn text(alloc: Global, text: &str) -> Result<Value, NoMemory>
-    ensures { IfOk result (λ tree. view tree ≡ string text.now) }
-{
-    Ok(Value::String(String::from_str(alloc, text)?))
-}
 
 // The distance of two nodes in the plane.
 fn distance(a: SiteRow, b: SiteRow) -> u64
@@ -223,9 +205,9 @@ fn loads(alloc: Global, capacity: u64, demands: Value) -> Result<Value, NoMemory
     let evaluator = json!(in alloc; {"values": demands})?;
     let mut tree = Tree::new(alloc);
     tree.put("capacity", Value::from(capacity))?;
-    tree.put("evaluators", one(alloc, evaluator)?)?;
+    tree.put("evaluators", one_entry(alloc, evaluator)?)?;
     tree.put("fix_start", Value::Bool(true))?;
-    tree.put("name", text(alloc, "load")?)?;
+    tree.put("name", text_value(alloc, "load")?)?;
     tree.put("slack_max", Value::from(0u32))?;
     Ok(tree.finish())
 }
@@ -263,10 +245,10 @@ pub(crate) fn tree(
     let orders = demands(alloc, problem.nodes, state)?;
     let loads = loads(alloc, problem.capacity, orders)?;
     let mut tree = Tree::new(alloc);
-    tree.put("dimensions", one(alloc, loads)?)?;
+    tree.put("dimensions", one_entry(alloc, loads)?)?;
     tree.put("format", Value::from(1u32))?;
     let matrix = matrix(alloc, problem.distances, problem.nodes, state)?;
-    tree.put("matrices", one(alloc, matrix)?)?;
+    tree.put("matrices", one_entry(alloc, matrix)?)?;
     tree.put("nodes", Value::from(problem.nodes))?;
     let depot = problem.depot.saturating_sub(1);
     tree.put("vehicles", fleet(alloc, vehicles, depot)?)?;
