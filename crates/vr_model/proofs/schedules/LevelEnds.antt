@@ -2,8 +2,9 @@
 use Rattle.std.proofs.Common.{◌≡◌, ℕ, zero, suc, ◌<◌, ◌⊎◌, true, false, ◌&&◌, List, [], ◌∷◌, length, take, drop, refl, sym, ◌∙◌, ap, subst, inl, inr, arith, ◌+◌}
 use Rattle.std.specs.Prelude.{ℤ, ◌≤ℤ◌, int_le, IsTrue}
 use Rattle.vr_model.specs.tables.Numbers.{number_at}
-use Rattle.vr_model.specs.schedules.Schedules.{Plan, before_only, after_only, KeepsRules, IsReached, ReachesEnd, front, back, cumul, allows, break_start, break_end, is_before, is_after, is_inside}
-use Rattle.vr_model.specs.schedules.Levels.{FitBefore, FitAfter, ReachedAtStart, ReachedAtEnd}
+use Rattle.vr_model.specs.schedules.Lines.{Line}
+use Rattle.vr_model.specs.schedules.Schedules.{Plan, Sides, before_only, after_only, KeepsRules, IsReached, ReachesEnd, front, back, cumul, allows, break_start, break_end, is_before, is_after, is_inside}
+use Rattle.vr_model.specs.schedules.Levels.{AreStarts, FitBefore, FitAfter, ReachedAtStart, ReachedAtEnd}
 use Rattle.vr_model.specs.deciding.Testing.{le_of_test, test_of_le}
 use Rattle.vr_model.proofs.schedules.LineParts.{allows_front, allows_back, arcs_front, stops_front, arcs_back, stops_back}
 
@@ -16,6 +17,28 @@ no_false h = absurd (clash h)
   where
     clash : false ≡ true → ⊥
     clash e = Prim.cc
+
+-- such a plan keeps the rules of a line of one stop that allows x, where each break is placed before x or after it
+one_stop : (sides : Sides) (line : Line) (x : ℤ) (starts : List ℤ) → length line.arcs ≡ 0 → length line.allowed ≡ 1 → IsTrue (allows line 0 x) → AreStarts line.breaks starts
+    → ((i : ℕ) → i < length line.breaks → IsTrue (sides.may_precede && is_before line (at_one_stop x starts) i) ⊎ IsTrue (sides.may_follow && is_after line (at_one_stop x starts) i)
+    ⊎ (k : ℕ) × (k < length line.arcs) × IsTrue (is_inside line (at_one_stop x starts) i k))
+    → KeepsRules sides line (at_one_stop x starts)
+one_stop sides line x starts arcs stops allowed are placed = record {
+  cumul_of_each_stop = sym stops;
+  slack_of_each_arc = sym arcs;
+  start_of_each_break = are.one_of_each;
+  cumuls_allowed = λ k low. first k (omega (arith, low, stops));
+  slacks_left = λ k low. absurd (omega (arith, low, arcs));
+  slacks_bounded = λ k low. absurd (omega (arith, low, arcs));
+  breaks_in_range = are.in_range;
+  breaks_in_order = are.in_order;
+  breaks_placed = placed;
+  slacks_carry_breaks = λ k low. absurd (omega (arith, low, arcs));
+}
+  where
+    first : (k : ℕ) → k < 1 → IsTrue (allows line k (cumul (at_one_stop x starts) k))
+    first zero low = allowed
+    first (suc k) low = absurd (omega (arith, low))
 
 pub reached_at_start : ReachedAtStart
 reached_at_start line sound b few x = (there, onward)
@@ -39,25 +62,12 @@ reached_at_start line sound b few x = (there, onward)
         before i (inr (inr t)) = absurd (let l = t.1 in omega (arith, l, arcs))
 
     onward : IsTrue (allows line 0 x) × FitBefore (take b line.breaks) x → IsReached line 0 b x
-    onward f = (at_one_stop x f.1.0, rules, refl)
-      where
-        rules : KeepsRules before_only (front line 0 b) (at_one_stop x f.1.0)
-        rules = record {
-          cumul_of_each_stop = sym stops;
-          slack_of_each_arc = sym arcs;
-          start_of_each_break = f.1.1.one_of_each;
-          cumuls_allowed = λ k low. first k (omega (arith, low, stops));
-          slacks_left = λ k low. absurd (omega (arith, low, arcs));
-          slacks_bounded = λ k low. absurd (omega (arith, low, arcs));
-          breaks_in_range = f.1.1.in_range;
-          breaks_in_order = f.1.1.in_order;
-          breaks_placed = λ i low. inl (test_of_le (break_end (front line 0 b) (at_one_stop x f.1.0) i) x (f.1.2 i low));
-          slacks_carry_breaks = λ k low. absurd (omega (arith, low, arcs));
-        }
-          where
-            first : (k : ℕ) → k < 1 → IsTrue (allows (front line 0 b) k (cumul (at_one_stop x f.1.0) k))
-            first zero low = allows_front line 0 b 0 x (omega arith) ∙ f.0
-            first (suc k) low = absurd (omega (arith, low))
+    onward f = (
+      at_one_stop x f.1.0,
+      one_stop before_only (front line 0 b) x f.1.0 arcs stops (allows_front line 0 b 0 x (omega arith) ∙ f.0) f.1.1
+          (λ i low. inl (test_of_le (break_end (front line 0 b) (at_one_stop x f.1.0) i) x (f.1.2 i low))),
+      refl,
+    )
 
 pub reached_at_end : ReachedAtEnd
 reached_at_end line sound b few x = (there, onward)
@@ -88,22 +98,9 @@ reached_at_end line sound b few x = (there, onward)
         after i (inr (inr t)) = absurd (let l = t.1 in omega (arith, l, arcs))
 
     onward : IsTrue (allows line (length line.arcs) x) × FitAfter (drop b line.breaks) x → ReachesEnd line (length line.arcs) b x
-    onward f = (at_one_stop x f.1.0, rules, refl)
-      where
-        rules : KeepsRules after_only (back line (length line.arcs) b) (at_one_stop x f.1.0)
-        rules = record {
-          cumul_of_each_stop = sym stops;
-          slack_of_each_arc = sym arcs;
-          start_of_each_break = f.1.1.one_of_each;
-          cumuls_allowed = λ k low. first k (omega (arith, low, stops));
-          slacks_left = λ k low. absurd (omega (arith, low, arcs));
-          slacks_bounded = λ k low. absurd (omega (arith, low, arcs));
-          breaks_in_range = f.1.1.in_range;
-          breaks_in_order = f.1.1.in_order;
-          breaks_placed = λ i low. inr (inl (ap (λ k. int_le (cumul (at_one_stop x f.1.0) k) (number_at f.1.0 i)) arcs ∙ test_of_le x (number_at f.1.0 i) (f.1.2 i low)));
-          slacks_carry_breaks = λ k low. absurd (omega (arith, low, arcs));
-        }
-          where
-            first : (k : ℕ) → k < 1 → IsTrue (allows (back line (length line.arcs) b) k (cumul (at_one_stop x f.1.0) k))
-            first zero low = here x ∙ f.0
-            first (suc k) low = absurd (omega (arith, low))
+    onward f = (
+      at_one_stop x f.1.0,
+      one_stop after_only (back line (length line.arcs) b) x f.1.0 arcs stops (here x ∙ f.0) f.1.1
+          (λ i low. inr (inl (ap (λ k. int_le (cumul (at_one_stop x f.1.0) k) (number_at f.1.0 i)) arcs ∙ test_of_le x (number_at f.1.0 i) (f.1.2 i low)))),
+      refl,
+    )

@@ -1,5 +1,5 @@
 -- The chosen schedule, one stop at a time: with the least cumul of a stop put in, the chosen schedule stays the same.
-use Rattle.std.proofs.Common.{◌≡◌, ℕ, zero, suc, ◌<◌, ◌≢◌, false, ◌&&◌, List, [], ◌∷◌, ◌++◌, length, sym, ◌∙◌, ap, subst, inl, inr, arith, ◌⊎◌}
+use Rattle.std.proofs.Common.{◌≡◌, ℕ, zero, suc, ◌<◌, ◌≢◌, Bool, false, ◌&&◌, List, [], ◌∷◌, ◌++◌, length, sym, ◌∙◌, ap, subst, inl, inr, arith, ◌⊎◌}
 use Rattle.std.specs.Prelude.{ℤ, pos, ◌≤ℤ◌, ◌<ℤ◌, int_lt, int_le, IsTrue, slice_index_or}
 use Rattle.std.proofs.lemmas.Int.{ints}
 use Rattle.std.proofs.lemmas.Bool.{cases_lt}
@@ -9,6 +9,22 @@ use Rattle.vr_model.specs.schedules.Lines.{Line}
 use Rattle.vr_model.specs.schedules.Schedules.{Plan, IsSchedule, IsChosen, cumul, allows}
 use Rattle.vr_model.specs.schedules.ChosenLaws.{pinned, LeastCumulMayBePinned}
 use Rattle.vr_model.specs.deciding.Testing.{and_left, and_right, and_both, or_left, or_right, tests_of_eq, eq_of_tests, test_of_le}
+
+-- a schedule of a line is one of the line with other sets of allowed cumuls, where they have its own
+by_allowed : (line : Line) (allowed : List (ℤ → Bool)) (plan : Plan) → length allowed ≡ length line.allowed → IsSchedule line plan
+    → ((i : ℕ) → i < length line.allowed → IsTrue (allows (record line { allowed = allowed }) i (cumul plan i))) → IsSchedule (record line { allowed = allowed }) plan
+by_allowed line allowed plan same s at_stop = record {
+  cumul_of_each_stop = s.cumul_of_each_stop ∙ sym same;
+  slack_of_each_arc = s.slack_of_each_arc;
+  start_of_each_break = s.start_of_each_break;
+  cumuls_allowed = λ i h. at_stop i (omega (arith, h, same));
+  slacks_left = s.slacks_left;
+  slacks_bounded = s.slacks_bounded;
+  breaks_in_range = s.breaks_in_range;
+  breaks_in_order = s.breaks_in_order;
+  breaks_placed = s.breaks_placed;
+  slacks_carry_breaks = s.slacks_carry_breaks;
+}
 
 module _ (line : Line) (k : ℕ) (x : ℤ) (there : k < length line.allowed) where
   allows_other : (i : ℕ) (y : ℤ) → i ≢ k → allows (pinned line k x) i y ≡ allows line i y
@@ -22,18 +38,7 @@ module _ (line : Line) (k : ℕ) (x : ℤ) (there : k < length line.allowed) whe
 
   -- a schedule with the cumul x at stop k is one of the pinned line
   pub to_pinned : (plan : Plan) → IsSchedule line plan → cumul plan k ≡ x → IsSchedule (pinned line k x) plan
-  to_pinned plan s e = record {
-    cumul_of_each_stop = s.cumul_of_each_stop ∙ sym same_stops;
-    slack_of_each_arc = s.slack_of_each_arc;
-    start_of_each_break = s.start_of_each_break;
-    cumuls_allowed = λ i h. at_stop i (let n = same_stops in omega (arith, h, n));
-    slacks_left = s.slacks_left;
-    slacks_bounded = s.slacks_bounded;
-    breaks_in_range = s.breaks_in_range;
-    breaks_in_order = s.breaks_in_order;
-    breaks_placed = s.breaks_placed;
-    slacks_carry_breaks = s.slacks_carry_breaks;
-  }
+  to_pinned plan s e = by_allowed line (pinned line k x).allowed plan same_stops s at_stop
     where
       here : IsTrue (allows (pinned line k x) k (cumul plan k))
       here = allows_there (cumul plan k) ∙ and_both (within (pos 0) horizon (cumul plan k)) _ (and_left (within (pos 0) horizon (cumul plan k)) _ (s.cumuls_allowed k there))
@@ -51,18 +56,7 @@ module _ (line : Line) (k : ℕ) (x : ℤ) (there : k < length line.allowed) whe
   -- and the other way round
   pub of_pinned : (plan : Plan) → IsSchedule (pinned line k x) plan → IsSchedule line plan × (cumul plan k ≡ x)
   of_pinned plan s = (
-    record {
-      cumul_of_each_stop = s.cumul_of_each_stop ∙ same_stops;
-      slack_of_each_arc = s.slack_of_each_arc;
-      start_of_each_break = s.start_of_each_break;
-      cumuls_allowed = at_stop;
-      slacks_left = s.slacks_left;
-      slacks_bounded = s.slacks_bounded;
-      breaks_in_range = s.breaks_in_range;
-      breaks_in_order = s.breaks_in_order;
-      breaks_placed = s.breaks_placed;
-      slacks_carry_breaks = s.slacks_carry_breaks;
-    },
+    by_allowed (pinned line k x) line.allowed plan (sym same_stops) s (λ i h. at_stop i (let n = same_stops in omega (arith, h, n))),
     sym (eq_of_tests x (cumul plan k) (and_right (slice_index_or line.allowed k (λ _. false) (cumul plan k)) _ (and_right (within (pos 0) horizon (cumul plan k)) _ here))),
   )
     where

@@ -1,16 +1,17 @@
 -- Two of the worked models are well-formed, one with a dimension, a row and a break.
-use Rattle.std.proofs.Common.{◌≡◌, ℕ, zero, suc, ◌<◌, false, List, [], ◌∷◌, length, Some, refl, inl, arith}
+use Rattle.std.proofs.Common.{◌≡◌, ◌≤◌, ℕ, zero, suc, ◌<◌, false, List, [], ◌∷◌, length, map, Some, refl, inl, arith}
 use Rattle.std.specs.Prelude.{ℤ, pos, IsTrue}
 use Rattle.std.specs.List.{All, list_all}
 use Rattle.std.proofs.lemmas.Int.{ints}
 use Rattle.std.proofs.lemmas.List.Sums.{AllPass-from_list_all}
 use Rattle.vr_model.specs.tables.Numbers.{within, horizon}
 use Rattle.vr_model.specs.tables.Tables.{dimension_at}
-use Rattle.vr_model.specs.tables.ModelRules.{has_negative_cost, has_large_entry, goes_back}
-use Rattle.vr_model.specs.tables.Limits.{least_value, greatest_cost, greatest_value, greatest_coefficient}
-use Rattle.vr_model.specs.tables.WellFormed.{IsIn, IsMatrix, IsVehicle, IsEvaluator, IsBreak, AreBreaks, IsDimension, IsSearch, IsWellFormed}
+use Rattle.vr_model.specs.tables.ModelRules.{cannot_save, has_negative_cost, has_large_entry, goes_back}
+use Rattle.vr_model.specs.tables.Limits.{least_value, greatest_cost, greatest_value, greatest_coefficient, most_dimensions, most_nodes}
+use Rattle.vr_model.specs.tables.WellFormed.{are_distinct_names, IsIn, IsMatrix, IsVehicle, IsEvaluator, IsBreak, AreBreaks, IsDimension, IsSearch, IsWellFormed}
+use Rattle.vr_model.specs.declared.records.Dimension.{Dimension}
 use Rattle.vr_model.specs.deciding.Testing.{within_is}
-use Rattle.vr_model.proofs.worked.WorkedModels.{default_search, car, rest_row, three_entries, three, rests_entries, rests_time, rests}
+use Rattle.vr_model.proofs.worked.WorkedModels.{default_search, car, model_of, rest_row, three_entries, three, rests_entries, rests_time, rests}
 
 -- all of no entries, and of one
 pub of_none : {A : Type 0} (P : A → Type 0) → All P []
@@ -40,16 +41,24 @@ default_is_search = record {
   no_neighbourhood_twice = refl;
 }
 
-three_well_formed : IsWellFormed three
-three_well_formed = record {
-  number_of_nodes = (omega arith, omega arith);
+-- a model of one matrix, one car, and no groups, pairs or rows of allowed vehicles is well-formed where its matrix and
+-- its dimensions are
+one_car : (n : ℕ) (entries : List ℤ) (dimensions : List Dimension) → (1 ≤ n) × (n ≤ most_nodes) → IsMatrix n (record { entries = entries })
+    → length dimensions ≤ most_dimensions → All (IsDimension (model_of n entries (car ∷ []) dimensions)) dimensions → IsTrue (are_distinct_names (map (λ dimension. dimension.name) dimensions))
+    → has_negative_cost (model_of n entries (car ∷ []) dimensions) 0 ≡ false
+    → ((d k : ℕ) → d < length dimensions → k < length (dimension_at (model_of n entries (car ∷ []) dimensions) d).evaluators → has_large_entry (model_of n entries (car ∷ []) dimensions) d k ≡ false)
+    → ((d : ℕ) → d < length dimensions → goes_back (model_of n entries (car ∷ []) dimensions) d ≡ false)
+    → cannot_save (model_of n entries (car ∷ []) dimensions) ≡ false → IsWellFormed (model_of n entries (car ∷ []) dimensions)
+one_car n entries dimensions nodes matrix few each names cost small forward saves = record {
+  number_of_nodes = nodes;
   number_of_matrices = record { at_least = omega arith; at_most = omega arith };
-  each_matrix = of_one (IsMatrix 3) _ (record { square = refl; entries_in_range = in_range least_value greatest_cost three_entries refl });
+  each_matrix = of_one (IsMatrix n) _ matrix;
   number_of_vehicles = record { at_least = omega arith; at_most = omega arith };
-  each_vehicle = of_one (IsVehicle three) car (record { start_in_range = omega arith; end_in_range = omega arith; costs_in_range = omega arith; fixed_in_range = one_in_range _ _ _ refl });
-  number_of_dimensions = omega arith;
-  each_dimension = of_none _;
-  no_name_twice = refl;
+  each_vehicle = of_one (IsVehicle (model_of n entries (car ∷ []) dimensions)) car
+      (record { start_in_range = nodes.0; end_in_range = nodes.0; costs_in_range = omega arith; fixed_in_range = one_in_range _ _ _ refl });
+  number_of_dimensions = few;
+  each_dimension = each;
+  no_name_twice = names;
   number_of_groups = omega arith;
   each_group = of_none _;
   no_node_in_groups_twice = refl;
@@ -61,14 +70,19 @@ three_well_formed = record {
   no_node_allowed_twice = refl;
   search_in_range = default_is_search;
   costs_not_negative = costs;
-  entries_not_large = λ d k low within_list. absurd (omega (arith, low));
-  transits_forward = λ d low. absurd (omega (arith, low));
-  can_save = refl;
+  entries_not_large = small;
+  transits_forward = forward;
+  can_save = saves;
 }
   where
-    costs : (v : ℕ) → v < 1 → has_negative_cost three v ≡ false
-    costs zero low = refl
+    costs : (v : ℕ) → v < 1 → has_negative_cost (model_of n entries (car ∷ []) dimensions) v ≡ false
+    costs zero low = cost
     costs (suc v) low = absurd (omega (arith, low))
+
+three_well_formed : IsWellFormed three
+three_well_formed =
+    one_car 3 three_entries [] (omega arith, omega arith) (record { square = refl; entries_in_range = in_range least_value greatest_cost three_entries refl })
+    (omega arith) (of_none _) refl refl (λ d k low some. absurd (omega (arith, low))) (λ d low. absurd (omega (arith, low))) refl
 
 rests_is_evaluator : IsEvaluator rests (record { matrix = Some 0; values = [] })
 rests_is_evaluator = record { matrix_in_range = omega arith; values_of_all = inl refl; values_in_range = of_none _ }
@@ -104,35 +118,10 @@ rests_is_dimension = record {
 }
 
 rests_well_formed : IsWellFormed rests
-rests_well_formed = record {
-  number_of_nodes = (omega arith, omega arith);
-  number_of_matrices = record { at_least = omega arith; at_most = omega arith };
-  each_matrix = of_one (IsMatrix 2) _ (record { square = refl; entries_in_range = in_range least_value greatest_cost rests_entries refl });
-  number_of_vehicles = record { at_least = omega arith; at_most = omega arith };
-  each_vehicle = of_one (IsVehicle rests) car (record { start_in_range = omega arith; end_in_range = omega arith; costs_in_range = omega arith; fixed_in_range = one_in_range _ _ _ refl });
-  number_of_dimensions = omega arith;
-  each_dimension = of_one (IsDimension rests) rests_time (rests_is_dimension);
-  no_name_twice = refl;
-  number_of_groups = omega arith;
-  each_group = of_none _;
-  no_node_in_groups_twice = refl;
-  number_of_pairs = omega arith;
-  each_pair = of_none _;
-  no_node_in_pairs_twice = refl;
-  number_of_allowed = omega arith;
-  each_allowed = of_none _;
-  no_node_allowed_twice = refl;
-  search_in_range = default_is_search;
-  costs_not_negative = costs;
-  entries_not_large = entries;
-  transits_forward = transits;
-  can_save = refl;
-}
+rests_well_formed =
+    one_car 2 rests_entries (rests_time ∷ []) (omega arith, omega arith) (record { square = refl; entries_in_range = in_range least_value greatest_cost rests_entries refl })
+    (omega arith) (of_one (IsDimension rests) rests_time rests_is_dimension) refl refl entries transits refl
   where
-    costs : (v : ℕ) → v < 1 → has_negative_cost rests v ≡ false
-    costs zero low = refl
-    costs (suc v) low = absurd (omega (arith, low))
-
     entries : (d k : ℕ) → d < 1 → k < length (dimension_at rests d).evaluators → has_large_entry rests d k ≡ false
     entries zero zero low some = refl
     entries zero (suc k) low some = absurd (omega (arith, some))
