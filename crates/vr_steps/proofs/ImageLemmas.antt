@@ -1,10 +1,10 @@
 -- The images of sets over passages, and how they add up to levels.
-use Rattle.std.proofs.Common.{◌≡◌, ℕ, suc, ◌-◌, ◌<◌, ◌≤◌, true, Bool, ◌&&◌, ◌||◌, ◌⊎◌, inl, inr, Option, Some, None, List, [], length, take, drop, All, ℤ, pos, neg_ℤ, ◌≤ℤ◌, refl, sym, subst, ap, ◌∙◌, arith}
+use Rattle.std.proofs.Common.{◌≡◌, ℕ, suc, ◌-◌, ◌<◌, ◌≤◌, true, Bool, ◌&&◌, ◌||◌, ◌⊎◌, inl, inr, Option, Some, None, List, [], length, take, drop, All, ℤ, pos, neg_ℤ, ◌+ℤ◌, ◌≤ℤ◌, refl, sym, subst, ap, ◌∙◌, arith}
 use Rattle.std.specs.Prelude.{IsTrue, IsSome, IsNone, IfSome, ◌↔◌}
 use Rattle.std.proofs.lemmas.Int.{ints}
 use Rattle.std.proofs.lemmas.Bool.{and_parts, and_from, or_cases, or_left, or_right, cases_lt}
 use Rattle.std.proofs.lemmas.List.{drop-take, drop_all, length-take}
-use Rattle.vr_model.specs.tables.Numbers.{horizon}
+use Rattle.vr_model.specs.tables.Numbers.{horizon, within}
 use Rattle.vr_model.specs.deciding.Testing.{within_is}
 use Rattle.vr_model.specs.tables.WellFormed.{IsBreak}
 use Rattle.vr_model.specs.declared.records.BreakRow.{BreakRow}
@@ -16,7 +16,7 @@ use Rattle.vr_steps.specs.declared.passages.Passage.{Passage}
 use Rattle.vr_steps.specs.Arcs.{IsSoundHop, Leads, between}
 use Rattle.vr_steps.specs.Chains.{CanBegin, IsChainOf}
 use Rattle.vr_steps.specs.Levels.{IsCumuls, level_at}
-use Rattle.vr_steps.specs.Passages.{IsPassage, LeadsNowhere, IsOver, HasWay, ArrivesAt, DepartsAt, AreArrivals, AreDepartures}
+use Rattle.vr_steps.specs.Passages.{IsPassage, LeadsNowhere, IsOver, HasWay, ArrivesAt, DepartsAt, AreArrivals, AreDepartures, upto, onward}
 use Rattle.vr_steps.proofs.PassageLemmas.{passage, closed}
 
 -- the answer of a passage over a chain
@@ -35,122 +35,82 @@ in_run_parts r x is = (grind (arith, ints, is), grind (arith, ints, is))
 in_run_from : (r : Run) (x : ℤ) → r.lo ≤ℤ x → x ≤ℤ r.hi → in_run r x ≡ true
 in_run_from r x low high = grind (arith, ints, low, high)
 
--- the cumuls up to one, and from one on
-abbrev pub upto : ℤ → Run
-upto last = record { lo = pos 0; hi = last }
-
-abbrev pub onward : ℤ → Run
-onward first = record { lo = first; hi = horizon }
-
--- the runs to which sets are clipped for a passage
-module _ (p : Passage) (begin_run end_run : Run) (until_is : begin_run ≡ upto p.until) (from_is : end_run ≡ onward p.from) where
-  below : (y : ℤ) → in_run begin_run y ≡ true → y ≤ℤ p.until
-  below y there = (in_run_parts (upto p.until) y (subst (λ r. in_run r y ≡ true) until_is there)).1
-
-  above : (x : ℤ) → in_run end_run x ≡ true → p.from ≤ℤ x
-  above x there = (in_run_parts (onward p.from) x (subst (λ r. in_run r x ≡ true) from_is there)).0
-
-  earlier : (y : ℤ) → pos 0 ≤ℤ y → y ≤ℤ p.until → in_run begin_run y ≡ true
-  earlier y low high = subst (λ r. in_run r y ≡ true) (sym until_is) (in_run_from (upto p.until) y low high)
-
-  later : (x : ℤ) → p.from ≤ℤ x → x ≤ℤ horizon → in_run end_run x ≡ true
-  later x low high = subst (λ r. in_run r x ≡ true) (sym from_is) (in_run_from (onward p.from) x low high)
-
-module _ (hop : Hop) (rows : List BreakRow) (p : Passage) (is : IsPassage hop rows p) (begin_run end_run : Run) (until_is : begin_run ≡ upto p.until) (from_is : end_run ≡ onward p.from) (from next left right image old whole : List Run) (begins : IsCumuls from) (ends : IsCumuls next) where
-  pub arrivals : ((x : ℤ) → has left x ≡ (has from x && in_run begin_run x)) → ((x : ℤ) → has right x ≡ (has next x && in_run end_run x))
-      → (least greatest : ℤ) → least ≡ p.least → greatest ≡ p.greatest
+-- what a relation leads to from the numbers of a set, within another one: both sets are clipped, and the first is stretched into the second
+module _ (Lead : ℤ → ℤ → Type 0) (from next left right image old whole : List Run) (out into : Run) (least greatest : ℤ) (exact : (y x : ℤ) → IsTrue (has from y) → IsTrue (has next x) → Lead y x ↔ (IsTrue (in_run out y) × IsTrue (in_run into x) × ((y +ℤ least) ≤ℤ x) × (x ≤ℤ (y +ℤ greatest)))) where
+  added : ((y : ℤ) → has left y ≡ (has from y && in_run out y)) → ((x : ℤ) → has right x ≡ (has next x && in_run into x))
       → ((x : ℤ) → IsTrue (has image x) ↔ (IsTrue (has right x) × IsStretched least greatest left x)) → ((x : ℤ) → has whole x ≡ (has old x || has image x))
-      → (x : ℤ) → IsTrue (has whole x) ↔ (IsTrue (has old x) ⊎ ArrivesAt from hop rows next x)
-  arrivals lefts rights least greatest least_is greatest_is images wholes x = (to, back_to)
+      → (x : ℤ) → IsTrue (has whole x) ↔ (IsTrue (has old x) ⊎ (IsTrue (has next x) × ((y : ℤ) × IsTrue (has from y) × Lead y x)))
+  added lefts rights images wholes x = (to, back_to)
     where
-      arrived : IsTrue (has image x) → ArrivesAt from hop rows next x
+      arrived : IsTrue (has image x) → IsTrue (has next x) × ((y : ℤ) × IsTrue (has from y) × Lead y x)
       arrived there =
           let both = (images x).0 there in
-          let right_parts = and_parts (has next x) (in_run end_run x) (sym (rights x) ∙ both.0) in
+          let right_parts = and_parts (has next x) (in_run into x) (sym (rights x) ∙ both.0) in
           let y = both.1.0 in
-          let left_parts = and_parts (has from y) (in_run begin_run y) (sym (lefts y) ∙ both.1.1) in (
-            right_parts.0,
-            (
-              y,
-              left_parts.0,
-              (is.exact y x).1 (
-                begins y left_parts.0,
-                ends x right_parts.0,
-                record {
-                  until = below p begin_run end_run until_is from_is y left_parts.1;
-                  from = above p begin_run end_run until_is from_is x right_parts.1;
-                  least = omega (arith, ints, least_is, both.1.2);
-                  greatest = omega (arith, ints, greatest_is, both.1.3);
-                },
-              ),
-            ),
-          )
+          let left_parts = and_parts (has from y) (in_run out y) (sym (lefts y) ∙ both.1.1) in
+          (right_parts.0, (y, left_parts.0, (exact y x left_parts.0 right_parts.0).1 (left_parts.1, right_parts.1, both.1.2, both.1.3)))
 
-      image_of : ArrivesAt from hop rows next x → IsTrue (has image x)
+      image_of : IsTrue (has next x) × ((y : ℤ) × IsTrue (has from y) × Lead y x) → IsTrue (has image x)
       image_of (there, (y, here, way)) =
-          let asked = (is.exact y x).0 way in
-          let first = within_is (pos 0) horizon y asked.0 in
-          let last = within_is (pos 0) horizon x asked.1 in
-          let m = asked.2 in
-          (images x).1 (
-            rights x ∙ and_from _ _ there (later p begin_run end_run until_is from_is x m.from last.1),
-            (y, lefts y ∙ and_from _ _ here (earlier p begin_run end_run until_is from_is y first.0 m.until), omega (arith, ints, least_is, m.least), omega (arith, ints, greatest_is, m.greatest)),
-          )
+          let m = (exact y x here there).0 way in
+          (images x).1 (rights x ∙ and_from _ _ there m.1, (y, lefts y ∙ and_from _ _ here m.0, m.2, m.3))
 
-      to : IsTrue (has whole x) → IsTrue (has old x) ⊎ ArrivesAt from hop rows next x
+      to : IsTrue (has whole x) → IsTrue (has old x) ⊎ (IsTrue (has next x) × ((y : ℤ) × IsTrue (has from y) × Lead y x))
       to there = elim (or_cases (has old x) (has image x) (sym (wholes x) ∙ there)) [ inl kept ↦ inl kept | inr new ↦ inr (arrived new) ]
 
-      back_to : IsTrue (has old x) ⊎ ArrivesAt from hop rows next x → IsTrue (has whole x)
+      back_to : IsTrue (has old x) ⊎ (IsTrue (has next x) × ((y : ℤ) × IsTrue (has from y) × Lead y x)) → IsTrue (has whole x)
       back_to (inl kept) = wholes x ∙ or_left (has old x) (has image x) kept
       back_to (inr new) = wholes x ∙ or_right (has old x) (has image x) (image_of new)
 
-module _ (hop : Hop) (rows : List BreakRow) (p : Passage) (is : IsPassage hop rows p) (begin_run end_run : Run) (until_is : begin_run ≡ upto p.until) (from_is : end_run ≡ onward p.from) (behind here left right image old whole : List Run) (ends : IsCumuls behind) (begins : IsCumuls here) where
-  pub departures : ((x : ℤ) → has left x ≡ (has behind x && in_run end_run x)) → ((y : ℤ) → has right y ≡ (has here y && in_run begin_run y))
+-- an arc over a passage, from one set to another
+module _ (hop : Hop) (rows : List BreakRow) (p : Passage) (is : IsPassage hop rows p) (begin_run end_run : Run) (until_is : begin_run ≡ upto p.until) (from_is : end_run ≡ onward p.from) where
+  -- what it asks of two cumuls
+  asked : (y x : ℤ) → IsTrue (within (pos 0) horizon y) → IsTrue (within (pos 0) horizon x) → Leads hop rows y x ↔ (IsTrue (in_run begin_run y) × IsTrue (in_run end_run x) × ((y +ℤ p.least) ≤ℤ x) × (x ≤ℤ (y +ℤ p.greatest)))
+  asked y x begins ends = (to, back_to)
+    where
+      to : Leads hop rows y x → IsTrue (in_run begin_run y) × IsTrue (in_run end_run x) × ((y +ℤ p.least) ≤ℤ x) × (x ≤ℤ (y +ℤ p.greatest))
+      to way =
+          let m = ((is.exact y x).0 way).2 in (
+            subst (λ r. in_run r y ≡ true) (sym until_is) (in_run_from (upto p.until) y (within_is (pos 0) horizon y begins).0 m.until),
+            subst (λ r. in_run r x ≡ true) (sym from_is) (in_run_from (onward p.from) x m.from (within_is (pos 0) horizon x ends).1),
+            m.least,
+            m.greatest,
+          )
+
+      back_to : IsTrue (in_run begin_run y) × IsTrue (in_run end_run x) × ((y +ℤ p.least) ≤ℤ x) × (x ≤ℤ (y +ℤ p.greatest)) → Leads hop rows y x
+      back_to m =
+          (is.exact y x).1 (
+            begins,
+            ends,
+            record {
+              until = (in_run_parts (upto p.until) y (subst (λ r. in_run r y ≡ true) until_is m.0)).1;
+              from = (in_run_parts (onward p.from) x (subst (λ r. in_run r x ≡ true) from_is m.1)).0;
+              least = m.2;
+              greatest = m.3;
+            },
+          )
+
+  pub arrivals : (from next left right image old whole : List Run) → IsCumuls from → IsCumuls next → ((x : ℤ) → has left x ≡ (has from x && in_run begin_run x)) → ((x : ℤ) → has right x ≡ (has next x && in_run end_run x))
+      → (least greatest : ℤ) → least ≡ p.least → greatest ≡ p.greatest
+      → ((x : ℤ) → IsTrue (has image x) ↔ (IsTrue (has right x) × IsStretched least greatest left x)) → ((x : ℤ) → has whole x ≡ (has old x || has image x))
+      → (x : ℤ) → IsTrue (has whole x) ↔ (IsTrue (has old x) ⊎ ArrivesAt from hop rows next x)
+  arrivals from next left right image old whole begins ends lefts rights least greatest least_is greatest_is =
+      added (λ y x. Leads hop rows y x) from next left right image old whole begin_run end_run least greatest (λ y x here there.
+      let m = asked y x (begins y here) (ends x there) in (
+        λ way. let a = m.0 way in (a.0, a.1, omega (arith, ints, least_is, a.2), omega (arith, ints, greatest_is, a.3)),
+        λ a. m.1 (a.0, a.1, omega (arith, ints, least_is, a.2), omega (arith, ints, greatest_is, a.3)),
+      )) lefts rights
+
+  pub departures : (behind here left right image old whole : List Run) → IsCumuls behind → IsCumuls here → ((x : ℤ) → has left x ≡ (has behind x && in_run end_run x)) → ((y : ℤ) → has right y ≡ (has here y && in_run begin_run y))
       → (first last : ℤ) → first ≡ neg_ℤ p.greatest → last ≡ neg_ℤ p.least
       → ((y : ℤ) → IsTrue (has image y) ↔ (IsTrue (has right y) × IsStretched first last left y)) → ((y : ℤ) → has whole y ≡ (has old y || has image y))
       → (y : ℤ) → IsTrue (has whole y) ↔ (IsTrue (has old y) ⊎ DepartsAt behind hop rows here y)
-  departures lefts rights first last first_is last_is images wholes y = (to, back_to)
-    where
-      departed : IsTrue (has image y) → DepartsAt behind hop rows here y
-      departed there =
-          let both = (images y).0 there in
-          let right_parts = and_parts (has here y) (in_run begin_run y) (sym (rights y) ∙ both.0) in
-          let x = both.1.0 in
-          let left_parts = and_parts (has behind x) (in_run end_run x) (sym (lefts x) ∙ both.1.1) in (
-            right_parts.0,
-            (
-              x,
-              left_parts.0,
-              (is.exact y x).1 (
-                begins y right_parts.0,
-                ends x left_parts.0,
-                record {
-                  until = below p begin_run end_run until_is from_is y right_parts.1;
-                  from = above p begin_run end_run until_is from_is x left_parts.1;
-                  least = omega (arith, ints, last_is, both.1.3);
-                  greatest = omega (arith, ints, first_is, both.1.2);
-                },
-              ),
-            ),
-          )
-
-      image_of : DepartsAt behind hop rows here y → IsTrue (has image y)
-      image_of (there, (x, far_end, way)) =
-          let asked = (is.exact y x).0 way in
-          let low = within_is (pos 0) horizon y asked.0 in
-          let high = within_is (pos 0) horizon x asked.1 in
-          let m = asked.2 in
-          (images y).1 (
-            rights y ∙ and_from _ _ there (earlier p begin_run end_run until_is from_is y low.0 m.until),
-            (x, lefts x ∙ and_from _ _ far_end (later p begin_run end_run until_is from_is x m.from high.1), omega (arith, ints, first_is, m.greatest), omega (arith, ints, last_is, m.least)),
-          )
-
-      to : IsTrue (has whole y) → IsTrue (has old y) ⊎ DepartsAt behind hop rows here y
-      to there = elim (or_cases (has old y) (has image y) (sym (wholes y) ∙ there)) [ inl kept ↦ inl kept | inr new ↦ inr (departed new) ]
-
-      back_to : IsTrue (has old y) ⊎ DepartsAt behind hop rows here y → IsTrue (has whole y)
-      back_to (inl kept) = wholes y ∙ or_left (has old y) (has image y) kept
-      back_to (inr new) = wholes y ∙ or_right (has old y) (has image y) (image_of new)
+  departures behind here left right image old whole ends begins lefts rights first last first_is last_is =
+      added (λ x y. Leads hop rows y x) behind here left right image old whole end_run begin_run first last (λ x y there inside.
+      let m = asked y x (begins y inside) (ends x there) in (
+        λ way. let a = m.0 way in (a.1, a.0, omega (arith, ints, first_is, a.3), omega (arith, ints, last_is, a.2)),
+        λ a. m.1 (a.1, a.0, omega (arith, ints, last_is, a.3), omega (arith, ints, first_is, a.2)),
+      )) lefts rights
 
 -- where nothing comes in, the old is the whole
 pub nothing_more : {P : Type 0} (old : Bool) → (P → ⊥) → IsTrue old ↔ (IsTrue old ⊎ P)

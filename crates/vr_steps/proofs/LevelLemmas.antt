@@ -3,7 +3,7 @@ use Rattle.std.proofs.Common.{◌≡◌, ℕ, zero, suc, ◌+◌, ◌-◌, ◌*�
 use Rattle.std.specs.Prelude.{IsTrue, ◌↔◌, slice_get, ◌==◌}
 use Rattle.std.proofs.lemmas.Int.{ints}
 use Rattle.std.proofs.lemmas.Bool.{cases_lt, and_parts, and_from}
-use Rattle.std.proofs.lemmas.List.{get_or-set_same, get_or-set_other, drop_more, length-drop}
+use Rattle.std.proofs.lemmas.List.{get_or-set_same, get_or-set_other, drop_more, length-drop, length-set, length-take-le}
 use Rattle.std.proofs.lemmas.List.Elements.{All-take, All-drop}
 use Rattle.std.proofs.lemmas.Option.{get_or_from_slice_get}
 use Rattle.vr_model.specs.tables.WellFormed.{IsBreak}
@@ -16,10 +16,10 @@ use Rattle.vr_spans.specs.Runs.{has, in_run, IsStretched}
 use Rattle.vr_steps.specs.declared.hops.Hop.{Hop}
 use Rattle.vr_steps.specs.Levels.{IsCumuls, AreLevels, AreStartLevels, AreEndLevels, AreCrossed, AreCrossedBack, level_at, forward_steps, backward_steps_from}
 use Rattle.vr_steps.specs.Arcs.{Leads, between}
-use Rattle.vr_steps.specs.Passages.{AreArrivals, AreDepartures, ArrivesAt, DepartsAt}
+use Rattle.vr_steps.specs.Passages.{AreArrivals, AreDepartures, ArrivesAt, DepartsAt, upto, onward}
 use Rattle.vr_steps.specs.Fits.{IsEarliest, IsLatest, FitsBefore, FitsAfter}
 use Rattle.vr_steps.proofs.ArcLemmas.{plainly, leads}
-use Rattle.vr_steps.proofs.ImageLemmas.{upto, onward, slice_between}
+use Rattle.vr_steps.proofs.ImageLemmas.{slice_between}
 
 -- each of the first k sets is as P says of its place
 abbrev pub HoldBelow : (ℕ → List Run → Type 0) → ℕ → List (List Run) → Type 0
@@ -31,6 +31,25 @@ hold_more P k sets new lt below here j low = elim (cases_lt j k) [
   | inr at ↦ (let e : j ≡ k = omega (arith, low, at) in
       subst (λ n. P n (level_at (set sets k new) n)) (sym e) (subst (P k) (sym (get_or-set_same sets k new [] lt)) here))
 ]
+
+-- of the sets behind the first level, one for each of n breaks, the first k are as P says of the number of breaks taken
+pub record AreWritten (P : ℕ → List Run → Type 0) (n k : ℕ) (sets : List (List Run)) : Type 0 where
+  pub within : k ≤ n
+  pub long : length sets ≡ n
+  pub each : HoldBelow (λ j set. P (suc j) set) k sets
+
+pub none_written : (P : ℕ → List Run → Type 0) (n : ℕ) (sets : List (List Run)) → length sets ≡ n → AreWritten P n 0 sets
+none_written P n sets long = record { within = omega arith; long = long; each = λ j lt. absurd (omega (arith, lt)) }
+
+pub written_more : (P : ℕ → List Run → Type 0) (n k : ℕ) (sets : List (List Run)) (new : List Run) → k < n → AreWritten P n k sets → P (k + 1) new → AreWritten P n (k + 1) (set sets k new)
+written_more P n k sets new low are here =
+    let long = are.long in
+    let next : k + 1 ≡ suc k = omega arith in
+    record {
+      within = omega (arith, low);
+      long = length-set sets k new ∙ long;
+      each = hold_more (λ j set. P (suc j) set) k sets new (omega (arith, low, long)) are.each (subst (λ b. P b new) next here);
+    }
 
 -- the first level and the others make all
 pub all_levels : (P : ℕ → List Run → Type 0) (n : ℕ) (first : List Run) (more : List (List Run)) → P 0 first → ((j : ℕ) → j < n → P (suc j) (level_at more j)) → (b : ℕ) → b ≤ n → P b (level_at (first ∷ more) b)
@@ -81,37 +100,34 @@ module _ (allowed : List Run) (rows : List BreakRow) (first : List Run) (more : 
 inside_from : (lo hi x : ℤ) → lo ≤ℤ x → x ≤ℤ hi → IsTrue (within lo hi x)
 inside_from lo hi x low high = grind (arith, ints, low, high)
 
--- the allowed cumuls from the earliest on
-pub fits_before : (allowed set : List Run) (rows : List BreakRow) (first : ℤ) (run : Run) → IsCumuls allowed → IsEarliest rows first → run ≡ onward first → ((x : ℤ) → has set x ≡ (has allowed x && in_run run x)) → FitsBefore allowed rows set
-fits_before allowed set rows first run cumuls earliest is exact x = (to, back_to)
+-- the allowed cumuls in a run, which are those that are so
+clipped : (allowed set : List Run) (run : Run) (So : ℤ → Type 0) → IsCumuls allowed → ((x : ℤ) → pos 0 ≤ℤ x → x ≤ℤ horizon → So x ↔ IsTrue (in_run run x)) → ((x : ℤ) → has set x ≡ (has allowed x && in_run run x)) → (x : ℤ) → IsTrue (has set x) ↔ (IsTrue (has allowed x) × So x)
+clipped allowed set run So cumuls same exact x = (to, back_to)
   where
-    to : IsTrue (has set x) → IsTrue (has allowed x) × FitBefore rows x
+    to : IsTrue (has set x) → IsTrue (has allowed x) × So x
     to there =
         let parts = and_parts (has allowed x) (in_run run x) (sym (exact x) ∙ there) in
         let range = within_is (pos 0) horizon x (cumuls x parts.0) in
-        let inside = subst (λ r. IsTrue (in_run r x)) is parts.1 in
-        (parts.0, (earliest.exact x range.0 range.1).1 (within_is first horizon x inside).0)
+        (parts.0, (same x range.0 range.1).1 parts.1)
 
-    back_to : IsTrue (has allowed x) × FitBefore rows x → IsTrue (has set x)
-    back_to (there, fits) =
+    back_to : IsTrue (has allowed x) × So x → IsTrue (has set x)
+    back_to (there, so) =
         let range = within_is (pos 0) horizon x (cumuls x there) in
-        exact x ∙ and_from _ _ there (subst (λ r. IsTrue (in_run r x)) (sym is) (inside_from first horizon x ((earliest.exact x range.0 range.1).0 fits) range.1))
+        exact x ∙ and_from _ _ there ((same x range.0 range.1).0 so)
+
+-- the allowed cumuls from the earliest on
+pub fits_before : (allowed set : List Run) (rows : List BreakRow) (first : ℤ) (run : Run) → IsCumuls allowed → IsEarliest rows first → run ≡ onward first → ((x : ℤ) → has set x ≡ (has allowed x && in_run run x)) → FitsBefore allowed rows set
+fits_before allowed set rows first run cumuls earliest is = clipped allowed set run (FitBefore rows) cumuls (λ x low high. (
+  λ fits. subst (λ r. IsTrue (in_run r x)) (sym is) (inside_from first horizon x ((earliest.exact x low high).0 fits) high),
+  λ inside. (earliest.exact x low high).1 (within_is first horizon x (subst (λ r. IsTrue (in_run r x)) is inside)).0,
+))
 
 -- the allowed cumuls up to the latest
 pub fits_after : (allowed set : List Run) (rows : List BreakRow) (last : ℤ) (run : Run) → IsCumuls allowed → IsLatest rows last → run ≡ upto last → ((x : ℤ) → has set x ≡ (has allowed x && in_run run x)) → FitsAfter allowed rows set
-fits_after allowed set rows last run cumuls latest is exact x = (to, back_to)
-  where
-    to : IsTrue (has set x) → IsTrue (has allowed x) × FitAfter rows x
-    to there =
-        let parts = and_parts (has allowed x) (in_run run x) (sym (exact x) ∙ there) in
-        let range = within_is (pos 0) horizon x (cumuls x parts.0) in
-        let inside = subst (λ r. IsTrue (in_run r x)) is parts.1 in
-        (parts.0, (latest.exact x range.0 range.1).1 (within_is (pos 0) last x inside).1)
-
-    back_to : IsTrue (has allowed x) × FitAfter rows x → IsTrue (has set x)
-    back_to (there, fits) =
-        let range = within_is (pos 0) horizon x (cumuls x there) in
-        exact x ∙ and_from _ _ there (subst (λ r. IsTrue (in_run r x)) (sym is) (inside_from (pos 0) last x range.0 ((latest.exact x range.0 range.1).0 fits)))
+fits_after allowed set rows last run cumuls latest is = clipped allowed set run (FitAfter rows) cumuls (λ x low high. (
+  λ fits. subst (λ r. IsTrue (in_run r x)) (sym is) (inside_from (pos 0) last x low ((latest.exact x low high).0 fits)),
+  λ inside. (latest.exact x low high).1 (within_is (pos 0) last x (subst (λ r. IsTrue (in_run r x)) is inside)).1,
+))
 
 -- steps of the levels that are left
 pub forward_more : (sets : List (List Run)) (k : ℕ) → k < length sets → forward_steps (drop k sets) ≡ length (level_at sets k) * (length sets - k) + forward_steps (drop (k + 1) sets)
@@ -144,6 +160,9 @@ level_cumuls rows levels b set are le is = subst IsCumuls (level_is levels b set
 -- breaks of a slice
 pub slice_breaks : (rows : List BreakRow) (a n : ℕ) → All IsBreak rows → All IsBreak (take n (drop a rows))
 slice_breaks rows a n valid = All-take IsBreak n (drop a rows) (All-drop IsBreak a rows valid)
+
+pub slice_long : (rows : List BreakRow) (a b : ℕ) → a ≤ b → b ≤ length rows → length (take (b - a) (drop a rows)) ≡ b - a
+slice_long rows a b le within = length-take-le (b - a) (drop a rows) (let n = length-drop a rows in omega (arith, le, within, n))
 
 -- what was added, from the level that was read and the breaks of the slice
 pub read_arrivals : (levels : List (List Run)) (hop : Hop) (rows : List BreakRow) (a b : ℕ) (set next old new : List Run) → a ≤ b → slice_get levels a ≡ Some set

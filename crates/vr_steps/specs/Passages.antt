@@ -28,6 +28,13 @@ pub record IsOpen (passage : Passage) : Type 0 where
   pub from_low : pos 0 ≤ℤ passage.from
   pub from_high : passage.from ≤ℤ horizon
 
+-- the cumuls up to one, and from one on
+abbrev pub upto : ℤ → Run
+upto last = record { lo = pos 0; hi = last }
+
+abbrev pub onward : ℤ → Run
+onward first = record { lo = first; hi = horizon }
+
 -- an arc with these breaks inside leads exactly where the passage lets through
 pub record IsPassage (hop : Hop) (rows : List BreakRow) (passage : Passage) : Type 0 where
   pub open_way : IsOpen passage

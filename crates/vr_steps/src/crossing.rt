@@ -7,7 +7,7 @@ ghost use Rattle.vr_steps.specs.Levels.{forward_steps, backward_steps};
 ghost use Rattle.vr_steps.specs.Levels.{level_at};
 ghost use Rattle.vr_steps.specs.Passages.{AreArrivals, AreDepartures};
 
-use crate::passages::Room;
+use crate::passages::{HopOver, Room};
 use crate::{Breaks, Hop, Levels};
 use std::alloc::Global;
 use std::sync::ledger::Ledger;
@@ -249,7 +249,11 @@ fn write_arrivals(
     let mut a = b;
     'fewer: while a > 0 {
         a -= 1;
-        room.add_arrivals(from.level(a), hop, &rows[a..b], next, set)?;
+        let over = HopOver {
+            hop,
+            rows: &rows[a..b],
+        };
+        room.add_arrivals(from.level(a), &over, next, set)?;
     }
     Ok(())
 }
@@ -273,7 +277,11 @@ fn write_departures(
     let mut b = a;
     'further: while b < rows.len() {
         b += 1;
-        room.add_departures(to.level(b), hop, &rows[a..b], here, set)?;
+        let over = HopOver {
+            hop,
+            rows: &rows[a..b],
+        };
+        room.add_departures(to.level(b), &over, here, set)?;
     }
     Ok(())
 }

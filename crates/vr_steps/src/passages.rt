@@ -1,13 +1,13 @@
 //! What an arc with breaks inside asks of cumuls, and the sets that it leads to.
 
-ghost use Rattle.std.specs.Prelude.{◌≡◌, ◌<◌, ◌≤◌, ◌↔◌, ◌⊎◌, ℤ, pos, All, IsTrue, IsNone, IsSome, IfSome, OnOk, length};
-ghost use Rattle.vr_model.specs.tables.Numbers.{horizon};
+ghost use Rattle.std.specs.Prelude.{◌≡◌, ◌<◌, ◌≤◌, ◌↔◌, ◌⊎◌, ℤ, All, IsTrue, IsNone, IsSome, IfSome, OnOk, length};
 ghost use Rattle.vr_model.specs.tables.WellFormed.{IsBreak};
-ghost use Rattle.vr_spans.specs.Runs.{has};
+ghost use Rattle.vr_spans.specs.Runs.{has, IsRun};
 ghost use Rattle.vr_steps.specs.Arcs.{IsSoundHop};
 ghost use Rattle.vr_steps.specs.Chains.{IsSmall};
 ghost use Rattle.vr_steps.specs.Levels.{IsCumuls};
-ghost use Rattle.vr_steps.specs.Passages.{ArrivesAt, DepartsAt, HasWay, IsOver, IsPassage, LeadsNowhere};
+ghost use Rattle.vr_steps.specs.Passages.{ArrivesAt, DepartsAt, HasWay, IsOpen, IsOver, IsPassage, LeadsNowhere};
+ghost use Rattle.vr_steps.specs.Passages.{onward, upto};
 
 use crate::Hop;
 use crate::chains::Chain;
@@ -15,6 +15,21 @@ use std::mem;
 use vr_model::BreakRow;
 use vr_model::limits::HORIZON;
 use vr_spans::{NoMemory, Run, Spans};
+
+// An arc with breaks inside it.
+#[derive(Clone, Copy)]
+pub(crate) struct HopOver<'r> {
+    pub(crate) hop: Hop,
+    pub(crate) rows: &'r [BreakRow],
+    // It is an arc of a well-formed model.
+    pub ghost sound: { IsSoundHop hop },
+    // There is a break.
+    pub ghost some: { 0 < length rows.now },
+    // A vehicle has no more.
+    pub ghost few: { length rows.now ≤ 8 },
+    // They are breaks of a well-formed model.
+    pub ghost breaks: { All IsBreak rows.now },
+}
 
 /// What an arc with certain breaks inside asks of the cumul `y` at its begin and the cumul `x` at its end:
 /// `y <= until`, `from <= x`, and `y + least <= x <= y + greatest`.
@@ -27,18 +42,13 @@ pub struct Passage {
 }
 
 impl Passage {
-    // The passage over these breaks, of which there is one at least; `None` where the arc leads nowhere with them
-    // inside.
-    pub(crate) fn of(hop: Hop, rows: &[BreakRow]) -> Option<Passage>
-        requires some { 0 < length rows.now }
-        requires few { length rows.now ≤ 8 }
-        requires rows { All IsBreak rows.now }
-        requires hop { IsSoundHop hop }
-        ensures some { IfSome result (IsPassage hop rows.now) }
-        ensures none { IsNone result → LeadsNowhere hop rows.now }
+    // The passage over the breaks; `None` where the arc leads nowhere with them inside.
+    fn of(over: &HopOver) -> Option<Passage>
+        ensures some { IfSome result (IsPassage over.now.hop over.now.rows.now) }
+        ensures none { IsNone result → LeadsNowhere over.now.hop over.now.rows.now }
     {
-        let chain = Chain::of(rows)?;
-        Passage::over(hop, chain)
+        let chain = Chain::of(over.rows)?;
+        Passage::over(over.hop, chain)
     }
 
     // The passage over the breaks of a chain.
@@ -66,6 +76,30 @@ impl Passage {
             from: chain.first_end.max(0),
         })
     }
+
+    // The cumuls at which the arc may begin.
+    fn begins(&self) -> Run
+        requires open_way { IsOpen self.now }
+        ensures exact { result ≡ upto self.now.until }
+        ensures run { IsRun result }
+    {
+        Run {
+            lo: 0,
+            hi: self.until,
+        }
+    }
+
+    // The cumuls at which it may end.
+    fn ends(&self) -> Run
+        requires open_way { IsOpen self.now }
+        ensures exact { result ≡ onward self.now.from }
+        ensures run { IsRun result }
+    {
+        Run {
+            lo: self.from,
+            hi: HORIZON,
+        }
+    }
 }
 
 // Sets that are written over while an arc with breaks is crossed.
@@ -92,27 +126,23 @@ impl Room {
     pub(crate) fn add_arrivals(
         &mut self,
         from: &Spans,
-        hop: Hop,
-        rows: &[BreakRow],
+        over: &HopOver,
         next: &Spans,
         set: &mut Spans,
     ) -> Result<(), NoMemory>
-        requires some { 0 < length rows.now }
-        requires few { length rows.now ≤ 8 }
-        requires rows { All IsBreak rows.now }
-        requires hop { IsSoundHop hop }
         requires from { IsCumuls from.now }
         requires next { IsCumuls next.now }
         ensures { OnOk result ((x : ℤ) →
-            IsTrue (has set.new x) ↔ (IsTrue (has set.old x) ⊎ ArrivesAt from.now hop rows.now next.now x)) }
+            IsTrue (has set.new x) ↔ (IsTrue (has set.old x)
+            ⊎ ArrivesAt from.now over.now.hop over.now.rows.now next.now x)) }
     {
         // the room is as it was where the arc leads nowhere
         let _ = &self.left;
-        let Some(passage) = Passage::of(hop, rows) else {
+        let Some(passage) = Passage::of(over) else {
             return Ok(());
         };
-        from.clip_into(upto(passage.until), &mut self.left)?;
-        next.clip_into(onward(passage.from), &mut self.right)?;
+        from.clip_into(passage.begins(), &mut self.left)?;
+        next.clip_into(passage.ends(), &mut self.right)?;
         self.left.reach_into(
             passage.least,
             passage.greatest,
@@ -128,27 +158,23 @@ impl Room {
     pub(crate) fn add_departures(
         &mut self,
         to: &Spans,
-        hop: Hop,
-        rows: &[BreakRow],
+        over: &HopOver,
         here: &Spans,
         set: &mut Spans,
     ) -> Result<(), NoMemory>
-        requires some { 0 < length rows.now }
-        requires few { length rows.now ≤ 8 }
-        requires rows { All IsBreak rows.now }
-        requires hop { IsSoundHop hop }
         requires to { IsCumuls to.now }
         requires here { IsCumuls here.now }
         ensures { OnOk result ((y : ℤ) →
-            IsTrue (has set.new y) ↔ (IsTrue (has set.old y) ⊎ DepartsAt to.now hop rows.now here.now y)) }
+            IsTrue (has set.new y) ↔ (IsTrue (has set.old y)
+            ⊎ DepartsAt to.now over.now.hop over.now.rows.now here.now y)) }
     {
         // the room is as it was where the arc leads nowhere
         let _ = &self.left;
-        let Some(passage) = Passage::of(hop, rows) else {
+        let Some(passage) = Passage::of(over) else {
             return Ok(());
         };
-        to.clip_into(onward(passage.from), &mut self.left)?;
-        here.clip_into(upto(passage.until), &mut self.right)?;
+        to.clip_into(passage.ends(), &mut self.left)?;
+        here.clip_into(passage.begins(), &mut self.right)?;
         self.left.reach_into(
             -passage.greatest,
             -passage.least,
@@ -158,22 +184,5 @@ impl Room {
         set.union_into(&self.image, &mut self.whole)?;
         mem::swap(set, &mut self.whole);
         Ok(())
-    }
-}
-
-// The cumuls up to one of them.
-fn upto(last: i64) -> Run
-    ensures { result ≡ record { lo = pos 0; hi = last } }
-{
-    Run { lo: 0, hi: last }
-}
-
-// The cumuls from one of them on.
-fn onward(first: i64) -> Run
-    ensures { result ≡ record { lo = first; hi = horizon } }
-{
-    Run {
-        lo: first,
-        hi: HORIZON,
     }
 }
