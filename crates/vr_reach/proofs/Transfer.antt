@@ -87,14 +87,26 @@ pub not_empty : (list : List ℕ) → 0 < length list → is_empty list ≡ fals
 not_empty [] some = absurd (omega (arith, some))
 not_empty (x ∷ xs) some = refl
 
--- how many rows there are
-pub as_many_rows : (model : Model) (d v : ℕ) (list : List ℕ) (rows : BothWays) → AreRowsOf model d v list rows → (length rows.forward ≡ suc (suc (length list))) × (length rows.backward ≡ suc (suc (length list)))
-as_many_rows model d v list rows are = (are.forward.row_of_each_stop, are.backward.row_of_each_stop)
+-- the rows of a list have those of each stop behind nodes that it keeps, and before such nodes
+module _ (model : Model) (d v : ℕ) (list : List ℕ) (rows : BothWays) (kept : is_empty list ≡ false → AreRowsOf model d v list rows) where
+  pub row_before : (front : ℕ) → front ≤ length list → 0 < front → front < length rows.forward
+  row_before front within some = let n = (kept (not_empty list (omega (arith, some, within)))).forward.row_of_each_stop in omega (arith, n, within)
+
+  pub row_behind : (back : ℕ) → back ≤ length list → 0 < back → length list - back + 1 < length rows.backward
+  row_behind back within some = let n = (kept (not_empty list (omega (arith, some, within)))).backward.row_of_each_stop in omega (arith, n, within, some)
+
+-- the levels of the start and of the end of a vehicle, with a list
+module _ (model : Model) (d v : ℕ) (list : List ℕ) (ends : Ends) (are : AreEndsOf model d v ends) (used : IsUsed model list) where
+  pub started_at : IsReachedAt model d v list 0 ends.start_levels
+  started_at = record { form = subst (λ breaks. AreLevels breaks ends.start_levels) are.sets.breaks_are.same are.start_form; reached = are.start_is list used }
+
+  pub ended_at : IsReachingFrom model d v list (suc (length list)) ends.end_levels
+  ended_at = record { form = subst (λ breaks. AreLevels breaks ends.end_levels) are.sets.breaks_are.same are.end_form; reaching = are.end_is list used }
 
 module _ (model : Model) (d v : ℕ) (old new : List ℕ) (ends : Ends) (are : AreEndsOf model d v ends) (rows : BothWays) (kept : is_empty old ≡ false → AreRowsOf model d v old rows) (used : IsUsed model new) where
   -- the levels at the last stop that both lists share at the front
   pub left_at : (a : ℕ) → SharesFront old new a → (levels : List (List Run)) → (a ≡ 0 → levels ≡ ends.start_levels) → (0 < a → levels ≡ row_at rows.forward a) → IsReachedAt model d v new a levels
-  left_at zero shares levels start row = subst (IsReachedAt model d v new 0) (sym (start refl)) (record { form = subst (λ breaks. AreLevels breaks ends.start_levels) are.sets.breaks_are.same are.start_form; reached = are.start_is new used })
+  left_at zero shares levels start row = subst (IsReachedAt model d v new 0) (sym (start refl)) (started_at model d v new ends are used)
   left_at (suc a) shares levels start row =
       let within = shares.within_old in
       let r = kept (not_empty old (omega (arith, within))) in
@@ -105,7 +117,7 @@ module _ (model : Model) (d v : ℕ) (old new : List ℕ) (ends : Ends) (are : A
   pub met_at : (z : ℕ) → SharesBack old new z → (levels : List (List Run)) → (z ≡ 0 → levels ≡ ends.end_levels) → (0 < z → levels ≡ row_at rows.backward (length old - z + 1)) → IsReachingFrom model d v new (length new - z + 1) levels
   met_at zero shares levels finish row =
       let e : suc (length new) ≡ length new - 0 + 1 = omega arith in
-      subst (λ k. IsReachingFrom model d v new k levels) e (subst (IsReachingFrom model d v new (suc (length new))) (sym (finish refl)) (record { form = subst (λ breaks. AreLevels breaks ends.end_levels) are.sets.breaks_are.same are.end_form; reaching = are.end_is new used }))
+      subst (λ k. IsReachingFrom model d v new k levels) e (subst (IsReachingFrom model d v new (suc (length new))) (sym (finish refl)) (ended_at model d v new ends are used))
   met_at (suc z) shares levels finish row =
       let within = shares.within_old in
       let within_new = shares.within_new in

@@ -5,10 +5,10 @@ ghost use Rattle.vr_reach.specs.KnownRows.{AreRowsIfUsed};
 ghost use Rattle.vr_reach.specs.Lists.{IsTour};
 ghost use Rattle.vr_reach.specs.VehicleStops.{AreStopsFor};
 
-use crate::driven::Driven;
+use crate::asked::asked_of;
 use crate::rows::Rows;
 use crate::spliced::Spliced;
-use crate::stops::{ListStops, StopsFor};
+use crate::stops::StopsFor;
 use crate::stretches::Stretch;
 use std::alloc::Global;
 use vr_model::NoMemory;
@@ -51,19 +51,8 @@ pub fn rewrite_rows(
         return Ok(());
     }
     let whole = Spliced::whole(list);
+    let asked = asked_of(stops, &whole);
     let stretch = Stretch::of(old, &whole, Stretch { front: 0, back: 0 });
-    let ends = &stops.of_dimension.ends[stops.v as usize];
-    let visits = stops
-        .of_dimension
-        .visits
-        .of(stops.closed.model, stops.d, stops.v);
-    let of = Driven {
-        closed: stops.closed,
-        d: stops.d,
-        v: stops.v,
-        list: &whole,
-    };
-    let asked = ListStops { of, ends, visits };
     let ahead = known_with(old, stretch.front);
     let behind = known_with(old, stretch.back);
     rows.rewrite(alloc, &asked, ahead, behind)?;

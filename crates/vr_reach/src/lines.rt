@@ -8,6 +8,7 @@ ghost use Rattle.vr_steps.specs.Lines.{hops_along, IsLineOf, IsSoundLine};
 ghost use Rattle.vr_reach.specs.Lists.{IsUsed};
 ghost use Rattle.vr_reach.specs.VehicleStops.{line_for, line_of, AreStopsFor};
 
+use crate::asked::asked_of;
 use crate::driven::Driven;
 use crate::spliced::Spliced;
 use crate::stops::{ListStops, StopsFor, hop_from, set_at};
@@ -26,20 +27,9 @@ pub fn write_line(stops: &StopsFor, list: &[u32], out: &mut Line) -> Result<(), 
     ensures sound { OnOk result (IsSoundLine out.new) }
 {
     let whole = Spliced::whole(list);
-    let ends = &stops.of_dimension.ends[stops.v as usize];
-    let visits = stops
-        .of_dimension
-        .visits
-        .of(stops.closed.model, stops.d, stops.v);
-    let of = Driven {
-        closed: stops.closed,
-        d: stops.d,
-        v: stops.v,
-        list: &whole,
-    };
-    let asked = ListStops { of, ends, visits };
+    let asked = asked_of(stops, &whole);
     write_sets(&asked, &mut out.allowed)?;
-    write_hops(&of, &mut out.hops)?;
+    write_hops(&asked.of, &mut out.hops)?;
     out.breaks = Breaks::of(stops.closed.model.dimensions.get(stops.d as usize), stops.v);
     Ok(())
 }

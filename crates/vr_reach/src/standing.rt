@@ -9,17 +9,15 @@ ghost use Rattle.vr_reach.specs.Standing.{is_stuck, IsReachedAt, ReachesNoEnd};
 ghost use Rattle.vr_reach.specs.Stretches.{SharesFront, SharesBack, SharesEnds};
 ghost use Rattle.vr_reach.specs.VehicleStops.{line_for, AreStopsFor};
 
-use crate::driven::Driven;
+use crate::asked::asked_of;
 use crate::known::KnownList;
 use crate::legs::Leg;
 use crate::spliced::Spliced;
 use crate::stops::{ListStops, StopsFor, hop_from, set_at};
 use crate::stretches::Stretch;
 use crate::uncounted::Crossing;
-use crate::walking::{levels_before, levels_behind, walk_uncounted};
+use crate::walking::{goes_along, levels_before, levels_behind};
 use crate::walks::Walk;
-use std::marker::Brand;
-use std::sync::ledger::Blank;
 use vr_model::NoMemory;
 use vr_steps::Levels;
 
@@ -40,24 +38,11 @@ pub fn goes_between(
     requires shared { SharesEnds known.now.list.now new.now shared }
     ensures { IfOk result (λ goes. goes ≡ is_feasible (line_for stops.now new.now)) }
 {
-    let ends = &stops.of_dimension.ends[stops.v as usize];
-    let visits = stops
-        .of_dimension
-        .visits
-        .of(stops.closed.model, stops.d, stops.v);
-    let runs = stops
-        .of_dimension
-        .runs_of(stops.closed.model, stops.d, stops.v);
-    let from = levels_before(ends, known.rows, shared.front);
-    let to = levels_behind(ends, known.rows, known.list.len(), shared.back);
     let whole = Spliced::whole(new);
-    let of = Driven {
-        closed: stops.closed,
-        d: stops.d,
-        v: stops.v,
-        list: &whole,
-    };
-    let asked = ListStops { of, ends, visits };
+    let asked = asked_of(stops, &whole);
+    let runs = stops.runs();
+    let from = levels_before(asked.ends, known.rows, shared.front);
+    let to = levels_behind(asked.ends, known.rows, known.list.len(), shared.back);
     let leg = Leg {
         stops: asked,
         runs,
@@ -66,7 +51,7 @@ pub fn goes_between(
         from,
         to,
     };
-    let goes = walk_uncounted::<Brand, Brand>(&leg, walk, Blank::new(1), Blank::new(1))?;
+    let goes = goes_along(&leg, walk)?;
     Ok(goes)
 }
 
@@ -91,20 +76,9 @@ pub fn leave_rows(
 {
     // the nodes that both share tell which row there is
     let _shared = known.list;
-    let ends = &stops.of_dimension.ends[stops.v as usize];
-    let visits = stops
-        .of_dimension
-        .visits
-        .of(stops.closed.model, stops.d, stops.v);
-    let from = levels_before(ends, known.rows, front);
     let whole = Spliced::whole(new);
-    let of = Driven {
-        closed: stops.closed,
-        d: stops.d,
-        v: stops.v,
-        list: &whole,
-    };
-    let asked = ListStops { of, ends, visits };
+    let asked = asked_of(stops, &whole);
+    let from = levels_before(asked.ends, known.rows, front);
     cross_arc(&asked, front, from, walk)?;
     walk.hand_over(here);
     Ok(())
@@ -127,19 +101,8 @@ pub fn go_on(
     requires here { IsReachedAt stops.now.closed.model.now stops.now.d stops.now.v list.now k here.old }
     ensures { OnOk result (IsReachedAt stops.now.closed.model.now stops.now.d stops.now.v list.now (k + 1) here.new) }
 {
-    let ends = &stops.of_dimension.ends[stops.v as usize];
-    let visits = stops
-        .of_dimension
-        .visits
-        .of(stops.closed.model, stops.d, stops.v);
     let whole = Spliced::whole(list);
-    let of = Driven {
-        closed: stops.closed,
-        d: stops.d,
-        v: stops.v,
-        list: &whole,
-    };
-    let asked = ListStops { of, ends, visits };
+    let asked = asked_of(stops, &whole);
     cross_arc(&asked, k, here, walk)?;
     walk.hand_over(here);
     Ok(())
@@ -167,23 +130,10 @@ pub fn goes_from(
     requires apart { k + back ≤ length new.now }
     ensures { IfOk result (λ goes. goes ≡ is_feasible (line_for stops.now new.now)) }
 {
-    let ends = &stops.of_dimension.ends[stops.v as usize];
-    let visits = stops
-        .of_dimension
-        .visits
-        .of(stops.closed.model, stops.d, stops.v);
-    let runs = stops
-        .of_dimension
-        .runs_of(stops.closed.model, stops.d, stops.v);
-    let to = levels_behind(ends, known.rows, known.list.len(), back);
     let whole = Spliced::whole(new);
-    let of = Driven {
-        closed: stops.closed,
-        d: stops.d,
-        v: stops.v,
-        list: &whole,
-    };
-    let asked = ListStops { of, ends, visits };
+    let asked = asked_of(stops, &whole);
+    let runs = stops.runs();
+    let to = levels_behind(asked.ends, known.rows, known.list.len(), back);
     let leg = Leg {
         stops: asked,
         runs,
@@ -192,7 +142,7 @@ pub fn goes_from(
         from: here,
         to,
     };
-    let goes = walk_uncounted::<Brand, Brand>(&leg, walk, Blank::new(1), Blank::new(1))?;
+    let goes = goes_along(&leg, walk)?;
     Ok(goes)
 }
 

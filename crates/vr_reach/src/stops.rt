@@ -8,7 +8,7 @@ ghost use Rattle.vr_reach.specs.Lists.{node_at_stop};
 ghost use Rattle.vr_reach.specs.Once.{IsNormalFrom-prop};
 ghost use Rattle.vr_reach.specs.Stops.{AreEndSets, AreStops};
 ghost use Rattle.vr_reach.specs.VisitRuns.{have_visits_one_run, AreVisitRuns};
-ghost use Rattle.vr_reach.specs.VehicleStops.{line_of};
+ghost use Rattle.vr_reach.specs.VehicleStops.{line_of, AreStopsFor};
 ghost use Rattle.vr_reach.specs.VisitSets.{AreVisitSets};
 
 use crate::driven::Driven;
@@ -69,6 +69,17 @@ pub struct StopsFor<'m, 's> {
     pub v: u32,
     /// What the stops of the dimension ask.
     pub of_dimension: &'s Stops,
+}
+
+impl<'s> StopsFor<'_, 's> {
+    // The run that each visit allows the vehicle, nothing where some visit allows more than one.
+    #[inline]
+    pub(crate) fn runs(&self) -> Option<&'s [Run]>
+        requires { AreStopsFor self.now }
+        ensures { IfSome result (λ runs. AreVisitRuns self.now.closed.model.now self.now.d self.now.v runs.now) }
+    {
+        self.of_dimension.runs_of(self.closed.model, self.d, self.v)
+    }
 }
 
 // What its start, its end and its breaks ask a vehicle that drives a list, and the cumuls that each visit allows it.

@@ -13,7 +13,7 @@ ghost use Rattle.vr_reach.specs.GivenUp.{IsGivenUp};
 ghost use Rattle.vr_reach.specs.Tries.{list_tries, tries_between};
 ghost use Rattle.vr_reach.specs.VehicleStops.{line_for, AreStopsFor};
 
-use crate::driven::Driven;
+use crate::asked::asked_of;
 use crate::ends::Ends;
 use crate::known::KnownList;
 use crate::legs::Leg;
@@ -22,7 +22,7 @@ use crate::rows::Rows;
 use crate::run_walks::{RunLine, RunWalk};
 use crate::single::{finish_of, runs_between, slack_of, walk_by_runs};
 use crate::spliced::{Splice, Spliced};
-use crate::stops::{ListStops, StopsFor, hop_from, set_at};
+use crate::stops::{StopsFor, hop_from, set_at};
 use crate::stretches::Stretch;
 use crate::walks::Walk;
 use std::marker::Brand;
@@ -159,23 +159,10 @@ pub fn passes_along<L: Ledger, M: Ledger>(
     if stretch.front == old.len() && stretch.front == n {
         return Ok(true);
     }
-    let ends = &stops.of_dimension.ends[stops.v as usize];
-    let visits = stops
-        .of_dimension
-        .visits
-        .of(stops.closed.model, stops.d, stops.v);
-    let runs = stops
-        .of_dimension
-        .runs_of(stops.closed.model, stops.d, stops.v);
-    let from = levels_before(ends, known.rows, stretch.front);
-    let to = levels_behind(ends, known.rows, old.len(), stretch.back);
-    let of = Driven {
-        closed: stops.closed,
-        d: stops.d,
-        v: stops.v,
-        list: &new,
-    };
-    let asked = ListStops { of, ends, visits };
+    let asked = asked_of(stops, &new);
+    let runs = stops.runs();
+    let from = levels_before(asked.ends, known.rows, stretch.front);
+    let to = levels_behind(asked.ends, known.rows, old.len(), stretch.back);
     let leg = Leg {
         stops: asked,
         runs,
@@ -197,36 +184,31 @@ pub fn goes_through(stops: &StopsFor, list: &[u32], walk: &mut Walk) -> Result<b
     requires used { IsUsed stops.now.closed.model.now list.now }
     ensures { IfOk result (λ goes. goes ≡ is_feasible (line_for stops.now list.now)) }
 {
-    let ends = &stops.of_dimension.ends[stops.v as usize];
-    let visits = stops
-        .of_dimension
-        .visits
-        .of(stops.closed.model, stops.d, stops.v);
-    let runs = stops
-        .of_dimension
-        .runs_of(stops.closed.model, stops.d, stops.v);
     let whole = Spliced::whole(list);
-    let of = Driven {
-        closed: stops.closed,
-        d: stops.d,
-        v: stops.v,
-        list: &whole,
-    };
-    let asked = ListStops { of, ends, visits };
+    let asked = asked_of(stops, &whole);
+    let runs = stops.runs();
     let leg = Leg {
         stops: asked,
         runs,
         begin: 0,
         last: list.len() + 1,
-        from: &ends.start_levels,
-        to: &ends.end_levels,
+        from: &asked.ends.start_levels,
+        to: &asked.ends.end_levels,
     };
-    let goes = walk_uncounted::<Brand, Brand>(&leg, walk, Blank::new(1), Blank::new(1))?;
+    let goes = goes_along(&leg, walk)?;
     Ok(goes)
 }
 
-// The same as `walk_through`, where nobody counts steps or tries.
-pub(crate) fn walk_uncounted<L: Ledger, M: Ledger>(
+// Whether the line of a list is feasible, found by a walk along a leg of it, where nobody counts steps or tries.
+pub(crate) fn goes_along(leg: &Leg, walk: &mut Walk) -> Result<bool, NoMemory>
+    ensures { IfOk result (λ goes. goes ≡ is_feasible (line_of_leg leg.now)) }
+{
+    let goes = walk_uncounted::<Brand, Brand>(leg, walk, Blank::new(1), Blank::new(1))?;
+    Ok(goes)
+}
+
+// The same, by counters that are made of blank ones.
+fn walk_uncounted<L: Ledger, M: Ledger>(
     leg: &Leg,
     walk: &mut Walk,
     blank: Blank,

@@ -1,5 +1,5 @@
 -- The pass over pieces and runs, as the code holds them.
-use Rattle.std.proofs.Common.{◌≡◌, ◌∙◌, ℕ, zero, suc, ◌+◌, ◌-◌, ◌<◌, ◌≤◌, List, [], ◌∷◌, ◌++◌, length, get_or, take, drop, pos, neg_ℤ, ◌+ℤ◌, ◌≤ℤ◌, refl, sym, ap, subst, inl, inr, arith, ◌⊎◌}
+use Rattle.std.proofs.Common.{◌≡◌, ◌∙◌, ℕ, zero, suc, ◌+◌, ◌-◌, ◌<◌, ◌≤◌, List, [], ◌∷◌, ◌++◌, length, get_or, take, drop, ℤ, pos, neg_ℤ, ◌+ℤ◌, ◌≤ℤ◌, refl, sym, ap, subst, inl, inr, arith, ◌⊎◌}
 use Rattle.std.specs.Prelude.{slice_get, Some, None}
 use Rattle.std.proofs.lemmas.Int.{ints}
 use Rattle.std.proofs.lemmas.List.{take_all}
@@ -12,7 +12,7 @@ use Rattle.vr_steps.specs.declared.hops.Hop.{Hop}
 use Rattle.vr_steps.specs.Arcs.{IsSoundHop}
 use Rattle.vr_steps.specs.Levels.{IsCumuls}
 use Rattle.vr_span.specs.declared.pieces.Piece.{Piece}
-use Rattle.vr_span.specs.Pieces.{far, behind, kept, moved, until_of, within_run, ArePieces, Arrive, IsNear, IsRisingFrom}
+use Rattle.vr_span.specs.Pieces.{far, behind, kept, moved, until_of, within_run, ArePieces, Arrive, IsNear, IsPiece, IsRisingFrom}
 use Rattle.vr_span.proofs.PieceLemmas.{rises_earlier}
 use Rattle.vr_span.proofs.CutLemmas.{IsCutting, cutting_begins, cutting_ends, drop_left, drop_right, run_high, run_low}
 use Rattle.vr_span.proofs.BehindLemmas.{arrive, behind_rises}
@@ -24,21 +24,23 @@ no_piece = record { lo = pos 0; hi = pos 0; first = pos 0; last = pos 0 }
 abbrev pub first_moved : Hop → List Piece → Piece
 first_moved hop left = moved hop (until_of (drop 1 left)) (get_or left 0 no_piece)
 
+-- a piece within these bounds is near
+near_within : (top b : ℤ) → neg_ℤ far ≤ℤ b → top ≤ℤ far → (p : Piece) → b ≤ℤ p.lo → pos 0 ≤ℤ p.first → IsPiece top p → IsNear p
+near_within top b low high p begin start is =
+    let order = is.in_order in
+    let great = is.greatest in
+    let rises = is.rises in
+    let latest = is.latest in
+    record {
+      lo = record { at_least = omega (arith, ints, low, begin); at_most = omega (arith, ints, order, great, high) };
+      hi = record { at_least = omega (arith, ints, low, begin, order); at_most = omega (arith, ints, great, high) };
+      first = record { at_least = omega (arith, ints, start); at_most = omega (arith, ints, rises, latest) };
+      last = record { at_least = omega (arith, ints, start, rises); at_most = omega (arith, ints, latest) };
+    }
+
 pub near_first : (left : List Piece) → ArePieces left → 0 < length left → IsNear (get_or left 0 no_piece)
 near_first [] h some = absurd (omega (arith, some))
-near_first (p ∷ ps) h some =
-    let a = h.0 in
-    let b = h.1 in
-    let order = h.2.in_order in
-    let great = h.2.greatest in
-    let rises = h.2.rises in
-    let latest = h.2.latest in
-    record {
-      lo = record { at_least = omega (arith, ints, a); at_most = omega (arith, ints, order, great) };
-      hi = record { at_least = omega (arith, ints, a, order); at_most = omega (arith, ints, great) };
-      first = record { at_least = omega (arith, ints, b); at_most = omega (arith, ints, rises, latest) };
-      last = record { at_least = omega (arith, ints, b, rises); at_most = omega (arith, ints, latest) };
-    }
+near_first (p ∷ ps) h some = near_within horizon (pos 0) (omega (arith, ints)) (omega (arith, ints)) p h.0 h.1 h.2
 
 -- the runs that are left begin with the one that is looked at
 pub run_at : (next : List Run) (k : ℕ) (r : Run) → slice_get next k ≡ Some r → drop k next ≡ r ∷ drop (suc k) next
@@ -66,19 +68,7 @@ module _ (hop : Hop) (sound : IsSoundHop hop) (from : List Piece) (next : List R
       where
         go : (left : List Piece) → 0 < length left → IsRisingFrom far (neg_ℤ far) (pos 0) (behind hop left) → IsNear (first_moved hop left)
         go [] some h = absurd (omega (arith, some))
-        go (p ∷ ps) some h =
-            let a = h.0 in
-            let b = h.1 in
-            let order = h.2.in_order in
-            let great = h.2.greatest in
-            let rises = h.2.rises in
-            let latest = h.2.latest in
-            record {
-              lo = record { at_least = a; at_most = omega (arith, ints, order, great) };
-              hi = record { at_least = omega (arith, ints, a, order); at_most = great };
-              first = record { at_least = omega (arith, ints, b); at_most = omega (arith, ints, rises, latest) };
-              last = record { at_least = omega (arith, ints, b, rises); at_most = omega (arith, ints, latest) };
-            }
+        go (p ∷ ps) some h = near_within far (neg_ℤ far) (omega (arith, ints)) (omega (arith, ints)) (moved hop (until_of ps) p) h.0 h.1 h.2
 
     module _ (r : Run) (is : slice_get next k ≡ Some r) where
       pub run_range : IsIn (pos 0) horizon r.lo × IsIn (pos 0) horizon r.hi

@@ -1,4 +1,4 @@
-use Rattle.std.proofs.Common.{◌≡◌, ◌+◌, suc, length, arith}
+use Rattle.std.proofs.Common.{arith}
 use Rattle.vr_reach.proofs.AlongLemmas.{last_row}
 use Rattle.vr_reach.proofs.along.write_back.Goals as goal
 

@@ -2,23 +2,22 @@ use Rattle.std.proofs.Common.{◌≡◌, ◌+◌, ◌∙◌, suc, length, take, 
 use Rattle.std.proofs.lemmas.List.{length-take-le}
 use Rattle.vr_reach.specs.KnownRows.{AreLastRows, AreReachingRows}
 use Rattle.vr_reach.proofs.AlongLemmas.{window_long, window_of}
+use Rattle.vr_reach.proofs.along.write_behind.Goals.{After-write_back-arg-1}
 use Rattle.vr_reach.proofs.along.write_behind.Goals as goal
+
+-- the rows that are written
+rows_are : (c : After-write_back-arg-1) → c.split_at_mut-rows.result.0.now ≡ take (suc (suc (length c.args.stops.now.of.list.now))) (drop c.args.first c.args.kept.now)
+rows_are c =
+    let two : c.len-n.result + 2 ≡ suc (suc (length c.args.stops.now.of.list.now)) = omega (arith, c.len-n.ensures.value) in
+    c.split_at_mut-rows.ensures.front ∙ ap₂ take two c.split_at_mut-behind.ensures.back
 
 pub write_back-requires-clause-known : goal.write_back-requires-clause-known
 write_back-requires-clause-known c =
     let of = c.args.stops.now.of in
-    let list = of.list.now in
-    let is : c.split_at_mut-rows.result.0.now ≡ take (suc (suc (length list))) (drop c.args.first c.args.kept.now) =
-    (let two : c.len-n.result + 2 ≡ suc (suc (length list)) = omega (arith, c.len-n.ensures.value) in c.split_at_mut-rows.ensures.front ∙ ap₂ take two c.split_at_mut-behind.ensures.back) in
-    subst (AreLastRows of.closed.model.now of.d of.v list c.args.known) (sym is) c.requires.known
+    subst (AreLastRows of.closed.model.now of.d of.v of.list.now c.args.known) (sym (rows_are c)) c.requires.known
 
 pub write_back-requires-clause-long : goal.write_back-requires-clause-long
-write_back-requires-clause-long c =
-    let of = c.args.stops.now.of in
-    let list = of.list.now in
-    let is : c.split_at_mut-rows.result.0.now ≡ take (suc (suc (length list))) (drop c.args.first c.args.kept.now) =
-    (let two : c.len-n.result + 2 ≡ suc (suc (length list)) = omega (arith, c.len-n.ensures.value) in c.split_at_mut-rows.ensures.front ∙ ap₂ take two c.split_at_mut-behind.ensures.back) in
-    ap length is ∙ window_long c.args.kept.now c.args.first (suc (suc (length list))) c.requires.there
+write_back-requires-clause-long c = ap length (rows_are c) ∙ window_long c.args.kept.now c.args.first (suc (suc (length c.args.stops.now.of.list.now))) c.requires.there
 
 pub returns : goal.returns
 returns c =

@@ -1,4 +1,4 @@
-use Rattle.std.proofs.Common.{◌∙◌, ◌≤◌, ◌∷◌, [], length, ap, sym, subst, arith}
+use Rattle.std.proofs.Common.{◌∙◌, ◌∷◌, [], ap, sym, subst}
 use Rattle.std.specs.Prelude.{is_some}
 use Rattle.std.proofs.lemmas.Bool.{false≢true}
 use Rattle.vr_spans.specs.Runs.{ShareANumber}

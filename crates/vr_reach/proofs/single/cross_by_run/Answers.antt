@@ -1,4 +1,4 @@
-use Rattle.std.proofs.Common.{◌≡◌, ◌∙◌, ◌+ℤ◌, ◌≤ℤ◌, ℤ, to_z, of_z, w64, pos, neg_ℤ, ◌^◌, ap, ap₂, ◌+◌, suc, subst, arith}
+use Rattle.std.proofs.Common.{◌≡◌, ◌∙◌, ◌+ℤ◌, ℤ, ap, ap₂, ◌+◌, suc, subst, arith}
 use Rattle.std.specs.Int.{int_max, int_min}
 use Rattle.std.proofs.lemmas.Int.{ints}
 use Rattle.vr_model.proofs.schedules.Crossing.{reached_by_crossing}

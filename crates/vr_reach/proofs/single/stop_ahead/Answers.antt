@@ -1,4 +1,4 @@
-use Rattle.std.proofs.Common.{◌≡◌, ◌∙◌, ◌<◌, ap, sym, arith, length, get_or, pos}
+use Rattle.std.proofs.Common.{◌∙◌, ◌<◌, ap, sym, arith, length, get_or, pos}
 use Rattle.vr_spans.specs.declared.runs.Run.{Run}
 use Rattle.vr_steps.proofs.LineLemmas.{visit_below}
 use Rattle.vr_reach.proofs.LineParts.{visit_allows_run, end_allows_run, end_node}

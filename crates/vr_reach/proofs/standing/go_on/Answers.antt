@@ -1,28 +1,20 @@
-use Rattle.std.proofs.Common.{◌+◌, length, ap, sym, subst, arith}
+use Rattle.std.proofs.Common.{◌+◌, ◌≤◌, length, sym, subst}
+use Rattle.vr_reach.specs.DrivenRows.{IsReachedOn}
 use Rattle.vr_reach.specs.Lists.{IsUsed}
 use Rattle.vr_reach.specs.Standing.{IsReachedAt}
-use Rattle.vr_reach.proofs.Tables.{ends_here}
+use Rattle.vr_reach.proofs.AskedLemmas.{asked_so, so_asked}
 use Rattle.vr_reach.proofs.standing.go_on.Goals as goal
 
-pub invariant_of-of : goal.invariant_of-of
-invariant_of-of c = record {
-  dimension = c.requires.stops.dimension;
-  vehicle = c.requires.stops.vehicle;
-  used = subst (IsUsed c.args.stops.now.closed.model.now) (sym c.whole-whole.ensures) c.requires.used;
-}
-
-pub invariant_of-asked : goal.invariant_of-asked
-invariant_of-asked c = record {
-  ends_are = (ends_here c.args.stops.now.closed.model.now c.args.stops.now.d c.args.stops.now.v c.args.stops.now.of_dimension.now c.requires.stops.are c.requires.stops.vehicle c.index-ends.result.now c.index-ends.ensures).sets;
-  sets_are = c.of-visits.ensures;
-}
+pub asked_of-asked-requires-clause-used : goal.asked_of-asked-requires-clause-used
+asked_of-asked-requires-clause-used c = subst (IsUsed c.args.stops.now.closed.model.now) (sym c.whole-whole.ensures) c.requires.used
 
 pub cross_arc-requires-clause-stop : goal.cross_arc-requires-clause-stop
-cross_arc-requires-clause-stop c = let same = ap length c.whole-whole.ensures in omega (arith, c.requires.stop, same)
+cross_arc-requires-clause-stop c = asked_so c.whole-whole.ensures c.asked_of-asked.ensures (λ m d v l. c.args.k ≤ length l) c.requires.stop
 
 pub cross_arc-requires-clause-from : goal.cross_arc-requires-clause-from
-cross_arc-requires-clause-from c = subst (λ l. IsReachedAt c.args.stops.now.closed.model.now c.args.stops.now.d c.args.stops.now.v l c.args.k c.args.here.now) (sym c.whole-whole.ensures) c.requires.here
+cross_arc-requires-clause-from c = asked_so c.whole-whole.ensures c.asked_of-asked.ensures (λ m d v l. IsReachedAt m d v l c.args.k c.args.here.now) c.requires.here
 
 pub returns : goal.returns
-returns c = subst (λ l. IsReachedAt c.args.stops.now.closed.model.now c.args.stops.now.d c.args.stops.now.v l (c.args.k + 1) c.hand_over.new.levels) c.whole-whole.ensures
-    (subst (IsReachedAt c.args.stops.now.closed.model.now c.args.stops.now.d c.args.stops.now.v c.whole-whole.result (c.args.k + 1)) (sym c.hand_over.ensures) c.in_ok-cross_arc.ensures)
+returns c =
+    so_asked c.whole-whole.ensures c.asked_of-asked.ensures (λ m d v l. IsReachedAt m d v l (c.args.k + 1) c.hand_over.new.levels)
+    (subst (IsReachedOn c.asked_of-asked.result.of (c.args.k + 1)) (sym c.hand_over.ensures) c.in_ok-cross_arc.ensures)

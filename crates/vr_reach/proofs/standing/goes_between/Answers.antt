@@ -1,66 +1,32 @@
-use Rattle.std.proofs.Common.{◌+◌, ◌-◌, ◌∙◌, length, ap, sym, subst, arith}
+use Rattle.std.proofs.Common.{◌≡◌, ◌+◌, ◌-◌, ◌≤◌, suc, length, sym, subst, arith}
+use Rattle.std.specs.Prelude.{IfSome}
 use Rattle.vr_model.specs.schedules.Choices.{is_feasible}
 use Rattle.vr_model.specs.schedules.Lines.{line}
 use Rattle.vr_reach.specs.Lists.{IsUsed}
-use Rattle.vr_reach.specs.Stretches.{SharesFront, SharesBack}
-use Rattle.vr_reach.specs.Tested.{IsReachingBy}
-use Rattle.vr_reach.proofs.DrivenLemmas.{reached_by, reaching_by}
-use Rattle.vr_reach.proofs.Transfer.{as_many_rows, left_at, met_at, not_empty}
-use Rattle.vr_reach.proofs.Tables.{ends_here}
+use Rattle.vr_reach.specs.VisitRuns.{AreVisitRuns}
+use Rattle.vr_reach.proofs.AskedLemmas.{asked_so, begun_as_asked, met_as_asked, so_asked}
+use Rattle.vr_reach.proofs.Transfer.{left_at, met_at, row_before, row_behind}
 use Rattle.vr_reach.proofs.standing.goes_between.Goals as goal
 
+pub asked_of-asked-requires-clause-used : goal.asked_of-asked-requires-clause-used
+asked_of-asked-requires-clause-used c = subst (IsUsed c.args.stops.now.closed.model.now) (sym c.whole-whole.ensures) c.requires.used
+
 pub levels_before-from-requires : goal.levels_before-from-requires
-levels_before-from-requires c = record {
-  row = λ some.
-      let within = c.requires.shared.front.within_old in
-      let n = (as_many_rows c.args.stops.now.closed.model.now c.args.stops.now.d c.args.stops.now.v c.args.known.now.list.now c.args.known.now.rows.now (c.requires.known (not_empty c.args.known.now.list.now (omega (arith, some, within))))).0 in
-      omega (arith, n, within);
-}
+levels_before-from-requires c = record { row = row_before c.args.stops.now.closed.model.now c.args.stops.now.d c.args.stops.now.v c.args.known.now.list.now c.args.known.now.rows.now c.requires.known c.args.shared.front c.requires.shared.front.within_old }
 
 pub levels_behind-to-requires-clause-row : goal.levels_behind-to-requires-clause-row
-levels_behind-to-requires-clause-row c = λ some.
-    let within = c.requires.shared.back.within_old in
-    let n = (as_many_rows c.args.stops.now.closed.model.now c.args.stops.now.d c.args.stops.now.v c.args.known.now.list.now c.args.known.now.rows.now (c.requires.known (not_empty c.args.known.now.list.now (omega (arith, some, within))))).1 in
-    omega (arith, n, within, some)
-
-pub invariant_of-of : goal.invariant_of-of
-invariant_of-of c = record {
-  dimension = c.requires.stops.dimension;
-  vehicle = c.requires.stops.vehicle;
-  used = subst (IsUsed c.args.stops.now.closed.model.now) (sym c.whole-whole.ensures) c.requires.used;
-}
-
-pub invariant_of-asked : goal.invariant_of-asked
-invariant_of-asked c = record {
-  ends_are = (ends_here c.args.stops.now.closed.model.now c.args.stops.now.d c.args.stops.now.v c.args.stops.now.of_dimension.now c.requires.stops.are c.requires.stops.vehicle c.index-ends.result.now c.index-ends.ensures).sets;
-  sets_are = c.of-visits.ensures;
-}
+levels_behind-to-requires-clause-row c = row_behind c.args.stops.now.closed.model.now c.args.stops.now.d c.args.stops.now.v c.args.known.now.list.now c.args.known.now.rows.now c.requires.known c.args.shared.back c.requires.shared.back.within_old
 
 pub invariant_of-leg : goal.invariant_of-leg
 invariant_of-leg c =
-    let m = c.args.stops.now.closed.model.now in
-    let d = c.args.stops.now.d in
-    let v = c.args.stops.now.v in
-    let old = c.args.known.now.list.now in
-    let new = c.whole-whole.result in
-    let same = c.whole-whole.ensures in
-    let many = ap length same in
-    let here = c.index-ends.result.now in
-    let from = c.levels_before-from.result.now in
-    let to = c.levels_behind-to.result.now in
     let apart = c.requires.shared.apart in
-    let used = subst (IsUsed m) (sym same) c.requires.used in
-    let front = subst (λ l. SharesFront old l c.args.shared.front) (sym same) c.requires.shared.front in
-    let back = subst (λ l. SharesBack old l c.args.shared.back) (sym same) c.requires.shared.back in
-    let ends = ends_here m d v c.args.stops.now.of_dimension.now c.requires.stops.are c.requires.stops.vehicle here c.index-ends.ensures in
     record {
-      runs_are = c.runs_of-runs.ensures.runs;
+      runs_are = asked_so c.whole-whole.ensures c.asked_of-asked.ensures (λ m d v l. IfSome c.runs-runs.result (λ found. AreVisitRuns m d v found.now)) c.runs-runs.ensures;
       order = omega (arith, apart);
-      within = omega (arith, many);
-      begun = reached_by m d v new c.args.shared.front from (left_at m d v old new here ends c.args.known.now.rows.now c.requires.known used c.args.shared.front front from c.levels_before-from.ensures.start c.levels_before-from.ensures.row);
-      met = subst (λ n. IsReachingBy (line m d v new) (n - c.args.shared.back + 1) to) many
-          (reaching_by m d v new (length new - c.args.shared.back + 1) to (met_at m d v old new here ends c.args.known.now.rows.now c.requires.known used c.args.shared.back back to c.levels_behind-to.ensures.end c.levels_behind-to.ensures.row));
+      within = asked_so c.whole-whole.ensures c.asked_of-asked.ensures (λ m d v l. length c.args.new.now - c.args.shared.back + 1 ≤ suc (length l)) (omega arith);
+      begun = begun_as_asked c.whole-whole.ensures c.asked_of-asked.ensures c.args.shared.front c.levels_before-from.result.now (left_at c.args.stops.now.closed.model.now c.args.stops.now.d c.args.stops.now.v c.args.known.now.list.now c.args.new.now c.asked_of-asked.result.ends.now c.asked_of-asked.ensures.ends_are c.args.known.now.rows.now c.requires.known c.requires.used c.args.shared.front c.requires.shared.front c.levels_before-from.result.now c.levels_before-from.ensures.start c.levels_before-from.ensures.row);
+      met = met_as_asked c.whole-whole.ensures c.asked_of-asked.ensures (length c.args.new.now - c.args.shared.back + 1) c.levels_behind-to.result.now (met_at c.args.stops.now.closed.model.now c.args.stops.now.d c.args.stops.now.v c.args.known.now.list.now c.args.new.now c.asked_of-asked.result.ends.now c.asked_of-asked.ensures.ends_are c.args.known.now.rows.now c.requires.known c.requires.used c.args.shared.back c.requires.shared.back c.levels_behind-to.result.now c.levels_behind-to.ensures.end c.levels_behind-to.ensures.row);
     }
 
 pub returns : goal.returns
-returns c = c.in_ok-goes.ensures ∙ ap (λ l. is_feasible (line c.args.stops.now.closed.model.now c.args.stops.now.d c.args.stops.now.v l)) c.whole-whole.ensures
+returns c = so_asked c.whole-whole.ensures c.asked_of-asked.ensures (λ m d v l. c.in_ok-goes.goes ≡ is_feasible (line m d v l)) c.in_ok-goes.ensures

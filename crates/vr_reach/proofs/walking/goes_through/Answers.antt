@@ -1,45 +1,29 @@
-use Rattle.std.proofs.Common.{◌≡◌, ◌+◌, ◌∙◌, suc, length, ap, sym, subst, arith}
+use Rattle.std.proofs.Common.{◌≡◌, ◌+◌, ◌≤◌, suc, length, sym, subst, arith}
+use Rattle.std.specs.Prelude.{IfSome}
 use Rattle.vr_model.specs.schedules.Choices.{is_feasible}
 use Rattle.vr_model.specs.schedules.Lines.{line}
-use Rattle.vr_steps.specs.Levels.{AreLevels}
 use Rattle.vr_reach.specs.Lists.{IsUsed}
-use Rattle.vr_reach.specs.Tested.{IsReachingBy}
-use Rattle.vr_reach.proofs.DrivenLemmas.{reached_by, reaching_by}
-use Rattle.vr_reach.proofs.Tables.{ends_here}
+use Rattle.vr_reach.specs.VisitRuns.{AreVisitRuns}
+use Rattle.vr_reach.proofs.AskedLemmas.{asked_so, begun_as_asked, met_as_asked, so_asked}
+use Rattle.vr_reach.specs.KnownRows.{IsReachingFrom}
+use Rattle.vr_reach.proofs.Transfer.{ended_at, started_at}
 use Rattle.vr_reach.proofs.walking.goes_through.Goals as goal
 
-pub invariant_of-of : goal.invariant_of-of
-invariant_of-of c = record {
-  dimension = c.requires.stops.dimension;
-  vehicle = c.requires.stops.vehicle;
-  used = subst (IsUsed c.args.stops.now.closed.model.now) (sym c.whole-whole.ensures) c.requires.used;
-}
-
-pub invariant_of-asked : goal.invariant_of-asked
-invariant_of-asked c = record {
-  ends_are = (ends_here c.args.stops.now.closed.model.now c.args.stops.now.d c.args.stops.now.v c.args.stops.now.of_dimension.now c.requires.stops.are c.requires.stops.vehicle c.index-ends.result.now c.index-ends.ensures).sets;
-  sets_are = c.of-visits.ensures;
-}
+pub asked_of-asked-requires-clause-used : goal.asked_of-asked-requires-clause-used
+asked_of-asked-requires-clause-used c = subst (IsUsed c.args.stops.now.closed.model.now) (sym c.whole-whole.ensures) c.requires.used
 
 pub invariant_of-leg : goal.invariant_of-leg
 invariant_of-leg c =
-    let m = c.args.stops.now.closed.model.now in
-    let d = c.args.stops.now.d in
-    let v = c.args.stops.now.v in
-    let new = c.whole-whole.result in
-    let many = ap length c.whole-whole.ensures in
-    let here = c.index-ends.result.now in
-    let ends = ends_here m d v c.args.stops.now.of_dimension.now c.requires.stops.are c.requires.stops.vehicle here c.index-ends.ensures in
-    let used = subst (IsUsed m) (sym c.whole-whole.ensures) c.requires.used in
-    let last : suc (length new) ≡ length c.args.list.now + 1 = omega (arith, many) in
+    let ends = c.asked_of-asked.result.ends.now in
+    let are = c.asked_of-asked.ensures.ends_are in
+    let last : suc (length c.args.list.now) ≡ length c.args.list.now + 1 = omega arith in
     record {
-      runs_are = c.runs_of-runs.ensures.runs;
+      runs_are = asked_so c.whole-whole.ensures c.asked_of-asked.ensures (λ m d v l. IfSome c.runs-runs.result (λ found. AreVisitRuns m d v found.now)) c.runs-runs.ensures;
       order = omega arith;
-      within = omega (arith, many);
-      begun = reached_by m d v new 0 here.start_levels (record { form = subst (λ breaks. AreLevels breaks here.start_levels) ends.sets.breaks_are.same ends.start_form; reached = ends.start_is new used });
-      met = subst (λ k. IsReachingBy (line m d v new) k here.end_levels) last
-          (reaching_by m d v new (suc (length new)) here.end_levels (record { form = subst (λ breaks. AreLevels breaks here.end_levels) ends.sets.breaks_are.same ends.end_form; reaching = ends.end_is new used }));
+      within = asked_so c.whole-whole.ensures c.asked_of-asked.ensures (λ m d v l. length c.args.list.now + 1 ≤ suc (length l)) (omega arith);
+      begun = begun_as_asked c.whole-whole.ensures c.asked_of-asked.ensures 0 ends.start_levels (started_at c.args.stops.now.closed.model.now c.args.stops.now.d c.args.stops.now.v c.args.list.now ends are c.requires.used);
+      met = met_as_asked c.whole-whole.ensures c.asked_of-asked.ensures (length c.args.list.now + 1) ends.end_levels (subst (λ k. IsReachingFrom c.args.stops.now.closed.model.now c.args.stops.now.d c.args.stops.now.v c.args.list.now k ends.end_levels) last (ended_at c.args.stops.now.closed.model.now c.args.stops.now.d c.args.stops.now.v c.args.list.now ends are c.requires.used));
     }
 
 pub returns : goal.returns
-returns c = c.in_ok-goes.ensures ∙ ap (λ l. is_feasible (line c.args.stops.now.closed.model.now c.args.stops.now.d c.args.stops.now.v l)) c.whole-whole.ensures
+returns c = so_asked c.whole-whole.ensures c.asked_of-asked.ensures (λ m d v l. c.in_ok-goes.goes ≡ is_feasible (line m d v l)) c.in_ok-goes.ensures

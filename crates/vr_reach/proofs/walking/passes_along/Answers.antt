@@ -1,20 +1,24 @@
-use Rattle.std.proofs.Common.{◌≡◌, ◌∙◌, ◌+◌, ◌-◌, ◌<◌, ◌≤◌, ◌||◌, ◌⊎◌, inl, inr, length, ap, sym, subst, arith}
+use Rattle.std.proofs.Common.{◌≡◌, ◌∙◌, ◌+◌, ◌-◌, ◌<◌, ◌≤◌, ◌||◌, ◌⊎◌, ℕ, List, inl, inr, length, suc, refl, ap, sym, subst, arith}
+use Rattle.std.specs.Prelude.{IfSome}
 use Rattle.std.proofs.lemmas.List.{take_all}
 use Rattle.vr_model.specs.schedules.Weights.{list_weight, walk_weight}
 use Rattle.vr_model.specs.schedules.Lines.{line}
 use Rattle.vr_model.specs.schedules.Choices.{is_feasible}
+use Rattle.vr_model.specs.declared.records.Model.{Model}
+use Rattle.vr_reach.specs.Lists.{is_feasible_list, IsTour, IsUsed}
 use Rattle.vr_reach.specs.Spliced.{spliced}
+use Rattle.vr_reach.specs.Splices.{spliced_by}
 use Rattle.vr_reach.specs.Stretches.{SharesFront, SharesBack}
 use Rattle.vr_reach.specs.Tested.{IsReachingBy}
 use Rattle.vr_reach.specs.Tries.{list_tries, tries_between}
+use Rattle.vr_reach.specs.VehicleStops.{line_of}
+use Rattle.vr_reach.specs.VisitRuns.{AreVisitRuns}
+use Rattle.vr_reach.proofs.AskedLemmas.{asked_so, begun_as_asked, met_as_asked, so_asked}
 use Rattle.vr_reach.proofs.Splicing.{shares_back}
 use Rattle.vr_reach.proofs.Stretching.{goes_on, tries_are, weight_is}
-use Rattle.vr_reach.proofs.DrivenLemmas.{reached_by, reaching_by}
-use Rattle.vr_reach.proofs.Transfer.{as_many_rows, left_at, met_at, not_empty}
-use Rattle.std.proofs.Common.{ℕ, List}
-use Rattle.vr_model.specs.declared.records.Model.{Model}
-use Rattle.vr_reach.proofs.Tables.{ends_here}
-use Rattle.vr_reach.specs.Lists.{is_feasible_list, IsTour, IsUsed}
+use Rattle.vr_reach.proofs.Transfer.{left_at, met_at, not_empty, row_before, row_behind}
+use Rattle.vr_reach.proofs.walking.passes_along.Given.{Over}
+use Rattle.vr_reach.proofs.walking.passes_along.Goals.{After-walk_through}
 use Rattle.vr_reach.proofs.walking.passes_along.Goals as goal
 
 used_by : (model : Model) (whole new : List ℕ) → new ≡ whole → IsTour model whole → (n : ℕ) → n ≡ length new → (n ≡ 0 → ⊥) → IsUsed model new
@@ -39,95 +43,62 @@ pub returns-clause-exact : goal.returns-clause-exact
 returns-clause-exact g c =
     let m = c.args.stops.now.closed.model.now in
     let used_here = used_by m (spliced c.args.known.now.list.now c.args.splice.now.front c.args.splice.now.behind c.args.splice.now.middle.now) c.of-new.result c.of-new.ensures c.requires.tour c.len-n.result c.len-n.ensures.value c.if-n-eq0.false in
-    c.in_ok-passed.ensures.exact ∙ (sym (ap (λ e. e || is_feasible (line m c.args.stops.now.d c.args.stops.now.v c.of-new.result)) used_here.some) ∙ ap (is_feasible_list m c.args.stops.now.d c.args.stops.now.v) c.of-new.ensures)
+    so_asked refl c.asked_of-asked.ensures (λ m d v l. c.in_ok-passed.passed ≡ is_feasible (line m d v l)) c.in_ok-passed.ensures.exact ∙ (sym (ap (λ e. e || is_feasible (line m c.args.stops.now.d c.args.stops.now.v c.of-new.result)) used_here.some) ∙ ap (is_feasible_list m c.args.stops.now.d c.args.stops.now.v) c.of-new.ensures)
+
+pub asked_of-asked-requires-clause-used : goal.asked_of-asked-requires-clause-used
+asked_of-asked-requires-clause-used g c = used_by c.args.stops.now.closed.model.now (spliced c.args.known.now.list.now c.args.splice.now.front c.args.splice.now.behind c.args.splice.now.middle.now) c.of-new.result c.of-new.ensures c.requires.tour c.len-n.result c.len-n.ensures.value c.if-n-eq0.false
 
 pub levels_before-from-requires : goal.levels_before-from-requires
-levels_before-from-requires g c = record {
-  row = λ some.
-      let within = c.of-stretch.ensures.front.within_old in
-      let n = (as_many_rows c.args.stops.now.closed.model.now c.args.stops.now.d c.args.stops.now.v c.args.known.now.list.now c.args.known.now.rows.now (c.requires.known (not_empty c.args.known.now.list.now (omega (arith, some, within))))).0 in
-      omega (arith, n, within);
-}
+levels_before-from-requires g c = record { row = row_before c.args.stops.now.closed.model.now c.args.stops.now.d c.args.stops.now.v c.args.known.now.list.now c.args.known.now.rows.now c.requires.known c.of-stretch.result.front c.of-stretch.ensures.front.within_old }
 
 pub levels_behind-to-requires-clause-row : goal.levels_behind-to-requires-clause-row
-levels_behind-to-requires-clause-row g c = λ some.
-    let within = c.of-stretch.ensures.back.within_old in
-    let n = (as_many_rows c.args.stops.now.closed.model.now c.args.stops.now.d c.args.stops.now.v c.args.known.now.list.now c.args.known.now.rows.now (c.requires.known (not_empty c.args.known.now.list.now (omega (arith, some, within))))).1 in
-    omega (arith, n, within, some)
-
-pub invariant_of-of : goal.invariant_of-of
-invariant_of-of g c = record {
-  dimension = c.requires.stops.dimension;
-  vehicle = c.requires.stops.vehicle;
-  used = used_by c.args.stops.now.closed.model.now (spliced c.args.known.now.list.now c.args.splice.now.front c.args.splice.now.behind c.args.splice.now.middle.now) c.of-new.result c.of-new.ensures c.requires.tour c.len-n.result c.len-n.ensures.value c.if-n-eq0.false;
-}
-
-pub invariant_of-asked : goal.invariant_of-asked
-invariant_of-asked g c = record {
-  ends_are = (ends_here c.args.stops.now.closed.model.now c.args.stops.now.d c.args.stops.now.v c.args.stops.now.of_dimension.now c.requires.stops.are c.requires.stops.vehicle c.index-ends.result.now c.index-ends.ensures).sets;
-  sets_are = c.of-visits.ensures;
-}
+levels_behind-to-requires-clause-row g c = row_behind c.args.stops.now.closed.model.now c.args.stops.now.d c.args.stops.now.v c.args.known.now.list.now c.args.known.now.rows.now c.requires.known c.of-stretch.result.back c.of-stretch.ensures.back.within_old
 
 pub invariant_of-leg : goal.invariant_of-leg
 invariant_of-leg g c =
+    let is_used = used_by c.args.stops.now.closed.model.now (spliced c.args.known.now.list.now c.args.splice.now.front c.args.splice.now.behind c.args.splice.now.middle.now) c.of-new.result c.of-new.ensures c.requires.tour c.len-n.result c.len-n.ensures.value c.if-n-eq0.false in
+    let many = c.len-n.ensures.value in
+    let stretch = c.of-stretch.ensures in
+    let apart = stretch.apart in
+    record {
+      runs_are = asked_so refl c.asked_of-asked.ensures (λ m d v l. IfSome c.runs-runs.result (λ found. AreVisitRuns m d v found.now)) c.runs-runs.ensures;
+      order = omega (arith, apart, many);
+      within = asked_so refl c.asked_of-asked.ensures (λ m d v l. c.len-n.result - c.of-stretch.result.back + 1 ≤ suc (length l)) (omega (arith, many));
+      begun = begun_as_asked refl c.asked_of-asked.ensures c.of-stretch.result.front c.levels_before-from.result.now (left_at c.args.stops.now.closed.model.now c.args.stops.now.d c.args.stops.now.v c.args.known.now.list.now c.of-new.result c.asked_of-asked.result.ends.now c.asked_of-asked.ensures.ends_are c.args.known.now.rows.now c.requires.known is_used c.of-stretch.result.front stretch.front c.levels_before-from.result.now c.levels_before-from.ensures.start c.levels_before-from.ensures.row);
+      met = subst (λ n. IsReachingBy (line_of c.asked_of-asked.result.of) (n - c.of-stretch.result.back + 1) c.levels_behind-to.result.now) (sym many)
+          (met_as_asked refl c.asked_of-asked.ensures (length c.of-new.result - c.of-stretch.result.back + 1) c.levels_behind-to.result.now (met_at c.args.stops.now.closed.model.now c.args.stops.now.d c.args.stops.now.v c.args.known.now.list.now c.of-new.result c.asked_of-asked.result.ends.now c.asked_of-asked.ensures.ends_are c.args.known.now.rows.now c.requires.known is_used c.of-stretch.result.back stretch.back c.levels_behind-to.result.now c.levels_behind-to.ensures.end c.levels_behind-to.ensures.row));
+    }
+
+-- what the walk counted, by what the lists weigh
+counted : (g : Over) (c : After-walk_through g) → (c.walk_through.new.steps ≤ c.args.steps.now + list_weight c.args.stops.now.closed.model.now c.args.stops.now.d c.args.stops.now.v c.args.known.now.list.now (spliced_by c.args.known.now c.args.splice.now)) × (c.walk_through.new.tries ≤ c.args.tries.now + list_tries c.args.stops.now.closed.model.now c.args.stops.now.d c.args.stops.now.v c.args.known.now.list.now (spliced_by c.args.known.now c.args.splice.now))
+counted g c =
     let m = c.args.stops.now.closed.model.now in
     let d = c.args.stops.now.d in
     let v = c.args.stops.now.v in
     let old = c.args.known.now.list.now in
     let new = c.of-new.result in
-    let from = c.levels_before-from.result.now in
-    let to = c.levels_behind-to.result.now in
-    let stretch = c.of-stretch.ensures in
+    let stretch = c.of-stretch.result in
+    let is = c.of-stretch.ensures in
     let many = c.len-n.ensures.value in
-    let here = c.index-ends.result.now in
-    let ends = ends_here m d v c.args.stops.now.of_dimension.now c.requires.stops.are c.requires.stops.vehicle here c.index-ends.ensures in
-    let is_used = used_by m (spliced old c.args.splice.now.front c.args.splice.now.behind c.args.splice.now.middle.now) new c.of-new.ensures c.requires.tour c.len-n.result many c.if-n-eq0.false in
-    let apart = stretch.apart in
-    record {
-      runs_are = c.runs_of-runs.ensures.runs;
-      order = omega (arith, apart, many);
-      within = omega (arith, many);
-      begun = reached_by m d v new c.of-stretch.result.front from (left_at m d v old new here ends c.args.known.now.rows.now c.requires.known is_used c.of-stretch.result.front stretch.front from c.levels_before-from.ensures.start c.levels_before-from.ensures.row);
-      met = subst (λ n. IsReachingBy (line m d v new) (n - c.of-stretch.result.back + 1) to) (sym many)
-          (reaching_by m d v new (length new - c.of-stretch.result.back + 1) to (met_at m d v old new here ends c.args.known.now.rows.now c.requires.known is_used c.of-stretch.result.back stretch.back to c.levels_behind-to.ensures.end c.levels_behind-to.ensures.row));
-    }
+    let used_here = used_by c.args.stops.now.closed.model.now (spliced c.args.known.now.list.now c.args.splice.now.front c.args.splice.now.behind c.args.splice.now.middle.now) c.of-new.result c.of-new.ensures c.requires.tour c.len-n.result c.len-n.ensures.value c.if-n-eq0.false in
+    let changed = goes_on old new stretch.front is.front (told_apart (length old) many c.else-stretch-old.either) in
+    let weight = ap (λ n. walk_weight (line m d v new) stretch.front (n - stretch.back + 1)) many ∙ (sym (weight_is m d v old new stretch is used_here.some c.requires.old_tour used_here.tour changed) ∙ ap (list_weight m d v old) c.of-new.ensures) in
+    let tries = ap (λ n. tries_between (line m d v new) stretch.front (n - stretch.back + 1)) many ∙ (sym (tries_are m d v old new stretch is used_here.some c.requires.old_tour used_here.tour changed) ∙ ap (list_tries m d v old) c.of-new.ensures) in
+    let last = c.len-n.result - stretch.back + 1 in (
+      subst (λ n. c.walk_through.new.steps ≤ c.args.steps.now + n) weight
+          (so_asked refl c.asked_of-asked.ensures (λ m d v l. c.walk_through.new.steps ≤ c.args.steps.now + walk_weight (line m d v l) stretch.front last) c.walk_through.ensures.count),
+      subst (λ n. c.walk_through.new.tries ≤ c.args.tries.now + n) tries
+          (so_asked refl c.asked_of-asked.ensures (λ m d v l. c.walk_through.new.tries ≤ c.args.tries.now + tries_between (line m d v l) stretch.front last) c.walk_through.ensures.tries),
+    )
 
 pub returns-in_err-passed-clause-count : goal.returns-in_err-passed-clause-count
-returns-in_err-passed-clause-count g c =
-    let used_here = used_by c.args.stops.now.closed.model.now (spliced c.args.known.now.list.now c.args.splice.now.front c.args.splice.now.behind c.args.splice.now.middle.now) c.of-new.result c.of-new.ensures c.requires.tour c.len-n.result c.len-n.ensures.value c.if-n-eq0.false in
-    let changed = goes_on c.args.known.now.list.now c.of-new.result c.of-stretch.result.front c.of-stretch.ensures.front (told_apart (length c.args.known.now.list.now) c.len-n.ensures.value c.else-stretch-old.either) in
-    subst (λ n. c.walk_through.new.steps ≤ c.args.steps.now + n)
-    (ap (λ n. walk_weight (line c.args.stops.now.closed.model.now c.args.stops.now.d c.args.stops.now.v c.of-new.result) c.of-stretch.result.front (n - c.of-stretch.result.back + 1)) c.len-n.ensures.value
-    ∙ (sym (weight_is c.args.stops.now.closed.model.now c.args.stops.now.d c.args.stops.now.v c.args.known.now.list.now c.of-new.result c.of-stretch.result c.of-stretch.ensures used_here.some c.requires.old_tour used_here.tour changed)
-    ∙ ap (list_weight c.args.stops.now.closed.model.now c.args.stops.now.d c.args.stops.now.v c.args.known.now.list.now) c.of-new.ensures))
-    c.walk_through.ensures.count
+returns-in_err-passed-clause-count g c = (counted g (goal.at.returns-in_err-passed-clause-count g c).After-walk_through).0
 
 pub returns-clause-count : goal.returns-clause-count
-returns-clause-count g c =
-    let used_here = used_by c.args.stops.now.closed.model.now (spliced c.args.known.now.list.now c.args.splice.now.front c.args.splice.now.behind c.args.splice.now.middle.now) c.of-new.result c.of-new.ensures c.requires.tour c.len-n.result c.len-n.ensures.value c.if-n-eq0.false in
-    let changed = goes_on c.args.known.now.list.now c.of-new.result c.of-stretch.result.front c.of-stretch.ensures.front (told_apart (length c.args.known.now.list.now) c.len-n.ensures.value c.else-stretch-old.either) in
-    subst (λ n. c.walk_through.new.steps ≤ c.args.steps.now + n)
-    (ap (λ n. walk_weight (line c.args.stops.now.closed.model.now c.args.stops.now.d c.args.stops.now.v c.of-new.result) c.of-stretch.result.front (n - c.of-stretch.result.back + 1)) c.len-n.ensures.value
-    ∙ (sym (weight_is c.args.stops.now.closed.model.now c.args.stops.now.d c.args.stops.now.v c.args.known.now.list.now c.of-new.result c.of-stretch.result c.of-stretch.ensures used_here.some c.requires.old_tour used_here.tour changed)
-    ∙ ap (list_weight c.args.stops.now.closed.model.now c.args.stops.now.d c.args.stops.now.v c.args.known.now.list.now) c.of-new.ensures))
-    c.walk_through.ensures.count
+returns-clause-count g c = (counted g (goal.at.returns-clause-count g c).After-walk_through).0
 
 pub returns-in_err-passed-clause-tries : goal.returns-in_err-passed-clause-tries
-returns-in_err-passed-clause-tries g c =
-    let used_here = used_by c.args.stops.now.closed.model.now (spliced c.args.known.now.list.now c.args.splice.now.front c.args.splice.now.behind c.args.splice.now.middle.now) c.of-new.result c.of-new.ensures c.requires.tour c.len-n.result c.len-n.ensures.value c.if-n-eq0.false in
-    let changed = goes_on c.args.known.now.list.now c.of-new.result c.of-stretch.result.front c.of-stretch.ensures.front (told_apart (length c.args.known.now.list.now) c.len-n.ensures.value c.else-stretch-old.either) in
-    subst (λ n. c.walk_through.new.tries ≤ c.args.tries.now + n)
-    (ap (λ n. tries_between (line c.args.stops.now.closed.model.now c.args.stops.now.d c.args.stops.now.v c.of-new.result) c.of-stretch.result.front (n - c.of-stretch.result.back + 1)) c.len-n.ensures.value
-    ∙ (sym (tries_are c.args.stops.now.closed.model.now c.args.stops.now.d c.args.stops.now.v c.args.known.now.list.now c.of-new.result c.of-stretch.result c.of-stretch.ensures used_here.some c.requires.old_tour used_here.tour changed)
-    ∙ ap (list_tries c.args.stops.now.closed.model.now c.args.stops.now.d c.args.stops.now.v c.args.known.now.list.now) c.of-new.ensures))
-    c.walk_through.ensures.tries
+returns-in_err-passed-clause-tries g c = (counted g (goal.at.returns-in_err-passed-clause-tries g c).After-walk_through).1
 
 pub returns-clause-tries : goal.returns-clause-tries
-returns-clause-tries g c =
-    let used_here = used_by c.args.stops.now.closed.model.now (spliced c.args.known.now.list.now c.args.splice.now.front c.args.splice.now.behind c.args.splice.now.middle.now) c.of-new.result c.of-new.ensures c.requires.tour c.len-n.result c.len-n.ensures.value c.if-n-eq0.false in
-    let changed = goes_on c.args.known.now.list.now c.of-new.result c.of-stretch.result.front c.of-stretch.ensures.front (told_apart (length c.args.known.now.list.now) c.len-n.ensures.value c.else-stretch-old.either) in
-    subst (λ n. c.walk_through.new.tries ≤ c.args.tries.now + n)
-    (ap (λ n. tries_between (line c.args.stops.now.closed.model.now c.args.stops.now.d c.args.stops.now.v c.of-new.result) c.of-stretch.result.front (n - c.of-stretch.result.back + 1)) c.len-n.ensures.value
-    ∙ (sym (tries_are c.args.stops.now.closed.model.now c.args.stops.now.d c.args.stops.now.v c.args.known.now.list.now c.of-new.result c.of-stretch.result c.of-stretch.ensures used_here.some c.requires.old_tour used_here.tour changed)
-    ∙ ap (list_tries c.args.stops.now.closed.model.now c.args.stops.now.d c.args.stops.now.v c.args.known.now.list.now) c.of-new.ensures))
-    c.walk_through.ensures.tries
+returns-clause-tries g c = (counted g (goal.at.returns-clause-tries g c).After-walk_through).1

@@ -1,7 +1,6 @@
-use Rattle.std.proofs.Common.{◌≡◌, ◌∙◌, ◌<◌, All, ℤ, rules, length, pos, to_z, of_z, w64, ap, ap₂, refl, sym, subst, arith}
+use Rattle.std.proofs.Common.{◌∙◌, ◌<◌, All, rules, length, pos, ap, ap₂, refl, sym, subst, arith}
 use Rattle.std.specs.Prelude.{◌&&◌}
 use Rattle.std.proofs.lemmas.Bool.{and_parts, false≢true}
-use Rattle.std.proofs.lemmas.Int.{ints}
 use Rattle.vr_model.specs.tables.Numbers.{horizon}
 use Rattle.vr_model.specs.tables.Tables.{breaks_of, dimension_at, evaluator_of, no_dimension}
 use Rattle.vr_model.specs.tables.WellFormed.{IsIn}

@@ -1,4 +1,4 @@
-use Rattle.vr_reach.proofs.standing.goes_from.Given as goal
+use Rattle.vr_reach.proofs.walking.goes_along.Given as goal
 
 abbrev pub ghosts-walk_uncounted-L-Ledger : goal.ghosts-walk_uncounted-L-Ledger
 ghosts-walk_uncounted-L-Ledger a = record { name = a.blank.name; parts = a.blank.parts }
