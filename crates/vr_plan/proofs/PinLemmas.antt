@@ -11,16 +11,18 @@ use Rattle.vr_model.specs.deciding.Testing.{within_is}
 use Rattle.vr_model.specs.schedules.Lines.{Line as Defined, Arc}
 use Rattle.vr_model.specs.schedules.Schedules.{Plan, IsSchedule, IsChosen, IsFeasible, KeepsRules, before_only, after_only, cumul, front, back, no_arc}
 use Rattle.vr_model.specs.schedules.SoundLines.{IsSound}
-use Rattle.vr_model.specs.schedules.Levels.{CumulWhereLevelsMeet}
 use Rattle.vr_model.specs.schedules.Choices.{chosen}
-use Rattle.vr_model.specs.schedules.ChosenLaws.{pinned, LeastCumulMayBePinned, ChosenWhereFeasible, ChosenIsLeast}
+use Rattle.vr_model.specs.schedules.ChosenLaws.{pinned}
 use Rattle.vr_model.specs.declared.records.BreakRow.{BreakRow}
-use Rattle.vr_model.proofs.schedules.Narrowing.{to_pinned, of_pinned}
+use Rattle.vr_model.proofs.schedules.ChoiceLaws.{chosen_is_least, chosen_where_feasible}
+use Rattle.vr_model.proofs.schedules.Joining.{cumul_where_levels_meet}
+use Rattle.vr_model.proofs.schedules.Narrowing.{least_cumul_may_be_pinned, to_pinned, of_pinned}
 use Rattle.vr_steps.specs.declared.hops.Hop.{Hop}
 use Rattle.vr_steps.specs.declared.lines.Line.{Line}
 use Rattle.vr_steps.specs.Levels.{AreLevels, AreStartLevels, AreCrossed, IsCumuls}
 use Rattle.vr_steps.specs.Lines.{IsLineOf, IsSoundLine, hop_of}
-use Rattle.vr_steps.specs.Reached.{LinesStandForTheirs, StartIsReached, ReachedBehindArc, IsAllowedSet, AreReached, AreReachingEnd, hop_at, StandsFor}
+use Rattle.vr_steps.specs.Reached.{IsAllowedSet, AreReached, AreReachingEnd, hop_at, StandsFor}
+use Rattle.vr_steps.proofs.LawLemmas.{lines_stand_for_theirs, reached_behind_arc, start_is_reached}
 use Rattle.vr_reach.specs.Rows.{AreBackward, IsForwardRow, row_at}
 use Rattle.vr_reach.specs.Shared.{SharedAt, IsLeastShared}
 use Rattle.vr_plan.proofs.SlackLemmas.{number_last}
@@ -51,21 +53,21 @@ abbrev make_back : List (ℤ → Bool) → List Arc → ℤ → List BreakRow �
 make_back allowed arcs slack rows = record { allowed = allowed; arcs = arcs; slack_max = slack; breaks = rows }
 
 -- a line whose least cumul at a stop is put in
-module _ (line : Defined) (sound : IsSound line) (j : ℕ) (le : j ≤ length line.arcs) (from to : List (List Run)) (long : length from ≡ suc (length line.breaks)) (long_too : length to ≡ suc (length line.breaks)) (reached : AreReached line j from) (reaching : AreReachingEnd line j to) (meet : CumulWhereLevelsMeet) where
+module _ (line : Defined) (sound : IsSound line) (j : ℕ) (le : j ≤ length line.arcs) (from to : List (List Run)) (long : length from ≡ suc (length line.breaks)) (long_too : length to ≡ suc (length line.breaks)) (reached : AreReached line j from) (reaching : AreReachingEnd line j to) where
   there : j < length line.allowed
   there = let n = sound.stops in omega (arith, n, le)
 
   -- what schedules have there is shared
   pub shared_of : (plan : Plan) → IsSchedule line plan → SharedAt from to (cumul plan j)
   shared_of plan s =
-      let m = (meet line sound j le (cumul plan j)).0 (plan, s, refl) in
+      let m = (cumul_where_levels_meet line sound j le (cumul plan j)).0 (plan, s, refl) in
       (m.0, let le = m.1 in omega (arith, le, long), let le = m.1 in omega (arith, le, long_too), (reached m.0 m.1 (cumul plan j)).1 m.2, (reaching m.0 m.1 (cumul plan j)).1 m.3)
 
   -- and what is shared some schedule has there
   pub schedule_of : (x : ℤ) → SharedAt from to x → (plan : Plan) × IsSchedule line plan × (cumul plan j ≡ x)
   schedule_of x m =
       let few : m.0 ≤ length line.breaks = let lt = m.1 in omega (arith, lt, long) in
-      (meet line sound j le x).1 (m.0, few, (reached m.0 few x).0 m.3, (reaching m.0 few x).0 m.4)
+      (cumul_where_levels_meet line sound j le x).1 (m.0, few, (reached m.0 few x).0 m.3, (reaching m.0 few x).0 m.4)
 
   -- where nothing is shared there is no schedule
   pub none_shared : ((x : ℤ) → SharedAt from to x → ⊥) → IsFeasible line → ⊥
@@ -80,8 +82,8 @@ module _ (line : Defined) (sound : IsSound line) (j : ℕ) (le : j ≤ length li
         let plan = schedule_of x least.shared in
         (plan.0, to_pinned line j x there plan.0 plan.1 plan.2)
 
-    pub pinned_chosen : LeastCumulMayBePinned → ((plan : Plan) → (other : Plan) → IsSchedule line plan → IsSchedule line other → (i : ℕ) → i < j → cumul plan i ≡ cumul other i) → (plan : Plan) → IsChosen (pinned line j x) plan → IsChosen line plan
-    pinned_chosen law before plan chosen = law line j x there before least_of_all plan chosen
+    pub pinned_chosen : ((plan : Plan) → (other : Plan) → IsSchedule line plan → IsSchedule line other → (i : ℕ) → i < j → cumul plan i ≡ cumul other i) → (plan : Plan) → IsChosen (pinned line j x) plan → IsChosen line plan
+    pinned_chosen before plan chosen = least_cumul_may_be_pinned line j x there before least_of_all plan chosen
 
     pub pinned_sound : IsSound (pinned line j x)
     pinned_sound = record { stops = let n = length-set line.allowed j (λ y. get_or line.allowed j (λ _. false) y && is_same_number x y) in let m = sound.stops in omega (arith, n, m); visits = sound.visits; durations = sound.durations; forward = sound.forward }
@@ -115,34 +117,34 @@ number_before : (cumuls : List ℤ) (x : ℤ) (i : ℕ) → i < length cumuls �
 number_before cumuls x i lt = get_or_append_left cumuls (x ∷ []) (pos 0) i lt
 
 -- the levels of a line have as many sets
-pub long_of : LinesStandForTheirs → (made : Line) → IsSoundLine made → (defined : Defined) → IsLineOf defined made → (levels : List (List Run)) → AreLevels made.breaks levels → length levels ≡ suc (length defined.breaks)
-long_of stands made sound_made defined of levels m = m.one_more ∙ ap (λ bs. suc (length bs)) (sym (stands defined made of sound_made).breaks)
+pub long_of : (made : Line) → IsSoundLine made → (defined : Defined) → IsLineOf defined made → (levels : List (List Run)) → AreLevels made.breaks levels → length levels ≡ suc (length defined.breaks)
+long_of made sound_made defined of levels m = m.one_more ∙ ap (λ bs. suc (length bs)) (sym (lines_stand_for_theirs defined made of sound_made).breaks)
 
-module _ (stands : LinesStandForTheirs) (meet : CumulWhereLevelsMeet) (law : LeastCumulMayBePinned) (made : Line) (rows : List (List (List Run))) (sound_made : IsSoundLine made) (are : AreBackward made rows) where
+module _ (made : Line) (rows : List (List (List Run))) (sound_made : IsSoundLine made) (are : AreBackward made rows) where
   -- no cumul is shared at the start
   pub unfeasible_at_start : (from to : List (List Run)) → IsForwardRow made 0 from → row_at rows 0 ≡ to → ((x : ℤ) → SharedAt from to x → ⊥) → IsUnfeasible made
   unfeasible_at_start from to first last none defined of feasible =
-      let s = stands defined made of sound_made in
+      let s = lines_stand_for_theirs defined made of sound_made in
       let n = sound_made.stops in
       let ahead : AreLevels made.breaks from × AreReached defined 0 from = (first.form, first.exact defined of) in
       let behind = subst (λ r. AreLevels made.breaks r × AreReachingEnd defined 0 r) last (let m = are.each 0 (omega (arith, n)) in (m.form, m.exact defined of)) in
-      none_shared defined s.sound 0 (omega arith) from to (long_of stands made sound_made defined of from ahead.0) (long_of stands made sound_made defined of to behind.0) ahead.1 behind.1 meet none feasible
+      none_shared defined s.sound 0 (omega arith) from to (long_of made sound_made defined of from ahead.0) (long_of made sound_made defined of to behind.0) ahead.1 behind.1 none feasible
 
   -- the start is settled
-  pub settled_at_start : StartIsReached → (from to : List (List Run)) → IsForwardRow made 0 from → row_at rows 0 ≡ to → (x : ℤ) → IsLeastShared from to x → (set only : List Run) (here : List (List Run)) → ((d : List Run) → get_or made.allowed 0 d ≡ set) → IsOnly set x only → IsCumuls only → AreStartLevels only made.breaks here → IsIn (pos 0) horizon x → IsSettled made 0 (x ∷ []) here
-  settled_at_start start from to first last x least set only here set_is is cumuls levels range = record {
+  pub settled_at_start : (from to : List (List Run)) → IsForwardRow made 0 from → row_at rows 0 ≡ to → (x : ℤ) → IsLeastShared from to x → (set only : List Run) (here : List (List Run)) → ((d : List Run) → get_or made.allowed 0 d ≡ set) → IsOnly set x only → IsCumuls only → AreStartLevels only made.breaks here → IsIn (pos 0) horizon x → IsSettled made 0 (x ∷ []) here
+  settled_at_start from to first last x least set only here set_is is cumuls levels range = record {
     cumul_of_each = refl;
     in_range = All-push (IsIn (pos 0) horizon) [] x (λ i d lt. absurd (omega arith)) range;
     narrowed = λ defined of.
-        let s = stands defined made of sound_made in
+        let s = lines_stand_for_theirs defined made of sound_made in
         let n = sound_made.stops in
         let ahead : AreLevels made.breaks from × AreReached defined 0 from = (first.form, first.exact defined of) in
         let behind = subst (λ r. AreLevels made.breaks r × AreReachingEnd defined 0 r) last (let m = are.each 0 (omega (arith, n)) in (m.form, m.exact defined of)) in
-        let long = long_of stands made sound_made defined of from ahead.0 in
-        let long_too = long_of stands made sound_made defined of to behind.0 in
+        let long = long_of made sound_made defined of from ahead.0 in
+        let long_too = long_of made sound_made defined of to behind.0 in
         let le : 0 ≤ length defined.arcs = omega arith in
-        let here_sound = pinned_sound defined s.sound 0 le from to long long_too ahead.1 behind.1 meet x least in
-        let allowed = pinned_allows defined s.sound 0 le from to long long_too ahead.1 behind.1 meet x least set only (subst (IsAllowedSet defined 0) (set_is []) (s.allowed 0 (omega (arith, n)))) is cumuls in (
+        let here_sound = pinned_sound defined s.sound 0 le from to long long_too ahead.1 behind.1 x least in
+        let allowed = pinned_allows defined s.sound 0 le from to long long_too ahead.1 behind.1 x least set only (subst (IsAllowedSet defined 0) (set_is []) (s.allowed 0 (omega (arith, n)))) is cumuls in (
           pinned defined 0 x,
           record {
             sound = here_sound;
@@ -151,18 +153,18 @@ module _ (stands : LinesStandForTheirs) (meet : CumulWhereLevelsMeet) (law : Lea
             breaks = refl;
             stops = length-set defined.allowed 0 _;
             rest = drop_set defined.allowed 1 0 _ (omega arith);
-            feasible = pinned_feasible defined s.sound 0 le from to long long_too ahead.1 behind.1 meet x least;
-            chosen = pinned_chosen defined s.sound 0 le from to long long_too ahead.1 behind.1 meet x least law (λ p q sp sq i lt. absurd (omega (arith, lt)));
+            feasible = pinned_feasible defined s.sound 0 le from to long long_too ahead.1 behind.1 x least;
+            chosen = pinned_chosen defined s.sound 0 le from to long long_too ahead.1 behind.1 x least (λ p q sp sq i lt. absurd (omega (arith, lt)));
             settled = λ plan sch i low. let e : 0 ≡ i = omega (arith, low) in subst (λ i. cumul plan i ≡ number_at (x ∷ []) i) e (of_pinned defined 0 x (omega (arith, s.sound.stops)) plan sch).1;
-            reached = start (pinned defined 0 x) here_sound only here allowed (subst (λ bs. AreStartLevels only bs here) (sym s.breaks) levels);
+            reached = start_is_reached (pinned defined 0 x) here_sound only here allowed (subst (λ bs. AreStartLevels only bs here) (sym s.breaks) levels);
           },
         );
   }
 
-  module _ (arc_law : ReachedBehindArc) (k : ℕ) (lt : k < length made.hops) (cumuls : List ℤ) (here : List (List Run)) (settled : IsSettled made k cumuls here) (set : List Run) (hop : Hop) (from to : List (List Run)) (set_is : (d : List Run) → get_or made.allowed (k + 1) d ≡ set) (hop_is : (d : Hop) → get_or made.hops k d ≡ hop) (crossed : AreCrossed here hop set made.breaks from) (fit : AreLevels made.breaks from) (to_is : row_at rows (k + 1) ≡ to) where
+  module _ (k : ℕ) (lt : k < length made.hops) (cumuls : List ℤ) (here : List (List Run)) (settled : IsSettled made k cumuls here) (set : List Run) (hop : Hop) (from to : List (List Run)) (set_is : (d : List Run) → get_or made.allowed (k + 1) d ≡ set) (hop_is : (d : Hop) → get_or made.hops k d ≡ hop) (crossed : AreCrossed here hop set made.breaks from) (fit : AreLevels made.breaks from) (to_is : row_at rows (k + 1) ≡ to) where
     module _ (defined : Defined) (of : IsLineOf defined made) where
       s : StandsFor defined made
-      s = stands defined made of sound_made
+      s = lines_stand_for_theirs defined made of sound_made
 
       abbrev narrow : Defined
       narrow = (settled.narrowed defined of).0
@@ -195,7 +197,7 @@ module _ (stands : LinesStandForTheirs) (meet : CumulWhereLevelsMeet) (law : Lea
           record { exact = λ y. theirs.exact y ∙ sym (ap (λ t. t y) same); cumuls = theirs.cumuls }
 
       ahead : AreReached (settled.narrowed defined of).0 (suc k) from
-      ahead = arc_law (settled.narrowed defined of).0 m.sound k low set here from allowed m.reached
+      ahead = reached_behind_arc (settled.narrowed defined of).0 m.sound k low set here from allowed m.reached
           (subst (λ bs. AreCrossed here (hop_at (settled.narrowed defined of).0 k) set bs from) (sym (m.breaks ∙ s.breaks)) (subst (λ h. AreCrossed here h set made.breaks from) hop_same crossed))
 
       long : length from ≡ suc (length (settled.narrowed defined of).0.breaks)
@@ -207,7 +209,7 @@ module _ (stands : LinesStandForTheirs) (meet : CumulWhereLevelsMeet) (law : Lea
     -- no cumul is shared at the stop behind the arc
     pub unfeasible_behind : ((x : ℤ) → SharedAt from to x → ⊥) → IsUnfeasible made
     unfeasible_behind none defined of feasible =
-        none_shared (narrow defined of) (m defined of).sound (suc k) (low defined of) from to (long defined of) (long_too defined of) (ahead defined of) (reaching defined of) meet none (m defined of).feasible
+        none_shared (narrow defined of) (m defined of).sound (suc k) (low defined of) from to (long defined of) (long_too defined of) (ahead defined of) (reaching defined of) none (m defined of).feasible
 
     -- the stop behind the arc is settled
     pub settled_behind : (x : ℤ) → IsLeastShared from to x → (only : List Run) (new : List (List Run)) → IsOnly set x only → IsCumuls only → AreCrossed here hop only made.breaks new → IsIn (pos 0) horizon x → IsSettled made (k + 1) (cumuls ++ x ∷ []) new
@@ -219,9 +221,9 @@ module _ (stands : LinesStandForTheirs) (meet : CumulWhereLevelsMeet) (law : Lea
           let line = narrow defined of in
           let le = low defined of in
           let in_stops : suc k < length line.allowed = let n = old.sound.stops in omega (arith, n, le) in
-          let here_sound = pinned_sound line old.sound (suc k) le from to (long defined of) (long_too defined of) (ahead defined of) (reaching defined of) meet x least in
-          let only_allowed = pinned_allows line old.sound (suc k) le from to (long defined of) (long_too defined of) (ahead defined of) (reaching defined of) meet x least set only (allowed defined of) is only_cumuls in
-          let before = pinned_reached line old.sound (suc k) le from to (long defined of) (long_too defined of) (ahead defined of) (reaching defined of) meet x least k here (omega arith) old.reached in
+          let here_sound = pinned_sound line old.sound (suc k) le from to (long defined of) (long_too defined of) (ahead defined of) (reaching defined of) x least in
+          let only_allowed = pinned_allows line old.sound (suc k) le from to (long defined of) (long_too defined of) (ahead defined of) (reaching defined of) x least set only (allowed defined of) is only_cumuls in
+          let before = pinned_reached line old.sound (suc k) le from to (long defined of) (long_too defined of) (ahead defined of) (reaching defined of) x least k here (omega arith) old.reached in
           let n = settled.cumul_of_each in (
             pinned line (suc k) x,
             record {
@@ -231,8 +233,8 @@ module _ (stands : LinesStandForTheirs) (meet : CumulWhereLevelsMeet) (law : Lea
               breaks = old.breaks;
               stops = length-set line.allowed (suc k) _ ∙ old.stops;
               rest = drop_set line.allowed (suc (suc k)) (suc k) _ (omega arith) ∙ drop_one_more line.allowed defined.allowed (suc k) old.rest;
-              feasible = pinned_feasible line old.sound (suc k) le from to (long defined of) (long_too defined of) (ahead defined of) (reaching defined of) meet x least;
-              chosen = λ plan c. old.chosen plan (pinned_chosen line old.sound (suc k) le from to (long defined of) (long_too defined of) (ahead defined of) (reaching defined of) meet x least law
+              feasible = pinned_feasible line old.sound (suc k) le from to (long defined of) (long_too defined of) (ahead defined of) (reaching defined of) x least;
+              chosen = λ plan c. old.chosen plan (pinned_chosen line old.sound (suc k) le from to (long defined of) (long_too defined of) (ahead defined of) (reaching defined of) x least
                   (λ p q sp sq i low. old.settled p sp i (omega (arith, low)) ∙ sym (old.settled q sq i (omega (arith, low)))) plan c);
               settled = λ plan sch i low.
                   let both = of_pinned line (suc k) x in_stops plan sch in
@@ -240,7 +242,7 @@ module _ (stands : LinesStandForTheirs) (meet : CumulWhereLevelsMeet) (law : Lea
                     | inl earlier ↦ old.settled plan both.0 i (omega (arith, earlier)) ∙ sym (number_before cumuls x i (omega (arith, earlier, n)))
                     | inr at ↦ (let e : suc k ≡ i = omega (arith, low, at) in ap (cumul plan) (sym e) ∙ (both.1 ∙ sym (number_last cumuls x i (omega (arith, n, e)))))
                   ];
-              reached = arc_law (pinned line (suc k) x) here_sound k le only here new only_allowed before
+              reached = reached_behind_arc (pinned line (suc k) x) here_sound k le only here new only_allowed before
                   (subst (λ bs. AreCrossed here (hop_at line k) only bs new) (sym (old.breaks ∙ (s defined of).breaks)) (subst (λ h. AreCrossed here h only made.breaks new) (hop_same defined of) only_crossed));
             },
           );
@@ -252,17 +254,17 @@ some_of None is = absurd (let f : false ≡ true → ⊥ = λ e. cc in f is)
 some_of (Some x) is = (x, refl)
 
 -- where all stops are settled, the cumuls are those of the chosen schedule
-pub chosen_where_settled : LinesStandForTheirs → ChosenWhereFeasible → ChosenIsLeast → (made : Line) → IsSoundLine made → (cumuls : List ℤ) (here : List (List Run)) (k : ℕ) → k ≡ length made.hops → IsSettled made k cumuls here → HaveChosenCumuls made cumuls
-chosen_where_settled stands feasible least made sound cumuls here k last settled = record {
+pub chosen_where_settled : (made : Line) → IsSoundLine made → (cumuls : List ℤ) (here : List (List Run)) (k : ℕ) → k ≡ length made.hops → IsSettled made k cumuls here → HaveChosenCumuls made cumuls
+chosen_where_settled made sound cumuls here k last settled = record {
   cumul_of_each_stop = let a = settled.cumul_of_each in let b = sound.stops in omega (arith, a, b, last);
   in_range = settled.in_range;
   chosen = λ defined of.
-      let s = stands defined made of sound in
+      let s = lines_stand_for_theirs defined made of sound in
       let m = (settled.narrowed defined of).1 in
       let line = (settled.narrowed defined of).0 in
-      let found = some_of (chosen line) ((feasible line).1 m.feasible) in
+      let found = some_of (chosen line) ((chosen_where_feasible line).1 m.feasible) in
       let plan = found.0 in
-      let is = (least line plan).0 found.1 in
+      let is = (chosen_is_least line plan).0 found.1 in
       let sch = is.schedule in
       let long : length plan.cumuls ≡ length cumuls = let a = sch.cumul_of_each_stop in let b = m.stops in let c = s.sound.stops in let d = s.arcs in let e = settled.cumul_of_each in omega (arith, a, b, c, d, e, last) in
       (plan, m.chosen plan is, ext_get_or (pos 0) plan.cumuls cumuls long (λ i lt. m.settled plan sch i (let e = settled.cumul_of_each in omega (arith, lt, long, e))));

@@ -11,10 +11,10 @@ use Rattle.vr_model.specs.tables.Numbers.{number_at, within, horizon}
 use Rattle.vr_model.specs.schedules.Lines.{Line as Defined}
 use Rattle.vr_model.specs.schedules.Schedules.{Plan as Wanted, IsChosen, cumul}
 use Rattle.vr_model.specs.schedules.Choices.{chosen}
-use Rattle.vr_model.specs.schedules.ChosenLaws.{ChosenWhereFeasible, ChosenIsLeast, OneChosen}
+use Rattle.vr_model.proofs.schedules.ChoiceLaws.{chosen_is_least, chosen_where_feasible, one_chosen}
 use Rattle.vr_steps.specs.declared.lines.Line.{Line}
 use Rattle.vr_steps.specs.Lines.{IsLineOf, IsSoundLine}
-use Rattle.vr_steps.specs.Reached.{LinesStandForTheirs}
+use Rattle.vr_steps.proofs.LawLemmas.{lines_stand_for_theirs}
 use Rattle.vr_plan.specs.declared.plans.Plan.{Plan}
 use Rattle.vr_plan.specs.Plans.{AreSlacks, cumuls_of, no_hop, seen}
 use Rattle.vr_plan.specs.Narrow.{AreOnly, fixed}
@@ -28,15 +28,15 @@ none_where_unfeasible None never = refl
 none_where_unfeasible (Some p) never = absurd (never refl)
 
 -- no plan is chosen of a line without schedules
-pub chosen_none : ChosenWhereFeasible → (line : Line) → IsUnfeasible line → (defined : Defined) → IsLineOf defined line → None ≡ chosen defined
-chosen_none feasible line none defined of = none_where_unfeasible (chosen defined) (λ is. none defined of ((feasible defined).0 is))
+pub chosen_none : (line : Line) → IsUnfeasible line → (defined : Defined) → IsLineOf defined line → None ≡ chosen defined
+chosen_none line none defined of = none_where_unfeasible (chosen defined) (λ is. none defined of ((chosen_where_feasible defined).0 is))
 
 -- the cumuls that were found are those of the chosen plan
-pub chosen_numbers : ChosenWhereFeasible → ChosenIsLeast → (line : Line) (goes : Bool) (cumuls : List ℤ) → Goes (HaveChosenCumuls line cumuls) goes → (goes ≡ false → IsUnfeasible line) → (defined : Defined) → IsLineOf defined line → then_some goes cumuls ≡ option_map cumuls_of (chosen defined)
-chosen_numbers feasible least line false cumuls have none defined of = ap (option_map cumuls_of) (chosen_none feasible line (none refl) defined of)
-chosen_numbers feasible least line true cumuls have none defined of =
+pub chosen_numbers : (line : Line) (goes : Bool) (cumuls : List ℤ) → Goes (HaveChosenCumuls line cumuls) goes → (goes ≡ false → IsUnfeasible line) → (defined : Defined) → IsLineOf defined line → then_some goes cumuls ≡ option_map cumuls_of (chosen defined)
+chosen_numbers line false cumuls have none defined of = ap (option_map cumuls_of) (chosen_none line (none refl) defined of)
+chosen_numbers line true cumuls have none defined of =
     let plan = (have refl).chosen defined of in
-    ap Some (sym plan.2) ∙ ap (option_map cumuls_of) (sym ((least defined plan.0).1 plan.1))
+    ap Some (sym plan.2) ∙ ap (option_map cumuls_of) (sym ((chosen_is_least defined plan.0).1 plan.1))
 
 -- a fact of a value that is there where it goes on
 pub some_where : {A : Type 0} (goes : Bool) (x : A) (P : A → Type 0) → Goes (P x) goes → IfSome (then_some goes x) P
@@ -48,9 +48,9 @@ no_numbers [] e = refl
 no_numbers (z ∷ zs) e = absurd (omega (arith, e))
 
 -- the plan of the chosen cumuls is the chosen one
-pub chosen_plan : LinesStandForTheirs → ChosenIsLeast → (line : Line) → IsSoundLine line → (plan : Plan) → HaveChosenCumuls line plan.cumuls → AreSlacks line.hops plan.cumuls plan.slacks → HaveChosenStarts line plan.breaks → (defined : Defined) → IsLineOf defined line → Some (seen plan) ≡ chosen defined
-chosen_plan stands least line sound plan have slacks starts defined of =
-    let s = stands defined line of sound in
+pub chosen_plan : (line : Line) → IsSoundLine line → (plan : Plan) → HaveChosenCumuls line plan.cumuls → AreSlacks line.hops plan.cumuls plan.slacks → HaveChosenStarts line plan.breaks → (defined : Defined) → IsLineOf defined line → Some (seen plan) ≡ chosen defined
+chosen_plan line sound plan have slacks starts defined of =
+    let s = lines_stand_for_theirs defined line of sound in
     let found = have.chosen defined of in
     let wanted = found.0 in
     let rules = found.1.schedule in
@@ -68,17 +68,17 @@ chosen_plan stands least line sound plan have slacks starts defined of =
     omega (arith, ints, left, hop, ours, here, there)) in
     let same_starts : wanted.breaks ≡ plan.breaks = starts defined of wanted found.1 in
     let same : seen plan ≡ wanted = λ i. record { cumuls = sym cumuls i; slacks = sym same_slacks i; breaks = sym same_starts i } in
-    ap Some same ∙ sym ((least defined wanted).1 found.1)
+    ap Some same ∙ sym ((chosen_is_least defined wanted).1 found.1)
 
 -- a line without breaks has none to start
 pub no_starts : (line : Line) → line.breaks ≡ [] → HaveChosenStarts line []
 no_starts line none defined of plan c = no_numbers plan.breaks (c.schedule.start_of_each_break ∙ ap length (sym of.breaks ∙ none))
 
-module _ (stands : LinesStandForTheirs) (line narrow : Line) (sound : IsSoundLine line) (cumuls : List ℤ) (have : HaveChosenCumuls line cumuls) (only : AreOnly line.allowed cumuls narrow.allowed) (hops : narrow.hops ≡ line.hops) (breaks : narrow.breaks ≡ line.breaks) (narrow_sound : IsSoundLine narrow) where
+module _ (line narrow : Line) (sound : IsSoundLine line) (cumuls : List ℤ) (have : HaveChosenCumuls line cumuls) (only : AreOnly line.allowed cumuls narrow.allowed) (hops : narrow.hops ≡ line.hops) (breaks : narrow.breaks ≡ line.breaks) (narrow_sound : IsSoundLine narrow) where
   -- each schedule of the narrow line has the cumuls
   pub only_cumuls : HaveCumuls narrow cumuls
   only_cumuls theirs of q s =
-      let t = stands theirs narrow of narrow_sound in
+      let t = lines_stand_for_theirs theirs narrow of narrow_sound in
       let n = t.sound.stops in
       let stops = narrow_sound.stops in
       let number : length q.cumuls ≡ length narrow.allowed = let a = s.cumul_of_each_stop in let b = t.arcs in omega (arith, a, b, n, stops) in
@@ -93,7 +93,7 @@ module _ (stands : LinesStandForTheirs) (line narrow : Line) (sound : IsSoundLin
   fixed_of defined of = fixed_line defined line narrow cumuls of have.cumul_of_each_stop only hops breaks
 
   long_of : (defined : Defined) → IsLineOf defined line → length cumuls ≡ length defined.allowed
-  long_of defined of = let s = stands defined line of sound in let a = have.cumul_of_each_stop in let b = s.sound.stops in let c = s.arcs in let d = sound.stops in omega (arith, a, b, c, d)
+  long_of defined of = let s = lines_stand_for_theirs defined line of sound in let a = have.cumul_of_each_stop in let b = s.sound.stops in let c = s.arcs in let d = sound.stops in omega (arith, a, b, c, d)
 
   -- what is chosen of the line is chosen of the narrower one
   fixed_chosen : (defined : Defined) (of : IsLineOf defined line) (plan : Wanted) → IsChosen defined plan → plan.cumuls ≡ cumuls → IsChosen (fixed defined cumuls) plan
@@ -103,14 +103,14 @@ module _ (stands : LinesStandForTheirs) (line narrow : Line) (sound : IsSoundLin
   }
 
   -- the starts of the narrow line are those of the line
-  pub starts_of_narrow : OneChosen → (starts : List ℤ) → HaveStarts narrow starts → HaveChosenStarts line starts
-  starts_of_narrow one starts have_starts defined of plan c =
+  pub starts_of_narrow : (starts : List ℤ) → HaveStarts narrow starts → HaveChosenStarts line starts
+  starts_of_narrow starts have_starts defined of plan c =
       let found = have.chosen defined of in
-      let same : plan ≡ found.0 = one defined plan found.0 c found.1 in
+      let same : plan ≡ found.0 = one_chosen defined plan found.0 c found.1 in
       let cumuls_are : plan.cumuls ≡ cumuls = ap (λ (p : Wanted). p.cumuls) same ∙ found.2 in
       let mine = fixed_chosen defined of plan c cumuls_are in
       let theirs = have_starts (fixed defined cumuls) (fixed_of defined of) (plan, mine.schedule) in
-      ap (λ (p : Wanted). p.breaks) (one (fixed defined cumuls) plan theirs.0 mine theirs.1) ∙ theirs.2
+      ap (λ (p : Wanted). p.breaks) (one_chosen (fixed defined cumuls) plan theirs.0 mine theirs.1) ∙ theirs.2
 
   -- where the narrow line has no schedule, the line has none
   pub unfeasible_of_narrow : IsUnfeasible narrow → IsUnfeasible line

@@ -11,15 +11,15 @@ use Rattle.vr_model.proofs.schedules.Narrowing.{to_pinned, of_pinned}
 use Rattle.vr_model.proofs.schedules.UnderRules.{chosen_under_where_feasible, narrowed_to_ends}
 use Rattle.vr_steps.specs.declared.lines.Line.{Line}
 use Rattle.vr_steps.specs.Lines.{IsLineOf, IsSoundLine}
-use Rattle.vr_steps.specs.Reached.{LinesStandForTheirs}
+use Rattle.vr_steps.proofs.LawLemmas.{lines_stand_for_theirs}
 use Rattle.vr_plan.specs.Ends.{IsLatestOf, IsLeastEndOf, IsPinnedOf, IsTightLineOf}
 use Rattle.vr_plan.specs.Plans.{AreChosenCumulsUnder, IsChosenPlanUnder, cumuls_of}
 use Rattle.vr_plan.specs.Settled.{IsUnfeasible}
 use Rattle.vr_plan.proofs.PlanLemmas.{none_where_unfeasible}
 
-module _ (stands : LinesStandForTheirs) (made : Line) (sound : IsSoundLine made) where
+module _ (made : Line) (sound : IsSoundLine made) where
   stops_of : (defined : Defined) → IsLineOf defined made → HasStops defined
-  stops_of defined of = (stands defined made of sound).sound.stops
+  stops_of defined of = (lines_stand_for_theirs defined made of sound).sound.stops
 
   -- none is chosen where the line has no schedule
   pub none_chosen : (rule : ScheduleRule) → IsUnfeasible made → IsChosenPlanUnder rule made None
@@ -32,7 +32,7 @@ module _ (stands : LinesStandForTheirs) (made : Line) (sound : IsSoundLine made)
 
   module _ (e : ℤ) (end : IsLeastEndOf made e) (last : ℕ) (last_is : last ≡ length made.hops) (ending : Line) (ending_is : IsPinnedOf made last e ending) where
     at_end : (defined : Defined) (of : IsLineOf defined made) → last ≡ length defined.arcs
-    at_end defined of = last_is ∙ sym (stands defined made of sound).arcs
+    at_end defined of = last_is ∙ sym (lines_stand_for_theirs defined made of sound).arcs
 
     there : (defined : Defined) (of : IsLineOf defined made) → length defined.arcs < length defined.allowed
     there defined of = let n = stops_of defined of in omega (arith, n)

@@ -9,12 +9,13 @@ use Rattle.vr_model.specs.tables.WellFormed.{IsIn}
 use Rattle.vr_model.specs.schedules.Lines.{Line as Defined}
 use Rattle.vr_model.specs.schedules.Schedules.{Plan, IsSchedule, IsChosen, IsFeasible, break_at, break_start, break_end, no_break}
 use Rattle.vr_model.specs.schedules.Choices.{chosen}
-use Rattle.vr_model.specs.schedules.ChosenLaws.{ChosenWhereFeasible, ChosenIsLeast}
+use Rattle.vr_model.proofs.schedules.ChoiceLaws.{chosen_is_least, chosen_where_feasible}
 use Rattle.vr_model.specs.declared.records.BreakRow.{BreakRow}
 use Rattle.vr_reach.specs.Shared.{lesser_of}
 use Rattle.vr_steps.specs.declared.lines.Line.{Line}
 use Rattle.vr_steps.specs.Lines.{IsLineOf, IsSoundLine}
-use Rattle.vr_steps.specs.Reached.{LinesStandForTheirs, StandsFor}
+use Rattle.vr_steps.specs.Reached.{StandsFor}
+use Rattle.vr_steps.proofs.LawLemmas.{lines_stand_for_theirs}
 use Rattle.vr_plan.specs.Plans.{no_hop}
 use Rattle.vr_plan.specs.Narrow.{row_pinned, first_at, IsLeastTried, IsStartOf, with_start}
 use Rattle.vr_plan.specs.Settled.{IsUnfeasible}
@@ -80,7 +81,7 @@ start_last [] x (suc j) e = absurd (omega (arith, e))
 start_last (z ∷ zs) x zero e = absurd (omega (arith, e))
 start_last (z ∷ zs) x (suc j) e = start_last zs x j (omega (arith, e))
 
-module _ (stands : LinesStandForTheirs) (begun line : Line) (cumuls : List ℤ) (i : ℕ) (starts : List ℤ) (ready : ℤ) (m : AreStarted begun line cumuls i starts ready) (there : i < length line.breaks) (stops : length cumuls ≡ suc (length line.hops)) where
+module _ (begun line : Line) (cumuls : List ℤ) (i : ℕ) (starts : List ℤ) (ready : ℤ) (m : AreStarted begun line cumuls i starts ready) (there : i < length line.breaks) (stops : length cumuls ≡ suc (length line.hops)) where
   row : BreakRow
   row = get_or line.breaks i no_break
 
@@ -92,7 +93,7 @@ module _ (stands : LinesStandForTheirs) (begun line : Line) (cumuls : List ℤ) 
     p = (m.pinned defined of).1
 
     s : StandsFor narrow line
-    s = stands narrow line p.of m.sound
+    s = lines_stand_for_theirs narrow line p.of m.sound
 
     there_too : i < length narrow.breaks
     there_too = subst (λ rows. i < length rows) p.of.breaks there
@@ -177,13 +178,13 @@ some_of None is = absurd (let f : false ≡ true → ⊥ = λ e. cc in f is)
 some_of (Some x) is = (x, refl)
 
 -- where all are settled
-pub all_started : ChosenWhereFeasible → ChosenIsLeast → (begun line : Line) (cumuls : List ℤ) (i : ℕ) (starts : List ℤ) (ready : ℤ) → AreStarted begun line cumuls i starts ready → i ≡ length begun.breaks → HaveStarts begun starts
-all_started feasible least begun line cumuls i starts ready m all defined of has =
+pub all_started : (begun line : Line) (cumuls : List ℤ) (i : ℕ) (starts : List ℤ) (ready : ℤ) → AreStarted begun line cumuls i starts ready → i ≡ length begun.breaks → HaveStarts begun starts
+all_started begun line cumuls i starts ready m all defined of has =
     let narrow = (m.pinned defined of).0 in
     let p = (m.pinned defined of).1 in
-    let found = some_of (chosen narrow) ((feasible narrow).1 (p.feasible has)) in
+    let found = some_of (chosen narrow) ((chosen_where_feasible narrow).1 (p.feasible has)) in
     let plan = found.0 in
-    let is = (least narrow plan).0 found.1 in
+    let is = (chosen_is_least narrow plan).0 found.1 in
     let long : length plan.breaks ≡ length starts = let a = is.schedule.start_of_each_break in let b = ap length p.of.breaks in let c = m.number in let d = m.start_of_each in omega (arith, a, b, c, d, all) in
     (plan, p.chosen plan is, ext_get_or (pos 0) plan.breaks starts long (λ j lt. p.started plan is.schedule j (let d = m.start_of_each in omega (arith, lt, long, d))))
 

@@ -11,6 +11,7 @@ ghost use Rattle.vr_plan.specs.Settled.{Goes};
 
 use crate::cumuls::{Room, settle};
 use crate::ends::tight_line;
+use crate::sound::SoundLine;
 use std::alloc::Global;
 use std::marker::{Brand, Model};
 use std::sync::ledger::Blank;
@@ -64,42 +65,42 @@ impl Chooser {
         ensures stops { IfOk result (Goes (length self.new ≡ length line.now.allowed)) }
         ensures range { IfOk result (Goes (All (IsIn (pos 0) horizon) self.new)) }
     {
+        let sound = SoundLine { line };
         match rule {
-            ScheduleRule::Earliest => self.choose_earliest(alloc, line),
-            ScheduleRule::Tight => self.choose_tight(alloc, line),
+            ScheduleRule::Earliest => self.choose_earliest(alloc, sound),
+            ScheduleRule::Tight => self.choose_tight(alloc, sound),
         }
     }
 
     // The tight cumuls: those that are least where the ends of the line are narrowed.
-    fn choose_tight(&mut self, alloc: Global, line: &Line) -> Result<bool, NoMemory>
-        requires sound { IsSoundLine line.now }
-        ensures chosen { IfOk result (λ goes. AreChosenCumulsUnder Tight line.now (then_some goes self.new)) }
-        ensures stops { IfOk result (Goes (length self.new ≡ length line.now.allowed)) }
+    fn choose_tight(&mut self, alloc: Global, sound: SoundLine<'_>) -> Result<bool, NoMemory>
+        ensures chosen { IfOk result (λ goes.
+            AreChosenCumulsUnder Tight sound.entry.line.now (then_some goes self.new)) }
+        ensures stops { IfOk result (Goes (length self.new ≡ length sound.entry.line.now.allowed)) }
         ensures range { IfOk result (Goes (All (IsIn (pos 0) horizon) self.new)) }
     {
-        vr_steps::laws::lines_stand_for_theirs();
+        let line = sound.line;
         self.sweep.forward(alloc, line)?;
         let ahead = self.sweep.levels(line.hops.len());
-        let Some(narrow) = tight_line(alloc, line, ahead)? else {
+        let Some(narrow) = tight_line(alloc, sound, ahead)? else {
             return Ok(false);
         };
-        let goes = self.choose_earliest(alloc, &narrow)?;
+        let inner = SoundLine { line: &narrow };
+        let goes = self.choose_earliest(alloc, inner)?;
         Ok(goes)
     }
 
     // The cumuls that are least, compared from the start on.
-    fn choose_earliest(&mut self, alloc: Global, line: &Line) -> Result<bool, NoMemory>
-        requires sound { IsSoundLine line.now }
-        ensures chosen { IfOk result (λ goes. AreChosenCumuls line.now (then_some goes self.new)) }
-        ensures stops { IfOk result (Goes (length self.new ≡ length line.now.allowed)) }
+    fn choose_earliest(&mut self, alloc: Global, sound: SoundLine<'_>) -> Result<bool, NoMemory>
+        ensures chosen { IfOk result (λ goes. AreChosenCumuls sound.entry.line.now (then_some goes self.new)) }
+        ensures stops { IfOk result (Goes (length self.new ≡ length sound.entry.line.now.allowed)) }
         ensures range { IfOk result (Goes (All (IsIn (pos 0) horizon) self.new)) }
     {
-        vr_model::laws::chosen_where_feasible();
-        vr_model::laws::chosen_is_least();
+        let line = sound.line;
         self.sweep.backward(alloc, line)?;
         self.cumuls.truncate(0);
         let goes = settle::<Brand>(
-            line,
+            sound,
             &self.sweep,
             &mut self.room,
             &mut self.cumuls,

@@ -4,17 +4,17 @@ ghost use Rattle.std.specs.Prelude.{◌≡◌, ◌<◌, [], pos, false, IfOk, If
 ghost use Rattle.vr_model.specs.tables.Numbers.{horizon};
 ghost use Rattle.vr_model.specs.tables.WellFormed.{IsIn};
 ghost use Rattle.vr_steps.specs.Levels.{AreLevels, IsCumuls};
-ghost use Rattle.vr_steps.specs.Lines.{IsSoundLine};
 ghost use Rattle.vr_reach.specs.Rows.{AreBackward};
 ghost use Rattle.vr_plan.specs.Settled.{IsOnly, IsSettled, HaveChosenCumuls, IsUnfeasible, Goes};
 
+use crate::sound::SoundLine;
 use std::alloc::Global;
 use std::mem;
 use std::sync::ledger::{Blank, Ledger};
 use vr_model::{NoMemory, Seq, Steps};
 use vr_reach::{Sweep, least_shared};
 use vr_spans::{Run, Spans};
-use vr_steps::{Levels, Line, cross_into, start_levels_into};
+use vr_steps::{Levels, cross_into, start_levels_into};
 
 // Sets that are written over while cumuls are settled.
 #[derive(Drop)]
@@ -39,43 +39,38 @@ impl Room {
 // schedule.
 pub(crate) fn settled_cumuls<L: Ledger>(
     alloc: Global,
-    line: &Line,
+    sound: SoundLine<'_>,
     behind: &Sweep,
     blank: Blank,
 ) -> Result<Option<Seq<i64>>, NoMemory>
     requires name { blank.name ≡ L.name }
     requires parts { blank.parts ≡ L.parts }
     requires some { 0 < blank.parts }
-    requires sound { IsSoundLine line.now }
-    requires behind { AreBackward line.now behind.now }
-    ensures some { IfOk result (λ found. IfSome found (HaveChosenCumuls line.now)) }
-    ensures none { IfOk result (λ found. IsNone found → IsUnfeasible line.now) }
+    requires behind { AreBackward sound.line.now behind.now }
+    ensures some { IfOk result (λ found. IfSome found (HaveChosenCumuls sound.entry.line.now)) }
+    ensures none { IfOk result (λ found. IsNone found → IsUnfeasible sound.entry.line.now) }
 {
     let mut room = Room::new(alloc);
     let mut cumuls = Seq::new(alloc);
-    let goes = settle::<L>(line, behind, &mut room, &mut cumuls, blank)?;
+    let goes = settle::<L>(sound, behind, &mut room, &mut cumuls, blank)?;
     Ok(goes.then_some(cumuls))
 }
 
 // Settles the cumul of the start: the least that schedules have there. Answers whether there is a schedule.
 fn begin(
-    line: &Line,
+    sound: SoundLine<'_>,
     behind: &Sweep,
     only: &mut Spans,
     here: &mut Levels,
     cumuls: &mut Seq<i64>,
 ) -> Result<bool, NoMemory>
-    requires sound { IsSoundLine line.now }
-    requires behind { AreBackward line.now behind.now }
+    requires behind { AreBackward sound.line.now behind.now }
     requires none { cumuls.old ≡ [] }
-    ensures settled { IfOk result (Goes (IsSettled line.now 0 cumuls.new here.new)) }
-    ensures levels { IfOk result (Goes (AreLevels line.now.breaks here.new)) }
-    ensures stops { IfOk result (λ goes. goes ≡ false → IsUnfeasible line.now) }
+    ensures settled { IfOk result (Goes (IsSettled sound.entry.line.now 0 cumuls.new here.new)) }
+    ensures levels { IfOk result (Goes (AreLevels sound.entry.line.now.breaks here.new)) }
+    ensures stops { IfOk result (λ goes. goes ≡ false → IsUnfeasible sound.entry.line.now) }
 {
-    vr_steps::laws::lines_stand_for_theirs();
-    vr_steps::laws::start_is_reached();
-    vr_model::laws::cumul_where_levels_meet();
-    vr_model::laws::least_cumul_may_be_pinned();
+    let line = sound.line;
     let allowed = line.allowed.get(0);
     start_levels_into(allowed, &line.breaks, here)?;
     let Some(first) = least_shared(here, behind.levels(0)) else {
@@ -90,7 +85,7 @@ fn begin(
 // Settles the cumul of each stop, one after another: the least that schedules with the cumuls before it have there.
 // Answers whether there is a schedule.
 pub(crate) fn settle<L: Ledger>(
-    line: &Line,
+    sound: SoundLine<'_>,
     behind: &Sweep,
     room: &mut Room,
     cumuls: &mut Seq<i64>,
@@ -99,21 +94,15 @@ pub(crate) fn settle<L: Ledger>(
     requires name { blank.name ≡ L.name }
     requires parts { blank.parts ≡ L.parts }
     requires some { 0 < blank.parts }
-    requires sound { IsSoundLine line.now }
-    requires behind { AreBackward line.now behind.now }
+    requires behind { AreBackward sound.line.now behind.now }
     requires none { cumuls.old ≡ [] }
-    ensures settled { IfOk result (Goes (HaveChosenCumuls line.now cumuls.new)) }
-    ensures stops { IfOk result (λ goes. goes ≡ false → IsUnfeasible line.now) }
+    ensures settled { IfOk result (Goes (HaveChosenCumuls sound.entry.line.now cumuls.new)) }
+    ensures stops { IfOk result (λ goes. goes ≡ false → IsUnfeasible sound.entry.line.now) }
 {
-    vr_steps::laws::lines_stand_for_theirs();
-    vr_steps::laws::reached_behind_arc();
-    vr_model::laws::cumul_where_levels_meet();
-    vr_model::laws::least_cumul_may_be_pinned();
-    vr_model::laws::chosen_where_feasible();
-    vr_model::laws::chosen_is_least();
+    let line = sound.line;
     let mut steps = Steps::<L>::new(blank);
     let Room { only, here, next } = room;
-    if !begin(line, behind, only, here, cumuls)? {
+    if !begin(sound, behind, only, here, cumuls)? {
         return Ok(false);
     }
     for k in 0..line.hops.len() {

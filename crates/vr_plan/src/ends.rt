@@ -9,6 +9,7 @@ ghost use Rattle.vr_plan.specs.Ends.{IsLatestOf, IsLeastEndOf, IsTightLineOf};
 ghost use Rattle.vr_plan.specs.Settled.{IsUnfeasible};
 
 use crate::narrow::{pin, same_line};
+use crate::sound::SoundLine;
 use std::alloc::Global;
 use vr_model::NoMemory;
 use vr_reach::{Sweep, greatest_shared, least_shared};
@@ -17,16 +18,13 @@ use vr_steps::{Levels, Line, end_levels, start_levels};
 
 // The least cumul at the end of all schedules of a line, by what its last stop is reached at; `None` exactly where it
 // has no schedule.
-fn least_end(alloc: Global, line: &Line, ahead: &Levels) -> Result<Option<i64>, NoMemory>
-    requires sound { IsSoundLine line.now }
-    requires ahead { IsForwardRow line.now (length line.now.hops) ahead.now }
-    ensures some { IfOk result (λ end. IfSome end (IsLeastEndOf line.now)) }
-    ensures none { IfOk result (λ end. IsNone end → IsUnfeasible line.now) }
+fn least_end(alloc: Global, sound: SoundLine<'_>, ahead: &Levels) -> Result<Option<i64>, NoMemory>
+    requires ahead { IsForwardRow sound.line.now (length sound.line.now.hops) ahead.now }
+    ensures some { IfOk result (λ end. IfSome end (IsLeastEndOf sound.entry.line.now)) }
+    ensures none { IfOk result (λ end. IsNone end → IsUnfeasible sound.entry.line.now) }
     ensures range { IfOk result (λ end. IfSome end (IsIn (pos 0) horizon)) }
 {
-    vr_steps::laws::lines_stand_for_theirs();
-    vr_steps::laws::end_is_reached();
-    vr_model::laws::cumul_where_levels_meet();
+    let line = sound.line;
     let allowed = line.allowed.get(line.hops.len());
     let ends = end_levels(alloc, allowed, &line.breaks)?;
     let end = least_shared(ahead, &ends);
@@ -35,16 +33,17 @@ fn least_end(alloc: Global, line: &Line, ahead: &Levels) -> Result<Option<i64>, 
 
 // The greatest cumul at the start of all schedules of a line, by what the end is reached from at its first stop; `None`
 // exactly where it has no schedule.
-fn latest_start(alloc: Global, line: &Line, behind: &Levels) -> Result<Option<i64>, NoMemory>
-    requires sound { IsSoundLine line.now }
-    requires behind { IsBackwardRow line.now 0 behind.now }
-    ensures some { IfOk result (λ start. IfSome start (IsLatestOf line.now)) }
-    ensures none { IfOk result (λ start. IsNone start → IsUnfeasible line.now) }
+fn latest_start(
+    alloc: Global,
+    sound: SoundLine<'_>,
+    behind: &Levels,
+) -> Result<Option<i64>, NoMemory>
+    requires behind { IsBackwardRow sound.line.now 0 behind.now }
+    ensures some { IfOk result (λ start. IfSome start (IsLatestOf sound.entry.line.now)) }
+    ensures none { IfOk result (λ start. IsNone start → IsUnfeasible sound.entry.line.now) }
     ensures range { IfOk result (λ start. IfSome start (IsIn (pos 0) horizon)) }
 {
-    vr_steps::laws::lines_stand_for_theirs();
-    vr_steps::laws::start_is_reached();
-    vr_model::laws::cumul_where_levels_meet();
+    let line = sound.line;
     let allowed = line.allowed.get(0);
     let starts = start_levels(alloc, allowed, &line.breaks)?;
     let mut room = Spans::new(alloc);
@@ -56,25 +55,26 @@ fn latest_start(alloc: Global, line: &Line, behind: &Levels) -> Result<Option<i6
 // reached at; `None` only where the line has no schedule.
 pub(crate) fn tight_line(
     alloc: Global,
-    line: &Line,
+    sound: SoundLine<'_>,
     ahead: &Levels,
 ) -> Result<Option<Line>, NoMemory>
-    requires sound { IsSoundLine line.now }
-    requires ahead { IsForwardRow line.now (length line.now.hops) ahead.now }
-    ensures some { IfOk result (λ found. IfSome found (IsTightLineOf line.now)) }
-    ensures none { IfOk result (λ found. IsNone found → IsUnfeasible line.now) }
+    requires ahead { IsForwardRow sound.line.now (length sound.line.now.hops) ahead.now }
+    ensures some { IfOk result (λ found. IfSome found (IsTightLineOf sound.entry.line.now)) }
+    ensures none { IfOk result (λ found. IsNone found → IsUnfeasible sound.entry.line.now) }
     ensures sound { IfOk result (λ found. IfSome found IsSoundLine) }
-    ensures stops { IfOk result (λ found. IfSome found (λ narrow. length narrow.allowed ≡ length line.now.allowed)) }
+    ensures stops { IfOk result (λ found. IfSome found (λ narrow.
+        length narrow.allowed ≡ length sound.entry.line.now.allowed)) }
 {
-    vr_steps::laws::lines_stand_for_theirs();
-    let Some(end) = least_end(alloc, line, ahead)? else {
+    let line = sound.line;
+    let Some(end) = least_end(alloc, sound, ahead)? else {
         return Ok(None);
     };
     let mut narrow = same_line(alloc, line)?;
     pin(alloc, &mut narrow, line.hops.len(), end)?;
     let mut behind = Sweep::new(alloc);
     behind.backward(alloc, &narrow)?;
-    let Some(start) = latest_start(alloc, &narrow, behind.levels(0))? else {
+    let ending = SoundLine { line: &narrow };
+    let Some(start) = latest_start(alloc, ending, behind.levels(0))? else {
         return Ok(None);
     };
     pin(alloc, &mut narrow, 0, start)?;

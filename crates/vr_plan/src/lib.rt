@@ -22,6 +22,7 @@ mod narrow;
 mod paying;
 mod plans;
 mod schedules;
+mod sound;
 mod starts;
 mod tables;
 mod timings;

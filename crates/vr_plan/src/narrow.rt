@@ -11,6 +11,7 @@ ghost use Rattle.vr_plan.specs.Narrow.{AreOnly};
 ghost use Rattle.vr_plan.specs.Settled.{HaveChosenCumuls};
 
 use crate::cumuls::keep;
+use crate::sound::SoundLine;
 use arrayvec::ArrayVec;
 use std::alloc::Global;
 use vr_model::{BreakRow, NoMemory, Seq};
@@ -18,28 +19,32 @@ use vr_spans::Spans;
 use vr_steps::{Breaks, Hop, Line};
 
 // The line whose stops allow these cumuls alone.
-pub(crate) fn with_cumuls(alloc: Global, line: &Line, cumuls: &[i64]) -> Result<Line, NoMemory>
-    requires sound { IsSoundLine line.now }
-    requires cumuls { HaveChosenCumuls line.now cumuls.now }
-    ensures allowed { IfOk result (λ narrow. AreOnly line.now.allowed cumuls.now narrow.allowed) }
-    ensures hops { IfOk result (λ narrow. narrow.hops ≡ line.now.hops) }
-    ensures breaks { IfOk result (λ narrow. narrow.breaks ≡ line.now.breaks) }
+pub(crate) fn with_cumuls(
+    alloc: Global,
+    sound: SoundLine<'_>,
+    cumuls: &[i64],
+) -> Result<Line, NoMemory>
+    requires cumuls { HaveChosenCumuls sound.line.now cumuls.now }
+    ensures allowed { IfOk result (λ narrow. AreOnly sound.entry.line.now.allowed cumuls.now narrow.allowed) }
+    ensures hops { IfOk result (λ narrow. narrow.hops ≡ sound.entry.line.now.hops) }
+    ensures breaks { IfOk result (λ narrow. narrow.breaks ≡ sound.entry.line.now.breaks) }
     ensures sound { IfOk result IsSoundLine }
 {
+    let line = sound.line;
     Ok(Line {
-        allowed: only_sets(alloc, line, cumuls)?,
+        allowed: only_sets(alloc, sound, cumuls)?,
         hops: same_hops(alloc, line.hops.as_slice())?,
         breaks: same_breaks(&line.breaks),
     })
 }
 
 // Of each stop, the cumul that is put in.
-fn only_sets(alloc: Global, line: &Line, cumuls: &[i64]) -> Result<Seq<Spans>, NoMemory>
-    requires sound { IsSoundLine line.now }
-    requires cumuls { HaveChosenCumuls line.now cumuls.now }
-    ensures exact { IfOk result (AreOnly line.now.allowed cumuls.now) }
+fn only_sets(alloc: Global, sound: SoundLine<'_>, cumuls: &[i64]) -> Result<Seq<Spans>, NoMemory>
+    requires cumuls { HaveChosenCumuls sound.line.now cumuls.now }
+    ensures exact { IfOk result (AreOnly sound.entry.line.now.allowed cumuls.now) }
     ensures cumuls { IfOk result (All IsCumuls) }
 {
+    let line = sound.line;
     let mut sets = Seq::new(alloc);
     for k in 0..line.allowed.len() {
         let mut only = Spans::new(alloc);

@@ -11,6 +11,7 @@ ghost use Rattle.vr_plan.specs.Plans.{AreChosenCumulsUnder, IsChosenPlan, IsChos
 use crate::cumuls::settled_cumuls;
 use crate::ends::tight_line;
 use crate::plans::slacks_left;
+use crate::sound::SoundLine;
 use crate::starts::chosen_starts;
 use crate::{Chooser, Plan};
 use std::alloc::Global;
@@ -30,9 +31,10 @@ pub fn schedule(alloc: Global, line: &Line, rule: ScheduleRule) -> Result<Option
     ensures stops { IfOk result (λ found. IfSome found (λ plan. length plan.cumuls ≡ length line.now.allowed)) }
     ensures range { IfOk result (λ found. IfSome found (λ plan. All (IsIn (pos 0) horizon) plan.cumuls)) }
 {
+    let sound = SoundLine { line };
     match rule {
-        ScheduleRule::Earliest => earliest(alloc, line),
-        ScheduleRule::Tight => tight(alloc, line),
+        ScheduleRule::Earliest => earliest(alloc, sound),
+        ScheduleRule::Tight => tight(alloc, sound),
     }
 }
 
@@ -48,9 +50,10 @@ pub fn schedule_over(
     ensures stops { IfOk result (λ found. IfSome found (λ plan. length plan.cumuls ≡ length line.now.allowed)) }
     ensures range { IfOk result (λ found. IfSome found (λ plan. All (IsIn (pos 0) horizon) plan.cumuls)) }
 {
+    let sound = SoundLine { line };
     match rule {
-        ScheduleRule::Earliest => schedule_behind(alloc, line, rows.backward_sweep()),
-        ScheduleRule::Tight => tight_ahead(alloc, line, rows.forward(line.hops.len())),
+        ScheduleRule::Earliest => schedule_behind(alloc, sound, rows.backward_sweep()),
+        ScheduleRule::Tight => tight_ahead(alloc, sound, rows.forward(line.hops.len())),
     }
 }
 
@@ -73,60 +76,68 @@ pub fn chosen_cumuls(
 }
 
 // The schedule of a line whose cumuls, and then break starts, are least.
-fn earliest(alloc: Global, line: &Line) -> Result<Option<Plan>, NoMemory>
-    requires sound { IsSoundLine line.now }
-    ensures chosen { IfOk result (IsChosenPlan line.now) }
-    ensures stops { IfOk result (λ found. IfSome found (λ plan. length plan.cumuls ≡ length line.now.allowed)) }
+fn earliest(alloc: Global, sound: SoundLine<'_>) -> Result<Option<Plan>, NoMemory>
+    ensures chosen { IfOk result (IsChosenPlan sound.entry.line.now) }
+    ensures stops { IfOk result (λ found. IfSome found (λ plan.
+        length plan.cumuls ≡ length sound.entry.line.now.allowed)) }
     ensures range { IfOk result (λ found. IfSome found (λ plan. All (IsIn (pos 0) horizon) plan.cumuls)) }
 {
+    let line = sound.line;
     let mut behind = Sweep::new(alloc);
     behind.backward(alloc, line)?;
-    schedule_behind(alloc, line, &behind)
+    schedule_behind(alloc, sound, &behind)
 }
 
 // The tight schedule of a line.
-fn tight(alloc: Global, line: &Line) -> Result<Option<Plan>, NoMemory>
-    requires sound { IsSoundLine line.now }
-    ensures chosen { IfOk result (IsChosenPlanUnder Tight line.now) }
-    ensures stops { IfOk result (λ found. IfSome found (λ plan. length plan.cumuls ≡ length line.now.allowed)) }
+fn tight(alloc: Global, sound: SoundLine<'_>) -> Result<Option<Plan>, NoMemory>
+    ensures chosen { IfOk result (IsChosenPlanUnder Tight sound.entry.line.now) }
+    ensures stops { IfOk result (λ found. IfSome found (λ plan.
+        length plan.cumuls ≡ length sound.entry.line.now.allowed)) }
     ensures range { IfOk result (λ found. IfSome found (λ plan. All (IsIn (pos 0) horizon) plan.cumuls)) }
 {
+    let line = sound.line;
     let mut ahead = Sweep::new(alloc);
     ahead.forward(alloc, line)?;
-    tight_ahead(alloc, line, ahead.levels(line.hops.len()))
+    tight_ahead(alloc, sound, ahead.levels(line.hops.len()))
 }
 
 // The tight schedule of a line, by what its last stop is reached at: the earliest where its ends are narrowed.
-fn tight_ahead(alloc: Global, line: &Line, ahead: &Levels) -> Result<Option<Plan>, NoMemory>
-    requires sound { IsSoundLine line.now }
-    requires ahead { IsForwardRow line.now (length line.now.hops) ahead.now }
-    ensures chosen { IfOk result (IsChosenPlanUnder Tight line.now) }
-    ensures stops { IfOk result (λ found. IfSome found (λ plan. length plan.cumuls ≡ length line.now.allowed)) }
+fn tight_ahead(
+    alloc: Global,
+    sound: SoundLine<'_>,
+    ahead: &Levels,
+) -> Result<Option<Plan>, NoMemory>
+    requires ahead { IsForwardRow sound.line.now (length sound.line.now.hops) ahead.now }
+    ensures chosen { IfOk result (IsChosenPlanUnder Tight sound.entry.line.now) }
+    ensures stops { IfOk result (λ found. IfSome found (λ plan.
+        length plan.cumuls ≡ length sound.entry.line.now.allowed)) }
     ensures range { IfOk result (λ found. IfSome found (λ plan. All (IsIn (pos 0) horizon) plan.cumuls)) }
 {
-    vr_steps::laws::lines_stand_for_theirs();
-    let Some(narrow) = tight_line(alloc, line, ahead)? else {
+    let Some(narrow) = tight_line(alloc, sound, ahead)? else {
         return Ok(None);
     };
-    let plan = earliest(alloc, &narrow)?;
+    let inner = SoundLine { line: &narrow };
+    let plan = earliest(alloc, inner)?;
     Ok(plan)
 }
 
 // The earliest schedule of a line, by what its end is reached from.
-fn schedule_behind(alloc: Global, line: &Line, behind: &Sweep) -> Result<Option<Plan>, NoMemory>
-    requires sound { IsSoundLine line.now }
-    requires behind { AreBackward line.now behind.now }
-    ensures chosen { IfOk result (IsChosenPlan line.now) }
-    ensures stops { IfOk result (λ found. IfSome found (λ plan. length plan.cumuls ≡ length line.now.allowed)) }
+fn schedule_behind(
+    alloc: Global,
+    sound: SoundLine<'_>,
+    behind: &Sweep,
+) -> Result<Option<Plan>, NoMemory>
+    requires behind { AreBackward sound.line.now behind.now }
+    ensures chosen { IfOk result (IsChosenPlan sound.entry.line.now) }
+    ensures stops { IfOk result (λ found. IfSome found (λ plan.
+        length plan.cumuls ≡ length sound.entry.line.now.allowed)) }
     ensures range { IfOk result (λ found. IfSome found (λ plan. All (IsIn (pos 0) horizon) plan.cumuls)) }
 {
-    vr_steps::laws::lines_stand_for_theirs();
-    vr_model::laws::chosen_where_feasible();
-    vr_model::laws::chosen_is_least();
-    let Some(cumuls) = settled_cumuls::<Brand>(alloc, line, behind, Blank::new(1))? else {
+    let line = sound.line;
+    let Some(cumuls) = settled_cumuls::<Brand>(alloc, sound, behind, Blank::new(1))? else {
         return Ok(None);
     };
-    let Some(breaks) = chosen_starts(alloc, line, cumuls.as_slice())? else {
+    let Some(breaks) = chosen_starts(alloc, sound, cumuls.as_slice())? else {
         return Ok(None);
     };
     let slacks = slacks_left(alloc, line.hops.as_slice(), cumuls.as_slice())?;

@@ -13,6 +13,7 @@ ghost use Rattle.vr_plan.specs.Starts.{HaveCumuls, HaveStarts, HaveChosenStarts}
 ghost use Rattle.vr_plan.specs.Settled.{Goes, HaveChosenCumuls, IsUnfeasible};
 
 use crate::narrow::{put_row, row_at, with_cumuls};
+use crate::sound::SoundLine;
 use std::alloc::Global;
 use vr_model::{BreakRow, NoMemory, Seq};
 use vr_reach::{Walk, lesser};
@@ -155,9 +156,6 @@ fn settle_starts(
     ensures settled { IfOk result (Goes (HaveStarts line.old starts.new)) }
     ensures stops { IfOk result (λ goes. goes ≡ false → IsUnfeasible line.old) }
 {
-    vr_steps::laws::lines_stand_for_theirs();
-    vr_model::laws::chosen_where_feasible();
-    vr_model::laws::chosen_is_least();
     let mut ready = 0;
     for i in 0..line.breaks.rows.len() {
         let Some(first) = least_start(line, walk, cumuls, i, ready)? else {
@@ -173,20 +171,18 @@ fn settle_starts(
 // schedule.
 pub(crate) fn chosen_starts(
     alloc: Global,
-    line: &Line,
+    sound: SoundLine<'_>,
     cumuls: &[i64],
 ) -> Result<Option<Seq<i64>>, NoMemory>
-    requires sound { IsSoundLine line.now }
-    requires cumuls { HaveChosenCumuls line.now cumuls.now }
-    ensures some { IfOk result (λ found. IfSome found (HaveChosenStarts line.now)) }
-    ensures none { IfOk result (λ found. IsNone found → IsUnfeasible line.now) }
+    requires cumuls { HaveChosenCumuls sound.line.now cumuls.now }
+    ensures some { IfOk result (λ found. IfSome found (HaveChosenStarts sound.entry.line.now)) }
+    ensures none { IfOk result (λ found. IsNone found → IsUnfeasible sound.entry.line.now) }
 {
+    let line = sound.line;
     if line.breaks.rows.is_empty() {
         return Ok(Some(Seq::new(alloc)));
     }
-    vr_steps::laws::lines_stand_for_theirs();
-    vr_model::laws::one_chosen();
-    let mut narrow = with_cumuls(alloc, line, cumuls)?;
+    let mut narrow = with_cumuls(alloc, sound, cumuls)?;
     let starts = starts_of(alloc, &mut narrow, cumuls)?;
     Ok(starts)
 }

@@ -9,6 +9,6 @@ use Rattle.vr_plan.proofs.narrow.only_sets.Given as goal
 abbrev pub invariant-loop-k : goal.invariant-loop-k
 invariant-loop-k l = record {
   long : length l.sets ≡ l.k;
-  each : (j : ℕ) → j < length l.sets → IsOnly (slice_index_or l.line.allowed j []) (number_at l.cumuls j) (slice_index_or l.sets j []);
+  each : (j : ℕ) → j < length l.sets → IsOnly (slice_index_or l.sound.line.now.allowed j []) (number_at l.cumuls j) (slice_index_or l.sets j []);
   cumuls : All IsCumuls l.sets;
 }

@@ -1,4 +1,4 @@
-use Rattle.std.proofs.Common.{◌≡◌, ◌∙◌, ◌<◌, ap, subst, sym, length}
+use Rattle.std.proofs.Common.{◌∙◌, ◌<◌, ap, subst, sym, length}
 use Rattle.vr_model.specs.tables.Tables.{dimension_at, no_dimension}
 use Rattle.vr_plan.specs.Paying.{may_pay_alone}
 use Rattle.vr_plan.proofs.PayingLemmas.{free_pays}

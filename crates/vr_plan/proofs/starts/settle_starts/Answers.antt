@@ -15,7 +15,7 @@ returns-in_default-clause-stops c = λ stops.
     let m = c.loop-i.invariant in
     let there : c.loop-i.i < length c.loop-i.line.breaks = let n = ap (λ (l : Line). length l.breaks) c.line.view_is in omega (arith, m.number, c.len-i-end.ensures.value, n) in
     let long = c.requires.stops ∙ ap (λ hs. suc (length hs)) (sym m.hops) in
-    stopped c.lines_stand_for_theirs.ensures c.args.line.now c.loop-i.line c.args.cumuls.now c.loop-i.i c.loop-i.starts (to_z w64 c.loop-i.ready-bits) m there long
+    stopped c.args.line.now c.loop-i.line c.args.cumuls.now c.loop-i.i c.loop-i.starts (to_z w64 c.loop-i.ready-bits) m there long
     (retry c.loop-i.line c.loop-i.i c.args.cumuls.now _ (to_z w64 c.loop-i.ready-bits) _ None c.in_ok-first.ensures.exact (omega (arith, ints, m.ready_in_range)) c.in_default.is)
 
 pub loop-i-preserved : goal.loop-i-preserved
@@ -35,9 +35,9 @@ loop-i-preserved c =
     let ready_is : to_z w64 (of_z w64 c.fix_start-ready.result) ≡ x +ℤ row.duration = omega (arith, ints, c.fix_start-ready.ensures.over, long_is, start.from, start.to, valid, valid.duration_in_range, same) in
     let pushed = c.in_ok-push.ensures.ok in
     subst (λ T. T) (λ t. AreStarted c.args.line.now (sym line_is t) c.args.cumuls.now (i + 1) (sym pushed t) (sym ready_is t))
-    (started_more c.lines_stand_for_theirs.ensures c.args.line.now c.loop-i.line c.args.cumuls.now i c.loop-i.starts (to_z w64 c.loop-i.ready-bits) m there long x (subst (IsStartOf row) same start) tried)
+    (started_more c.args.line.now c.loop-i.line c.args.cumuls.now i c.loop-i.starts (to_z w64 c.loop-i.ready-bits) m there long x (subst (IsStartOf row) same start) tried)
 
 pub returns-clause-settled : goal.returns-clause-settled
 returns-clause-settled c = λ goes.
     let n = ap (λ (l : Line). length l.breaks) c.line.view_is in
-    all_started c.chosen_where_feasible.ensures c.chosen_is_least.ensures c.args.line.now c.loop-i.line c.args.cumuls.now c.loop-i.i c.loop-i.starts (to_z w64 c.loop-i.ready-bits) c.loop-i.invariant (omega (arith, c.len-i-end.ensures.value, n))
+    all_started c.args.line.now c.loop-i.line c.args.cumuls.now c.loop-i.i c.loop-i.starts (to_z w64 c.loop-i.ready-bits) c.loop-i.invariant (omega (arith, c.len-i-end.ensures.value, n))

@@ -6,9 +6,7 @@ use Rattle.vr_plan.proofs.RuleLemmas.{no_cumuls}
 use Rattle.vr_plan.proofs.choosers.Chooser.choose_tight.Goals as goal
 
 pub returns-in_default-clause-chosen : goal.returns-in_default-clause-chosen
-returns-in_default-clause-chosen c = no_cumuls c.lines_stand_for_theirs.ensures c.args.line.now c.requires.sound Tight (c.in_ok-narrow.ensures.none (search rules))
+returns-in_default-clause-chosen c = no_cumuls c.args.sound.line.now c.args.sound.sound Tight (c.in_ok-narrow.ensures.none (search rules))
 
 pub returns-clause-chosen : goal.returns-clause-chosen
-returns-clause-chosen c =
-    let narrow = subst (λ found. IfSome found (IsTightLineOf c.args.line.now)) c.in-Some.is c.in_ok-narrow.ensures.some in
-    λ defined of. c.in_ok-goes.ensures.chosen _ (narrow defined of)
+returns-clause-chosen c defined of = c.in_ok-goes.ensures.chosen _ (subst (λ found. IfSome found (IsTightLineOf c.args.sound.line.now)) c.in-Some.is c.in_ok-narrow.ensures.some defined of)
