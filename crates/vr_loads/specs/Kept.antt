@@ -1,11 +1,11 @@
 -- What is kept of the lists of vehicles in a dimension that is a load.
 use Rattle.std.specs.Prelude.{◌≡◌, ℕ, ◌<◌, List, [], length, ℤ, pos, ◌-ℤ◌, slice_index_or}
-use Rattle.vr_model.specs.tables.Numbers.{number_at}
+use Rattle.vr_model.specs.tables.Numbers.{number_at, total_by}
 use Rattle.vr_model.specs.tables.Tables.{dimension_at, vehicle_at, evaluator_number}
 use Rattle.vr_model.specs.routes.Routes.{route}
 use Rattle.vr_model.specs.declared.records.Model.{Model}
 use Rattle.vr_loads.specs.Loads.{value_of, taken}
-use Rattle.vr_balance.specs.Sums.{AreSums}
+use Rattle.vr_balance.specs.Sums.{AreSums, IsUpTo}
 use Rattle.vr_loads.specs.declared.loads.Carried.{Carried}
 
 -- of an arc, what is told of the node that it leads to
@@ -15,6 +15,11 @@ at_target f i j = f j
 -- at each place of a list, and at its end, what is taken before it
 abbrev pub AreTaken : (ℕ → ℤ) → List ℕ → List ℤ → Type 0
 AreTaken f list sums = AreSums (at_target f) 0 list sums
+
+-- a number is what f gives of some nodes, and no greater than that of 1001
+pub record IsAlong (f : ℕ → ℤ) (nodes : List ℕ) (total : ℤ) : Type 0 where
+  pub value : total ≡ total_by f nodes
+  pub range : IsUpTo 1001 total
 
 -- what is kept of no vehicle
 abbrev pub nothing_carried : Carried

@@ -1,14 +1,13 @@
 //! What is kept of the lists of vehicles in a dimension that is a load.
 
 ghost use Rattle.std.specs.Prelude.{◌≡◌, ◌<◌, ◌≤◌, ◌≤ℤ◌, ◌-ℤ◌, ◌^◌, ℕ, List, pos, All, IfOk, length};
-ghost use Rattle.vr_model.specs.tables.Numbers.{number_at, total_by};
+ghost use Rattle.vr_model.specs.tables.Numbers.{number_at};
 ghost use Rattle.vr_model.specs.tables.Tables.{dimension_at, evaluator_number, vehicle_at};
 ghost use Rattle.vr_model.specs.routes.Routes.{route};
 ghost use Rattle.vr_model.specs.moves.Moves.{with_route};
 ghost use Rattle.vr_routes.specs.Pieces.{joined, nodes_of, IsWithin};
-ghost use Rattle.vr_balance.specs.Sums.{IsUpTo};
 ghost use Rattle.vr_loads.specs.Loads.{HasLoad, can_carry, taken, value_of};
-ghost use Rattle.vr_loads.specs.Kept.{AreCarried, IsCarried};
+ghost use Rattle.vr_loads.specs.Kept.{AreCarried, IsAlong, IsCarried};
 
 use crate::sums::{sum_of, value, write_sums};
 use std::alloc::Global;
@@ -153,8 +152,7 @@ impl Loads {
         requires evaluator { evaluator < length (dimension_at model.now d).evaluators }
         requires within { IsWithin routes.now.lists piece }
         requires nodes { All (λ node. node < model.now.nodes) (nodes_of routes.now.lists piece) }
-        ensures value { result ≡ total_by (value_of model.now d evaluator) (nodes_of routes.now.lists piece) }
-        ensures range { IsUpTo 1001 result }
+        ensures { IsAlong (value_of model.now d evaluator) (nodes_of routes.now.lists piece) result }
     {
         match piece {
             Piece::Node { node } => value(model, d, evaluator, node),

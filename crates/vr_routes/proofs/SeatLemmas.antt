@@ -27,6 +27,17 @@ active_at [] x v k low within e = absurd (omega (arith, low))
 active_at (l ∷ ls) x zero k low within e = or_left (holds l x) _ (held_at l x k within e)
 active_at (l ∷ ls) x (suc v) k low within e = or_right (holds l x) _ (active_at ls x v k (omega (arith, low)) within e)
 
+-- a seat in another list than one that is written stays
+seat_elsewhere : (lists : List (List ℕ)) (v : ℕ) (row : List ℕ) (x w k : ℕ) → w ≢ v → IsSeat lists x w k → IsSeat (slice_set lists v row) x w k
+seat_elsewhere lists v row x w k other h =
+    let now : route (slice_set lists v row) w ≡ route lists w = route_set_other lists v w row other in
+    let low = h.vehicle in
+    record {
+      vehicle = omega (arith, low, length-set lists v row);
+      place = subst (λ l. k < length l) (sym now) h.place;
+      found = ap (λ l. slice_index l k) now ∙ h.found;
+    }
+
 -- ---- seats
 
 abbrev seat : ℕ → ℕ → Seat
@@ -170,12 +181,7 @@ module _ (lists : List (List ℕ)) (seats : List (Option Seat)) (seated : IsSeat
                 place = subst (λ l. s.place < length l) (sym now) (omega (arith, before, length-append (route lists v) (x ∷ [])));
                 found = ap (λ l. slice_index l s.place) now ∙ get_or_append_left (route lists v) (x ∷ []) 0 s.place before ∙ ap (λ w. slice_index (route lists w) s.place) (sym same.1) ∙ h.found;
               })
-          | inr other ↦ (let now : route new_lists s.vehicle ≡ route lists s.vehicle = route_set_other lists v s.vehicle row other.1 in
-              record {
-                vehicle = within_new s.vehicle h.vehicle;
-                place = subst (λ l. s.place < length l) (sym now) h.place;
-                found = ap (λ l. slice_index l s.place) now ∙ h.found;
-              })
+          | inr other ↦ seat_elsewhere lists v row y s.vehicle s.place other.1 h
         ]
 
     pub put_seated : IsSeated new_lists new_seats
@@ -247,12 +253,7 @@ module _ (lists : List (List ℕ)) (seats : List (Option Seat)) (seated : IsSeat
                     let is_last : length rest ≡ s.place = omega (arith, within, past, length-append rest (x ∷ [])) in
                     sym h.found ∙ ap (λ w. slice_index (route lists w) s.place) same.1 ∙ ap (λ l. slice_index l s.place) ends ∙ get_or_push rest x 0 s.place is_last))
               ])
-          | inr elsewhere ↦ (let now : route lists_left s.vehicle ≡ route lists s.vehicle = route_set_other lists v s.vehicle rest elsewhere.1 in
-              record {
-                vehicle = within_left s.vehicle h.vehicle;
-                place = subst (λ l. s.place < length l) (sym now) h.place;
-                found = ap (λ l. slice_index l s.place) now ∙ h.found;
-              })
+          | inr other ↦ seat_elsewhere lists v rest y s.vehicle s.place other.1 h
         ]
 
     pub take_seated : IsSeated lists_left seats_left

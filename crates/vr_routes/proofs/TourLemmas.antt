@@ -13,13 +13,14 @@ use Rattle.vr_model.proofs.routes.Lists.{place_of_held, route_set_other, route_s
 use Rattle.vr_model.proofs.tables.Members.{In, to_filter, to_below}
 use Rattle.vr_model.specs.deciding.Testing.{or_cases, and_left, or_left, or_right, test_of_eq}
 use Rattle.vr_model.proofs.tables.Tests.{clash, fails, same_tests}
-use Rattle.vr_routes.specs.Seats.{IsSeat}
+use Rattle.vr_routes.specs.Seats.{IsSeat, Seated}
 use Rattle.vr_model.specs.tables.Numbers.{below}
 use Rattle.std.specs.List.{range_with_len}
 use Rattle.vr_model.specs.tables.Tables.{visits, is_visit}
 use Rattle.vr_model.specs.routes.Routes.{route, holds, is_active}
 use Rattle.vr_model.specs.declared.records.Model.{Model}
-use Rattle.vr_routes.specs.Tours.{HaveVisits}
+use Rattle.vr_routes.specs.Tours.{AreTours, HaveVisits}
+use Rattle.vr_model.specs.tables.WellFormed.{IsWellFormed}
 use Rattle.vr_routes.proofs.SeatLemmas.{seat_of_active, active_at}
 
 pub set_twice : {A : Type 0} (xs : List A) (i : ℕ) (x y : A) → slice_set (slice_set xs i x) i y ≡ slice_set xs i y
@@ -166,3 +167,41 @@ visit_test model x = same_tests (holds (visits model) x) (is_visit model x)
 
 pub inactive_test : (model : Model) (visited : List ℕ) (x : ℕ) → visited ≡ visits model → holds visited x ≡ is_visit model x
 inactive_test model visited x e = ap (λ l. holds l x) e ∙ visit_test model x
+
+-- ---- lists of visits
+
+-- the visits of a model, and lists of them for its vehicles
+pub tours_of : (model : Model) → IsWellFormed model → (visited seating : Seated) → visited.lists ≡ visits model ∷ [] → visited.nodes ≡ model.nodes
+    → seating.nodes ≡ model.nodes → length seating.lists ≡ length model.vehicles → HaveVisits model seating.lists → AreTours visited seating
+tours_of model well visited seating lists nodes there many entries =
+    let list : route visited.lists 0 ≡ visits model = seen lists in
+    let long = ap length list in
+    let few = few_visits model in
+    let few_nodes = well.number_of_nodes.1 in
+    let fleet = well.number_of_vehicles.at_most in
+    record {
+      one_list = ap length lists;
+      same_nodes = nodes ∙ sym there;
+      few_nodes = omega (arith, few_nodes, there);
+      few_vehicles = omega (arith, many, fleet);
+      few_visits = omega (arith, few, few_nodes, long);
+      visits_ascend = subst IsStrictlyIncreasing (sym list) (visits_ascend model);
+      each_visit_is_node = subst (λ l. All (λ node. node < seating.nodes) l) (sym list) (subst (λ n. All (λ node. node < n) (visits model)) (sym there) (visits_below model));
+      each_entry_is_visit = λ node active. subst (λ l. IsTrue (holds l node)) (sym list) (visit_held model node (entries node active));
+    }
+
+-- other lists of them, as many
+pub tours_after : {visited seating : Seated} → AreTours visited seating → (other : Seated) → seating.nodes ≡ other.nodes → length other.lists ≡ length seating.lists
+    → ((node : ℕ) → IsTrue (is_active other.lists node) → IsTrue (holds (route visited.lists 0) node)) → AreTours visited other
+tours_after {visited} {seating} tours other nodes many entries =
+    let few = tours.few_vehicles in
+    record {
+      one_list = tours.one_list;
+      same_nodes = tours.same_nodes ∙ nodes;
+      few_nodes = subst (λ n. n ≤ 1000) nodes tours.few_nodes;
+      few_vehicles = omega (arith, many, few);
+      few_visits = tours.few_visits;
+      visits_ascend = tours.visits_ascend;
+      each_visit_is_node = subst (λ n. All (λ node. node < n) (route visited.lists 0)) nodes tours.each_visit_is_node;
+      each_entry_is_visit = entries;
+    }

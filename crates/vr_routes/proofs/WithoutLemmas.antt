@@ -120,6 +120,18 @@ module _ (pair : Pair) where
     few_d : times_in pair.delivery lists ≤ 1
     few_d = few_times pair.delivery lists (once pair.delivery)
 
+    pickup_out_of : keeps (slice_index row k) ≡ false
+    pickup_out_of = ap keeps places.pickup_stands.found ∙ pickup_out pair
+
+    delivery_out_of : keeps (slice_index row j) ≡ false
+    delivery_out_of = ap keeps places.delivery_stands.found ∙ delivery_out pair
+
+    pickup_hit : 1 ≤ hit pair.pickup (slice_index row k)
+    pickup_hit = one_of pair.pickup (slice_index row k) places.pickup_stands.found
+
+    delivery_hit : 1 ≤ hit pair.delivery (slice_index row j)
+    delivery_hit = one_of pair.delivery (slice_index row j) places.delivery_stands.found
+
     gap_of : (lo hi : ℕ) → lo < hi → hi < length row → keeps (slice_index row lo) ≡ false → keeps (slice_index row hi) ≡ false
         → 1 ≤ hit pair.pickup (slice_index row lo) + hit pair.pickup (slice_index row hi) → 1 ≤ hit pair.delivery (slice_index row lo) + hit pair.delivery (slice_index row hi)
         → IsGap lists pair v lo hi
@@ -145,17 +157,7 @@ module _ (pair : Pair) where
         one_list_changes lists v low (omega (arith, few_p, here_p)) (omega (arith, few_d, here_d))
 
     pub pickup_first : k < j → IsGap lists pair v k j
-    pickup_first order =
-        let p = places.pickup_stands.found in
-        let d = places.delivery_stands.found in
-        let one_p = one_of pair.pickup (slice_index row k) p in
-        let one_d = one_of pair.delivery (slice_index row j) d in
-        gap_of k j order places.delivery_stands.place (ap keeps p ∙ pickup_out pair) (ap keeps d ∙ delivery_out pair) (omega (arith, one_p)) (omega (arith, one_d))
+    pickup_first order = gap_of k j order places.delivery_stands.place pickup_out_of delivery_out_of (omega (arith, pickup_hit)) (omega (arith, delivery_hit))
 
     pub delivery_first : j < k → IsGap lists pair v j k
-    delivery_first order =
-        let p = places.pickup_stands.found in
-        let d = places.delivery_stands.found in
-        let one_p = one_of pair.pickup (slice_index row k) p in
-        let one_d = one_of pair.delivery (slice_index row j) d in
-        gap_of j k order places.pickup_stands.place (ap keeps d ∙ delivery_out pair) (ap keeps p ∙ pickup_out pair) (omega (arith, one_p)) (omega (arith, one_d))
+    delivery_first order = gap_of j k order places.pickup_stands.place delivery_out_of pickup_out_of (omega (arith, pickup_hit)) (omega (arith, delivery_hit))

@@ -17,9 +17,8 @@ pub record Tours : Type 0 where
 abbrev pub inactive_of : List ℕ → List (List ℕ) → List ℕ
 inactive_of visits lists = filter (λ node. not (is_active lists node)) visits
 
--- what holds of all routes: few vehicles and nodes, visits that ascend, all entries visits, and what is kept of the
--- inactive ones
-pub record AreKept (visits seating : Seated) (inactive : List ℕ) : Type 0 where
+-- one list of visits that ascend, and lists of them: few vehicles, few nodes, and each entry is a visit
+pub record AreTours (visits seating : Seated) : Type 0 where
   pub one_list : length visits.lists ≡ 1
   pub same_nodes : visits.nodes ≡ seating.nodes
   pub few_nodes : seating.nodes ≤ 1000
@@ -29,6 +28,10 @@ pub record AreKept (visits seating : Seated) (inactive : List ℕ) : Type 0 wher
   pub each_visit_is_node : All (λ node. node < seating.nodes) (route visits.lists 0)
   pub each_entry_is_visit : (node : ℕ)
       → IsTrue (is_active seating.lists node) → IsTrue (holds (route visits.lists 0) node)
+
+-- what holds of all routes: lists of visits, and what is kept of the inactive ones
+pub record AreKept (visits seating : Seated) (inactive : List ℕ) : Type 0 where
+  pub tours : AreTours visits seating
   pub inactive_ones : inactive ≡ inactive_of (route visits.lists 0) seating.lists
 
 -- each entry of the lists is a visit

@@ -58,6 +58,30 @@ pub trait Judge {
         ensures looked { looked self.new ≡ looked self.old }
         ensures steps { steps.new ≤ steps.old + weight self.old mv };
 
+    /// Judges a move of the lists, as `judge` does. The caller hands in the change that the move makes, so that it need
+    /// not be written again.
+    fn judge_change<L: Ledger>(
+        &mut self,
+        routes: &Routes,
+        mv: Move,
+        change: &Change,
+        steps: &mut Steps<L>,
+    ) -> Result<Verdict, NoMemory>
+        requires well_formed { IsWellFormed (model self.old) }
+        requires holds { HoldSame (model self.old) (committed self.old) routes.now }
+        requires mv { IsTrue (is_move (model self.old) routes.now.lists mv) }
+        requires change { IsChange (model self.old) routes.now.lists mv change.now }
+        ensures verdict { IfOk result (λ verdict. verdict ≡ verdict_of (model self.old) routes.now.lists mv) }
+        ensures model { model self.new ≡ model self.old }
+        ensures committed { committed self.new ≡ committed self.old }
+        ensures asked { asked self.new ≤ asked self.old + 1 }
+        ensures looked { looked self.new ≡ looked self.old }
+        ensures steps { steps.new ≤ steps.old + weight self.old mv }
+    {
+        let verdict = self.judge(routes, mv, steps)?;
+        Ok(verdict)
+    }
+
     /// A number that the difference of a move is never below, where the lists after it are valid; of other moves it
     /// says nothing. A search asks it before it has a move judged, since it takes few moves and most can be passed
     /// over by what they cost at least. The caller hands in the change that the move makes. It does not judge the move,

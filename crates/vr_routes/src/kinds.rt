@@ -41,6 +41,24 @@ pub struct TwoPlaces<'r> {
     pub ghost place: { hi < length (route routes.now.lists v) },
 }
 
+/// Two neighbouring stretches of the list of `v`: from place `from` up to place `mid`, and from there up to place `to`.
+#[derive(Clone, Copy)]
+pub struct Neighbours<'r> {
+    pub routes: &'r Routes,
+    pub v: u32,
+    pub from: u32,
+    pub mid: u32,
+    pub to: u32,
+    /// There is the vehicle.
+    pub ghost vehicle: { v < length routes.now.lists },
+    /// The first one does not end in front of where it begins.
+    pub ghost order: { from ≤ mid },
+    /// Nor does the second one.
+    pub ghost next: { mid ≤ to },
+    /// There are both.
+    pub ghost within: { to ≤ length (route routes.now.lists v) },
+}
+
 /// Two gaps of the list of `v`, before place `s` and before place `t`, which may be one.
 #[derive(Clone, Copy)]
 pub struct TwoGaps<'r> {
@@ -110,22 +128,49 @@ impl Stretch<'_> {
             IsAfter self.entry.routes.now.lists part.new self.entry.v
             (chain_moved list self.entry.from self.entry.nodes t) }
     {
+        let routes = self.routes;
         let v = self.v;
         let a = self.from;
         let k = self.nodes;
-        let n = self.routes.len(v);
-        part.begin(v);
+        // That the list is short says that the sums fit.
+        let _few = routes.len(v);
         if t < a {
-            part.chain(v, 0, t);
-            part.chain(v, a, a + k);
-            part.chain(v, t, a);
-            part.chain(v, a + k, n);
-        } else {
-            part.chain(v, 0, a);
-            part.chain(v, a + k, t + k);
-            part.chain(v, a, a + k);
-            part.chain(v, t + k, n);
+            let ahead = Neighbours {
+                routes,
+                v,
+                from: t,
+                mid: a,
+                to: a + k,
+            };
+            ahead.swap(part);
+            return;
         }
+        let behind = Neighbours {
+            routes,
+            v,
+            from: a,
+            mid: a + k,
+            to: t + k,
+        };
+        behind.swap(part);
+    }
+}
+
+impl Neighbours<'_> {
+    /// The list with the two in each other's place.
+    #[inline]
+    pub fn swap(self, part: &mut Part)
+        ensures { let list = route self.entry.routes.now.lists self.entry.v in
+            IsAfter self.entry.routes.now.lists part.new self.entry.v
+            (((slice_range list 0 self.entry.from ++ slice_range list self.entry.mid self.entry.to)
+            ++ slice_range list self.entry.from self.entry.mid) ++ slice_range list self.entry.to (length list)) }
+    {
+        let n = self.routes.len(self.v);
+        part.begin(self.v);
+        part.chain(self.v, 0, self.from);
+        part.chain(self.v, self.mid, self.to);
+        part.chain(self.v, self.from, self.mid);
+        part.chain(self.v, self.to, n);
     }
 }
 

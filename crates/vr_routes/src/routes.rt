@@ -13,7 +13,7 @@ ghost use Rattle.vr_routes.specs.Seats.{IsSeat, IsOnce};
 ghost use Rattle.vr_routes.specs.Pieces.{changed, joined, part_at, IsWithin};
 ghost use Rattle.vr_routes.specs.Indices.{end_index, HasNoNext, HasNoPrevious, IsNext, IsStop};
 ghost use Rattle.vr_routes.specs.Changes.{IsMadeOn};
-ghost use Rattle.vr_routes.specs.Tours.{inactive_of, HaveVisits};
+ghost use Rattle.vr_routes.specs.Tours.{inactive_of, AreTours, HaveVisits};
 
 use crate::changes::Change;
 use crate::filling::fill;
@@ -57,15 +57,7 @@ impl Routes {
     {
         let visits = visits_of(alloc, model)?;
         let seating = Seating::empty(alloc, model.vehicles.len(), model.nodes as usize)?;
-        let mut inactive = Row::new();
-        write_inactive(&seating, visits.list(0), &mut inactive);
-        Ok(Routes {
-            visits,
-            seating,
-            inactive,
-            first: Row::new(),
-            second: Row::new(),
-        })
+        Ok(Routes::of(visits, seating))
     }
 
     /// Routes with these lists, where there is one for each vehicle, each entry is a visit, and none stands twice.
@@ -86,15 +78,23 @@ impl Routes {
             return Ok(None);
         }
         seating.know_once();
+        Ok(Some(Routes::of(visits, seating)))
+    }
+
+    // Routes with these visits and these lists.
+    fn of(visits: Seating, seating: Seating) -> Routes
+        requires { AreTours visits seating }
+        ensures { result ≡ record { visits = route visits.lists 0; lists = seating.lists } }
+    {
         let mut inactive = Row::new();
         write_inactive(&seating, visits.list(0), &mut inactive);
-        Ok(Some(Routes {
+        Routes {
             visits,
             seating,
             inactive,
             first: Row::new(),
             second: Row::new(),
-        }))
+        }
     }
 
     /// Makes a change of these lists in place.
@@ -271,15 +271,7 @@ impl Routes {
     {
         let visits = self.visits.copy(alloc)?;
         let seating = self.seating.copy(alloc)?;
-        let mut inactive = Row::new();
-        write_inactive(&seating, visits.list(0), &mut inactive);
-        Ok(Routes {
-            visits,
-            seating,
-            inactive,
-            first: Row::new(),
-            second: Row::new(),
-        })
+        Ok(Routes::of(visits, seating))
     }
 
     /// The index of the stop behind an index, `None` at an inactive visit, at an end, and at the start of an unused

@@ -6,7 +6,7 @@ ghost use Rattle.vr_routes.specs.Runs.{with_last};
 use vr_model::Move;
 
 /// A move with another last number: the one that changes first in the order of the moves of its kind.
-#[inline]
+#[inline(always)]
 pub fn with_last(mv: Move, k: u32) -> Move
     ensures { result ≡ with_last mv k }
 {

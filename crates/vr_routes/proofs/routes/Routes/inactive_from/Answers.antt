@@ -10,5 +10,5 @@ first_from-requires c =
     let tours : Tours = record { visits = route c.self.inside.visits.lists 0; lists = c.self.inside.seating.lists } in
     record {
       ascending = subst IsStrictlyIncreasing (sym (c.as_slice.ensures.value ∙ c.self.invariant.inactive_ones))
-          (IsStrictlyIncreasing-filter (λ x. not (is_active tours.lists x)) tours.visits c.self.invariant.visits_ascend);
+          (IsStrictlyIncreasing-filter (λ x. not (is_active tours.lists x)) tours.visits c.self.invariant.tours.visits_ascend);
     }

@@ -24,7 +24,7 @@ fill-requires-clause-room c =
     let parts = c.args.change.now in
     let made : IsMadeOn tours parts = subst (λ t. IsMadeOn t parts) (sym c.self.view_is) c.requires.made in
     let once : IsOnce tours.lists = c.know_once.ensures in
-    let i = c.self.invariant in
+    let i = c.self.invariant.tours in
     let final = changed tours.lists parts in
     let have : HaveNodes c.self.inside.seating.nodes final = λ node active. held_below tours.visits c.self.inside.seating.nodes i.each_visit_is_node node (entry_after tours parts made once i.each_entry_is_visit node active) in
     let low : (part_at parts c.args.k).vehicle < length final = (let n = as_many_lists tours.lists parts in let h = made.makes.parts_are.each_vehicle c.args.k no_part c.requires.part in omega (arith, n, h)) in
