@@ -1,12 +1,13 @@
 -- How many moves a range has.
 use Rattle.std.proofs.Common.{◌≡◌, ◌∙◌, ℕ, zero, suc, ◌+◌, ◌-◌, ◌<◌, ◌≤◌, Bool, true, false, cond, ◌∷◌, length, map, refl, sym, ap, arith, inl, inr}
-use Rattle.std.specs.Prelude.{filter}
+use Rattle.std.specs.Prelude.{◌==◌, filter}
 use Rattle.std.specs.List.{range_with_len}
 use Rattle.std.proofs.lemmas.Bool.{cases_lt}
 use Rattle.std.proofs.lemmas.List.{length-map}
 use Rattle.std.proofs.lemmas.List.FromFn.{length-range_with_len}
 use Rattle.vr_model.specs.tables.Numbers.{below, from_to}
-use Rattle.vr_known.proofs.NestLemmas.{filter_all}
+use Rattle.vr_model.proofs.tables.Ranges.{all_left}
+use Rattle.vr_known.proofs.NestLemmas.{filter_all, filter_same, from_to_step}
 use Rattle.vr_model.specs.moves.Moves.{is_other, has_some_front}
 
 pub count_given : {A : Type 0} (f : ℕ → A) (a b : ℕ) → length (map f (from_to a b)) ≡ b - a
@@ -56,16 +57,24 @@ front_there a k low = Prim.grind arith
 front_behind : (a k : ℕ) → 1 ≤ a → has_some_front a k ≡ true
 front_behind a k low = Prim.grind arith
 
-front_none : (a : ℕ) → a ≡ 0 → has_some_front a 0 ≡ false
-front_none a e = Prim.grind arith
-
-pub count_front_none : (a n : ℕ) → a ≡ 0 → length (filter (has_some_front a) (below (suc n))) ≡ n
-count_front_none a n e =
-    ap (λ t. length (cond t (0 ∷ filter (has_some_front a) (range_with_len (0 + 1) n)) (filter (has_some_front a) (range_with_len (0 + 1) n)))) (front_none a e)
-    ∙ count_passing (has_some_front a) (0 + 1) n (λ k low. front_there a k (omega (arith, low)))
-
-pub count_front : (a n : ℕ) → 1 ≤ a → length (filter (has_some_front a) (below n)) ≡ n
-count_front a n low = count_passing (has_some_front a) 0 n (λ k _. front_behind a k low)
+-- the places before which a front may end, where the other one ends before place a
+pub fronts : (a n : ℕ) → filter (has_some_front a) (below (suc n)) ≡ from_to (cond (a == 0) 1 0) (suc n)
+fronts a n = by (a == 0) refl
+  where
+    by : (t : Bool) → (a == 0) ≡ t → filter (has_some_front a) (below (suc n)) ≡ from_to (cond t 1 0) (suc n)
+    by true is =
+        let none : has_some_front a 0 ≡ false = Prim.grind arith in
+        let one : 0 + 1 ≡ 1 = omega arith in
+        ap (filter (has_some_front a)) (sym (all_left (suc n)) ∙ from_to_step 0 (suc n) (omega arith))
+        ∙ ap (λ t. cond t (0 ∷ filter (has_some_front a) (from_to (0 + 1) (suc n))) (filter (has_some_front a) (from_to (0 + 1) (suc n)))) none
+        ∙ filter_same (has_some_front a) (λ k. true) (0 + 1) (suc n) (λ k low _. front_there a k (omega (arith, low)))
+        ∙ filter_all (from_to (0 + 1) (suc n))
+        ∙ ap (λ b. from_to b (suc n)) one
+    by false is =
+        let some : 1 ≤ a = Prim.grind arith in
+        ap (filter (has_some_front a)) (sym (all_left (suc n)))
+        ∙ filter_same (has_some_front a) (λ k. true) 0 (suc n) (λ k _ _. front_behind a k some)
+        ∙ filter_all (from_to 0 (suc n))
 
 -- ---- how many numbers of a part of a range have a move
 
@@ -82,21 +91,3 @@ many_below x a b high = count_passing_below (is_other x) a (b - a) (λ k low und
 
 pub many_above : (x a b : ℕ) → x < a → length (filter (is_other x) (from_to a b)) ≡ b - a
 many_above x a b low = count_passing (is_other x) a (b - a) (λ k under. is_other_above x k (omega (arith, under, low)))
-
-pub many_fronts : (x a b : ℕ) → has_some_front x a ≡ true → length (filter (has_some_front x) (from_to a b)) ≡ b - a
-many_fronts x a b there = count_passing (has_some_front x) a (b - a) (λ k low. later k low there)
-  where
-    later : (k : ℕ) → a ≤ k → has_some_front x a ≡ true → has_some_front x k ≡ true
-    later k low there = Prim.grind arith
-
-pub many_but_none : (x a b : ℕ) → has_some_front x a ≡ false → a < b → length (filter (has_some_front x) (from_to a b)) ≡ b - a - 1
-many_but_none x a b none some =
-    let zero : x ≡ 0 = Prim.grind arith in
-    let begin : a ≡ 0 = Prim.grind arith in
-    let e : b - a ≡ suc (b - a - 1) = omega (arith, some) in
-    ap (λ n. length (filter (has_some_front x) (range_with_len a n))) e
-    ∙ ap (λ n. length (filter (has_some_front x) (range_with_len n (suc (b - a - 1))))) begin
-    ∙ count_front_none x (b - a - 1) zero
-
-pub many_none : (p : ℕ → Bool) (a b : ℕ) → a ≡ b → length (filter p (from_to a b)) ≡ b - a
-many_none p a b same = let e : b - a ≡ 0 = omega (arith, same) in ap (λ n. length (filter p (range_with_len a n))) e ∙ sym e

@@ -7,11 +7,6 @@ abbrev pub rest_of : {L A : Type 0} → (L → List A) → Option L → List A
 rest_of rest None = []
 rest_of rest (Some inner) = rest inner
 
--- a list that may be there is sound
-abbrev pub IsSoundIn : {L : Type 0} → (L → Type 0) → Option L → Type 0
-IsSoundIn is_sound None = Unit {0}
-IsSoundIn is_sound (Some inner) = is_sound inner
-
 -- what f gives of the numbers from a on, below b, that pass
 abbrev pub run_of : {A : Type 0} → (ℕ → Bool) → (ℕ → A) → ℕ → ℕ → List A
 run_of passes f a b = map f (filter passes (from_to a b))

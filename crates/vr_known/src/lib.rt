@@ -4,9 +4,9 @@
 //! active where it changes that: on no more does it depend what a move makes ([`validity_is_local`],
 //! [`cost_is_local`]). So [`Known`] keeps, for each row of a kind, when all its moves were last refused, for each
 //! vehicle when its list last changed, and when activity last did. A row is a first vehicle or a pair that is put
-//! elsewhere or taken out; the moves of each other kind are one row. The ranges of moves ([`nests`]) pass over those of
-//! which a sieve ([`Sieve`]) says so, and count them: what is known is one, and a search has another, which also goes
-//! over runs of moves by what they cost.
+//! elsewhere or taken out; the moves of each other kind are one row. The ranges of moves ([`Run`], [`Each`]) pass over
+//! those of which a sieve ([`Sieve`]) says so, and count them: what is known is one, and a search has another, which
+//! also goes over runs of moves by what they cost.
 //!
 //! No stamp is above the clock, so what changes now is later than all that was learned.
 //!
@@ -16,19 +16,21 @@
 #![tactic(auto)]
 
 mod blocks;
+mod lasts;
 mod laws;
 mod memory;
 mod moves;
-pub mod nests;
-pub mod patterns;
+mod nests;
 mod sieve;
 mod stamps;
 mod stretches;
 mod touched;
 
+pub use lasts::{AnyLast, AnyLastBut};
 pub use laws::{cost_is_local, moves_are_local, validity_is_local};
 pub use memory::Known;
 pub use moves::Moves;
+pub use nests::{Each, Family, Listed, Numbered, Run};
 pub use sieve::Sieve;
 pub use stretches::Stretch;
 pub use touched::Touched;

@@ -4,8 +4,7 @@ ghost use Rattle.std.specs.Prelude.{◌≡◌, ◌+◌, ◌++◌};
 ghost use Rattle.std.specs.Iterator.{YieldsFirst, item_count};
 ghost use Rattle.vr_known.specs.Passing.{Looked, Takes, tried};
 
-use crate::nests::Listed;
-use crate::{Known, Sieve, Stretch};
+use crate::{Known, Listed, Sieve, Stretch};
 use std::marker::Model;
 use vr_model::Move;
 
@@ -22,15 +21,12 @@ impl<L: Listed> Model for Moves<L> {
     ghost Value = { List Moved };
 
     ghost view = { λ s. L.rest s.left };
-
-    ghost invariant = { λ s. L.is_sound s.left };
 }
 
 impl<L: Listed> Moves<L> {
     /// All that a list has.
     #[inline]
     pub fn new(left: L) -> Moves<L>
-        requires sound { L.is_sound left }
         ensures { result ≡ L.rest left }
     {
         Moves { left }

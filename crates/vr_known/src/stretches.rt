@@ -7,6 +7,7 @@ ghost use Rattle.vr_routes.specs.Runs.{with_last};
 
 use std::marker::Model;
 use vr_model::Move;
+use vr_routes::with_last;
 
 /// Moves whose last numbers are those of a range, and which are else the same. Contracts see their list.
 #[derive(Drop)]
@@ -55,25 +56,5 @@ impl Stretch {
         }
         self.from = from + 1;
         Some(with_last(self.mv, from))
-    }
-}
-
-// A move with another last number.
-#[inline(always)]
-fn with_last(mv: Move, last: u32) -> Move
-    ensures { result ≡ with_last mv last }
-{
-    match mv {
-        Move::TwoOpt { v, a, .. } => Move::TwoOpt { v, a, b: last },
-        Move::OrOpt { v, a, k, .. } => Move::OrOpt { v, a, k, t: last },
-        Move::Relocate { v, a, w, .. } => Move::Relocate { v, a, w, t: last },
-        Move::Exchange { v, a, w, .. } => Move::Exchange { v, a, w, b: last },
-        Move::Cross { v, a, w, .. } => Move::Cross { v, a, w, b: last },
-        Move::RelocatePair { p, w, s, .. } => Move::RelocatePair { p, w, s, t: last },
-        Move::PairActive { p, w, s, .. } => Move::PairActive { p, w, s, t: last },
-        Move::PairInactive { .. } => Move::PairInactive { p: last },
-        Move::MakeActive { u, w, .. } => Move::MakeActive { u, w, t: last },
-        Move::MakeInactive { v, .. } => Move::MakeInactive { v, a: last },
-        Move::SwapActive { v, a, .. } => Move::SwapActive { v, a, u: last },
     }
 }

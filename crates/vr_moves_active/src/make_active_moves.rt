@@ -1,6 +1,6 @@
 //! Inactive visits that are put in.
 
-ghost use Rattle.std.specs.Prelude.{◌≡◌, ℕ, ◌≤◌, suc, length, slice_index, map, refl};
+ghost use Rattle.std.specs.Prelude.{◌≡◌, ℕ, ◌≤◌, suc, length, slice_index, map};
 ghost use Rattle.vr_known.specs.Passing.{ArePassed};
 ghost use Rattle.vr_model.specs.tables.Numbers.{each};
 ghost use Rattle.vr_model.specs.tables.Tables.{visits};
@@ -10,33 +10,9 @@ ghost use Rattle.vr_model.specs.declared.records.Model.{Model as Defined};
 ghost use Rattle.vr_model.specs.declared.neighbours.Move.TheVariants.{MakeActive};
 ghost use Rattle.vr_model.specs.declared.neighbours.Neighbourhood.TheVariants.{MakeActive as MakeActiveKind};
 
-use vr_known::nests::{Each, Family, Run};
-use vr_known::patterns::{All, Pattern};
-use vr_known::{Moves, Sieve};
+use vr_known::{AnyLast, Each, Family, Moves, Run, Sieve};
 use vr_model::{Move, Neighbourhood};
 use vr_routes::Routes;
-
-/// The places of `w` before which `u` may be put.
-#[derive(Drop)]
-pub struct Gaps {
-    u: u32,
-    w: u32,
-}
-
-impl Pattern for Gaps {
-    ghost move_at = { λ s k. MakeActive s.u s.w k };
-
-    #[inline]
-    fn make(&self, k: u32) -> Move {
-        Move::MakeActive {
-            u: self.u,
-            w: self.w,
-            t: k,
-        }
-    }
-
-    ghost differ_in_last = { λ s k. refl };
-}
 
 /// The vehicles to which `u` may be added.
 #[derive(Drop)]
@@ -46,15 +22,20 @@ pub struct Targets<'a> {
 }
 
 impl<'a> Family for Targets<'a> {
-    type Inner = Run<All<Gaps>>;
+    type Inner = Run<AnyLast>;
 
     ghost count = { λ s. length s.routes.now.lists };
 
     ghost moves = { λ s k. map (MakeActive s.u k) (gaps (route s.routes.now.lists k)) };
 
     #[inline]
-    fn open(&self, k: u32) -> Option<Run<All<Gaps>>> {
-        Some(Run::new(All(Gaps { u: self.u, w: k }), 0, self.routes.len(k) + 1))
+    fn open(&self, k: u32) -> Option<Run<AnyLast>> {
+        let mv = Move::MakeActive {
+            u: self.u,
+            w: k,
+            t: 0,
+        };
+        Some(Run::new(AnyLast(mv), 0, self.routes.len(k) + 1))
     }
 
     #[inline]
@@ -73,12 +54,11 @@ pub struct Nodes<'a> {
     routes: &'a Routes,
     nodes: &'a [u32],
     vehicles: u32,
+    ghost many: { vehicles ≡ length routes.now.lists },
 }
 
 impl<'a> Family for Nodes<'a> {
     type Inner = Each<Targets<'a>>;
-
-    ghost is_sound = { λ s. s.vehicles ≡ length s.routes.now.lists };
 
     ghost count = { λ s. length s.nodes.now };
 

@@ -8,8 +8,7 @@ ghost use Rattle.vr_model.specs.declared.records.Model.{Model as Defined};
 ghost use Rattle.vr_model.specs.declared.neighbours.Move.TheVariants.{MakeInactive};
 ghost use Rattle.vr_model.specs.declared.neighbours.Neighbourhood.TheVariants.{MakeInactive as MakeInactiveKind};
 
-use vr_known::nests::{Each, Family, Numbered, Run};
-use vr_known::{Moves, Sieve};
+use vr_known::{Each, Family, Moves, Numbered, Run, Sieve};
 use vr_model::{Move, Neighbourhood};
 use vr_routes::Routes;
 

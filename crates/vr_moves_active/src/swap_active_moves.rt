@@ -10,8 +10,7 @@ ghost use Rattle.vr_model.specs.declared.records.Model.{Model as Defined};
 ghost use Rattle.vr_model.specs.declared.neighbours.Move.TheVariants.{SwapActive};
 ghost use Rattle.vr_model.specs.declared.neighbours.Neighbourhood.TheVariants.{SwapActive as SwapActiveKind};
 
-use vr_known::nests::{Each, Family, Numbered, Run};
-use vr_known::{Moves, Sieve};
+use vr_known::{Each, Family, Moves, Numbered, Run, Sieve};
 use vr_model::{Move, Neighbourhood};
 use vr_routes::Routes;
 
@@ -91,12 +90,12 @@ fn end_within(nodes: &[u32], from: u32, end: u32, lowest: u32, first: u32) -> u3
 pub struct Places<'a> {
     v: u32,
     nodes: &'a [u32],
+    ghost vehicle: { v < 100 },
+    ghost few: { length nodes.now ≤ 1000 },
 }
 
 impl<'a> Family for Places<'a> {
     type Inner = Run<Newcomers<'a>>;
-
-    ghost is_sound = { λ s. (length s.nodes.now ≤ 1000) × (s.v < 100) };
 
     ghost count = { λ s. 4294967296 };
 
@@ -126,12 +125,11 @@ impl<'a> Family for Places<'a> {
 pub struct Vehicles<'a> {
     routes: &'a Routes,
     nodes: &'a [u32],
+    ghost few: { length nodes.now ≤ 1000 },
 }
 
 impl<'a> Family for Vehicles<'a> {
     type Inner = Each<Places<'a>>;
-
-    ghost is_sound = { λ s. length s.nodes.now ≤ 1000 };
 
     ghost count = { λ s. length s.routes.now.lists };
 

@@ -1,6 +1,6 @@
 //! Fronts of lists that change vehicles.
 
-ghost use Rattle.std.specs.Prelude.{◌≡◌, ℕ, ◌<◌, ◌≤◌, suc, length, map, filter};
+ghost use Rattle.std.specs.Prelude.{◌≡◌, ◌==◌, ℕ, ◌<◌, ◌≤◌, suc, cond, length, map, filter};
 ghost use Rattle.vr_model.specs.tables.Numbers.{each, from_to};
 ghost use Rattle.vr_model.specs.routes.Routes.{route, vehicles};
 ghost use Rattle.vr_model.specs.moves.Moves.{gaps, has_some_front, moves_in};
@@ -9,52 +9,9 @@ ghost use Rattle.vr_model.specs.declared.records.Model.{Model as Defined};
 ghost use Rattle.vr_model.specs.declared.neighbours.Move.TheVariants.{Cross};
 ghost use Rattle.vr_model.specs.declared.neighbours.Neighbourhood.TheVariants.{Cross as CrossKind};
 
-use vr_known::nests::{Each, Family, Numbered, Run};
-use vr_known::{Moves, Sieve};
+use vr_known::{AnyLast, Each, Family, Moves, Run, Sieve};
 use vr_model::{Move, Neighbourhood};
 use vr_routes::Routes;
-
-/// The places of `w` before which its front may end, where that of `v` ends before place `a`.
-#[derive(Drop)]
-pub struct Gaps {
-    v: u32,
-    a: u32,
-    w: u32,
-}
-
-impl Numbered for Gaps {
-    ghost passes = { λ s k. has_some_front s.a k };
-
-    ghost move_at = { λ s k. Cross s.v s.a s.w k };
-
-    #[inline]
-    fn has(&self, k: u32) -> bool {
-        self.a != 0 || k != 0
-    }
-
-    #[inline]
-    fn make(&self, k: u32) -> Move {
-        Move::Cross {
-            v: self.v,
-            a: self.a,
-            w: self.w,
-            b: k,
-        }
-    }
-
-    #[inline]
-    fn run(&self) -> Option<Move> {
-        Some(self.make(0))
-    }
-
-    #[inline]
-    fn many(&self, from: u32, to: u32) -> u32 {
-        if self.has(from) || from == to {
-            return to - from;
-        }
-        to - from - 1
-    }
-}
 
 /// The vehicles that may change fronts with `v`.
 #[derive(Drop)]
@@ -62,36 +19,32 @@ pub struct Targets<'a> {
     routes: &'a Routes,
     v: u32,
     a: u32,
+    ghost vehicle: { v < 100 },
 }
 
 impl<'a> Family for Targets<'a> {
-    type Inner = Run<Gaps>;
-
-    ghost is_sound = { λ s. s.v < 100 };
+    type Inner = Run<AnyLast>;
 
     ghost count = { λ s. length s.routes.now.lists };
 
     ghost moves = { λ s k. map (Cross s.v s.a k) (filter (has_some_front s.a) (gaps (route s.routes.now.lists k))) };
 
     #[inline]
-    fn open(&self, k: u32) -> Option<Run<Gaps>> {
-        let gaps = Gaps {
+    fn open(&self, k: u32) -> Option<Run<AnyLast>> {
+        let mv = Move::Cross {
             v: self.v,
             a: self.a,
             w: k,
+            b: 0,
         };
-        Some(Run::new(gaps, 0, self.routes.len(k) + 1))
+        Some(Run::new(AnyLast(mv), first_gap(self.a), self.routes.len(k) + 1))
     }
 
     #[inline]
     fn passed<S: Sieve>(&self, k: u32, sieve: &S) -> Option<u64> {
         let _few = self.routes.vehicles();
         if sieve.has(Neighbourhood::Cross, self.v, k) {
-            let n = self.routes.len(k) as u64;
-            if self.a == 0 {
-                return Some(n);
-            }
-            return Some(n + 1);
+            return Some((self.routes.len(k) + 1 - first_gap(self.a)) as u64);
         }
         None
     }
@@ -103,13 +56,13 @@ pub struct Places<'a> {
     routes: &'a Routes,
     v: u32,
     vehicles: u32,
+    ghost vehicle: { v < length routes.now.lists },
+    ghost many: { vehicles ≡ length routes.now.lists },
+    ghost few: { vehicles ≤ 100 },
 }
 
 impl<'a> Family for Places<'a> {
     type Inner = Each<Targets<'a>>;
-
-    ghost is_sound = { λ s. (s.v < length s.routes.now.lists) × (s.vehicles ≡ length s.routes.now.lists)
-        × (s.vehicles ≤ 100) };
 
     ghost count = { λ s. suc (length (route s.routes.now.lists s.v)) };
 
@@ -132,12 +85,12 @@ impl<'a> Family for Places<'a> {
 pub struct Vehicles<'a> {
     routes: &'a Routes,
     vehicles: u32,
+    ghost many: { vehicles ≡ length routes.now.lists },
+    ghost few: { vehicles ≤ 100 },
 }
 
 impl<'a> Family for Vehicles<'a> {
     type Inner = Each<Places<'a>>;
-
-    ghost is_sound = { λ s. (s.vehicles ≡ length s.routes.now.lists) × (s.vehicles ≤ 100) };
 
     ghost count = { λ s. length s.routes.now.lists };
 
@@ -154,6 +107,15 @@ impl<'a> Family for Vehicles<'a> {
         };
         Some(Each::new(places, 0, self.routes.len(k) + 1))
     }
+}
+
+// The first place before which a front may end, where the other one ends before place `a`: not both are empty.
+#[inline]
+fn first_gap(a: u32) -> u32
+    ensures value { result ≡ cond (a == 0) 1 0 }
+    ensures few { result ≤ 1 }
+{
+    if a == 0 { 1 } else { 0 }
 }
 
 /// The moves that let the fronts of two lists change vehicles (OR-Tools' `Cross`), in lexicographic order of their

@@ -1,6 +1,6 @@
 //! Nodes that change places.
 
-ghost use Rattle.std.specs.Prelude.{◌≡◌, ◌==◌, ℕ, ◌<◌, ◌≤◌, suc, cond, length, map, refl};
+ghost use Rattle.std.specs.Prelude.{◌≡◌, ◌==◌, ℕ, ◌<◌, ◌≤◌, suc, cond, length, map};
 ghost use Rattle.vr_model.specs.tables.Numbers.{each, from_to};
 ghost use Rattle.vr_model.specs.routes.Routes.{route, vehicles};
 ghost use Rattle.vr_model.specs.moves.Moves.{places, places_behind, moves_in};
@@ -9,35 +9,9 @@ ghost use Rattle.vr_model.specs.declared.records.Model.{Model as Defined};
 ghost use Rattle.vr_model.specs.declared.neighbours.Move.TheVariants.{Exchange};
 ghost use Rattle.vr_model.specs.declared.neighbours.Neighbourhood.TheVariants.{Exchange as ExchangeKind};
 
-use vr_known::nests::{Each, Family, Run};
-use vr_known::patterns::{All, Pattern};
-use vr_known::{Moves, Sieve};
+use vr_known::{AnyLast, Each, Family, Moves, Run, Sieve};
 use vr_model::{Move, Neighbourhood};
 use vr_routes::Routes;
-
-/// The places of `w` whose nodes may change places with that at place `a` of `v`.
-#[derive(Drop)]
-pub struct Others {
-    v: u32,
-    a: u32,
-    w: u32,
-}
-
-impl Pattern for Others {
-    ghost move_at = { λ s k. Exchange s.v s.a s.w k };
-
-    #[inline]
-    fn make(&self, k: u32) -> Move {
-        Move::Exchange {
-            v: self.v,
-            a: self.a,
-            w: self.w,
-            b: k,
-        }
-    }
-
-    ghost differ_in_last = { λ s k. refl };
-}
 
 /// The vehicles with whose nodes that at place `a` of `v` may change places.
 #[derive(Drop)]
@@ -45,26 +19,27 @@ pub struct Targets<'a> {
     routes: &'a Routes,
     v: u32,
     a: u32,
+    ghost vehicle: { v < 100 },
+    ghost place: { a < 1000 },
 }
 
 impl<'a> Family for Targets<'a> {
-    type Inner = Run<All<Others>>;
-
-    ghost is_sound = { λ s. (s.a < 1000) × (s.v < 100) };
+    type Inner = Run<AnyLast>;
 
     ghost count = { λ s. length s.routes.now.lists };
 
     ghost moves = { λ s k. map (Exchange s.v s.a k) (places_behind s.routes.now.lists s.v s.a k) };
 
     #[inline]
-    fn open(&self, k: u32) -> Option<Run<All<Others>>> {
-        let others = Others {
+    fn open(&self, k: u32) -> Option<Run<AnyLast>> {
+        let mv = Move::Exchange {
             v: self.v,
             a: self.a,
             w: k,
+            b: 0,
         };
         let first = first_behind(self.v, self.a, k);
-        Some(Run::new(All(others), first, self.routes.len(k)))
+        Some(Run::new(AnyLast(mv), first, self.routes.len(k)))
     }
 
     #[inline]
@@ -84,13 +59,13 @@ pub struct Places<'a> {
     routes: &'a Routes,
     v: u32,
     vehicles: u32,
+    ghost vehicle: { v < length routes.now.lists },
+    ghost many: { vehicles ≡ length routes.now.lists },
+    ghost short: { length (route routes.now.lists v) ≤ 1000 },
 }
 
 impl<'a> Family for Places<'a> {
     type Inner = Each<Targets<'a>>;
-
-    ghost is_sound = { λ s. (s.v < length s.routes.now.lists) × (s.vehicles ≡ length s.routes.now.lists)
-        × (length (route s.routes.now.lists s.v) ≤ 1000) };
 
     ghost count = { λ s. length (route s.routes.now.lists s.v) };
 
@@ -114,12 +89,11 @@ impl<'a> Family for Places<'a> {
 pub struct Vehicles<'a> {
     routes: &'a Routes,
     vehicles: u32,
+    ghost many: { vehicles ≡ length routes.now.lists },
 }
 
 impl<'a> Family for Vehicles<'a> {
     type Inner = Each<Places<'a>>;
-
-    ghost is_sound = { λ s. s.vehicles ≡ length s.routes.now.lists };
 
     ghost count = { λ s. length s.routes.now.lists };
 

@@ -1,6 +1,6 @@
 //! Nodes that are moved to other lists.
 
-ghost use Rattle.std.specs.Prelude.{◌≡◌, ℕ, ◌<◌, ◌≤◌, suc, length, map, filter, refl};
+ghost use Rattle.std.specs.Prelude.{◌≡◌, ℕ, ◌<◌, ◌≤◌, suc, length, map, filter};
 ghost use Rattle.vr_model.specs.tables.Numbers.{each};
 ghost use Rattle.vr_model.specs.routes.Routes.{route, vehicles};
 ghost use Rattle.vr_model.specs.moves.Moves.{places, gaps, is_other, moves_in};
@@ -9,35 +9,9 @@ ghost use Rattle.vr_model.specs.declared.records.Model.{Model as Defined};
 ghost use Rattle.vr_model.specs.declared.neighbours.Move.TheVariants.{Relocate};
 ghost use Rattle.vr_model.specs.declared.neighbours.Neighbourhood.TheVariants.{Relocate as RelocateKind};
 
-use vr_known::nests::{Each, Family, Run};
-use vr_known::patterns::{All, Pattern};
-use vr_known::{Moves, Sieve};
+use vr_known::{AnyLast, Each, Family, Moves, Run, Sieve};
 use vr_model::{Move, Neighbourhood};
 use vr_routes::Routes;
-
-/// The places of `w` before which the node at place `a` of `v` may be put.
-#[derive(Drop)]
-pub struct Gaps {
-    v: u32,
-    a: u32,
-    w: u32,
-}
-
-impl Pattern for Gaps {
-    ghost move_at = { λ s k. Relocate s.v s.a s.w k };
-
-    #[inline]
-    fn make(&self, k: u32) -> Move {
-        Move::Relocate {
-            v: self.v,
-            a: self.a,
-            w: self.w,
-            t: k,
-        }
-    }
-
-    ghost differ_in_last = { λ s k. refl };
-}
 
 /// The vehicles to which the node at place `a` of `v` may be moved.
 #[derive(Drop)]
@@ -45,12 +19,11 @@ pub struct Targets<'a> {
     routes: &'a Routes,
     v: u32,
     a: u32,
+    ghost vehicle: { v < 100 },
 }
 
 impl<'a> Family for Targets<'a> {
-    type Inner = Run<All<Gaps>>;
-
-    ghost is_sound = { λ s. s.v < 100 };
+    type Inner = Run<AnyLast>;
 
     ghost count = { λ s. length s.routes.now.lists };
 
@@ -59,16 +32,17 @@ impl<'a> Family for Targets<'a> {
     ghost moves = { λ s k. map (Relocate s.v s.a k) (gaps (route s.routes.now.lists k)) };
 
     #[inline]
-    fn open(&self, k: u32) -> Option<Run<All<Gaps>>> {
+    fn open(&self, k: u32) -> Option<Run<AnyLast>> {
         if self.v == k {
             return None;
         }
-        let gaps = Gaps {
+        let mv = Move::Relocate {
             v: self.v,
             a: self.a,
             w: k,
+            t: 0,
         };
-        Some(Run::new(All(gaps), 0, self.routes.len(k) + 1))
+        Some(Run::new(AnyLast(mv), 0, self.routes.len(k) + 1))
     }
 
     #[inline]
@@ -87,12 +61,12 @@ pub struct Places<'a> {
     routes: &'a Routes,
     v: u32,
     vehicles: u32,
+    ghost vehicle: { v < 100 },
+    ghost many: { vehicles ≡ length routes.now.lists },
 }
 
 impl<'a> Family for Places<'a> {
     type Inner = Each<Targets<'a>>;
-
-    ghost is_sound = { λ s. (s.vehicles ≡ length s.routes.now.lists) × (s.v < 100) };
 
     ghost count = { λ s. length (route s.routes.now.lists s.v) };
 
@@ -115,12 +89,11 @@ impl<'a> Family for Places<'a> {
 pub struct Vehicles<'a> {
     routes: &'a Routes,
     vehicles: u32,
+    ghost many: { vehicles ≡ length routes.now.lists },
 }
 
 impl<'a> Family for Vehicles<'a> {
     type Inner = Each<Places<'a>>;
-
-    ghost is_sound = { λ s. s.vehicles ≡ length s.routes.now.lists };
 
     ghost count = { λ s. length s.routes.now.lists };
 

@@ -1,6 +1,6 @@
 //! Inactive pairs that are put in.
 
-ghost use Rattle.std.specs.Prelude.{◌≡◌, ℕ, ◌<◌, ◌≤◌, suc, length, map, refl};
+ghost use Rattle.std.specs.Prelude.{◌≡◌, ℕ, ◌<◌, ◌≤◌, suc, length, map};
 ghost use Rattle.vr_known.specs.Passing.{ArePassed};
 ghost use Rattle.vr_model.specs.tables.Numbers.{each, from_to};
 ghost use Rattle.vr_model.specs.routes.Routes.{route, vehicles};
@@ -9,35 +9,9 @@ ghost use Rattle.vr_model.specs.tables.WellFormed.{IsWellFormed};
 ghost use Rattle.vr_model.specs.declared.neighbours.Move.TheVariants.{PairActive};
 ghost use Rattle.vr_model.specs.declared.neighbours.Neighbourhood.TheVariants.{PairActive as PairActiveKind};
 
-use vr_known::nests::{Each, Family, Run};
-use vr_known::patterns::{All, Pattern};
-use vr_known::{Moves, Sieve};
+use vr_known::{AnyLast, Each, Family, Moves, Run, Sieve};
 use vr_model::{Model as RoutingModel, Move, Neighbourhood};
 use vr_routes::{Routes, is_pair_inactive};
-
-/// The places of `w` before which the delivery may be put, where the pickup is put before place `s`.
-#[derive(Drop)]
-pub struct Deliveries {
-    p: u32,
-    w: u32,
-    s: u32,
-}
-
-impl Pattern for Deliveries {
-    ghost move_at = { λ m t. PairActive m.p m.w m.s t };
-
-    #[inline]
-    fn make(&self, k: u32) -> Move {
-        Move::PairActive {
-            p: self.p,
-            w: self.w,
-            s: self.s,
-            t: k,
-        }
-    }
-
-    ghost differ_in_last = { λ s k. refl };
-}
 
 /// The places of `w`, which has `n`, before which the pickup may be put.
 #[derive(Drop)]
@@ -45,25 +19,26 @@ pub struct Pickups {
     p: u32,
     w: u32,
     n: u32,
+    ghost vehicle: { w < 100 },
+    ghost short: { n ≤ 1000 },
 }
 
 impl Family for Pickups {
-    type Inner = Run<All<Deliveries>>;
-
-    ghost is_sound = { λ s. (s.n ≤ 1000) × (s.w < 100) };
+    type Inner = Run<AnyLast>;
 
     ghost count = { λ s. suc s.n };
 
     ghost moves = { λ s k. map (PairActive s.p s.w k) (from_to k (suc s.n)) };
 
     #[inline]
-    fn open(&self, k: u32) -> Option<Run<All<Deliveries>>> {
-        let deliveries = Deliveries {
+    fn open(&self, k: u32) -> Option<Run<AnyLast>> {
+        let mv = Move::PairActive {
             p: self.p,
             w: self.w,
             s: k,
+            t: 0,
         };
-        Some(Run::new(All(deliveries), k, self.n + 1))
+        Some(Run::new(AnyLast(mv), k, self.n + 1))
     }
 
     #[inline]
@@ -104,12 +79,11 @@ pub struct Pairs<'a> {
     model: &'a RoutingModel,
     routes: &'a Routes,
     vehicles: u32,
+    ghost many: { vehicles ≡ length routes.now.lists },
 }
 
 impl<'a> Family for Pairs<'a> {
     type Inner = Each<Targets<'a>>;
-
-    ghost is_sound = { λ s. s.vehicles ≡ length s.routes.now.lists };
 
     ghost count = { λ s. length s.model.now.pairs };
 

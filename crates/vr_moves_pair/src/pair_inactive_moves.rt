@@ -6,8 +6,7 @@ ghost use Rattle.vr_model.specs.tables.WellFormed.{IsWellFormed};
 ghost use Rattle.vr_model.specs.declared.neighbours.Move.TheVariants.{PairInactive};
 ghost use Rattle.vr_model.specs.declared.neighbours.Neighbourhood.TheVariants.{PairInactive as PairInactiveKind};
 
-use vr_known::nests::{Numbered, Run};
-use vr_known::{Moves, Sieve};
+use vr_known::{Moves, Numbered, Run, Sieve};
 use vr_model::{Model as RoutingModel, Move, Neighbourhood};
 use vr_routes::{Routes, is_pair_together};
 
@@ -16,11 +15,10 @@ use vr_routes::{Routes, is_pair_together};
 pub struct Pairs<'a> {
     model: &'a RoutingModel,
     routes: &'a Routes,
+    ghost few: { length model.now.pairs ≤ 500 },
 }
 
 impl<'a> Numbered for Pairs<'a> {
-    ghost is_sound = { λ s. length s.model.now.pairs ≤ 500 };
-
     ghost count = { λ s. length s.model.now.pairs };
 
     ghost passes = { λ s k. is_pair_together s.model.now s.routes.now.lists k };

@@ -12,8 +12,7 @@ ghost use Rattle.vr_model.specs.declared.neighbours.Neighbourhood.TheVariants.{R
 ghost use Rattle.vr_routes.specs.Pairs.{ArePlaces, is_elsewhere};
 ghost use Rattle.vr_moves_pair.specs.Putting.{puts_into};
 
-use vr_known::nests::{Each, Family, Numbered, Run};
-use vr_known::{Moves, Sieve};
+use vr_known::{Each, Family, Moves, Numbered, Run, Sieve};
 use vr_model::{Model as RoutingModel, Move, Neighbourhood};
 use vr_routes::{PairPlaces, Routes, is_elsewhere, pair_served, rest_len};
 
@@ -25,11 +24,10 @@ pub struct Deliveries {
     w: u32,
     s: u32,
     at: PairPlaces,
+    ghost order: { at.pickup < at.delivery },
 }
 
 impl Numbered for Deliveries {
-    ghost is_sound = { λ m. m.at.pickup < m.at.delivery };
-
     ghost passes = { λ m t. is_elsewhere m.at.vehicle m.at.pickup m.at.delivery m.w m.s t };
 
     ghost move_at = { λ m t. RelocatePair m.p m.w m.s t };
@@ -71,27 +69,14 @@ pub struct Pickups {
     w: u32,
     n: u32,
     at: PairPlaces,
-}
-
-impl Pickups {
-    // The places of the delivery, where the pickup is put before place `s`.
-    #[inline]
-    fn deliveries(&self, s: u32) -> Deliveries
-        ensures { result ≡ record { p = self.now.p; w = self.now.w; s = s; at = self.now.at } }
-    {
-        Deliveries {
-            p: self.p,
-            w: self.w,
-            s,
-            at: self.at,
-        }
-    }
+    ghost pair: { p < 500 },
+    ghost vehicle: { w < 100 },
+    ghost short: { n ≤ 1000 },
+    ghost order: { at.pickup < at.delivery },
 }
 
 impl Family for Pickups {
     type Inner = Run<Deliveries>;
-
-    ghost is_sound = { λ m. (m.n ≤ 1000) × (m.at.pickup < m.at.delivery) × (m.p < 500) × (m.w < 100) };
 
     ghost count = { λ m. suc m.n };
 
@@ -100,13 +85,25 @@ impl Family for Pickups {
 
     #[inline]
     fn open(&self, k: u32) -> Option<Run<Deliveries>> {
-        Some(Run::new(self.deliveries(k), k, self.n + 1))
+        let deliveries = Deliveries {
+            p: self.p,
+            w: self.w,
+            s: k,
+            at: self.at,
+        };
+        Some(Run::new(deliveries, k, self.n + 1))
     }
 
     #[inline]
     fn passed<S: Sieve>(&self, k: u32, sieve: &S) -> Option<u64> {
         if sieve.has(Neighbourhood::RelocatePair, self.p, self.w) {
-            return Some(self.deliveries(k).many(k, self.n + 1) as u64);
+            let deliveries = Deliveries {
+                p: self.p,
+                w: self.w,
+                s: k,
+                at: self.at,
+            };
+            return Some(deliveries.many(k, self.n + 1) as u64);
         }
         None
     }
@@ -119,13 +116,13 @@ pub struct Targets<'a> {
     routes: &'a Routes,
     p: u32,
     at: PairPlaces,
+    ghost pair: { p < 500 },
+    ghost order: { at.pickup < at.delivery },
+    ghost places: { ArePlaces routes.now.lists (pair_at model.now p) at.vehicle at.pickup at.delivery },
 }
 
 impl<'a> Family for Targets<'a> {
     type Inner = Each<Pickups>;
-
-    ghost is_sound = { λ m. (m.at.pickup < m.at.delivery)
-        × ArePlaces m.routes.now.lists (pair_at m.model.now m.p) m.at.vehicle m.at.pickup m.at.delivery × (m.p < 500) };
 
     ghost count = { λ m. length m.routes.now.lists };
 
@@ -152,12 +149,12 @@ pub struct Pairs<'a> {
     model: &'a RoutingModel,
     routes: &'a Routes,
     vehicles: u32,
+    ghost many: { vehicles ≡ length routes.now.lists },
+    ghost few: { length model.now.pairs ≤ 500 },
 }
 
 impl<'a> Family for Pairs<'a> {
     type Inner = Each<Targets<'a>>;
-
-    ghost is_sound = { λ m. (m.vehicles ≡ length m.routes.now.lists) × (length m.model.now.pairs ≤ 500) };
 
     ghost count = { λ m. length m.model.now.pairs };
 

@@ -9,52 +9,9 @@ ghost use Rattle.vr_model.specs.declared.records.Model.{Model as Defined};
 ghost use Rattle.vr_model.specs.declared.neighbours.Move.TheVariants.{OrOpt};
 ghost use Rattle.vr_model.specs.declared.neighbours.Neighbourhood.TheVariants.{OrOpt as OrOptKind};
 
-use vr_known::nests::{Each, Family, Numbered, Run};
-use vr_known::{Moves, Sieve};
+use vr_known::{AnyLastBut, Each, Family, Moves, Run, Sieve};
 use vr_model::{Move, Neighbourhood};
 use vr_routes::Routes;
-
-/// The places before which the `k` nodes of `v` from place `a` on may be put.
-#[derive(Drop)]
-pub struct Gaps {
-    v: u32,
-    a: u32,
-    k: u32,
-}
-
-impl Numbered for Gaps {
-    ghost passes = { λ s k. is_other s.a k };
-
-    ghost move_at = { λ s t. OrOpt s.v s.a s.k t };
-
-    #[inline]
-    fn has(&self, k: u32) -> bool {
-        self.a != k
-    }
-
-    #[inline]
-    fn make(&self, k: u32) -> Move {
-        Move::OrOpt {
-            v: self.v,
-            a: self.a,
-            k: self.k,
-            t: k,
-        }
-    }
-
-    #[inline]
-    fn run(&self) -> Option<Move> {
-        Some(self.make(0))
-    }
-
-    #[inline]
-    fn many(&self, from: u32, to: u32) -> u32 {
-        if from <= self.a && self.a < to {
-            return to - from - 1;
-        }
-        to - from
-    }
-}
 
 /// How many nodes of `v`, which has `n`, may be moved from place `a` on.
 #[derive(Drop)]
@@ -62,12 +19,12 @@ pub struct Chains {
     v: u32,
     a: u32,
     n: u32,
+    ghost vehicle: { v < 100 },
+    ghost short: { n ≤ 1000 },
 }
 
 impl Family for Chains {
-    type Inner = Run<Gaps>;
-
-    ghost is_sound = { λ s. (s.n ≤ 1000) × (s.v < 100) };
+    type Inner = Run<AnyLastBut>;
 
     ghost count = { λ s. 4 };
 
@@ -76,16 +33,17 @@ impl Family for Chains {
     ghost moves = { λ s k. map (OrOpt s.v s.a k) (filter (is_other s.a) (below (suc (s.n - k)))) };
 
     #[inline]
-    fn open(&self, k: u32) -> Option<Run<Gaps>> {
+    fn open(&self, k: u32) -> Option<Run<AnyLastBut>> {
         if self.a as u64 + k as u64 > self.n as u64 {
             return None;
         }
-        let gaps = Gaps {
+        let mv = Move::OrOpt {
             v: self.v,
             a: self.a,
             k,
+            t: 0,
         };
-        Some(Run::new(gaps, 0, self.n - k + 1))
+        Some(Run::new(AnyLastBut { mv, but: self.a }, 0, self.n - k + 1))
     }
 
     #[inline]
@@ -105,12 +63,12 @@ impl Family for Chains {
 pub struct Begins {
     v: u32,
     n: u32,
+    ghost vehicle: { v < 100 },
+    ghost short: { n ≤ 1000 },
 }
 
 impl Family for Begins {
     type Inner = Each<Chains>;
-
-    ghost is_sound = { λ s. (s.n ≤ 1000) × (s.v < 100) };
 
     ghost count = { λ s. s.n };
 

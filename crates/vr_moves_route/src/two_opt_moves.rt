@@ -1,6 +1,6 @@
 //! Parts of a list that are reversed.
 
-ghost use Rattle.std.specs.Prelude.{◌≡◌, ℕ, ◌<◌, ◌≤◌, suc, length, map, refl};
+ghost use Rattle.std.specs.Prelude.{◌≡◌, ℕ, ◌<◌, ◌≤◌, suc, length, map};
 ghost use Rattle.vr_model.specs.tables.Numbers.{each, from_to};
 ghost use Rattle.vr_model.specs.routes.Routes.{route};
 ghost use Rattle.vr_model.specs.moves.Moves.{places, moves_in};
@@ -9,53 +9,34 @@ ghost use Rattle.vr_model.specs.declared.records.Model.{Model as Defined};
 ghost use Rattle.vr_model.specs.declared.neighbours.Move.TheVariants.{TwoOpt};
 ghost use Rattle.vr_model.specs.declared.neighbours.Neighbourhood.TheVariants.{TwoOpt as TwoOptKind};
 
-use vr_known::nests::{Each, Family, Run};
-use vr_known::patterns::{All, Pattern};
-use vr_known::{Moves, Sieve};
+use vr_known::{AnyLast, Each, Family, Moves, Run, Sieve};
 use vr_model::{Move, Neighbourhood};
 use vr_routes::Routes;
-
-/// The last places of parts of `v` that begin at place `a`.
-#[derive(Drop)]
-pub struct Ends {
-    v: u32,
-    a: u32,
-}
-
-impl Pattern for Ends {
-    ghost move_at = { λ s k. TwoOpt s.v s.a k };
-
-    #[inline]
-    fn make(&self, k: u32) -> Move {
-        Move::TwoOpt {
-            v: self.v,
-            a: self.a,
-            b: k,
-        }
-    }
-
-    ghost differ_in_last = { λ s k. refl };
-}
 
 /// The places of `v` where a part begins, of which it has `n`.
 #[derive(Drop)]
 pub struct Begins {
     v: u32,
     n: u32,
+    ghost vehicle: { v < 100 },
+    ghost short: { n ≤ 1000 },
 }
 
 impl Family for Begins {
-    type Inner = Run<All<Ends>>;
-
-    ghost is_sound = { λ s. (s.n ≤ 1000) × (s.v < 100) };
+    type Inner = Run<AnyLast>;
 
     ghost count = { λ s. s.n };
 
     ghost moves = { λ s k. map (TwoOpt s.v k) (from_to (suc k) s.n) };
 
     #[inline]
-    fn open(&self, k: u32) -> Option<Run<All<Ends>>> {
-        Some(Run::new(All(Ends { v: self.v, a: k }), k + 1, self.n))
+    fn open(&self, k: u32) -> Option<Run<AnyLast>> {
+        let mv = Move::TwoOpt {
+            v: self.v,
+            a: k,
+            b: 0,
+        };
+        Some(Run::new(AnyLast(mv), k + 1, self.n))
     }
 
     #[inline]

@@ -9,7 +9,5 @@ loop-run-preserved g c =
     let move_at = g.N.Numbered.move_at now.numbers in
     record {
       fits = c.loop-run.invariant.fits;
-      sound = c.loop-run.invariant.sound;
-      whole = c.loop-run.invariant.whole;
       rest = sym (run_skips passes move_at now.next now.end c.loop-run-test.true (sym c.has.ensures ∙ c.if-has.false)) ∙ c.loop-run.invariant.rest;
     }

@@ -17,4 +17,4 @@ returns c =
     let at : ℕ → List Move = λ p. each (vehicles lists) (λ w. each (gaps (without_pair (pair_at model p) (route lists w))) (λ s.
     map (RelocatePair p w s) (filter (changes_the_list (pair_at model p) (route lists w) (without_pair (pair_at model p) (route lists w)) s)
     (from_to s (suc (length (without_pair (pair_at model p) (route lists w)))))))) in
-    c.new-2.ensures ∙ rw c.new.ensures (joined_below served at c.len-count.result ∙ ap (λ n. each (filter served (below n)) at) c.len-count.ensures)
+    c.new-2.ensures ∙ c.new.ensures ∙ (joined_below served at c.len-count.result ∙ ap (λ n. each (filter served (below n)) at) c.len-count.ensures)

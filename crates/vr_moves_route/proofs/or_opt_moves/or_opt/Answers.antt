@@ -12,4 +12,4 @@ pub returns : goal.returns
 returns c model =
     let lists : List (List ℕ) = c.args.routes.now.lists in
     let at : ℕ → List Move = λ v. each (places (route lists v)) (λ a. each (filter (has_chain (route lists v) a) (from_to 1 4)) (λ j. map (OrOpt v a j) (filter (is_other a) (below (suc (length (route lists v) - j)))))) in
-    c.new-2.ensures ∙ rw c.new.ensures (joined_all_below at c.vehicles-vehicles.result ∙ ap (λ n. each (below n) at) c.vehicles-vehicles.ensures.value)
+    c.new-2.ensures ∙ c.new.ensures ∙ (joined_all_below at c.vehicles-vehicles.result ∙ ap (λ n. each (below n) at) c.vehicles-vehicles.ensures.value)

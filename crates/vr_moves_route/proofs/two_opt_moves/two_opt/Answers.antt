@@ -11,4 +11,4 @@ pub returns : goal.returns
 returns c model =
     let lists : List (List ℕ) = c.args.routes.now.lists in
     let at : ℕ → List Move = λ v. each (places (route lists v)) (λ a. map (TwoOpt v a) (from_to (suc a) (length (route lists v)))) in
-    c.new-2.ensures ∙ rw c.new.ensures (joined_all_below at c.vehicles-vehicles.result ∙ ap (λ n. each (below n) at) c.vehicles-vehicles.ensures.value)
+    c.new-2.ensures ∙ c.new.ensures ∙ (joined_all_below at c.vehicles-vehicles.result ∙ ap (λ n. each (below n) at) c.vehicles-vehicles.ensures.value)

@@ -5,8 +5,8 @@ use Rattle.vr_known.specs.Nests.{run_of}
 use Rattle.vr_known.proofs.NestLemmas.{run_in_front}
 use Rattle.vr_known.proofs.nests.RunListed.stretch.Goals as goal
 
-pub returns-in-Some-clause-rest : goal.returns-in-Some-clause-rest
-returns-in-Some-clause-rest g c =
+pub returns-in-Some : goal.returns-in-Some
+returns-in-Some g c =
     let now = c.args.self.now in
     let passes = g.N.Numbered.passes now.numbers in
     let move_at = g.N.Numbered.move_at now.numbers in

@@ -5,7 +5,7 @@ use Rattle.vr_model.specs.declared.neighbours.Move.TheVariants.{MakeActive}
 use Rattle.vr_known.proofs.NestLemmas.{run_all_below}
 use Rattle.vr_moves_active.proofs.make_active_moves.TargetsFamily.open.Goals as goal
 
-pub returns-clause-rest : goal.returns-clause-rest
-returns-clause-rest c =
+pub returns : goal.returns
+returns c =
     let at : ℕ → List Move = λ n. map (MakeActive c.args.self.now.u c.args.k) (below n) in
-    rw c.new.ensures (run_all_below (MakeActive c.args.self.now.u c.args.k) (c.len.result + 1) ∙ ap at (add-one c.len.result ∙ ap suc c.len.ensures.value))
+    c.new.ensures.rest ∙ (run_all_below (MakeActive c.args.self.now.u c.args.k) (c.len.result + 1) ∙ ap at (add-one c.len.result ∙ ap suc c.len.ensures.value))

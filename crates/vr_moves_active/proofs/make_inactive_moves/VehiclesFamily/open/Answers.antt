@@ -4,6 +4,6 @@ use Rattle.vr_model.specs.declared.neighbours.Move.TheVariants.{MakeInactive}
 use Rattle.vr_known.proofs.NestLemmas.{run_all_below}
 use Rattle.vr_moves_active.proofs.make_inactive_moves.VehiclesFamily.open.Goals as goal
 
-pub returns-clause-rest : goal.returns-clause-rest
-returns-clause-rest c =
-    rw c.new.ensures (run_all_below (MakeInactive c.args.k) c.len.result ∙ ap (λ n. map (MakeInactive c.args.k) (below n)) c.len.ensures.value)
+pub returns : goal.returns
+returns c =
+    c.new.ensures.rest ∙ (run_all_below (MakeInactive c.args.k) c.len.result ∙ ap (λ n. map (MakeInactive c.args.k) (below n)) c.len.ensures.value)

@@ -6,9 +6,9 @@ use Rattle.vr_model.specs.declared.neighbours.Move.TheVariants.{Exchange}
 use Rattle.vr_known.proofs.NestLemmas.{joined_all}
 use Rattle.vr_moves_cross.proofs.exchange_moves.PlacesFamily.open.Goals as goal
 
-pub returns-clause-rest : goal.returns-clause-rest
-returns-clause-rest c =
+pub returns : goal.returns
+returns c =
     let s = c.args.self.now in
     let lists : List (List ℕ) = s.routes.now.lists in
     let at : ℕ → List Move = λ w. map (Exchange s.v c.args.k w) (places_behind lists s.v c.args.k w) in
-    rw c.new.ensures (joined_all at s.v s.vehicles ∙ ap (λ n. each (from_to s.v n) at) c.requires.sound.1)
+    c.new.ensures ∙ (joined_all at s.v s.vehicles ∙ ap (λ n. each (from_to s.v n) at) c.args.self.now.many)

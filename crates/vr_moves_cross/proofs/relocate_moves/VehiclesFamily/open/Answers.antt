@@ -8,8 +8,8 @@ use Rattle.vr_model.specs.declared.neighbours.Move.TheVariants.{Relocate}
 use Rattle.vr_known.proofs.NestLemmas.{joined_all_below}
 use Rattle.vr_moves_cross.proofs.relocate_moves.VehiclesFamily.open.Goals as goal
 
-pub returns-clause-rest : goal.returns-clause-rest
-returns-clause-rest c =
+pub returns : goal.returns
+returns c =
     let lists : List (List ℕ) = c.args.self.now.routes.now.lists in
     let at : ℕ → List Move = λ a. each (filter (is_other c.args.k) (vehicles lists)) (λ w. map (Relocate c.args.k a w) (gaps (route lists w))) in
-    rw c.new.ensures (joined_all_below at c.len.result ∙ ap (λ n. each (below n) at) c.len.ensures.value)
+    c.new.ensures ∙ (joined_all_below at c.len.result ∙ ap (λ n. each (below n) at) c.len.ensures.value)

@@ -1,4 +1,4 @@
-use Rattle.std.proofs.Common.{◌≡◌, ◌∙◌, ◌+◌, ℕ, List, Bool, suc, length, ap, sym, subst, add-one, refl}
+use Rattle.std.proofs.Common.{◌∙◌, ℕ, List, Bool, suc, length, ap, sym, add-one, refl}
 use Rattle.std.specs.Prelude.{filter}
 use Rattle.std.proofs.lemmas.List.{length-map}
 use Rattle.vr_model.specs.tables.Numbers.{from_to}
@@ -13,9 +13,7 @@ returns-then-has g c =
     let k = c.args.k in
     let elsewhere : ℕ → Bool = is_elsewhere s.at.vehicle s.at.pickup s.at.delivery s.w k in
     let left : List ℕ = filter elsewhere (from_to k (suc s.n)) in
-    let counted : c.many.result ≡ length (filter elsewhere (from_to k (s.n + 1))) =
-    subst (λ d. c.many.result ≡ length (filter (λ t. is_elsewhere d.at.vehicle d.at.pickup d.at.delivery d.w d.s t) (from_to k (s.n + 1)))) c.deliveries.ensures c.many.ensures in
     record {
       covered = all_given (g.S.Sieve.covers c.args.sieve.now) (RelocatePair s.p s.w k) left (λ t. c.has.ensures c.if-has.true (RelocatePair s.p s.w k t) refl refl refl);
-      long = length-map left (RelocatePair s.p s.w k) ∙ sym (counted ∙ ap (λ e. length (filter elsewhere (from_to k e))) (add-one s.n));
+      long = length-map left (RelocatePair s.p s.w k) ∙ sym (c.many.ensures ∙ ap (λ e. length (filter elsewhere (from_to k e))) (add-one s.n));
     }

@@ -7,7 +7,7 @@ use Rattle.vr_model.specs.declared.neighbours.Move.TheVariants.{OrOpt}
 use Rattle.vr_known.proofs.NestLemmas.{joined_all_below}
 use Rattle.vr_moves_route.proofs.or_opt_moves.VehiclesFamily.open.Goals as goal
 
-pub returns-clause-rest : goal.returns-clause-rest
-returns-clause-rest c =
+pub returns : goal.returns
+returns c =
     let at : ℕ → ℕ → List Move = λ n a. each (filter (λ j. nat_le (a + j) n) (from_to 1 4)) (λ j. map (OrOpt c.args.k a j) (filter (is_other a) (below (suc (n - j))))) in
-    rw c.new.ensures (joined_all_below (at c.len-n.result) c.len-n.result ∙ ap (λ n. each (below n) (at n)) c.len-n.ensures.value)
+    c.new.ensures ∙ (joined_all_below (at c.len-n.result) c.len-n.result ∙ ap (λ n. each (below n) (at n)) c.len-n.ensures.value)
