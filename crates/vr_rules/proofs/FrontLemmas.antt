@@ -11,6 +11,7 @@ use Rattle.vr_model.specs.tables.Tables.{is_visit}
 use Rattle.vr_model.specs.deciding.Testing.{and_both, and_left, and_right}
 use Rattle.vr_model.proofs.routes.Lists.{visit_below}
 use Rattle.vr_model.proofs.schedules.LineArcs.{arcs_of_line}
+use Rattle.vr_model.proofs.schedules.LinesSound.{lines_are_sound}
 use Rattle.std.proofs.lemmas.List.{append-nil, get_or-set_other, get_or-set_same, length-append, length-set}
 use Rattle.vr_spans.specs.declared.runs.Run.{Run}
 use Rattle.vr_model.specs.tables.Tables.{breaks_of, dimension_at, vehicle_at, row_of}
@@ -18,21 +19,24 @@ use Rattle.vr_model.specs.tables.Numbers.{number_at}
 use Rattle.vr_model.specs.tables.WellFormed.{IsWellFormed}
 use Rattle.vr_model.specs.routes.Routes.{UsedArc, arcs_from, is_empty}
 use Rattle.vr_model.specs.schedules.Lines.{Arc, line, line_arc, stop_allows}
-use Rattle.vr_model.specs.schedules.SoundLines.{IsSound, LinesAreSound}
+use Rattle.vr_model.specs.schedules.SoundLines.{IsSound}
 use Rattle.vr_model.specs.schedules.Schedules.{no_arc}
 use Rattle.vr_model.specs.first.Items.{last_node}
 use Rattle.vr_model.specs.declared.records.Model.{Model}
 use Rattle.vr_model.specs.declared.records.BreakRow.{BreakRow}
 use Rattle.vr_steps.specs.declared.hops.Hop.{Hop}
 use Rattle.vr_steps.specs.declared.stops.StopName.TheVariants.{Start, End, Visit}
-use Rattle.vr_steps.specs.Levels.{AreCrossed, AreStartLevels}
+use Rattle.vr_steps.specs.Levels.{AreCrossed, AreLevels, AreStartLevels, IsCrossing}
+use Rattle.vr_steps.specs.Arcs.{IsSoundHop}
 use Rattle.vr_steps.specs.Lines.{hop_between, hop_of}
-use Rattle.vr_steps.specs.Reached.{AreReached, IsAllowedSet, ReachedBehindArc, StartIsReached, hop_at}
+use Rattle.vr_steps.specs.Reached.{AreReached, IsAllowedSet, hop_at}
+use Rattle.vr_steps.proofs.LawLemmas.{reached_behind_arc, start_is_reached}
 use Rattle.vr_reach.specs.Walks.{EndsAt}
-use Rattle.vr_rules.specs.Fronts.{tail, AreFronts, AreReachedBehind, AreVisitSets, IsDriven, IsFrontOf, IsStopSet}
+use Rattle.vr_rules.specs.Fronts.{tail, AreFronts, AreReachedBehind, AreVisitSets, IsDriven, IsFront, IsFrontOf, IsStopSet}
 use Rattle.vr_rules.specs.declared.items.Item.{Item}
 use Rattle.vr_rules.specs.declared.items.Item.TheVariants.{Visit as Visited, PickupAndDelivery}
 use Rattle.vr_rules.specs.Placing.{nodes_of}
+use Rattle.vr_rules.proofs.OpenLemmas.{inner_tell, last_fails}
 
 -- the last of a list, or what stands before it
 abbrev pub last_of : ℕ → List ℕ → ℕ
@@ -78,13 +82,6 @@ left_behind P xs n x left k d low lt =
     let more = length-set xs n x in
     subst (P k) (sym (get_or-set_other xs n k x d (omega (arith, low)))) (left k d (omega (arith, low)) (omega (arith, lt, more)))
 
--- what passes below a number, and at it
-pub one_more : (p : ℕ → Bool) (n : ℕ) → ((k : ℕ) → k < n → p k ≡ true) → p n ≡ true → (k : ℕ) → k < n + 1 → p k ≡ true
-one_more p n before here k lt = elim (cases_lt k n) [
-  | inl earlier ↦ before k earlier
-  | inr at ↦ (let e : n ≡ k = omega (arith, lt, at) in subst (λ j. p j ≡ true) e here)
-]
-
 -- the front of a dimension, as code reads it
 pub front_at : (model : Model) (v : ℕ) (list : List ℕ) (fronts : List Front) → AreFronts model v list fronts → (d : ℕ) (front : Front) → front ≡ get_or fronts d front → d < length fronts → IsFrontOf model d v list front
 front_at model v list fronts are d front is lt = subst (IsFrontOf model d v list) (sym is) (are.each d front lt)
@@ -99,6 +96,12 @@ pub visit_set_at : (model : Model) (d v : ℕ) (sets : List (List Run)) → AreV
 visit_set_at model d v sets are node set is visit =
     let low = visit_below model node visit in
     subst (IsStopSet model d v (Visit node)) (sym is) (are.each node set (omega (arith, low, are.one_of_each)) visit)
+
+-- a front may cross an arc to a visit
+pub to_visit : (model : Model) (list : List ℕ) (front : Front) → IsFront model list front → (levels : List (List Run)) (hop : Hop) (node : ℕ) (set : List Run) → AreLevels front.breaks levels → IsSoundHop hop → set ≡ get_or front.visits.items node set
+    → is_visit model node ≡ true → IsCrossing levels hop set front.breaks
+to_visit model list front is levels hop node set form sound read visit =
+    record { each_break = is.each_break; few_breaks = is.few_breaks; form = form; arc = sound; cumuls = (visit_set_at model front.dimension front.vehicle front.visits.items is.visits node set read visit).cumuls }
 
 -- the last node of an item is that of a list with the item at its end
 pub item_last : (origin : ℕ) (list : List ℕ) (item : Item) → last_node (nodes_of item) ≡ last_of origin (list ++ nodes_of item)
@@ -121,20 +124,20 @@ end_behind : {B : Type 0} (f : ℕ → B) (list : List ℕ) (last d : B) → get
 end_behind f [] last d = refl
 end_behind f (n ∷ ns) last d = end_behind f ns last d
 
-module _ (lines : LinesAreSound) (model : Model) (well_formed : IsWellFormed model) (d v : ℕ) (low_d : d < length model.dimensions) (low_v : v < length model.vehicles) where
+module _ (model : Model) (well_formed : IsWellFormed model) (d v : ℕ) (low_d : d < length model.dimensions) (low_v : v < length model.vehicles) where
   pub sound_line : (list : List ℕ) → IsDriven model list → IsSound (line model d v list)
-  sound_line list driven = lines model well_formed d v low_d low_v list driven.some driven.visits driven.distinct
+  sound_line list driven = lines_are_sound model well_formed d v low_d low_v list driven.some driven.visits driven.distinct
 
   -- the levels of the start, whatever comes behind
-  pub behind_start : StartIsReached → (set : List Run) (levels : List (List Run)) → IsStopSet model d v Start set → AreStartLevels set (breaks_of (dimension_at model d) v) levels → AreReachedBehind model d v [] levels
-  behind_start law set levels is are rest driven = law (line model d v rest) (sound_line rest driven) set levels (record { exact = is.exact; cumuls = is.cumuls }) are
+  pub behind_start : (set : List Run) (levels : List (List Run)) → IsStopSet model d v Start set → AreStartLevels set (breaks_of (dimension_at model d) v) levels → AreReachedBehind model d v [] levels
+  behind_start set levels is are rest driven = start_is_reached (line model d v rest) (sound_line rest driven) set levels (record { exact = is.exact; cumuls = is.cumuls }) are
 
-  module _ (law : ReachedBehindArc) (list : List ℕ) (from new : List (List Run)) (hop : Hop) (set : List Run) (breaks : List BreakRow) (reached : AreReachedBehind model d v list from) (breaks_are : breaks ≡ breaks_of (dimension_at model d) v) (crossed : AreCrossed from hop set breaks new) where
+  module _ (list : List ℕ) (from new : List (List Run)) (hop : Hop) (set : List Run) (breaks : List BreakRow) (reached : AreReachedBehind model d v list from) (breaks_are : breaks ≡ breaks_of (dimension_at model d) v) (crossed : AreCrossed from hop set breaks new) where
     -- the levels behind an arc, in a line where the arc and the stop behind it are these
     in_line : (whole : List ℕ) → IsDriven model whole → AreReached (line model d v whole) (length list) from → length list < suc (length whole)
         → hop ≡ hop_at (line model d v whole) (length list) → IsAllowedSet (line model d v whole) (suc (length list)) set → AreReached (line model d v whole) (suc (length list)) new
     in_line whole driven before few hop_is allowed =
-        law (line model d v whole) (sound_line whole driven) (length list) (let n = arcs_of_line model d v whole in omega (arith, few, n)) set from new allowed before
+        reached_behind_arc (line model d v whole) (sound_line whole driven) (length list) (let n = arcs_of_line model d v whole in omega (arith, few, n)) set from new allowed before
         (subst (λ h. AreCrossed from h set (breaks_of (dimension_at model d) v) new) hop_is (subst (λ rows. AreCrossed from hop set rows new) breaks_are crossed))
 
     -- one visit more
@@ -208,13 +211,7 @@ module _ (model : Model) (v : ℕ) (list nodes : List ℕ) (stands : is_route_op
       (list_all-append (allows_vehicle model v) list nodes ∙ ap (λ b. b && list_all (allows_vehicle model v) nodes) (allowed_so_far list stands))
 
   pub closed_by_vehicle : list_all (allows_vehicle model v) nodes ≡ false → is_route_open model v (list ++ nodes) ≡ false
-  closed_by_vehicle h = all_parts ∙ ap (λ b. is_feasible_in_each model v (list ++ nodes) && (list_all (serves_pair (list ++ nodes)) model.pairs && (keeps_policy model v (list ++ nodes) && b))) h ∙ last (is_feasible_in_each model v (list ++ nodes)) (list_all (serves_pair (list ++ nodes)) model.pairs) (keeps_policy model v (list ++ nodes))
-    where
-      last : (a b c : Bool) → (a && (b && (c && false))) ≡ false
-      last true true true = refl
-      last true true false = refl
-      last true false c = refl
-      last false b c = refl
+  closed_by_vehicle h = all_parts ∙ ap (λ b. is_feasible_in_each model v (list ++ nodes) && (list_all (serves_pair (list ++ nodes)) model.pairs && (keeps_policy model v (list ++ nodes) && b))) h ∙ last_fails (is_feasible_in_each model v (list ++ nodes)) (list_all (serves_pair (list ++ nodes)) model.pairs) (keeps_policy model v (list ++ nodes))
 
   pub closed_by_dimension : is_feasible_in_each model v (list ++ nodes) ≡ false → is_route_open model v (list ++ nodes) ≡ false
   closed_by_dimension h = all_parts ∙ ap (λ b. b && (list_all (serves_pair (list ++ nodes)) model.pairs && (keeps_policy model v (list ++ nodes) && list_all (allows_vehicle model v) nodes))) h
@@ -222,9 +219,4 @@ module _ (model : Model) (v : ℕ) (list nodes : List ℕ) (stands : is_route_op
   pub open_by_pairs : list_all (allows_vehicle model v) nodes ≡ true → is_feasible_in_each model v (list ++ nodes) ≡ true
       → is_route_open model v (list ++ nodes) ≡ (list_all (serves_pair (list ++ nodes)) model.pairs && keeps_policy model v (list ++ nodes))
   open_by_pairs h g =
-      all_parts ∙ (λ t. g t && (list_all (serves_pair (list ++ nodes)) model.pairs && (keeps_policy model v (list ++ nodes) && h t))) ∙ both (list_all (serves_pair (list ++ nodes)) model.pairs) (keeps_policy model v (list ++ nodes))
-    where
-      both : (a b : Bool) → (true && (a && (b && true))) ≡ (a && b)
-      both true true = refl
-      both true false = refl
-      both false b = refl
+      all_parts ∙ (λ t. g t && (list_all (serves_pair (list ++ nodes)) model.pairs && (keeps_policy model v (list ++ nodes) && h t))) ∙ inner_tell (list_all (serves_pair (list ++ nodes)) model.pairs) (keeps_policy model v (list ++ nodes))

@@ -1,13 +1,12 @@
 -- The parts of the cost that dimensions have, dimension by dimension.
-use Rattle.std.proofs.Common.{◌≡◌, ◌∙◌, ◌<◌, ◌≤◌, ◌+◌, ◌*◌, ℕ, zero, suc, List, true, length, refl, ap, ap₂, sym, arith}
+use Rattle.std.proofs.Common.{◌≡◌, ◌∙◌, ◌<◌, ◌≤◌, ◌+◌, ◌*◌, ℕ, zero, suc, List, length, refl, ap, ap₂, sym, arith}
 use Rattle.std.specs.Prelude.{ℤ, pos, ◌+ℤ◌, ◌-ℤ◌, ◌*ℤ◌, ◌≤ℤ◌}
 use Rattle.std.specs.List.{range_with_len}
 use Rattle.std.proofs.lemmas.Int.{ints}
 use Rattle.vr_model.specs.declared.records.Model.{Model}
 use Rattle.vr_model.specs.tables.Numbers.{number_at, total_by, below}
 use Rattle.vr_model.specs.tables.Tables.{dimension_at}
-use Rattle.vr_model.specs.tables.WellFormed.{IsWellFormed}
-use Rattle.vr_model.specs.routes.Routes.{route, are_lists, used_vehicles}
+use Rattle.vr_model.specs.routes.Routes.{route, used_vehicles}
 use Rattle.vr_model.specs.routes.Costs.{start_at, end_at, assigned, soft_costs, soft_part, span_part}
 use Rattle.vr_model.specs.schedules.Schedules.{cumul}
 use Rattle.vr_model.proofs.tables.Totals.{total_by-more, total_by-turned}
@@ -19,6 +18,7 @@ use Rattle.vr_plan.proofs.ExtentLemmas.{global-cost}
 use Rattle.vr_plan.proofs.PlanCostLemmas.{plan-at, total_by-within, used-all}
 use Rattle.vr_rules.specs.Sums.{AreSums}
 use Rattle.vr_rules.specs.Parts.{soft_in, span_in, AreTimed}
+use Rattle.vr_rules.specs.declared.sums.RoutesIn.{RoutesIn}
 use Rattle.vr_rules.specs.declared.sums.Sums.{Sums}
 use Rattle.vr_rules.specs.declared.parts.Timed.{Timed}
 use Rattle.vr_rules.proofs.SumLemmas.{visits-bound}
@@ -60,46 +60,28 @@ pub record AreBounded (sums : Sums) : Type 0 where
   pub soft_bound : sums.soft ≤ℤ pos (cumul_cost * 1200)
   pub span : IsAround (cumul_cost * 100) sums.span
 
-pub sums-bounded : (model : Model) → IsWellFormed model → (lists : List (List ℕ)) → are_lists model lists ≡ true → (d : ℕ) (sums : Sums) → AreSums model lists d (length lists) sums → AreBounded sums
-sums-bounded model well_formed lists are d sums h =
-    let few = are_lists-count model lists are in
-    let many = well_formed.number_of_vehicles.at_most in
-    let visits = visits-bound model lists (length lists) are in
-    let nodes = well_formed.number_of_nodes.1 in
-    let b = h.soft_bound in
-    let s = h.span_in_range in
+pub sums-bounded : (of : RoutesIn) (sums : Sums) → AreSums of.lookups.now.closed.model.now of.routes.now.lists of.d (length of.routes.now.lists) sums → AreBounded sums
+sums-bounded of sums h =
+    let few = are_lists-count of.lookups.now.closed.model.now of.routes.now.lists of.lists in
+    let many = of.lookups.now.closed.well_formed.number_of_vehicles.at_most in
+    let visits = visits-bound of.lookups.now.closed.model.now of.routes.now.lists (length of.routes.now.lists) of.lists in
     record {
       soft_not_negative = h.soft_not_negative;
-      soft_bound = omega (arith, ints, b, few, many, visits, nodes);
-      span = record { low = (let l = s.low in omega (arith, ints, l, few, many)); high = (let u = s.high in omega (arith, ints, u, few, many)) };
+      soft_bound = omega (arith, ints, h.soft_bound, few, many, visits, of.lookups.now.closed.well_formed.number_of_nodes.1);
+      span = record { low = omega (arith, ints, h.span_in_range.low, few, many); high = omega (arith, ints, h.span_in_range.high, few, many) };
     }
 
 pub AreTimed-more : (model : Model) (lists : List (List ℕ)) (n : ℕ) (before after : Timed) (sums : Sums) (cost : ℤ) → n < length model.dimensions → AreTimed model lists n before
     → AreSums model lists n (length lists) sums → AreBounded sums → cost ≡ (dimension_at model n).global_span_cost *ℤ length_of sums.extent → IsAround cumul_cost cost
     → after.soft ≡ before.soft +ℤ sums.soft → after.span ≡ before.span +ℤ sums.span → after.global ≡ before.global +ℤ cost → AreTimed model lists (n + 1) after
 AreTimed-more model lists n before after sums cost low h are bounded is range soft span global =
-    let a = total_by-more (soft_in model lists) n in
-    let b = total_by-more (span_in model lists) n in
-    let g = total_by-more (global_in model lists) n in
     let paid = is ∙ global-cost model lists n low sums.extent are.extent in
-    let x = h.soft in
-    let y = h.span in
-    let z = h.global in
-    let p = are.soft in
-    let q = are.span in
-    let sign = h.soft_not_negative in
-    let next = bounded.soft_not_negative in
-    let bound = h.soft_bound in
-    let more = bounded.soft_bound in
-    let s = h.span_in_range in
-    let t = bounded.span in
-    let u = h.global_in_range in
     record {
-      soft = omega (arith, ints, a, x, p, soft);
-      span = omega (arith, ints, b, y, q, span);
-      global = omega (arith, ints, g, z, paid, global);
-      soft_not_negative = omega (arith, ints, soft, sign, next);
-      soft_bound = omega (arith, ints, soft, bound, more);
-      span_in_range = (let sl = s.low in let sh = s.high in let tl = t.low in let th = t.high in record { low = omega (arith, ints, span, sl, tl); high = omega (arith, ints, span, sh, th) });
-      global_in_range = (let ul = u.low in let uh = u.high in let rl = range.low in let rh = range.high in record { low = omega (arith, ints, global, ul, rl); high = omega (arith, ints, global, uh, rh) });
+      soft = omega (arith, ints, total_by-more (soft_in model lists) n, h.soft, are.soft, soft);
+      span = omega (arith, ints, total_by-more (span_in model lists) n, h.span, are.span, span);
+      global = omega (arith, ints, total_by-more (global_in model lists) n, h.global, paid, global);
+      soft_not_negative = omega (arith, ints, soft, h.soft_not_negative, bounded.soft_not_negative);
+      soft_bound = omega (arith, ints, soft, h.soft_bound, bounded.soft_bound);
+      span_in_range = record { low = omega (arith, ints, span, h.span_in_range.low, bounded.span.low); high = omega (arith, ints, span, h.span_in_range.high, bounded.span.high) };
+      global_in_range = record { low = omega (arith, ints, global, h.global_in_range.low, range.low); high = omega (arith, ints, global, h.global_in_range.high, range.high) };
     }

@@ -63,10 +63,10 @@ module _ (model : Model) (lists : List (List ℕ)) (d n : ℕ) where
 
   module _ (low : n < length lists) (sums : Sums) (h : AreSums model lists d n sums) where
     bound-more : sums.soft ≤ℤ pos (cumul_cost * (length (concat (take (n + 1) lists)) + 2 * (n + 1)))
-    bound-more = let b = h.soft_bound in let m = visits-more lists n low in omega (arith, ints, b, m)
+    bound-more = omega (arith, ints, h.soft_bound, visits-more lists n low)
 
     range-more : IsAround (cumul_cost * (n + 1)) sums.span
-    range-more = let s = h.span_in_range in record { low = (let l = s.low in omega (arith, ints, l)); high = (let g = s.high in omega (arith, ints, g)) }
+    range-more = record { low = omega (arith, ints, h.span_in_range.low); high = omega (arith, ints, h.span_in_range.high) }
 
     -- it is not used
     pub AreSums-unused : is_empty (route lists n) ≡ true → AreSums model lists d (n + 1) sums
@@ -92,11 +92,9 @@ module _ (model : Model) (lists : List (List ℕ)) (d n : ℕ) where
         let b = ap (total_by g) push ∙ total_by-push g (used_below lists n) n in
         let x : f n ≡ pos 0 = nothing.alone.soft _ in
         let y : g n ≡ pos 0 = times-none (number_at (dimension_at model d).span_costs n) (last_with model d n (route lists n) -ℤ start_with model d n (route lists n)) nothing.alone.span in
-        let s = h.soft in
-        let t = h.span in
         record {
-          soft = omega (arith, ints, s, a, x);
-          span = omega (arith, ints, t, b, y);
+          soft = omega (arith, ints, h.soft, a, x);
+          span = omega (arith, ints, h.span, b, y);
           extent = λ pays. absurd (pays nothing.global);
           soft_not_negative = h.soft_not_negative;
           soft_bound = bound-more;
@@ -118,22 +116,14 @@ module _ (model : Model) (lists : List (List ℕ)) (d n : ℕ) where
         let b = ap (total_by g) push ∙ total_by-push g (used_below lists n) n in
         let x : timing.soft ≡ f n = is.soft in
         let y : c *ℤ (timing.last -ℤ timing.start) ≡ g n = ap₂ (λ p q. c *ℤ (p -ℤ q)) is.last is.start in
-        let s = h.soft in
-        let t = h.span in
-        let m = visits-more lists n low in
-        let bound = h.soft_bound in
-        let more = range.bound in
-        let sign = h.soft_not_negative in
-        let next = range.not_negative in
-        let spans = h.span_in_range in
         record {
-          soft = omega (arith, ints, s, a, x, soft);
-          span = omega (arith, ints, t, b, y, span);
+          soft = omega (arith, ints, h.soft, a, x, soft);
+          span = omega (arith, ints, h.span, b, y, span);
           extent = λ pays. subst (λ o. MatchOption o (used_below lists (n + 1) ≡ []) (IsExtent model lists d (used_below lists (n + 1)))) (sym there)
               (subst (λ used. IsExtent model lists d used extent) (sym push) (extent-wider model lists d n sums.extent timing extent (h.extent pays) is wider));
-          soft_not_negative = omega (arith, ints, soft, sign, next);
-          soft_bound = omega (arith, ints, soft, bound, more, m);
-          span_in_range = (let l = spans.low in let u = spans.high in let p = around.low in let q = around.high in record { low = omega (arith, ints, span, l, p); high = omega (arith, ints, span, u, q) });
+          soft_not_negative = omega (arith, ints, soft, h.soft_not_negative, range.not_negative);
+          soft_bound = omega (arith, ints, soft, h.soft_bound, range.bound, visits-more lists n low);
+          span_in_range = record { low = omega (arith, ints, span, h.span_in_range.low, around.low); high = omega (arith, ints, span, h.span_in_range.high, around.high) };
           extent_in_range = subst (λ o. IfSome o IsExtentInRange) (sym there) (extent-range sums.extent timing extent (length (route lists n) + 2) h.extent_in_range range wider);
         }
 

@@ -4,7 +4,7 @@
 ghost use Rattle.std.specs.Prelude.{◌≡◌, ◌<◌, ◌≤◌, ◌++◌, [], ◌∷◌, All, IfOk, IsTrue, OnOk, length};
 ghost use Rattle.std.specs.List.{list_all};
 ghost use Rattle.vr_model.specs.tables.Tables.{breaks_of, dimension_at, is_visit as is_visit_of};
-ghost use Rattle.vr_model.specs.tables.WellFormed.{IsBreak, IsWellFormed};
+ghost use Rattle.vr_model.specs.tables.WellFormed.{IsBreak};
 ghost use Rattle.vr_model.specs.schedules.Lines.{line};
 ghost use Rattle.vr_model.specs.schedules.Choices.{is_feasible};
 ghost use Rattle.vr_steps.specs.Levels.{AreLevels};
@@ -21,8 +21,9 @@ use crate::items::Item;
 use std::alloc::Global;
 use std::marker::Brand;
 use std::sync::ledger::{Blank, Ledger};
-use vr_lists::{NodeTables, PairPlaces, keeps_pairs};
+use vr_lists::{PairPlaces, keeps_pairs};
 use vr_model::{Closed, Model, NoMemory, Steps};
+use vr_plan::Lookups;
 use vr_reach::Walk;
 use vr_spans::Spans;
 use vr_steps::{Breaks, Levels, StopName, allowed_at, hop, start_levels};
@@ -51,73 +52,74 @@ pub fn last_stop(model: &Model, v: u32, list: &[u32]) -> u32
     }
 }
 
-// What a node allows, where it is a visit.
-fn visit_set(
-    alloc: Global,
-    closed: Closed<'_>,
+// A vehicle in a dimension.
+#[derive(Clone, Copy)]
+struct VehicleIn<'m> {
+    closed: Closed<'m>,
     d: u32,
     v: u32,
-    node: u32,
-) -> Result<Spans, NoMemory>
-    requires dimension { d < length closed.model.now.dimensions }
-    requires vehicle { v < length closed.model.now.vehicles }
-    ensures { IfOk result (λ set. IsTrue (is_visit_of closed.entry.model.now node)
-        → IsStopSet closed.entry.model.now d v (Visit node) set) }
+    ghost dimension: { d < length closed.model.now.dimensions },
+    ghost vehicle: { v < length closed.model.now.vehicles },
+}
+
+// What a node allows, where it is a visit.
+fn visit_set(alloc: Global, of: &VehicleIn<'_>, node: u32) -> Result<Spans, NoMemory>
+    ensures { IfOk result (λ set. IsTrue (is_visit_of of.now.closed.model.now node)
+        → IsStopSet of.now.closed.model.now of.now.d of.now.v (Visit node) set) }
 {
-    if !closed.model.is_visit(node) {
+    let model = of.closed.model;
+    if !model.is_visit(node) {
         return Ok(Spans::new(alloc));
     }
-    let set = allowed_at(alloc, closed.model, d, v, StopName::Visit(node))?;
+    let set = allowed_at(alloc, model, of.d, of.v, StopName::Visit(node))?;
     Ok(set)
 }
 
 // What each visit allows.
-fn visit_sets(alloc: Global, closed: Closed<'_>, d: u32, v: u32) -> Result<Vec<Spans>, NoMemory>
-    requires dimension { d < length closed.model.now.dimensions }
-    requires vehicle { v < length closed.model.now.vehicles }
-    ensures { IfOk result (λ sets. AreVisitSets closed.entry.model.now d v sets.items) }
+fn visit_sets(alloc: Global, of: &VehicleIn<'_>) -> Result<Vec<Spans>, NoMemory>
+    ensures { IfOk result (λ sets. AreVisitSets of.now.closed.model.now of.now.d of.now.v sets.items) }
 {
+    let closed = of.closed;
     let mut sets = Vec::with_capacity(alloc, closed.model.nodes as usize)?;
     for node in 0..closed.model.nodes {
-        sets.push(visit_set(alloc, closed, d, v, node)?)?;
+        sets.push(visit_set(alloc, of, node)?)?;
     }
     Ok(sets)
 }
 
-// What vehicle `v` reaches at its start.
-fn levels_at_start(
-    alloc: Global,
-    closed: Closed<'_>,
-    d: u32,
-    v: u32,
-    breaks: &Breaks,
-) -> Result<Levels, NoMemory>
-    requires dimension { d < length closed.model.now.dimensions }
-    requires vehicle { v < length closed.model.now.vehicles }
-    requires breaks { breaks.now ≡ breaks_of (dimension_at closed.model.now d) v }
+// What the vehicle reaches at its start.
+fn levels_at_start(alloc: Global, of: &VehicleIn<'_>, breaks: &Breaks) -> Result<Levels, NoMemory>
+    requires breaks { breaks.now ≡ breaks_of (dimension_at of.now.closed.model.now of.now.d) of.now.v }
     requires each_break { All IsBreak breaks.now }
     requires few_breaks { length breaks.now ≤ 8 }
     ensures form { IfOk result (AreLevels breaks.now) }
-    ensures reached { IfOk result (AreReachedBehind closed.entry.model.now d v []) }
+    ensures reached { IfOk result (AreReachedBehind of.now.closed.model.now of.now.d of.now.v []) }
 {
-    vr_model::laws::lines_are_sound();
-    vr_steps::laws::start_is_reached();
-    let start = allowed_at(alloc, closed.model, d, v, StopName::Start)?;
+    let start = allowed_at(alloc, of.closed.model, of.d, of.v, StopName::Start)?;
     let levels = start_levels(alloc, &start, breaks)?;
     Ok(levels)
 }
 
+// A list, and an item that may stand at its end.
+#[derive(Clone, Copy)]
+struct Longer<'m, 'l> {
+    closed: Closed<'m>,
+    list: &'l [u32],
+    item: Item,
+    ghost visits: { IsTrue (list_all (is_visit_of closed.model.now) list.now) },
+    ghost item_visits: { IsTrue (list_all (is_visit_of closed.model.now) (nodes_of item)) },
+}
+
 impl Front {
     // At the start of the vehicle.
-    fn at_start(alloc: Global, closed: Closed<'_>, d: u32, v: u32) -> Result<Front, NoMemory>
-        requires dimension { d < length closed.model.now.dimensions }
-        requires vehicle { v < length closed.model.now.vehicles }
-        ensures { IfOk result (IsFrontOf closed.entry.model.now d v []) }
+    fn at_start(alloc: Global, of: &VehicleIn<'_>) -> Result<Front, NoMemory>
+        ensures { IfOk result (IsFrontOf of.now.closed.model.now of.now.d of.now.v []) }
     {
-        let breaks = Breaks::of(closed.model.dimensions.get(d as usize), v);
-        let here = levels_at_start(alloc, closed, d, v, &breaks)?;
-        let ending = allowed_at(alloc, closed.model, d, v, StopName::End)?;
-        let visits = visit_sets(alloc, closed, d, v)?;
+        let (model, d, v) = (of.closed.model, of.d, of.v);
+        let breaks = Breaks::of(model.dimensions.get(d as usize), v);
+        let here = levels_at_start(alloc, of, &breaks)?;
+        let ending = allowed_at(alloc, model, d, v, StopName::End)?;
+        let visits = visit_sets(alloc, of)?;
         Ok(Front {
             dimension: d,
             vehicle: v,
@@ -144,8 +146,6 @@ impl Front {
             (list.now ++ node ∷ []) walk.new) }
         ensures levels { OnOk result (AreLevels self.now.breaks walk.new) }
     {
-        vr_model::laws::lines_are_sound();
-        vr_steps::laws::reached_behind_arc();
         let origin = last_stop(closed.model, self.vehicle, list);
         let arc = hop(closed.model, self.dimension, self.vehicle, origin, node);
         let next = &self.visits[node as usize];
@@ -173,8 +173,6 @@ impl Front {
             (list.now ++ before ∷ node ∷ []) walk.new) }
         ensures levels { OnOk result (AreLevels self.now.breaks walk.new) }
     {
-        vr_model::laws::lines_are_sound();
-        vr_steps::laws::reached_behind_arc();
         let arc = hop(closed.model, self.dimension, self.vehicle, before, node);
         let next = &self.visits[node as usize];
         walk.step(arc, next, &self.breaks, steps)?;
@@ -185,19 +183,16 @@ impl Front {
     fn walk_item<L: Ledger>(
         &self,
         walk: &mut Walk,
-        closed: Closed<'_>,
-        list: &[u32],
-        item: Item,
+        longer: &Longer<'_, '_>,
         steps: &mut Steps<L>,
     ) -> Result<(), NoMemory>
-        requires front { IsFront closed.model.now list.now self.now }
-        requires visits { IsTrue (list_all (is_visit_of closed.model.now) list.now) }
-        requires item { IsTrue (list_all (is_visit_of closed.model.now) (nodes_of item)) }
-        ensures reached { OnOk result (AreReachedBehind closed.entry.model.now self.now.dimension self.now.vehicle
-            (list.now ++ nodes_of item) walk.new) }
+        requires { IsFront longer.now.closed.model.now longer.now.list.now self.now }
+        ensures reached { OnOk result (AreReachedBehind longer.now.closed.model.now self.now.dimension self.now.vehicle
+            (longer.now.list.now ++ nodes_of longer.now.item) walk.new) }
         ensures levels { OnOk result (AreLevels self.now.breaks walk.new) }
     {
-        match item {
+        let (closed, list) = (longer.closed, longer.list);
+        match longer.item {
             Item::Visit(node) => self.leave(walk, closed, list, node, steps)?,
             Item::PickupAndDelivery(pickup, delivery) => {
                 self.leave(walk, closed, list, pickup, steps)?;
@@ -207,139 +202,126 @@ impl Front {
         Ok(())
     }
 
-    // Whether the line of the list with an item at its end has a schedule, where the walk stands at the last node of
+    // Whether the line of the list with the item at its end has a schedule, where the walk stands at the last node of
     // the item.
     fn ends<L: Ledger>(
         &self,
         walk: &mut Walk,
-        closed: Closed<'_>,
-        list: &[u32],
-        item: Item,
+        longer: &Longer<'_, '_>,
         steps: &mut Steps<L>,
     ) -> Result<bool, NoMemory>
-        requires front { IsFront closed.model.now list.now self.now }
-        requires driven { IsDriven closed.model.now (list.now ++ nodes_of item) }
-        requires item { IsTrue (list_all (is_visit_of closed.model.now) (nodes_of item)) }
-        requires here { AreReachedBehind closed.model.now self.now.dimension self.now.vehicle
-            (list.now ++ nodes_of item) walk.old }
+        requires front { IsFront longer.now.closed.model.now longer.now.list.now self.now }
+        requires driven { IsDriven longer.now.closed.model.now (longer.now.list.now ++ nodes_of longer.now.item) }
+        requires here { AreReachedBehind longer.now.closed.model.now self.now.dimension self.now.vehicle
+            (longer.now.list.now ++ nodes_of longer.now.item) walk.old }
         requires form { AreLevels self.now.breaks walk.old }
         ensures { IfOk result (λ ends. ends
-            ≡ is_feasible (line closed.entry.model.now self.now.dimension self.now.vehicle
-            (list.now ++ nodes_of item))) }
+            ≡ is_feasible (line longer.now.closed.model.now self.now.dimension self.now.vehicle
+            (longer.now.list.now ++ nodes_of longer.now.item))) }
     {
-        vr_model::laws::lines_are_sound();
-        vr_model::laws::chosen_where_feasible();
-        vr_steps::laws::reached_behind_arc();
+        let closed = longer.closed;
         let end = closed.model.vehicles.get(self.vehicle as usize).end;
-        let arc = hop(closed.model, self.dimension, self.vehicle, item.last(), end);
+        let last = longer.item.last();
+        let arc = hop(closed.model, self.dimension, self.vehicle, last, end);
         walk.step(arc, &self.ending, &self.breaks, steps)?;
         Ok(walk.ends(&self.breaks))
     }
 
-    // Whether the line of the list with an item at its end has a schedule.
+    // Whether the line of the list with the item at its end has a schedule.
     fn feasible_with<L: Ledger>(
         &self,
         walk: &mut Walk,
-        closed: Closed<'_>,
-        list: &[u32],
-        item: Item,
+        longer: &Longer<'_, '_>,
         blank: Blank,
     ) -> Result<bool, NoMemory>
         requires name { blank.name ≡ L.name }
         requires parts { blank.parts ≡ L.parts }
         requires some { 0 < blank.parts }
-        requires front { IsFront closed.model.now list.now self.now }
-        requires driven { IsDriven closed.model.now (list.now ++ nodes_of item) }
-        requires visits { IsTrue (list_all (is_visit_of closed.model.now) list.now) }
-        requires item { IsTrue (list_all (is_visit_of closed.model.now) (nodes_of item)) }
+        requires front { IsFront longer.now.closed.model.now longer.now.list.now self.now }
+        requires driven { IsDriven longer.now.closed.model.now (longer.now.list.now ++ nodes_of longer.now.item) }
         ensures { IfOk result (λ feasible. feasible
-            ≡ is_feasible (line closed.entry.model.now self.now.dimension self.now.vehicle
-            (list.now ++ nodes_of item))) }
+            ≡ is_feasible (line longer.now.closed.model.now self.now.dimension self.now.vehicle
+            (longer.now.list.now ++ nodes_of longer.now.item))) }
     {
         let mut steps = Steps::<L>::new(blank);
-        self.walk_item(walk, closed, list, item, &mut steps)?;
-        let feasible = self.ends(walk, closed, list, item, &mut steps)?;
+        self.walk_item(walk, longer, &mut steps)?;
+        let feasible = self.ends(walk, longer, &mut steps)?;
         Ok(feasible)
     }
 
-    // Moves to the end of the list with an item at its end.
+    // Moves to the end of the list with the item at its end.
     fn advance<L: Ledger>(
         &mut self,
         walk: &mut Walk,
-        closed: Closed<'_>,
-        list: &[u32],
-        item: Item,
+        longer: &Longer<'_, '_>,
         blank: Blank,
     ) -> Result<(), NoMemory>
         requires name { blank.name ≡ L.name }
         requires parts { blank.parts ≡ L.parts }
         requires some { 0 < blank.parts }
-        requires front { IsFront closed.model.now list.now self.old }
-        requires visits { IsTrue (list_all (is_visit_of closed.model.now) list.now) }
-        requires item { IsTrue (list_all (is_visit_of closed.model.now) (nodes_of item)) }
-        ensures front { OnOk result (IsFront closed.entry.model.now (list.now ++ nodes_of item) self.new) }
+        requires front { IsFront longer.now.closed.model.now longer.now.list.now self.old }
+        ensures front { OnOk result (IsFront longer.now.closed.model.now
+            (longer.now.list.now ++ nodes_of longer.now.item) self.new) }
         ensures dimension { OnOk result (self.new.dimension ≡ self.old.dimension) }
         ensures vehicle { OnOk result (self.new.vehicle ≡ self.old.vehicle) }
     {
         let mut steps = Steps::<L>::new(blank);
-        self.walk_item(walk, closed, list, item, &mut steps)?;
+        self.walk_item(walk, longer, &mut steps)?;
         walk.hand_over(&mut self.here);
         Ok(())
     }
 }
 
-// Whether the line of the list with an item at its end has a schedule in each dimension.
+// Whether the line of the list with the item at its end has a schedule in each dimension.
 fn is_feasible_with(
     fronts: &Vec<Front>,
     walk: &mut Walk,
-    closed: Closed<'_>,
     v: u32,
-    list: &[u32],
-    item: Item,
+    longer: &Longer<'_, '_>,
 ) -> Result<bool, NoMemory>
-    requires fronts { AreFronts closed.model.now v list.now fronts.now.items }
-    requires driven { IsDriven closed.model.now (list.now ++ nodes_of item) }
-    requires visits { IsTrue (list_all (is_visit_of closed.model.now) list.now) }
-    requires item { IsTrue (list_all (is_visit_of closed.model.now) (nodes_of item)) }
-    ensures { IfOk result (λ answer. answer
-        ≡ is_feasible_in_each closed.entry.model.now v (list.now ++ nodes_of item)) }
+    requires fronts { AreFronts longer.now.closed.model.now v longer.now.list.now fronts.now.items }
+    requires driven { IsDriven longer.now.closed.model.now (longer.now.list.now ++ nodes_of longer.now.item) }
+    ensures { IfOk result (λ answer. answer ≡ is_feasible_in_each longer.now.closed.model.now v
+        (longer.now.list.now ++ nodes_of longer.now.item)) }
 {
     for d in 0..fronts.len() {
-        if !fronts[d].feasible_with::<Brand>(walk, closed, list, item, Blank::new(1))? {
+        if !fronts[d].feasible_with::<Brand>(walk, longer, Blank::new(1))? {
             return Ok(false);
         }
     }
     Ok(true)
 }
 
-// Moves each front to the end of the list with an item at its end.
+// Moves each front to the end of the list with the item at its end.
 fn advance_each(
     fronts: &mut Vec<Front>,
     walk: &mut Walk,
-    closed: Closed<'_>,
     v: u32,
-    list: &[u32],
-    item: Item,
+    longer: &Longer<'_, '_>,
 ) -> Result<(), NoMemory>
-    requires fronts { AreFronts closed.model.now v list.now fronts.old.items }
-    requires visits { IsTrue (list_all (is_visit_of closed.model.now) list.now) }
-    requires item { IsTrue (list_all (is_visit_of closed.model.now) (nodes_of item)) }
-    ensures { OnOk result (AreFronts closed.entry.model.now v (list.now ++ nodes_of item) fronts.new.items) }
+    requires { AreFronts longer.now.closed.model.now v longer.now.list.now fronts.old.items }
+    ensures { OnOk result (AreFronts longer.now.closed.model.now v
+        (longer.now.list.now ++ nodes_of longer.now.item) fronts.new.items) }
 {
     for d in 0..fronts.len() {
-        fronts[d].advance::<Brand>(walk, closed, list, item, Blank::new(1))?;
+        fronts[d].advance::<Brand>(walk, longer, Blank::new(1))?;
     }
     Ok(())
 }
 
 // The fronts at the start of a vehicle.
 fn fronts_at_start(alloc: Global, closed: Closed<'_>, v: u32) -> Result<Vec<Front>, NoMemory>
-    requires vehicle { v < length closed.model.now.vehicles }
+    requires { v < length closed.model.now.vehicles }
     ensures { IfOk result (λ fronts. AreFronts closed.entry.model.now v [] fronts.items) }
 {
     let mut fronts = Vec::with_capacity(alloc, closed.model.dimensions.len())?;
     for d in 0..closed.model.dimensions.len() {
-        fronts.push(Front::at_start(alloc, closed, d as u32, v)?)?;
+        let of = VehicleIn {
+            closed,
+            d: d as u32,
+            v,
+        };
+        fronts.push(Front::at_start(alloc, &of)?)?;
     }
     Ok(fronts)
 }
@@ -357,13 +339,18 @@ fn go_along(
     ensures { OnOk result (AreFronts closed.entry.model.now v list.now fronts.new.items) }
 {
     for k in 0..list.len() {
-        advance_each(fronts, walk, closed, v, &list[..k], Item::Visit(list[k]))?;
+        let next = Longer {
+            closed,
+            list: &list[..k],
+            item: Item::Visit(list[k]),
+        };
+        advance_each(fronts, walk, v, &next)?;
     }
     Ok(())
 }
 
 // A list with an item at its end.
-fn longer(alloc: Global, list: &[u32], item: Item) -> Result<Vec<u32>, NoMemory>
+fn appended(alloc: Global, list: &[u32], item: Item) -> Result<Vec<u32>, NoMemory>
     ensures { IfOk result (λ longer. longer.items ≡ list.now ++ nodes_of item) }
 {
     let mut longer = Vec::with_capacity(alloc, list.len() + 2)?;
@@ -377,24 +364,20 @@ fn longer(alloc: Global, list: &[u32], item: Item) -> Result<Vec<u32>, NoMemory>
     Ok(longer)
 }
 
-// Whether the list with an item at its end serves each pair in order, and keeps the policy of the vehicle. It takes no
+// Whether the list with the item at its end serves each pair in order, and keeps the policy of the vehicle. It takes no
 // memory where the model has no pairs.
-fn keeps_pairs_with(
-    room: &mut Room,
-    closed: Closed<'_>,
-    v: u32,
-    list: &[u32],
-    item: Item,
-) -> Result<bool, NoMemory>
-    requires vehicle { v < length closed.model.now.vehicles }
-    requires driven { IsDriven closed.model.now (list.now ++ nodes_of item) }
-    ensures { IfOk result (λ keeps. keeps ≡ keeps_pairs closed.entry.model.now v (list.now ++ nodes_of item)) }
+fn keeps_pairs_with(room: &mut Room, v: u32, of: &Longer<'_, '_>) -> Result<bool, NoMemory>
+    requires vehicle { v < length of.now.closed.model.now.vehicles }
+    requires driven { IsDriven of.now.closed.model.now (of.now.list.now ++ nodes_of of.now.item) }
+    ensures { IfOk result (λ keeps. keeps
+        ≡ keeps_pairs of.now.closed.model.now v (of.now.list.now ++ nodes_of of.now.item)) }
 {
-    if closed.model.pairs.is_empty() {
+    let model = of.closed.model;
+    if model.pairs.is_empty() {
         return Ok(true);
     }
-    let longer = longer(room.alloc, list, item)?;
-    Ok(keeps_pairs(closed.model, v, &longer, &mut room.pairs))
+    let longer = appended(room.alloc, of.list, of.item)?;
+    Ok(keeps_pairs(model, v, &longer, &mut room.pairs))
 }
 
 /// What is written over while items are tried at the end of a list.
@@ -425,13 +408,16 @@ pub struct Fronts {
 
 impl Fronts {
     /// Those of vehicle `v` with a list.
-    pub fn open(room: &mut Room, model: &Model, v: u32, list: &[u32]) -> Result<Fronts, NoMemory>
-        requires well_formed { IsWellFormed model.now }
-        requires vehicle { v < length model.now.vehicles }
-        requires visits { IsTrue (list_all (is_visit_of model.now) list.now) }
-        ensures { IfOk result (AreFrontsOf model.now v list.now) }
+    pub fn open(
+        room: &mut Room,
+        closed: Closed<'_>,
+        v: u32,
+        list: &[u32],
+    ) -> Result<Fronts, NoMemory>
+        requires vehicle { v < length closed.model.now.vehicles }
+        requires visits { IsTrue (list_all (is_visit_of closed.model.now) list.now) }
+        ensures { IfOk result (AreFrontsOf closed.entry.model.now v list.now) }
     {
-        let closed = Closed { model };
         let mut each = fronts_at_start(room.alloc, closed, v)?;
         go_along(&mut each, &mut room.walk, closed, v, list)?;
         Ok(Fronts { each })
@@ -442,28 +428,30 @@ impl Fronts {
     pub fn may_append(
         &self,
         room: &mut Room,
-        model: &Model,
-        lookups: &NodeTables<'_>,
+        lookups: &Lookups<'_>,
         v: u32,
         list: &[u32],
         item: Item,
     ) -> Result<bool, NoMemory>
-        requires well_formed { IsWellFormed model.now }
-        requires lookups { lookups.now ≡ model.now }
-        requires vehicle { v < length model.now.vehicles }
-        requires fronts { AreFrontsOf model.now v list.now self.now }
-        requires stands { IsTrue (is_route_open model.now v list.now) }
-        requires driven { IsDriven model.now (list.now ++ nodes_of item) }
-        ensures { IfOk result (λ may. may ≡ is_route_open model.now v (list.now ++ nodes_of item)) }
+        requires vehicle { v < length lookups.now.closed.model.now.vehicles }
+        requires fronts { AreFrontsOf lookups.now.closed.model.now v list.now self.now }
+        requires stands { IsTrue (is_route_open lookups.now.closed.model.now v list.now) }
+        requires driven { IsDriven lookups.now.closed.model.now (list.now ++ nodes_of item) }
+        ensures { IfOk result (λ may. may
+            ≡ is_route_open lookups.now.closed.model.now v (list.now ++ nodes_of item)) }
     {
-        let closed = Closed { model };
-        if !allows_item(lookups, v, item) {
+        if !allows_item(lookups.nodes(), v, item) {
             return Ok(false);
         }
-        if !is_feasible_with(&self.each, &mut room.walk, closed, v, list, item)? {
+        let longer = Longer {
+            closed: lookups.closed,
+            list,
+            item,
+        };
+        if !is_feasible_with(&self.each, &mut room.walk, v, &longer)? {
             return Ok(false);
         }
-        let keeps = keeps_pairs_with(room, closed, v, list, item)?;
+        let keeps = keeps_pairs_with(room, v, &longer)?;
         Ok(keeps)
     }
 
@@ -471,24 +459,17 @@ impl Fronts {
     pub fn append(
         &mut self,
         room: &mut Room,
-        model: &Model,
+        closed: Closed<'_>,
         v: u32,
         list: &[u32],
         item: Item,
     ) -> Result<(), NoMemory>
-        requires well_formed { IsWellFormed model.now }
-        requires fronts { AreFrontsOf model.now v list.now self.old }
-        requires driven { IsDriven model.now (list.now ++ nodes_of item) }
-        ensures { OnOk result (AreFrontsOf model.now v (list.now ++ nodes_of item) self.new) }
+        requires fronts { AreFrontsOf closed.model.now v list.now self.old }
+        requires driven { IsDriven closed.model.now (list.now ++ nodes_of item) }
+        ensures { OnOk result (AreFrontsOf closed.entry.model.now v (list.now ++ nodes_of item) self.new) }
     {
-        advance_each(
-            &mut self.each,
-            &mut room.walk,
-            Closed { model },
-            v,
-            list,
-            item,
-        )?;
+        let longer = Longer { closed, list, item };
+        advance_each(&mut self.each, &mut room.walk, v, &longer)?;
         Ok(())
     }
 }

@@ -2,16 +2,25 @@
 
 ghost use Rattle.std.specs.Prelude.{◌≡◌, ℕ, ◌<◌, ◌||◌, Bool, All, IfOk, IsTrue, OnOk, length, slice_index_or};
 ghost use Rattle.std.specs.List.{list_all};
-ghost use Rattle.vr_model.specs.routes.Routes.{holds};
-ghost use Rattle.vr_model.specs.tables.WellFormed.{IsWellFormed};
+ghost use Rattle.vr_model.specs.routes.Routes.{are_lists, holds};
 ghost use Rattle.vr_rules.specs.Placing.{has_room as has_room_of, is_taken as is_taken_of, nodes_of, AreMarkedToo};
 ghost use Rattle.vr_rules.specs.Placing.{fits_by, has_room_at, AreMarks};
 
 use crate::items::Item;
 use std::alloc::Global;
-use vr_lists::NodeTables;
-use vr_model::{Closed, Group, Model, NoMemory};
+use vr_model::{Group, Model, NoMemory};
+use vr_plan::Lookups;
 use vr_routes::Routes;
+
+/// Routes of a model, and for each node whether it is active in them.
+#[derive(Clone, Copy)]
+pub(crate) struct Marked<'l, 'm, 'r, 'k> {
+    pub(crate) lookups: &'l Lookups<'m>,
+    pub(crate) routes: &'r Routes,
+    pub(crate) marks: &'k [bool],
+    ghost lists: { IsTrue (are_lists lookups.now.closed.model.now routes.now.lists) },
+    ghost marks_are: { AreMarks lookups.now.closed.model.now.nodes routes.now.lists marks.now },
+}
 
 // Whether a node is marked, or in the item.
 fn is_taken(marks: &[bool], item: Item, node: u32) -> bool
@@ -36,18 +45,12 @@ fn has_room(marks: &[bool], item: Item, group: &Group) -> bool
 }
 
 // Whether the group of a node, where it is in one, has room for an item beside the marked nodes.
-fn group_has_room(
-    closed: Closed<'_>,
-    lookups: &NodeTables<'_>,
-    marks: &[bool],
-    item: Item,
-    node: u32,
-) -> bool
-    requires lookups { lookups.now ≡ closed.model.now }
-    requires marks { length marks.now ≡ closed.model.now.nodes }
-    ensures { result ≡ has_room_at closed.entry.model.now marks.now item node }
+fn group_has_room(lookups: &Lookups<'_>, marks: &[bool], item: Item, node: u32) -> bool
+    requires { length marks.now ≡ lookups.now.closed.model.now.nodes }
+    ensures { result ≡ has_room_at lookups.now.closed.model.now marks.now item node }
 {
-    let g = lookups.group_number(node) as usize;
+    let closed = lookups.closed;
+    let g = lookups.nodes().group_number(node) as usize;
     if g < closed.model.groups.len() {
         return has_room(marks, item, closed.model.groups.get(g));
     }
@@ -55,30 +58,27 @@ fn group_has_room(
 }
 
 // Whether the groups of the nodes of an item have room for it.
-fn item_has_room(closed: Closed<'_>, lookups: &NodeTables<'_>, marks: &[bool], item: Item) -> bool
-    requires lookups { lookups.now ≡ closed.model.now }
-    requires marks { length marks.now ≡ closed.model.now.nodes }
-    ensures { result ≡ list_all (has_room_at closed.entry.model.now marks.now item) (nodes_of item) }
+fn item_has_room(lookups: &Lookups<'_>, marks: &[bool], item: Item) -> bool
+    requires { length marks.now ≡ lookups.now.closed.model.now.nodes }
+    ensures { result ≡ list_all (has_room_at lookups.now.closed.model.now marks.now item) (nodes_of item) }
 {
     match item {
-        Item::Visit(node) => group_has_room(closed, lookups, marks, item, node),
+        Item::Visit(node) => group_has_room(lookups, marks, item, node),
         Item::PickupAndDelivery(pickup, delivery) => {
-            group_has_room(closed, lookups, marks, item, pickup)
-                && group_has_room(closed, lookups, marks, item, delivery)
+            group_has_room(lookups, marks, item, pickup)
+                && group_has_room(lookups, marks, item, delivery)
         }
     }
 }
 
 /// Whether each group has room for an item beside the marked nodes, for which they have room. It looks at the groups of
 /// the item alone.
-pub fn groups_have_room(model: &Model, lookups: &NodeTables<'_>, marks: &[bool], item: Item) -> bool
-    requires well_formed { IsWellFormed model.now }
-    requires lookups { lookups.now ≡ model.now }
-    requires marks { length marks.now ≡ model.now.nodes }
-    requires fit { IsTrue (list_all (fits_by marks.now) model.now.groups) }
-    ensures { result ≡ list_all (has_room_of marks.now item) model.now.groups }
+pub fn groups_have_room(lookups: &Lookups<'_>, marks: &[bool], item: Item) -> bool
+    requires marks { length marks.now ≡ lookups.now.closed.model.now.nodes }
+    requires fit { IsTrue (list_all (fits_by marks.now) lookups.now.closed.model.now.groups) }
+    ensures { result ≡ list_all (has_room_of marks.now item) lookups.now.closed.model.now.groups }
 {
-    item_has_room(Closed { model }, lookups, marks, item)
+    item_has_room(lookups, marks, item)
 }
 
 // Marks the nodes of a list.

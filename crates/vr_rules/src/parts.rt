@@ -1,20 +1,17 @@
 //! What valid routes cost.
 
-ghost use Rattle.std.specs.Prelude.{◌≡◌, ◌<◌, ◌+◌, IfOk, IsTrue, length};
+ghost use Rattle.std.specs.Prelude.{◌≡◌, ◌+◌, IfOk, IsTrue, length};
 ghost use Rattle.vr_model.specs.routes.Costs.{assigned, parts_at};
-ghost use Rattle.vr_model.specs.routes.Routes.{are_lists};
 ghost use Rattle.vr_model.specs.routes.Rules.{is_valid};
 ghost use Rattle.vr_rules.specs.Parts.{AreTimed};
-ghost use Rattle.vr_rules.specs.Placing.{AreMarks};
-ghost use Rattle.vr_plan.specs.Tables.{IsTable};
 ghost use Rattle.vr_rules.specs.Totals.{HasTotal};
 
 use crate::costs::{arcs_of_routes, fixed_of_routes};
+use crate::marks::Marked;
 use crate::penalties::penalty_of_groups;
-use crate::sums::sums_of;
-use vr_model::{Closed, NoMemory, Parts};
-use vr_plan::{Lookups, Table, Timer, global_cost};
-use vr_routes::Routes;
+use crate::sums::{RoutesIn, sums_of};
+use vr_model::{NoMemory, Parts};
+use vr_plan::{Timer, global_cost};
 
 // What the chosen schedules of routes cost in all dimensions.
 #[derive(Clone, Copy)]
@@ -26,21 +23,17 @@ struct Timed {
 
 // The costs with one dimension more.
 fn with_dimension(
-    closed: Closed<'_>,
-    table: &Table,
-    d: u32,
-    routes: &Routes,
+    of: &RoutesIn<'_, '_, '_>,
     timed: Timed,
     timer: &mut Timer,
 ) -> Result<Timed, NoMemory>
-    requires dimension { d < length closed.model.now.dimensions }
-    requires table { IsTable closed.model.now d table.now }
-    requires lists { IsTrue (are_lists closed.model.now routes.now.lists) }
-    requires timed { AreTimed closed.model.now routes.now.lists d timed }
-    ensures { IfOk result (AreTimed closed.entry.model.now routes.now.lists (d + 1)) }
+    requires { AreTimed of.now.lookups.now.closed.model.now of.now.routes.now.lists of.now.d timed }
+    ensures { IfOk result
+        (AreTimed of.now.lookups.now.closed.model.now of.now.routes.now.lists (of.now.d + 1)) }
 {
-    let sums = sums_of(closed, table, d, routes, timer)?;
-    let dimension = closed.model.dimensions.get(d as usize);
+    let sums = sums_of(of, timer)?;
+    let lookups = of.lookups;
+    let dimension = lookups.closed.model.dimensions.get(of.d as usize);
     Ok(Timed {
         global: timed.global + global_cost(dimension, sums.extent),
         soft: timed.soft + sums.soft,
@@ -49,40 +42,37 @@ fn with_dimension(
 }
 
 // What the chosen schedules of routes cost.
-fn timed_of(lookups: &Lookups<'_>, routes: &Routes, timer: &mut Timer) -> Result<Timed, NoMemory>
-    requires lists { IsTrue (are_lists lookups.now.closed.model.now routes.now.lists) }
-    ensures { IfOk result (AreTimed lookups.now.closed.model.now routes.now.lists
-        (length lookups.now.closed.model.now.dimensions)) }
+fn timed_of(of: &Marked<'_, '_, '_, '_>, timer: &mut Timer) -> Result<Timed, NoMemory>
+    ensures { IfOk result (AreTimed of.now.lookups.now.closed.model.now of.now.routes.now.lists
+        (length of.now.lookups.now.closed.model.now.dimensions)) }
 {
     let mut timed = Timed {
         global: 0,
         soft: 0,
         span: 0,
     };
-    let closed = lookups.closed;
-    for d in 0..closed.model.dimensions.len() {
-        let table = lookups.table(d as u32);
-        timed = with_dimension(closed, table, d as u32, routes, timed, timer)?;
+    let lookups = of.lookups;
+    for d in 0..lookups.closed.model.dimensions.len() {
+        let routes = RoutesIn {
+            lookups,
+            routes: of.routes,
+            d: d as u32,
+        };
+        timed = with_dimension(&routes, timed, timer)?;
     }
     Ok(timed)
 }
 
-// What valid routes cost at their chosen schedules, by the marks of their active nodes.
-pub(crate) fn parts_of(
-    lookups: &Lookups<'_>,
-    routes: &Routes,
-    marks: &[bool],
-    timer: &mut Timer,
-) -> Result<Parts, NoMemory>
-    requires valid { IsTrue (is_valid lookups.now.closed.model.now routes.now.lists) }
-    requires marks { AreMarks lookups.now.closed.model.now.nodes routes.now.lists marks.now }
-    ensures parts { IfOk result (λ parts. parts
-        ≡ parts_at lookups.now.closed.model.now (assigned lookups.now.closed.model.now routes.now.lists)) }
+// What valid routes cost at their chosen schedules.
+pub(crate) fn parts_of(of: &Marked<'_, '_, '_, '_>, timer: &mut Timer) -> Result<Parts, NoMemory>
+    requires { IsTrue (is_valid of.now.lookups.now.closed.model.now of.now.routes.now.lists) }
+    ensures parts { IfOk result (λ parts. parts ≡ parts_at of.now.lookups.now.closed.model.now
+        (assigned of.now.lookups.now.closed.model.now of.now.routes.now.lists)) }
     ensures total { IfOk result HasTotal }
 {
-    let closed = lookups.closed;
-    let penalty = penalty_of_groups(closed, marks);
-    let timed = timed_of(lookups, routes, timer)?;
+    let (closed, routes) = (of.lookups.closed, of.routes);
+    let penalty = penalty_of_groups(closed, of.marks);
+    let timed = timed_of(of, timer)?;
     Ok(Parts {
         arcs: arcs_of_routes(closed, routes),
         fixed: fixed_of_routes(closed, routes),

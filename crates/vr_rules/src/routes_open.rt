@@ -4,15 +4,13 @@ ghost use Rattle.std.specs.Prelude.{◌≡◌, ◌<◌, IsTrue, IfOk, length};
 ghost use Rattle.std.specs.List.{list_all};
 ghost use Rattle.vr_model.specs.tables.Tables.{is_visit};
 ghost use Rattle.vr_model.specs.routes.Routes.{is_distinct};
-ghost use Rattle.vr_model.specs.tables.WellFormed.{IsWellFormed};
 ghost use Rattle.vr_model.specs.routes.Rules.{is_route_open as is_route_open_of};
 ghost use Rattle.vr_rules.specs.RoutesOpen.{is_feasible_in_each as is_feasible_in_each_of};
-ghost use Rattle.vr_plan.specs.Tables.{AreTables};
 
 use std::alloc::Global;
-use vr_lists::{NodeTables, PairPlaces, keeps_pairs};
-use vr_model::{Closed, Model, NoMemory};
-use vr_plan::Table;
+use vr_lists::{PairPlaces, keeps_pairs};
+use vr_model::NoMemory;
+use vr_plan::Lookups;
 use vr_reach::{StopsFor, Walk, goes_through};
 
 /// What is written over while routes are driven.
@@ -32,60 +30,54 @@ impl Driving {
     }
 }
 
-/// Whether vehicle `v` may drive a list, as `Rules::route_open` answers it, over tables and look-ups that the caller
-/// keeps.
+/// Whether vehicle `v` may drive a list, as `Rules::route_open` answers it, over what was looked up of the model.
 ///
 /// The list holds distinct visits. `NoMemory` where there was no memory.
 pub fn is_route_open(
-    model: &Model,
-    tables: &[Table],
-    lookups: &NodeTables<'_>,
+    lookups: &Lookups<'_>,
     v: u32,
     list: &[u32],
     driving: &mut Driving,
 ) -> Result<bool, NoMemory>
-    requires well_formed { IsWellFormed model.now }
-    requires tables { AreTables model.now tables.now }
-    requires lookups { lookups.now ≡ model.now }
-    requires vehicle { v < length model.now.vehicles }
-    requires visits { IsTrue (list_all (is_visit model.now) list.now) }
+    requires vehicle { v < length lookups.now.closed.model.now.vehicles }
+    requires visits { IsTrue (list_all (is_visit lookups.now.closed.model.now) list.now) }
     requires distinct { IsTrue (is_distinct list.now) }
-    ensures { IfOk result (λ answer. answer ≡ is_route_open_of model.now v list.now) }
+    ensures { IfOk result (λ answer. answer ≡ is_route_open_of lookups.now.closed.model.now v list.now) }
 {
     if list.is_empty() {
         return Ok(true);
     }
-    if !lookups.allows_each(v, list) {
+    if !lookups.nodes().allows_each(v, list) {
         return Ok(false);
     }
-    if !keeps_pairs(model, v, list, &mut driving.pairs) {
+    if !keeps_pairs(lookups.closed.model, v, list, &mut driving.pairs) {
         return Ok(false);
     }
-    let feasible = is_feasible_in_each(Closed { model }, tables, v, list, &mut driving.walk)?;
+    let feasible = is_feasible_in_each(lookups, v, list, &mut driving.walk)?;
     Ok(feasible)
 }
 
 // Whether the line of a list has a schedule in each dimension.
 fn is_feasible_in_each(
-    closed: Closed<'_>,
-    tables: &[Table],
+    lookups: &Lookups<'_>,
     v: u32,
     list: &[u32],
     walk: &mut Walk,
 ) -> Result<bool, NoMemory>
-    requires tables { AreTables closed.model.now tables.now }
-    requires vehicle { v < length closed.model.now.vehicles }
+    requires vehicle { v < length lookups.now.closed.model.now.vehicles }
     requires some { 0 < length list.now }
-    requires visits { IsTrue (list_all (is_visit closed.model.now) list.now) }
+    requires visits { IsTrue (list_all (is_visit lookups.now.closed.model.now) list.now) }
     requires distinct { IsTrue (is_distinct list.now) }
-    ensures { IfOk result (λ answer. answer ≡ is_feasible_in_each_of closed.entry.model.now v list.now) }
+    ensures { IfOk result (λ answer. answer ≡ is_feasible_in_each_of lookups.now.closed.model.now v list.now) }
 {
+    let closed = lookups.closed;
     for d in 0..closed.model.dimensions.len() {
+        let table = lookups.table(d as u32);
         let stops = StopsFor {
             closed,
             d: d as u32,
             v,
-            of_dimension: &tables[d].stops,
+            of_dimension: &table.stops,
         };
         if !goes_through(&stops, list, walk)? {
             return Ok(false);

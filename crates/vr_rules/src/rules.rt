@@ -12,7 +12,7 @@ ghost use Rattle.vr_rules.specs.Placing.{AreBuilt};
 ghost use Rattle.vr_rules.specs.Totals.{HasTotal};
 
 use crate::costs::total_cost;
-use crate::marks::write_marks;
+use crate::marks::{Marked, write_marks};
 use crate::parts::parts_of;
 use crate::routes_open::{Driving, is_route_open};
 use crate::validity::{is_open, is_open_beside, is_valid, is_valid_where_open};
@@ -97,14 +97,7 @@ impl<'m> Rules<'m> {
         ensures answer { IfOk result (λ answer. answer ≡ is_route_open_of self.old v list.now) }
         ensures model { self.new ≡ self.old }
     {
-        let answer = is_route_open(
-            self.lookups.closed.model,
-            self.lookups.tables(),
-            self.lookups.nodes(),
-            v,
-            list,
-            &mut self.kept.driving,
-        )?;
+        let answer = is_route_open(&self.lookups, v, list, &mut self.kept.driving)?;
         Ok(answer)
     }
 
@@ -117,7 +110,12 @@ impl<'m> Rules<'m> {
     {
         let kept = &mut *self.kept;
         write_marks(self.lookups.closed.model, routes, &mut kept.marks)?;
-        let answer = is_open(&self.lookups, routes, &kept.marks, &mut kept.driving)?;
+        let of = Marked {
+            lookups: &self.lookups,
+            routes,
+            marks: &kept.marks,
+        };
+        let answer = is_open(&of, &mut kept.driving)?;
         Ok(answer)
     }
 
@@ -130,13 +128,12 @@ impl<'m> Rules<'m> {
     {
         let kept = &mut *self.kept;
         write_marks(self.lookups.closed.model, routes, &mut kept.marks)?;
-        let answer = is_open_beside(
-            &self.lookups,
-            others,
+        let of = Marked {
+            lookups: &self.lookups,
             routes,
-            &kept.marks,
-            &mut kept.driving,
-        )?;
+            marks: &kept.marks,
+        };
+        let answer = is_open_beside(&of, others, &mut kept.driving)?;
         Ok(answer)
     }
 
@@ -149,7 +146,12 @@ impl<'m> Rules<'m> {
     {
         let kept = &mut *self.kept;
         write_marks(self.lookups.closed.model, routes, &mut kept.marks)?;
-        let answer = is_valid_where_open(&self.lookups, routes, &kept.marks);
+        let of = Marked {
+            lookups: &self.lookups,
+            routes,
+            marks: &kept.marks,
+        };
+        let answer = is_valid_where_open(&of);
         Ok(answer)
     }
 
@@ -162,7 +164,12 @@ impl<'m> Rules<'m> {
     {
         let kept = &mut *self.kept;
         write_marks(self.lookups.closed.model, routes, &mut kept.marks)?;
-        let answer = is_valid(&self.lookups, routes, &kept.marks, &mut kept.driving)?;
+        let of = Marked {
+            lookups: &self.lookups,
+            routes,
+            marks: &kept.marks,
+        };
+        let answer = is_valid(&of, &mut kept.driving)?;
         Ok(answer)
     }
 
@@ -176,7 +183,12 @@ impl<'m> Rules<'m> {
     {
         let kept = &mut *self.kept;
         write_marks(self.lookups.closed.model, routes, &mut kept.marks)?;
-        let parts = parts_of(&self.lookups, routes, &kept.marks, &mut kept.timer)?;
+        let of = Marked {
+            lookups: &self.lookups,
+            routes,
+            marks: &kept.marks,
+        };
+        let parts = parts_of(&of, &mut kept.timer)?;
         Ok(parts)
     }
 

@@ -9,12 +9,11 @@ ghost use Rattle.vr_model.specs.tables.WellFormed.{IsIn};
 ghost use Rattle.vr_model.specs.routes.Routes.{are_lists};
 ghost use Rattle.vr_plan.specs.Bounds.{cumul_cost, IsAround};
 ghost use Rattle.vr_plan.specs.Extents.{IsWider};
-ghost use Rattle.vr_plan.specs.Tables.{IsTable};
 ghost use Rattle.vr_plan.specs.Timings.{IsTimingOf};
 ghost use Rattle.vr_rules.specs.Sums.{may_pay, AreSums};
 
-use vr_model::{Closed, Dimension, NoMemory};
-use vr_plan::{Extent, Table, Timer, Timing, may_pay_alone, span_cost, timing_of, wider};
+use vr_model::{Dimension, NoMemory};
+use vr_plan::{Extent, Lookups, Timer, Timing, may_pay_alone, span_cost, timing_of, wider};
 use vr_routes::Routes;
 
 // What soft upper bounds and spans cost, and the extent of the routes that may pay, `None` where none does. It is that
@@ -26,19 +25,29 @@ pub(crate) struct Sums {
     pub(crate) extent: Option<Extent>,
 }
 
+/// Routes of a model, in one dimension.
+#[derive(Clone, Copy)]
+pub(crate) struct RoutesIn<'l, 'm, 'r> {
+    pub(crate) lookups: &'l Lookups<'m>,
+    pub(crate) routes: &'r Routes,
+    pub(crate) d: u32,
+    ghost dimension: { d < length lookups.now.closed.model.now.dimensions },
+    ghost lists: { IsTrue (are_lists lookups.now.closed.model.now routes.now.lists) },
+}
+
 // Whether schedules of a list may cost anything: the global span has a coefficient, or they may cost something by
 // themselves.
-fn may_pay(closed: Closed<'_>, table: &Table, d: u32, v: u32, list: &[u32]) -> bool
-    requires dimension { d < length closed.model.now.dimensions }
-    requires vehicle { v < length closed.model.now.vehicles }
-    requires visits { IsTrue (list_all (is_visit closed.model.now) list.now) }
-    requires table { IsTable closed.model.now d table.now }
-    ensures { result ≡ may_pay (dimension_at closed.entry.model.now d) v list.now }
+fn may_pay(of: &RoutesIn<'_, '_, '_>, v: u32, list: &[u32]) -> bool
+    requires vehicle { v < length of.now.lookups.now.closed.model.now.vehicles }
+    requires visits { IsTrue (list_all (is_visit of.now.lookups.now.closed.model.now) list.now) }
+    ensures { result ≡ may_pay (dimension_at of.now.lookups.now.closed.model.now of.now.d) v list.now }
 {
-    if closed.model.dimensions.get(d as usize).global_span_cost != 0 {
+    let (lookups, d) = (of.lookups, of.d);
+    let model = lookups.closed.model;
+    if model.dimensions.get(d as usize).global_span_cost != 0 {
         return true;
     }
-    may_pay_alone(closed.model, table, d, v, list)
+    may_pay_alone(model, lookups.table(d), d, v, list)
 }
 
 // The sums with one used vehicle more, from what its schedule comes to.
@@ -64,53 +73,41 @@ fn with_timing(dimension: &Dimension, v: u32, timing: Timing, sums: Sums) -> Sum
 
 // The sums with one vehicle more.
 fn with_vehicle(
-    closed: Closed<'_>,
-    table: &Table,
-    d: u32,
-    routes: &Routes,
+    of: &RoutesIn<'_, '_, '_>,
     v: u32,
     sums: Sums,
     timer: &mut Timer,
 ) -> Result<Sums, NoMemory>
-    requires dimension { d < length closed.model.now.dimensions }
-    requires table { IsTable closed.model.now d table.now }
-    requires lists { IsTrue (are_lists closed.model.now routes.now.lists) }
-    requires vehicle { v < length routes.now.lists }
-    requires sums { AreSums closed.model.now routes.now.lists d v sums }
-    ensures { IfOk result (AreSums closed.entry.model.now routes.now.lists d (v + 1)) }
+    requires vehicle { v < length of.now.routes.now.lists }
+    requires sums { AreSums of.now.lookups.now.closed.model.now of.now.routes.now.lists of.now.d v sums }
+    ensures { IfOk result (AreSums of.now.lookups.now.closed.model.now of.now.routes.now.lists of.now.d (v + 1)) }
 {
-    let list = routes.list(v);
+    let list = of.routes.list(v);
     if list.is_empty() {
         return Ok(sums);
     }
-    if !may_pay(closed, table, d, v, list) {
+    if !may_pay(of, v, list) {
         return Ok(sums);
     }
-    let timing = timing_of(closed.model, table, d, v, list, timer)?;
-    let dimension = closed.model.dimensions.get(d as usize);
+    let (lookups, d) = (of.lookups, of.d);
+    let model = lookups.closed.model;
+    let timing = timing_of(model, lookups.table(d), d, v, list, timer)?;
+    let dimension = model.dimensions.get(d as usize);
     Ok(with_timing(dimension, v, timing, sums))
 }
 
-// What the chosen schedules of routes come to in dimension `d`.
-pub(crate) fn sums_of(
-    closed: Closed<'_>,
-    table: &Table,
-    d: u32,
-    routes: &Routes,
-    timer: &mut Timer,
-) -> Result<Sums, NoMemory>
-    requires dimension { d < length closed.model.now.dimensions }
-    requires table { IsTable closed.model.now d table.now }
-    requires lists { IsTrue (are_lists closed.model.now routes.now.lists) }
-    ensures { IfOk result (AreSums closed.entry.model.now routes.now.lists d (length routes.now.lists)) }
+// What the chosen schedules of routes come to in a dimension.
+pub(crate) fn sums_of(of: &RoutesIn<'_, '_, '_>, timer: &mut Timer) -> Result<Sums, NoMemory>
+    ensures { IfOk result (AreSums of.now.lookups.now.closed.model.now of.now.routes.now.lists of.now.d
+        (length of.now.routes.now.lists)) }
 {
     let mut sums = Sums {
         soft: 0,
         span: 0,
         extent: None,
     };
-    for v in 0..routes.vehicles() {
-        sums = with_vehicle(closed, table, d, routes, v, sums, timer)?;
+    for v in 0..of.routes.vehicles() {
+        sums = with_vehicle(of, v, sums, timer)?;
     }
     Ok(sums)
 }

@@ -3,36 +3,27 @@
 ghost use Rattle.std.specs.Prelude.{◌≡◌, ◌<◌, All, IfOk, IsTrue, count_by, length, nat_le, true};
 ghost use Rattle.std.specs.List.{list_all};
 ghost use Rattle.vr_model.specs.tables.Tables.{is_visit};
-ghost use Rattle.vr_model.specs.routes.Routes.{are_lists, is_distinct};
+ghost use Rattle.vr_model.specs.routes.Routes.{is_distinct};
 ghost use Rattle.vr_model.specs.routes.Rules.{is_open as is_open_of, is_route_open as is_route_open_of};
 ghost use Rattle.vr_model.specs.routes.Rules.{is_valid as is_valid_of};
 ghost use Rattle.vr_routes.specs.Tours.{are_routes_open as are_routes_open_of};
-ghost use Rattle.vr_rules.specs.Placing.{fits_by, AreBuilt, AreMarks};
+ghost use Rattle.vr_rules.specs.Placing.{fits_by, AreBuilt};
 
 use crate::complete::{is_complete, marked};
+use crate::marks::Marked;
 use crate::routes_open::{Driving, is_route_open};
 use vr_model::{Closed, Group, NoMemory};
 use vr_plan::Lookups;
 use vr_routes::Routes;
 
 // Whether each vehicle may drive its list.
-fn are_routes_open(
-    lookups: &Lookups<'_>,
-    routes: &Routes,
-    driving: &mut Driving,
-) -> Result<bool, NoMemory>
-    requires lists { IsTrue (are_lists lookups.now.closed.model.now routes.now.lists) }
-    ensures { IfOk result (λ all. all ≡ are_routes_open_of lookups.now.closed.model.now routes.now.lists) }
+fn are_routes_open(of: &Marked<'_, '_, '_, '_>, driving: &mut Driving) -> Result<bool, NoMemory>
+    ensures { IfOk result (λ all. all
+        ≡ are_routes_open_of of.now.lookups.now.closed.model.now of.now.routes.now.lists) }
 {
+    let routes = of.routes;
     for v in 0..routes.vehicles() {
-        if !is_route_open(
-            lookups.closed.model,
-            lookups.tables(),
-            lookups.nodes(),
-            v,
-            routes.list(v),
-            driving,
-        )? {
+        if !is_route_open(of.lookups, v, routes.list(v), driving)? {
             return Ok(false);
         }
     }
@@ -63,31 +54,24 @@ fn stays_open(
     if is_same(list, other) {
         return Ok(true);
     }
-    let open = is_route_open(
-        lookups.closed.model,
-        lookups.tables(),
-        lookups.nodes(),
-        v,
-        list,
-        driving,
-    )?;
+    let open = is_route_open(lookups, v, list, driving)?;
     Ok(open)
 }
 
 // Whether each vehicle may drive its list, where each may drive its list of others.
 fn are_routes_open_beside(
-    lookups: &Lookups<'_>,
+    of: &Marked<'_, '_, '_, '_>,
     others: &Routes,
-    routes: &Routes,
     driving: &mut Driving,
 ) -> Result<bool, NoMemory>
-    requires others { AreBuilt lookups.now.closed.model.now others.now.lists }
-    requires lists { IsTrue (are_lists lookups.now.closed.model.now routes.now.lists) }
-    ensures { IfOk result (λ all. all ≡ are_routes_open_of lookups.now.closed.model.now routes.now.lists) }
+    requires { AreBuilt of.now.lookups.now.closed.model.now others.now.lists }
+    ensures { IfOk result (λ all. all
+        ≡ are_routes_open_of of.now.lookups.now.closed.model.now of.now.routes.now.lists) }
 {
+    let routes = of.routes;
     for v in 0..routes.vehicles() {
         let (other, list) = (others.list(v), routes.list(v));
-        if !stays_open(lookups, v, other, list, driving)? {
+        if !stays_open(of.lookups, v, other, list, driving)? {
             return Ok(false);
         }
     }
@@ -115,69 +99,48 @@ fn groups_fit(closed: Closed<'_>, marks: &[bool]) -> bool
     true
 }
 
-// Whether routes of the model are open, by the marks of their active nodes.
-pub(crate) fn is_open(
-    lookups: &Lookups<'_>,
-    routes: &Routes,
-    marks: &[bool],
-    driving: &mut Driving,
-) -> Result<bool, NoMemory>
-    requires lists { IsTrue (are_lists lookups.now.closed.model.now routes.now.lists) }
-    requires marks { AreMarks lookups.now.closed.model.now.nodes routes.now.lists marks.now }
-    ensures { IfOk result (λ answer. answer ≡ is_open_of lookups.now.closed.model.now routes.now.lists) }
+// Whether routes of the model are open.
+pub(crate) fn is_open(of: &Marked<'_, '_, '_, '_>, driving: &mut Driving) -> Result<bool, NoMemory>
+    ensures { IfOk result (λ answer. answer ≡ is_open_of of.now.lookups.now.closed.model.now of.now.routes.now.lists) }
 {
-    if !groups_fit(lookups.closed, marks) {
+    if !groups_fit(of.lookups.closed, of.marks) {
         return Ok(false);
     }
-    let all = are_routes_open(lookups, routes, driving)?;
+    let all = are_routes_open(of, driving)?;
     Ok(all)
 }
 
 // The same, where others are open.
 pub(crate) fn is_open_beside(
-    lookups: &Lookups<'_>,
+    of: &Marked<'_, '_, '_, '_>,
     others: &Routes,
-    routes: &Routes,
-    marks: &[bool],
     driving: &mut Driving,
 ) -> Result<bool, NoMemory>
-    requires others { AreBuilt lookups.now.closed.model.now others.now.lists }
-    requires lists { IsTrue (are_lists lookups.now.closed.model.now routes.now.lists) }
-    requires marks { AreMarks lookups.now.closed.model.now.nodes routes.now.lists marks.now }
-    ensures { IfOk result (λ answer. answer ≡ is_open_of lookups.now.closed.model.now routes.now.lists) }
+    requires { AreBuilt of.now.lookups.now.closed.model.now others.now.lists }
+    ensures { IfOk result (λ answer. answer ≡ is_open_of of.now.lookups.now.closed.model.now of.now.routes.now.lists) }
 {
-    if !groups_fit(lookups.closed, marks) {
+    if !groups_fit(of.lookups.closed, of.marks) {
         return Ok(false);
     }
-    let all = are_routes_open_beside(lookups, others, routes, driving)?;
+    let all = are_routes_open_beside(of, others, driving)?;
     Ok(all)
 }
 
-// Whether open routes of the model are valid, by the marks of their active nodes.
-pub(crate) fn is_valid_where_open(lookups: &Lookups<'_>, routes: &Routes, marks: &[bool]) -> bool
-    requires built { AreBuilt lookups.now.closed.model.now routes.now.lists }
-    requires marks { AreMarks lookups.now.closed.model.now.nodes routes.now.lists marks.now }
-    ensures { result ≡ is_valid_of lookups.now.closed.model.now routes.now.lists }
+// Whether open routes of the model are valid.
+pub(crate) fn is_valid_where_open(of: &Marked<'_, '_, '_, '_>) -> bool
+    requires { AreBuilt of.now.lookups.now.closed.model.now of.now.routes.now.lists }
+    ensures { result ≡ is_valid_of of.now.lookups.now.closed.model.now of.now.routes.now.lists }
 {
-    // the marks are those of the routes
-    let _marked = routes;
-    is_complete(lookups.closed.model, lookups.nodes(), marks)
+    is_complete(of.lookups, of.marks)
 }
 
-// Whether routes of the model are valid, by the marks of their active nodes.
-pub(crate) fn is_valid(
-    lookups: &Lookups<'_>,
-    routes: &Routes,
-    marks: &[bool],
-    driving: &mut Driving,
-) -> Result<bool, NoMemory>
-    requires lists { IsTrue (are_lists lookups.now.closed.model.now routes.now.lists) }
-    requires marks { AreMarks lookups.now.closed.model.now.nodes routes.now.lists marks.now }
-    ensures { IfOk result (λ answer. answer ≡ is_valid_of lookups.now.closed.model.now routes.now.lists) }
+// Whether routes of the model are valid.
+pub(crate) fn is_valid(of: &Marked<'_, '_, '_, '_>, driving: &mut Driving) -> Result<bool, NoMemory>
+    ensures { IfOk result (λ answer. answer ≡ is_valid_of of.now.lookups.now.closed.model.now of.now.routes.now.lists) }
 {
-    if !is_complete(lookups.closed.model, lookups.nodes(), marks) {
+    if !is_complete(of.lookups, of.marks) {
         return Ok(false);
     }
-    let valid = is_open(lookups, routes, marks, driving)?;
+    let valid = is_open(of, driving)?;
     Ok(valid)
 }

@@ -8,18 +8,18 @@ use Rattle.vr_rules.proofs.fronts.advance_each.Goals as goal
 
 pub advance-requires-clause-front : goal.advance-requires-clause-front
 advance-requires-clause-front c =
-    (subst (λ front. IsFrontOf c.args.closed.model.now c.loop-d.d c.args.v c.args.list.now front) (sym c.index_mut.ensures.value) (c.loop-d.invariant.left c.loop-d.d c.index_mut.result.now (omega arith) (omega (arith, c.loop-d.invariant.long)))).front_of_list
+    (subst (λ front. IsFrontOf c.args.longer.now.closed.model.now c.loop-d.d c.args.v c.args.longer.now.list.now front) (sym c.index_mut.ensures.value) (c.loop-d.invariant.left c.loop-d.d c.index_mut.result.now (omega arith) (omega (arith, c.loop-d.invariant.long)))).front_of_list
 
 pub loop-d-preserved : goal.loop-d-preserved
 loop-d-preserved c =
-    let model = c.args.closed.model.now in
+    let model = c.args.longer.now.closed.model.now in
     let v = c.args.v in
-    let list = c.args.list.now in
+    let list = c.args.longer.now.list.now in
     let m = c.loop-d.invariant in
     let fronts = c.loop-d.fronts.items in
     let new = c.advance.new.self in
     let here = subst (λ front. IsFrontOf model c.loop-d.d v list front) (sym c.index_mut.ensures.value) (m.left c.loop-d.d c.index_mut.result.now (omega arith) (omega (arith, m.long))) in
-    let Moved = λ (d : ℕ) (front : Front). IsFrontOf model d v (list ++ nodes_of c.args.item) front in
+    let Moved = λ (d : ℕ) (front : Front). IsFrontOf model d v (list ++ nodes_of c.args.longer.now.item) front in
     let Left = λ (d : ℕ) (front : Front). IsFrontOf model d v list front in
     record {
       long = length-set fronts c.loop-d.d new ∙ m.long;

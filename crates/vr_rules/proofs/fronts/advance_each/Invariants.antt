@@ -9,8 +9,8 @@ use Rattle.vr_rules.proofs.fronts.advance_each.Given as goal
 abbrev pub invariant-loop-d : goal.invariant-loop-d
 invariant-loop-d l = record {
   long : length l.fronts.items ≡ length l.initial.fronts.items;
-  moved : (d : ℕ) (other : Front) → d < l.d → d < length l.fronts.items → IsFrontOf l.closed.model.now d l.v (l.list ++ nodes_of l.item) (slice_index_or l.fronts.items d other);
-  left : (d : ℕ) (other : Front) → l.d ≤ d → d < length l.fronts.items → IsFrontOf l.closed.model.now d l.v l.list (slice_index_or l.fronts.items d other);
+  moved : (d : ℕ) (other : Front) → d < l.d → d < length l.fronts.items → IsFrontOf l.longer.closed.model.now d l.v (l.longer.list.now ++ nodes_of l.longer.item) (slice_index_or l.fronts.items d other);
+  left : (d : ℕ) (other : Front) → l.d ≤ d → d < length l.fronts.items → IsFrontOf l.longer.closed.model.now d l.v l.longer.list.now (slice_index_or l.fronts.items d other);
 }
 
 abbrev pub ghosts-advance : goal.ghosts-advance

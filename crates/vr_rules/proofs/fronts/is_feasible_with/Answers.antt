@@ -1,31 +1,30 @@
-use Rattle.std.proofs.Common.{◌∙◌, ◌++◌, ap₂, sym, arith, length}
+use Rattle.std.proofs.Common.{◌≡◌, ◌∙◌, ◌++◌, ap₂, arith}
 use Rattle.vr_model.specs.schedules.Lines.{line}
 use Rattle.vr_model.specs.schedules.Choices.{is_feasible}
 use Rattle.vr_rules.specs.Placing.{nodes_of}
-use Rattle.vr_rules.proofs.OpenLemmas.{one_fails, all_pass_below}
-use Rattle.vr_rules.proofs.FrontLemmas.{front_at, one_more}
+use Rattle.vr_rules.proofs.OpenLemmas.{feasible_ends, feasible_goes_on, feasible_stops}
+use Rattle.vr_rules.proofs.FrontLemmas.{front_at}
+use Rattle.vr_rules.proofs.fronts.is_feasible_with.Goals.{In_ok-feasible_with}
 use Rattle.vr_rules.proofs.fronts.is_feasible_with.Goals as goal
 
 pub feasible_with-requires-clause-front : goal.feasible_with-requires-clause-front
-feasible_with-requires-clause-front c = (front_at c.args.closed.model.now c.args.v c.args.list.now _ c.requires.fronts c.loop-d.d c.index.result.now c.index.ensures (omega arith)).front_of_list
+feasible_with-requires-clause-front c = (front_at c.args.longer.now.closed.model.now c.args.v c.args.longer.now.list.now _ c.requires.fronts c.loop-d.d c.index.result.now c.index.ensures (omega arith)).front_of_list
+
+-- whether the line is feasible in a dimension is what its front tells
+told : (c : In_ok-feasible_with) → c.in_ok-feasible_with.field-0 ≡ is_feasible (line c.args.longer.now.closed.model.now c.loop-d.d c.args.v (c.args.longer.now.list.now ++ nodes_of c.args.longer.now.item))
+told c =
+    let front = front_at c.args.longer.now.closed.model.now c.args.v c.args.longer.now.list.now _ c.requires.fronts c.loop-d.d c.index.result.now c.index.ensures (omega arith) in
+    c.in_ok-feasible_with.ensures ∙ ap₂ (λ d v. is_feasible (line c.args.longer.now.closed.model.now d v (c.args.longer.now.list.now ++ nodes_of c.args.longer.now.item))) front.dimension_is front.vehicle_is
 
 pub returns-then-not-branch : goal.returns-then-not-branch
 returns-then-not-branch c =
-    let model = c.args.closed.model.now in
-    let whole = c.args.list.now ++ nodes_of c.args.item in
-    let here = front_at model c.args.v c.args.list.now _ c.requires.fronts c.loop-d.d c.index.result.now c.index.ensures (omega arith) in
-    let same = ap₂ (λ d v. is_feasible (line model d v whole)) here.dimension_is here.vehicle_is in
-    sym (one_fails (λ d. is_feasible (line model d c.args.v whole)) (length model.dimensions) c.loop-d.d (omega (arith, c.requires.fronts.one_of_each)) (sym same ∙ (sym c.in_ok-feasible_with.ensures ∙ c.if-not-branch.true)))
+    let model = c.args.longer.now.closed.model.now in
+    feasible_stops model c.args.v (c.args.longer.now.list.now ++ nodes_of c.args.longer.now.item) c.loop-d.d c.in_ok-feasible_with.field-0 (omega (arith, c.requires.fronts.one_of_each)) (told (goal.at.returns-then-not-branch c).In_ok-feasible_with) c.if-not-branch.true
 
 pub loop-d-preserved : goal.loop-d-preserved
-loop-d-preserved c = λ d lt.
-    let model = c.args.closed.model.now in
-    let whole = c.args.list.now ++ nodes_of c.args.item in
-    let here = front_at model c.args.v c.args.list.now _ c.requires.fronts c.loop-d.d c.index.result.now c.index.ensures (omega arith) in
-    let same = ap₂ (λ d v. is_feasible (line model d v whole)) here.dimension_is here.vehicle_is in
-    one_more (λ d. is_feasible (line model d c.args.v whole)) c.loop-d.d c.loop-d.invariant (sym same ∙ (sym c.in_ok-feasible_with.ensures ∙ c.if-not-branch.false)) d lt
+loop-d-preserved c =
+    feasible_goes_on c.args.longer.now.closed.model.now c.args.v (c.args.longer.now.list.now ++ nodes_of c.args.longer.now.item) c.loop-d.d c.in_ok-feasible_with.field-0 c.loop-d.invariant (told (goal.at.loop-d-preserved c).In_ok-feasible_with) c.if-not-branch.false
 
 pub returns : goal.returns
 returns c =
-    let model = c.args.closed.model.now in
-    sym (all_pass_below (λ d. is_feasible (line model d c.args.v (c.args.list.now ++ nodes_of c.args.item))) (length model.dimensions) (λ d lt. c.loop-d.invariant d (omega (arith, lt, c.requires.fronts.one_of_each))))
+    feasible_ends c.args.longer.now.closed.model.now c.args.v (c.args.longer.now.list.now ++ nodes_of c.args.longer.now.item) c.loop-d.d (omega (arith, c.requires.fronts.one_of_each)) c.loop-d.invariant

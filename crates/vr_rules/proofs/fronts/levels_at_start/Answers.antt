@@ -5,5 +5,5 @@ use Rattle.vr_rules.proofs.fronts.levels_at_start.Goals as goal
 
 pub returns-clause-reached : goal.returns-clause-reached
 returns-clause-reached c =
-    behind_start c.lines_are_sound.ensures c.args.closed.model.now c.args.closed.well_formed c.args.d c.args.v c.requires.dimension c.requires.vehicle c.start_is_reached.ensures c.in_ok-start.start c.in_ok-levels.levels
+    behind_start c.args.of.now.closed.model.now c.args.of.now.closed.well_formed c.args.of.now.d c.args.of.now.v c.args.of.now.dimension c.args.of.now.vehicle c.in_ok-start.start c.in_ok-levels.levels
     (record { exact = c.in_ok-start.ensures.exact; cumuls = c.in_ok-start.ensures.cumuls }) (subst (λ rows. AreStartLevels c.in_ok-start.start rows c.in_ok-levels.levels) c.requires.breaks c.in_ok-levels.ensures.exact)

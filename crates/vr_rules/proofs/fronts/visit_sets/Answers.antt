@@ -10,9 +10,9 @@ use Rattle.vr_rules.proofs.fronts.visit_sets.Goals as goal
 
 pub loop-node-preserved : goal.loop-node-preserved
 loop-node-preserved c =
-    let model = c.args.closed.model.now in
+    let model = c.args.of.now.closed.model.now in
     let m = c.loop-node.invariant in
-    let P = λ (node : ℕ) (set : List Run). IsTrue (is_visit model node) → IsStopSet model c.args.d c.args.v (Visit node) set in
+    let P = λ (node : ℕ) (set : List Run). IsTrue (is_visit model node) → IsStopSet model c.args.of.now.d c.args.of.now.v (Visit node) set in
     rw c.in_ok-push.ensures.items (record {
       long = length-append c.loop-node.sets.items _ ∙ ap (λ n. n + 1) m.long;
       each = λ node other lt. each_push P c.loop-node.sets.items c.in_ok-visit_set.field-0 m.each (subst (λ n. P n c.in_ok-visit_set.field-0) (sym m.long) c.in_ok-visit_set.ensures) node other lt;

@@ -10,14 +10,14 @@ use Rattle.vr_rules.proofs.sums.may_pay.Goals as goal
 
 pub returns-then-get-ne0 : goal.returns-then-get-ne0
 returns-then-get-ne0 c =
-    let dimension = dimension_at c.args.closed.model.now c.args.d in
+    let dimension = dimension_at c.args.of.now.lookups.now.closed.model.now c.args.of.now.d in
     let same = ap (λ x. x.global_span_cost) (sym (c.get.ensures.value no_dimension)) in
     let some = fails (int_eq dimension.global_span_cost (pos 0)) (λ t. c.if-get-ne0.true (ap (of_z w64) (same ∙ (Decides-int_eq dimension.global_span_cost (pos 0)).0 t))) in
     sym (ap (λ b. not b || may_pay_alone dimension c.args.v c.args.list.now) some)
 
 pub returns : goal.returns
 returns c =
-    let dimension = dimension_at c.args.closed.model.now c.args.d in
+    let dimension = dimension_at c.args.of.now.lookups.now.closed.model.now c.args.of.now.d in
     let none : c.get.result.now.global_span_cost ≡ pos 0 = omega (arith, ints, c.if-get-ne0.false) in
     let zero = (Decides-int_eq dimension.global_span_cost (pos 0)).1 (ap (λ x. x.global_span_cost) (c.get.ensures.value no_dimension) ∙ none) in
     sym (ap₂ (λ a b. not a || b) zero (sym c.may_pay_alone.ensures))

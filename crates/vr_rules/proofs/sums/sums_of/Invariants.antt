@@ -2,4 +2,4 @@ use Rattle.vr_rules.specs.Sums.{AreSums}
 use Rattle.vr_rules.proofs.sums.sums_of.Given as goal
 
 abbrev pub invariant-loop-v : goal.invariant-loop-v
-invariant-loop-v l = AreSums l.closed.model.now l.routes.lists l.d l.v l.sums
+invariant-loop-v l = AreSums l.of.lookups.now.closed.model.now l.of.routes.now.lists l.of.d l.v l.sums

@@ -14,51 +14,51 @@ use Rattle.vr_rules.proofs.SumLemmas.{AreSums-unused, AreSums-unpaid, AreSums-ta
 use Rattle.vr_rules.proofs.sums.with_vehicle.Goals as goal
 
 pub timing_of-requires-clause-visits : goal.timing_of-requires-clause-visits
-timing_of-requires-clause-visits c = ap (list_all (is_visit c.args.closed.model.now)) c.list-list.ensures.value ∙ route-visits c.args.closed.model.now c.args.routes.now.lists c.args.v c.requires.lists
+timing_of-requires-clause-visits c = ap (list_all (is_visit c.args.of.now.lookups.now.closed.model.now)) c.list-list.ensures.value ∙ route-visits c.args.of.now.lookups.now.closed.model.now c.args.of.now.routes.now.lists c.args.v c.args.of.now.lists
 
 pub timing_of-requires-clause-distinct : goal.timing_of-requires-clause-distinct
-timing_of-requires-clause-distinct c = ap is_distinct c.list-list.ensures.value ∙ route-distinct c.args.closed.model.now c.args.routes.now.lists c.args.v c.requires.lists
+timing_of-requires-clause-distinct c = ap is_distinct c.list-list.ensures.value ∙ route-distinct c.args.of.now.lookups.now.closed.model.now c.args.of.now.routes.now.lists c.args.v c.args.of.now.lists
 
 pub may_pay-requires-clause-visits : goal.may_pay-requires-clause-visits
-may_pay-requires-clause-visits c = ap (list_all (is_visit c.args.closed.model.now)) c.list-list.ensures.value ∙ route-visits c.args.closed.model.now c.args.routes.now.lists c.args.v c.requires.lists
+may_pay-requires-clause-visits c = ap (list_all (is_visit c.args.of.now.lookups.now.closed.model.now)) c.list-list.ensures.value ∙ route-visits c.args.of.now.lookups.now.closed.model.now c.args.of.now.routes.now.lists c.args.v c.args.of.now.lists
 
 pub returns-then-is_empty : goal.returns-then-is_empty
 returns-then-is_empty c =
-    let lists = c.args.routes.now.lists in
-    AreSums-unused c.args.closed.model.now lists c.args.d c.args.v c.requires.vehicle c.args.sums c.requires.sums
+    let lists = c.args.of.now.routes.now.lists in
+    AreSums-unused c.args.of.now.lookups.now.closed.model.now lists c.args.of.now.d c.args.v c.requires.vehicle c.args.sums c.requires.sums
     (empty_where (route lists c.args.v) (ap length (sym c.list-list.ensures.value) ∙ none_from_test _ _ c.if-is_empty.true c.is_empty.ensures))
 
 pub returns-then-not-may_pay : goal.returns-then-not-may_pay
 returns-then-not-may_pay c =
-    let lists = c.args.routes.now.lists in
+    let lists = c.args.of.now.routes.now.lists in
     let v = c.args.v in
-    AreSums-unpaid c.args.closed.model.now lists c.args.d v c.requires.vehicle c.args.sums c.requires.sums
+    AreSums-unpaid c.args.of.now.lookups.now.closed.model.now lists c.args.of.now.d v c.requires.vehicle c.args.sums c.requires.sums
     (not_empty (route lists v) (subst (λ list. 0 < length list) c.list-list.ensures.value (some_from_test _ _ c.if-is_empty.false c.is_empty.ensures)))
-    (subst (PaysNothingToo (dimension_at c.args.closed.model.now c.args.d) v) c.list-list.ensures.value (pays_nothing_too (dimension_at c.args.closed.model.now c.args.d) v c.list-list.result.now (sym c.may_pay.ensures ∙ c.if-not-may_pay.true)))
+    (subst (PaysNothingToo (dimension_at c.args.of.now.lookups.now.closed.model.now c.args.of.now.d) v) c.list-list.ensures.value (pays_nothing_too (dimension_at c.args.of.now.lookups.now.closed.model.now c.args.of.now.d) v c.list-list.result.now (sym c.may_pay.ensures ∙ c.if-not-may_pay.true)))
 
 pub with_timing-requires-clause-bound : goal.with_timing-requires-clause-bound
 with_timing-requires-clause-bound c =
-    let model = c.args.closed.model.now in
-    let lists = c.args.routes.now.lists in
-    let few = are_lists-count model lists c.requires.lists in
-    let visits = visits-bound model lists c.args.v c.requires.lists in
+    let model = c.args.of.now.lookups.now.closed.model.now in
+    let lists = c.args.of.now.routes.now.lists in
+    let few = are_lists-count model lists c.args.of.now.lists in
+    let visits = visits-bound model lists c.args.v c.args.of.now.lists in
     let b = c.requires.sums.soft_bound in
     let low = c.requires.vehicle in
-    omega (arith, ints, b, few, visits, low, c.args.closed.well_formed.number_of_nodes.1, c.args.closed.well_formed.number_of_vehicles.at_most)
+    omega (arith, ints, b, few, visits, low, c.args.of.now.lookups.now.closed.well_formed.number_of_nodes.1, c.args.of.now.lookups.now.closed.well_formed.number_of_vehicles.at_most)
 
 pub with_timing-requires-clause-span : goal.with_timing-requires-clause-span
 with_timing-requires-clause-span c =
-    let few = are_lists-count c.args.closed.model.now c.args.routes.now.lists c.requires.lists in
-    let many = c.args.closed.well_formed.number_of_vehicles.at_most in
+    let few = are_lists-count c.args.of.now.lookups.now.closed.model.now c.args.of.now.routes.now.lists c.args.of.now.lists in
+    let many = c.args.of.now.lookups.now.closed.well_formed.number_of_vehicles.at_most in
     let low = c.requires.vehicle in
     let s = c.requires.sums.span_in_range in
     record { low = (let l = s.low in omega (arith, ints, l, few, many, low)); high = (let h = s.high in omega (arith, ints, h, few, many, low)) }
 
 pub returns : goal.returns
 returns c =
-    let model = c.args.closed.model.now in
-    let lists = c.args.routes.now.lists in
-    let d = c.args.d in
+    let model = c.args.of.now.lookups.now.closed.model.now in
+    let lists = c.args.of.now.routes.now.lists in
+    let d = c.args.of.now.d in
     let v = c.args.v in
     let timing = c.in_ok-timing.timing in
     let list : c.list-list.result.now ≡ route lists v = c.list-list.ensures.value in

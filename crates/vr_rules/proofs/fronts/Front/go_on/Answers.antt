@@ -2,19 +2,12 @@ use Rattle.std.proofs.Common.{◌∙◌, ◌++◌, ◌∷◌, [], append_assoc, 
 use Rattle.vr_model.specs.tables.Tables.{vehicle_at}
 use Rattle.vr_steps.specs.Lines.{hop_between}
 use Rattle.vr_rules.specs.Fronts.{AreReachedBehind}
-use Rattle.vr_rules.proofs.FrontLemmas.{behind_visit, last_behind, visit_set_at}
+use Rattle.vr_rules.proofs.FrontLemmas.{behind_visit, last_behind, to_visit, visit_set_at}
 use Rattle.vr_rules.proofs.fronts.Front.go_on.Goals as goal
 
 pub step-requires : goal.step-requires
 step-requires g c =
-    let front = c.requires.front in
-    record {
-      each_break = front.each_break;
-      few_breaks = front.few_breaks;
-      form = c.requires.form;
-      arc = c.hop-arc.ensures.sound;
-      cumuls = (visit_set_at c.args.closed.model.now _ _ _ front.visits c.args.node c.index-next.result.now c.index-next.ensures c.requires.visit).cumuls;
-    }
+    to_visit c.args.closed.model.now c.args.list.now c.args.self.now c.requires.front c.args.walk.now c.hop-arc.result c.args.node c.index-next.result.now c.requires.form c.hop-arc.ensures.sound c.index-next.ensures c.requires.visit
 
 pub returns-clause-reached : goal.returns-clause-reached
 returns-clause-reached g c =
@@ -26,5 +19,5 @@ returns-clause-reached g c =
     let set = visit_set_at model d v _ front.visits c.args.node c.index-next.result.now c.index-next.ensures c.requires.visit in
     let arc = c.hop-arc.ensures.exact ∙ ap (λ origin. hop_between model d v origin c.args.node) (sym (last_behind (vehicle_at model v).start c.args.list.now (c.args.before ∷ []))) in
     subst (λ list. AreReachedBehind model d v list c.step.new.self) (append_assoc c.args.list.now (c.args.before ∷ []) (c.args.node ∷ []))
-    (behind_visit c.lines_are_sound.ensures model c.args.closed.well_formed d v front.dimension front.vehicle c.reached_behind_arc.ensures before c.args.walk.now c.step.new.self c.hop-arc.result c.index-next.result.now
+    (behind_visit model c.args.closed.well_formed d v front.dimension front.vehicle before c.args.walk.now c.step.new.self c.hop-arc.result c.index-next.result.now
     c.args.self.now.breaks c.requires.here front.breaks c.in_ok-step.ensures.exact c.args.node arc set)

@@ -1,18 +1,11 @@
 use Rattle.std.proofs.Common.{◌∙◌, ap}
 use Rattle.vr_steps.specs.Lines.{hop_between}
-use Rattle.vr_rules.proofs.FrontLemmas.{behind_visit, tail_is, visit_set_at}
+use Rattle.vr_rules.proofs.FrontLemmas.{behind_visit, tail_is, to_visit, visit_set_at}
 use Rattle.vr_rules.proofs.fronts.Front.leave.Goals as goal
 
 pub leave-requires : goal.leave-requires
 leave-requires g c =
-    let front = c.requires.front in
-    record {
-      each_break = front.each_break;
-      few_breaks = front.few_breaks;
-      form = front.form;
-      arc = c.hop-arc.ensures.sound;
-      cumuls = (visit_set_at c.args.closed.model.now _ _ _ front.visits c.args.node c.index-next.result.now c.index-next.ensures c.requires.visit).cumuls;
-    }
+    to_visit c.args.closed.model.now c.args.list.now c.args.self.now c.requires.front c.args.self.now.here c.hop-arc.result c.args.node c.index-next.result.now c.requires.front.form c.hop-arc.ensures.sound c.index-next.ensures c.requires.visit
 
 pub returns-clause-reached : goal.returns-clause-reached
 returns-clause-reached g c =
@@ -23,5 +16,5 @@ returns-clause-reached g c =
     let front = c.requires.front in
     let set = visit_set_at model d v _ front.visits c.args.node c.index-next.result.now c.index-next.ensures c.requires.visit in
     let arc = c.hop-arc.ensures.exact ∙ ap (λ origin. hop_between model d v origin c.args.node) (c.last_stop-origin.ensures ∙ tail_is model v list) in
-    behind_visit c.lines_are_sound.ensures model c.args.closed.well_formed d v front.dimension front.vehicle c.reached_behind_arc.ensures list c.args.self.now.here c.leave.new.self c.hop-arc.result c.index-next.result.now
+    behind_visit model c.args.closed.well_formed d v front.dimension front.vehicle list c.args.self.now.here c.leave.new.self c.hop-arc.result c.index-next.result.now
     c.args.self.now.breaks front.reached front.breaks c.in_ok-leave.ensures.exact c.args.node arc set

@@ -2,8 +2,8 @@ use Rattle.vr_rules.specs.Placing.{nodes_of}
 use Rattle.vr_rules.proofs.FrontLemmas.{visits_after, visits_before}
 use Rattle.vr_rules.proofs.fronts.Fronts.append.Goals as goal
 
-pub advance_each-requires-clause-visits : goal.advance_each-requires-clause-visits
-advance_each-requires-clause-visits c = visits_before c.args.model.now c.args.list.now (nodes_of c.args.item) c.requires.driven.visits
-
-pub advance_each-requires-clause-item : goal.advance_each-requires-clause-item
-advance_each-requires-clause-item c = visits_after c.args.model.now c.args.list.now (nodes_of c.args.item) c.requires.driven.visits
+pub invariant_of-longer : goal.invariant_of-longer
+invariant_of-longer c =
+    let model = c.args.closed.model.now in
+    let nodes = nodes_of c.args.item in
+    record { visits = visits_before model c.args.list.now nodes c.requires.driven.visits; item_visits = visits_after model c.args.list.now nodes c.requires.driven.visits }
