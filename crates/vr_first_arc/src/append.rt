@@ -4,7 +4,7 @@ ghost use Rattle.std.specs.Prelude.{◌≡◌, ◌++◌, IfOk, OnOk};
 ghost use Rattle.vr_rules.specs.Fronts.{IsDriven};
 ghost use Rattle.vr_rules.specs.Placing.{nodes_of};
 ghost use Rattle.vr_first_arc.specs.Choices.{may_append as may_append_of};
-ghost use Rattle.vr_first_arc.specs.Growing.{IsGrowing};
+ghost use Rattle.vr_first_arc.specs.Growing.{filling_model, IsGrowing};
 
 use crate::growing::Growing;
 use vr_model::{NoMemory, Seq};
@@ -25,18 +25,22 @@ pub(crate) fn append(list: &mut Seq<u32>, item: Item) -> Result<(), NoMemory>
 }
 
 // Whether the vehicle may drive its list with an item at the end, and the groups have room for the item.
-pub(crate) fn may_append(growing: &Growing, room: &mut Room, item: Item) -> Result<bool, NoMemory>
+pub(crate) fn may_append(
+    growing: &Growing<'_, '_, '_, '_>,
+    room: &mut Room,
+    item: Item,
+) -> Result<bool, NoMemory>
     requires growing { IsGrowing growing.now }
-    requires longer { IsDriven growing.now.filling.model.now (growing.now.list.now ++ nodes_of item) }
-    ensures { IfOk result (λ may. may
-        ≡ may_append_of growing.now.filling.model.now growing.now.v growing.now.list.now growing.now.marks.now item) }
+    requires longer { IsDriven (filling_model growing.now.filling) (growing.now.list.now ++ nodes_of item) }
+    ensures { IfOk result (λ may. may ≡ may_append_of (filling_model growing.now.filling) growing.now.v
+        growing.now.list.now growing.now.marks.now item) }
 {
-    let (model, lookups) = (growing.filling.model, growing.filling.lookups);
+    let lookups = growing.filling.lookups;
     if !growing
         .fronts
-        .may_append(room, model, lookups, growing.v, growing.list, item)?
+        .may_append(room, lookups, growing.v, growing.list, item)?
     {
         return Ok(false);
     }
-    Ok(groups_have_room(model, lookups, growing.marks, item))
+    Ok(groups_have_room(lookups, growing.marks, item))
 }

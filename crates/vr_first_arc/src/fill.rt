@@ -7,7 +7,7 @@ ghost use Rattle.vr_model.specs.first.PathCheapestArc.{appended, filled, next_ap
 ghost use Rattle.vr_rules.specs.Placing.{nodes_of, is_marked, AreBuilt, AreMarks};
 ghost use Rattle.vr_first_arc.specs.Choices.{all_filled, chosen_beside, key_of, may_append as may_append_of};
 ghost use Rattle.vr_first_arc.specs.Choices.{MayBeAppended};
-ghost use Rattle.vr_first_arc.specs.Growing.{IsFilling, IsGrowing};
+ghost use Rattle.vr_first_arc.specs.Growing.{filling_model, IsFilling, IsGrowing};
 ghost use Rattle.vr_rules.specs.Fronts.{AreFrontsOf, IsDriven};
 ghost use Rattle.vr_model.specs.routes.Routes.{route};
 
@@ -19,14 +19,14 @@ use vr_rules::{Candidate, Fronts, Item, Room, last_stop, mark_item};
 
 // The better of the best choice so far and another, which is tested only where it improves.
 fn consider(
-    growing: &Growing,
+    growing: &Growing<'_, '_, '_, '_>,
     room: &mut Room,
     next: Choice,
     best: Option<Choice>,
 ) -> Result<Option<Choice>, NoMemory>
     requires growing { IsGrowing growing.now }
-    requires longer { IsDriven growing.now.filling.model.now (growing.now.list.now ++ nodes_of next.item) }
-    ensures { IfOk result (λ chosen. chosen ≡ cond (may_append_of growing.now.filling.model.now growing.now.v
+    requires longer { IsDriven (filling_model growing.now.filling) (growing.now.list.now ++ nodes_of next.item) }
+    ensures { IfOk result (λ chosen. chosen ≡ cond (may_append_of (filling_model growing.now.filling) growing.now.v
         growing.now.list.now growing.now.marks.now next.item) (better key_of best next) best) }
 {
     if !improves(best, next) {
@@ -41,23 +41,24 @@ fn consider(
 
 // The better of the best choice so far and a candidate, which counts only where its first node is not marked.
 fn consider_candidate(
-    growing: &Growing,
+    growing: &Growing<'_, '_, '_, '_>,
     room: &mut Room,
     candidate: Candidate,
     best: Option<Choice>,
 ) -> Result<Option<Choice>, NoMemory>
     requires growing { IsGrowing growing.now }
-    requires first { first_node (nodes_of candidate.item) < growing.now.filling.model.now.nodes }
+    requires first { first_node (nodes_of candidate.item) < (filling_model growing.now.filling).nodes }
     requires longer { is_marked growing.now.marks.now (first_node (nodes_of candidate.item)) ≡ false
-        → IsDriven growing.now.filling.model.now (growing.now.list.now ++ nodes_of candidate.item) }
-    ensures { IfOk result (λ chosen. chosen ≡ chosen_beside growing.now.filling.model.now growing.now.v
+        → IsDriven (filling_model growing.now.filling) (growing.now.list.now ++ nodes_of candidate.item) }
+    ensures { IfOk result (λ chosen. chosen ≡ chosen_beside (filling_model growing.now.filling) growing.now.v
         growing.now.list.now growing.now.marks.now candidate best) }
 {
     let number = candidate.item.number();
     if growing.marks[number as usize] {
         return Ok(best);
     }
-    let (model, v) = (growing.filling.model, growing.v);
+    let lookups = growing.filling.lookups;
+    let (model, v) = (lookups.closed.model, growing.v);
     let next = Choice {
         item: candidate.item,
         class: candidate.class,
@@ -69,7 +70,7 @@ fn consider_candidate(
 
 // The item to append next to the list of vehicle `v`, if any may be appended.
 fn next_item(
-    filling: &Filling,
+    filling: &Filling<'_, '_, '_>,
     v: u32,
     fronts: &Fronts,
     room: &mut Room,
@@ -78,11 +79,12 @@ fn next_item(
 ) -> Result<Option<Item>, NoMemory>
     requires filling { IsFilling filling.now }
     requires vehicle { v < length lists.now }
-    requires built { AreBuilt filling.now.model.now lists.now }
-    requires fronts { AreFrontsOf filling.now.model.now v (route lists.now v) fronts.now }
-    requires marks { AreMarks filling.now.model.now.nodes lists.now marks.now }
-    ensures next { IfOk result (λ next. option_map nodes_of next ≡ next_appended filling.now.model.now lists.now v) }
-    ensures may { IfOk result (λ next. IfSome next (MayBeAppended filling.now.model.now lists.now v)) }
+    requires built { AreBuilt (filling_model filling.now) lists.now }
+    requires fronts { AreFrontsOf (filling_model filling.now) v (route lists.now v) fronts.now }
+    requires marks { AreMarks (filling_model filling.now).nodes lists.now marks.now }
+    ensures next { IfOk result (λ next. option_map nodes_of next
+        ≡ next_appended (filling_model filling.now) lists.now v) }
+    ensures may { IfOk result (λ next. IfSome next (MayBeAppended (filling_model filling.now) lists.now v)) }
 {
     let list = lists[v as usize].as_slice();
     let growing = Growing {
@@ -124,7 +126,7 @@ fn place(
     ensures fronts { OnOk result (AreFrontsOf closed.entry.model.now v
         (route lists.old v ++ nodes_of item) fronts.new) }
 {
-    fronts.append(room, closed.model, v, lists[v as usize].as_slice(), item)?;
+    fronts.append(room, closed, v, lists[v as usize].as_slice(), item)?;
     append(&mut lists[v as usize], item)?;
     Ok(())
 }
@@ -132,7 +134,7 @@ fn place(
 // Appends items to the list of vehicle `v`, as long as one may be appended: each time the one of the least class, the
 // cheapest arc to it, and the least number.
 fn fill(
-    filling: &Filling,
+    filling: &Filling<'_, '_, '_>,
     v: u32,
     fronts: &mut Fronts,
     room: &mut Room,
@@ -141,27 +143,18 @@ fn fill(
 ) -> Result<(), NoMemory>
     requires filling { IsFilling filling.now }
     requires vehicle { v < length lists.now }
-    requires fronts { AreFrontsOf filling.now.model.now v (route lists.now v) fronts.old }
-    requires built { AreBuilt filling.now.model.now lists.now }
-    requires marks { AreMarks filling.now.model.now.nodes lists.now marks.now }
+    requires fronts { AreFrontsOf (filling_model filling.now) v (route lists.now v) fronts.old }
+    requires built { AreBuilt (filling_model filling.now) lists.now }
+    requires marks { AreMarks (filling_model filling.now).nodes lists.now marks.now }
     ensures filled { OnOk result (lists.new
-        ≡ filled filling.now.model.now v (length (items filling.now.model.now)) lists.old) }
-    ensures built { OnOk result (AreBuilt filling.now.model.now lists.new) }
-    ensures marked { OnOk result (AreMarks filling.now.model.now.nodes lists.new marks.new) }
+        ≡ filled (filling_model filling.now) v (length (items (filling_model filling.now))) lists.old) }
+    ensures built { OnOk result (AreBuilt (filling_model filling.now) lists.new) }
+    ensures marked { OnOk result (AreMarks (filling_model filling.now).nodes lists.new marks.new) }
 {
     for _step in 0..filling.candidates.len() {
         match next_item(filling, v, fronts, room, marks, lists)? {
             Some(item) => {
-                place(
-                    fronts,
-                    room,
-                    Closed {
-                        model: filling.model,
-                    },
-                    v,
-                    lists,
-                    item,
-                )?;
+                place(fronts, room, filling.lookups.closed, v, lists, item)?;
                 mark_item(marks, item);
             }
             None => return Ok(()),
@@ -172,7 +165,7 @@ fn fill(
 
 // The same with fronts of its own.
 fn fill_from_start(
-    filling: &Filling,
+    filling: &Filling<'_, '_, '_>,
     v: u32,
     room: &mut Room,
     lists: &mut [Seq<u32>],
@@ -180,14 +173,15 @@ fn fill_from_start(
 ) -> Result<(), NoMemory>
     requires filling { IsFilling filling.now }
     requires vehicle { v < length lists.now }
-    requires built { AreBuilt filling.now.model.now lists.now }
-    requires marks { AreMarks filling.now.model.now.nodes lists.now marks.now }
+    requires built { AreBuilt (filling_model filling.now) lists.now }
+    requires marks { AreMarks (filling_model filling.now).nodes lists.now marks.now }
     ensures filled { OnOk result (lists.new
-        ≡ filled filling.now.model.now v (length (items filling.now.model.now)) lists.old) }
-    ensures built { OnOk result (AreBuilt filling.now.model.now lists.new) }
-    ensures marked { OnOk result (AreMarks filling.now.model.now.nodes lists.new marks.new) }
+        ≡ filled (filling_model filling.now) v (length (items (filling_model filling.now))) lists.old) }
+    ensures built { OnOk result (AreBuilt (filling_model filling.now) lists.new) }
+    ensures marked { OnOk result (AreMarks (filling_model filling.now).nodes lists.new marks.new) }
 {
-    let mut fronts = Fronts::open(room, filling.model, v, lists[v as usize].as_slice())?;
+    let list = lists[v as usize].as_slice();
+    let mut fronts = Fronts::open(room, filling.lookups.closed, v, list)?;
     fill(filling, v, &mut fronts, room, lists, marks)
 }
 
@@ -195,20 +189,21 @@ fn fill_from_start(
 //
 // After want of memory nothing is said of the lists.
 pub(crate) fn fill_all(
-    filling: &Filling,
+    filling: &Filling<'_, '_, '_>,
     room: &mut Room,
     lists: &mut [Seq<u32>],
     marks: &mut [bool],
 ) -> Result<(), NoMemory>
     requires filling { IsFilling filling.now }
-    requires built { AreBuilt filling.now.model.now lists.now }
-    requires marks { AreMarks filling.now.model.now.nodes lists.now marks.now }
+    requires built { AreBuilt (filling_model filling.now) lists.now }
+    requires marks { AreMarks (filling_model filling.now).nodes lists.now marks.now }
     ensures filled { OnOk result (lists.new
-        ≡ all_filled filling.now.model.now (length filling.now.model.now.vehicles) lists.old) }
-    ensures built { OnOk result (AreBuilt filling.now.model.now lists.new) }
-    ensures marked { OnOk result (AreMarks filling.now.model.now.nodes lists.new marks.new) }
+        ≡ all_filled (filling_model filling.now) (length (filling_model filling.now).vehicles) lists.old) }
+    ensures built { OnOk result (AreBuilt (filling_model filling.now) lists.new) }
+    ensures marked { OnOk result (AreMarks (filling_model filling.now).nodes lists.new marks.new) }
 {
-    for v in 0..filling.model.vehicles.len() {
+    let lookups = filling.lookups;
+    for v in 0..lookups.closed.model.vehicles.len() {
         fill_from_start(filling, v as u32, room, lists, marks)?;
     }
     Ok(())

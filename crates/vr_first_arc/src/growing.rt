@@ -1,25 +1,23 @@
 //! What lists are filled by, and a list at whose end items are put.
 
-use vr_lists::NodeTables;
-use vr_model::Model;
+use vr_plan::Lookups;
 use vr_rules::{Candidate, Fronts};
 
-// What lists are filled by: the model, what was looked up of it, and its items.
+// What lists are filled by: what was looked up of the model, and its items.
 #[derive(Clone, Copy)]
-pub(crate) struct Filling<'a> {
-    pub(crate) model: &'a Model,
-    pub(crate) lookups: &'a NodeTables<'a>,
-    pub(crate) candidates: &'a [Candidate],
+pub(crate) struct Filling<'l, 'm, 'c> {
+    pub(crate) lookups: &'l Lookups<'m>,
+    pub(crate) candidates: &'c [Candidate],
 }
 
 // The list of a vehicle at whose end an item may be put.
 #[derive(Clone, Copy)]
-pub(crate) struct Growing<'a> {
-    pub(crate) filling: Filling<'a>,
+pub(crate) struct Growing<'l, 'm, 'c, 'k> {
+    pub(crate) filling: Filling<'l, 'm, 'c>,
     pub(crate) v: u32,
-    pub(crate) list: &'a [u32],
+    pub(crate) list: &'k [u32],
     // what the list reaches at its end
-    pub(crate) fronts: &'a Fronts,
+    pub(crate) fronts: &'k Fronts,
     // which nodes stand in lists
-    pub(crate) marks: &'a [bool],
+    pub(crate) marks: &'k [bool],
 }

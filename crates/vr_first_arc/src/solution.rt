@@ -11,29 +11,26 @@ ghost use Rattle.vr_rules.specs.Placing.{lists_in, AreBuilt, AreCandidates};
 use crate::fill::fill_all;
 use crate::growing::Filling;
 use std::alloc::Global;
-use vr_lists::NodeTables;
 use vr_model::{Closed, Model, NoMemory, Seq};
+use vr_plan::Lookups;
 use vr_routes::Routes;
 use vr_rules::{Candidate, Room, candidates, complete_routes, empty_lists};
 
 // Fills empty lists with items of the model.
 fn fill_empty(
     alloc: Global,
-    closed: Closed<'_>,
-    lookups: &NodeTables<'_>,
+    lookups: &Lookups<'_>,
     candidates: &[Candidate],
     lists: &mut [Seq<u32>],
 ) -> Result<(), NoMemory>
-    requires lookups { lookups.now ≡ closed.model.now }
-    requires candidates { AreCandidates closed.model.now candidates.now }
-    requires empty { lists.now ≡ empty_lists_of closed.model.now }
-    ensures lists { OnOk result (lists.new ≡ path_cheapest_arc closed.entry.model.now) }
-    ensures built { OnOk result (AreBuilt closed.entry.model.now lists.new) }
+    requires candidates { AreCandidates lookups.now.closed.model.now candidates.now }
+    requires empty { lists.now ≡ empty_lists_of lookups.now.closed.model.now }
+    ensures lists { OnOk result (lists.new ≡ path_cheapest_arc lookups.now.closed.model.now) }
+    ensures built { OnOk result (AreBuilt lookups.now.closed.model.now lists.new) }
 {
-    let mut marks = vec![in alloc; false; closed.model.nodes as usize]?;
+    let mut marks = vec![in alloc; false; lookups.closed.model.nodes as usize]?;
     let mut room = Room::new(alloc);
     let filling = Filling {
-        model: closed.model,
         lookups,
         candidates,
     };
@@ -41,35 +38,26 @@ fn fill_empty(
 }
 
 // The lists at which the construction ends.
-fn filled_lists(
-    alloc: Global,
-    closed: Closed<'_>,
-    lookups: &NodeTables<'_>,
-) -> Result<Vec<Seq<u32>>, NoMemory>
-    requires lookups { lookups.now ≡ closed.model.now }
-    ensures lists { IfOk result (λ lists. lists.items ≡ path_cheapest_arc closed.entry.model.now) }
-    ensures built { IfOk result (λ lists. AreBuilt closed.entry.model.now lists.items) }
+fn filled_lists(alloc: Global, lookups: &Lookups<'_>) -> Result<Vec<Seq<u32>>, NoMemory>
+    ensures lists { IfOk result (λ lists. lists.items ≡ path_cheapest_arc lookups.now.closed.model.now) }
+    ensures built { IfOk result (λ lists. AreBuilt lookups.now.closed.model.now lists.items) }
 {
-    let candidates = candidates(alloc, lookups)?;
-    let mut lists = empty_lists(alloc, closed.model)?;
-    fill_empty(alloc, closed, lookups, &candidates, &mut lists)?;
+    let candidates = candidates(alloc, lookups.nodes())?;
+    let mut lists = empty_lists(alloc, lookups.closed.model)?;
+    fill_empty(alloc, lookups, &candidates, &mut lists)?;
     Ok(lists)
 }
 
-// The first solution, over what was looked up.
-fn first_over(
-    alloc: Global,
-    closed: Closed<'_>,
-    lookups: &NodeTables<'_>,
-) -> Result<Option<Routes>, NoMemory>
-    requires lookups { lookups.now ≡ closed.model.now }
-    ensures first { IfOk result (λ first. lists_in first
-        ≡ cond (is_valid closed.entry.model.now (path_cheapest_arc closed.entry.model.now))
-        (Some (path_cheapest_arc closed.entry.model.now)) None) }
-    ensures visits { IfOk result (λ first. IfSome first (λ routes. routes.visits ≡ visits closed.entry.model.now)) }
+/// The first solution, as `first` gives it, over what was looked up of the model.
+pub fn first_over(alloc: Global, lookups: &Lookups<'_>) -> Result<Option<Routes>, NoMemory>
+    ensures first { IfOk result (λ first. lists_in first ≡ cond
+        (is_valid lookups.now.closed.model.now (path_cheapest_arc lookups.now.closed.model.now))
+        (Some (path_cheapest_arc lookups.now.closed.model.now)) None) }
+    ensures visits { IfOk result (λ first.
+        IfSome first (λ routes. routes.visits ≡ visits lookups.now.closed.model.now)) }
 {
-    let lists = filled_lists(alloc, closed, lookups)?;
-    complete_routes(alloc, closed.model, lookups, &lists)
+    let lists = filled_lists(alloc, lookups)?;
+    complete_routes(alloc, lookups, &lists)
 }
 
 /// The first solution of a model (`PATH_CHEAPEST_ARC` in OR-Tools): vehicle after vehicle, items are appended to its
@@ -83,6 +71,6 @@ pub fn first(alloc: Global, model: &Model) -> Result<Option<Routes>, NoMemory>
         ≡ cond (is_valid model.now (path_cheapest_arc model.now)) (Some (path_cheapest_arc model.now)) None) }
     ensures visits { IfOk result (λ first. IfSome first (λ routes. routes.visits ≡ visits model.now)) }
 {
-    let lookups = NodeTables::open(alloc, model)?;
-    first_over(alloc, Closed { model }, &lookups)
+    let lookups = Lookups::open(alloc, Closed { model })?;
+    first_over(alloc, &lookups)
 }

@@ -125,15 +125,15 @@ ahead-read model v list node k ahead x are read within =
     subst (IsLeastAhead model v list node k) (sym fits) is
 
 -- what code reads of all places
-pub all-read : (list : VehicleList) (node : ℕ) (ahead : List ℤ) (x : ℤ) → AreLeastAhead list.closed.model.now list.vehicle list.nodes.now node ahead → slice_index_or ahead (length list.nodes.now) (pos 0) ≡ x
-    → IsLeastIncrease list.closed.model.now list.vehicle list.nodes.now node (to_z w64 (of_z w64 x))
+pub all-read : (list : VehicleList) (node : ℕ) (ahead : List ℤ) (x : ℤ) → AreLeastAhead list.lookups.now.closed.model.now list.vehicle list.nodes.now node ahead → slice_index_or ahead (length list.nodes.now) (pos 0) ≡ x
+    → IsLeastIncrease list.lookups.now.closed.model.now list.vehicle list.nodes.now node (to_z w64 (of_z w64 x))
 all-read list node ahead x are read =
-    let is = ahead-read list.closed.model.now list.vehicle list.nodes.now node (length list.nodes.now) ahead x are read (omega arith) in
+    let is = ahead-read list.lookups.now.closed.model.now list.vehicle list.nodes.now node (length list.nodes.now) ahead x are read (omega arith) in
     record { adds = λ t within. is.behind t (omega arith) within; small = record { low = is.low; high = is.high } }
 
 -- the least of all places, as code hands it on
-pub least-read : (list : VehicleList) (node : ℕ) (x : ℤ) → IsLeast list.closed.model.now list.vehicle list.nodes.now node x → neg_ℤ (pos (2 ^ 40)) ≤ℤ x → x ≤ℤ pos (2 ^ 41)
-    → IsLeastIncrease list.closed.model.now list.vehicle list.nodes.now node (to_z w64 (of_z w64 x))
+pub least-read : (list : VehicleList) (node : ℕ) (x : ℤ) → IsLeast list.lookups.now.closed.model.now list.vehicle list.nodes.now node x → neg_ℤ (pos (2 ^ 40)) ≤ℤ x → x ≤ℤ pos (2 ^ 41)
+    → IsLeastIncrease list.lookups.now.closed.model.now list.vehicle list.nodes.now node (to_z w64 (of_z w64 x))
 least-read list node x is low high =
     let fits : to_z w64 (of_z w64 x) ≡ x = omega (arith, ints, low, high) in
-    subst (IsLeastIncrease list.closed.model.now list.vehicle list.nodes.now node) (sym fits) (record { adds = is; small = record { low = low; high = high } })
+    subst (IsLeastIncrease list.lookups.now.closed.model.now list.vehicle list.nodes.now node) (sym fits) (record { adds = is; small = record { low = low; high = high } })

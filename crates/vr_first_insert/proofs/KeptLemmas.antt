@@ -2,6 +2,7 @@
 use Rattle.std.proofs.Common.{◌≡◌, ◌∙◌, ◌<◌, ◌+◌, ℕ, zero, suc, List, [], Bool, true, false, Option, refl, ap, sym, subst, inl, inr, arith, length, length-set}
 use Rattle.std.specs.Prelude.{map, not, replicate, slice_index_or, slice_set}
 use Rattle.std.specs.List.{list_all}
+use Rattle.std.proofs.lemmas.Bool.{cases_lt}
 use Rattle.std.proofs.lemmas.Bool.Decides.{eqb_tells}
 use Rattle.std.proofs.lemmas.List.{get_or-set_same, get_or-set_other}
 use Rattle.vr_model.specs.tables.Numbers.{from_to}
@@ -77,16 +78,10 @@ row-written model lists candidates rows v row are is = record {
 
 -- one candidate more is forgotten
 pub nothing-more : (row : List Known) (i : ℕ) → i < length row → ((k : ℕ) → k < i → slice_index_or row k Nothing ≡ Nothing) → (k : ℕ) → k < i + 1 → slice_index_or (slice_set row i Nothing) k Nothing ≡ Nothing
-nothing-more row i there done k low = elim (eqb_tells k i) [
-  | inl same ↦ subst (λ j. slice_index_or (slice_set row i Nothing) j Nothing ≡ Nothing) (sym same.1) (get_or-set_same row i Nothing Nothing there)
-  | inr other ↦ get_or-set_other row i k Nothing Nothing other.1 ∙ done k (less-of k i low other.1)
+nothing-more row i there done k low = elim (cases_lt k i) [
+  | inl earlier ↦ get_or-set_other row i k Nothing Nothing (λ e. omega (arith, earlier, e)) ∙ done k earlier
+  | inr at ↦ (let e : i ≡ k = omega (arith, low, at) in subst (λ j. slice_index_or (slice_set row i Nothing) j Nothing ≡ Nothing) e (get_or-set_same row i Nothing Nothing there))
 ]
-  where
-    less-of : (k i : ℕ) → k < i + 1 → (k ≡ i → ⊥) → k < i
-    less-of zero zero low e = absurd (e refl)
-    less-of zero (suc i) low e = omega arith
-    less-of (suc k) zero low e = absurd (omega (arith, low))
-    less-of (suc k) (suc i) low e = let l = less-of k i (omega (arith, low)) (λ same. e (ap suc same)) in omega (arith, l)
 
 -- nothing is known of a list
 known-nothing : (model : Model) (v : ℕ) (list : List ℕ) (candidates : List Candidate) (row : List Known) → length row ≡ length candidates → ((i : ℕ) → slice_index_or row i Nothing ≡ Nothing) → AreKnown model v list candidates row

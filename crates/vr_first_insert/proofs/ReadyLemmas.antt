@@ -18,20 +18,19 @@ use Rattle.vr_reach.specs.Lists.{IsUsed}
 use Rattle.vr_reach.proofs.Transfer.{not_empty}
 use Rattle.vr_rules.specs.RoutesOpen.{is_feasible_in_each}
 use Rattle.vr_rules.specs.Placing.{nodes_of}
+use Rattle.vr_rules.proofs.OpenLemmas.{inner_tell, last_fails}
 use Rattle.vr_lists.proofs.VisitLists.{visits-few}
 use Rattle.vr_rules.specs.declared.items.Item.{Item}
 use Rattle.vr_rules.specs.declared.items.Item.TheVariants.{Visit, PickupAndDelivery}
 use Rattle.vr_first_insert.specs.declared.probes.Probes.{Probes}
 use Rattle.vr_first_insert.specs.Probes.{AreReachedAt, MayGoOn, ReachNoEnd}
 use Rattle.vr_first_insert.proofs.InsertedLemmas.{pair_front, pair_long}
-use Rattle.vr_first_insert.proofs.RowLemmas.{reached_in_each, stops_of}
+use Rattle.vr_first_insert.proofs.RowLemmas.{reached_in_each}
 use Rattle.vr_first_insert.specs.declared.choice.Placing.{Placing}
 use Rattle.vr_first_insert.specs.declared.choice.Placing.TheVariants.{One, Two}
 use Rattle.vr_first_insert.specs.declared.choice.Choice.{Choice}
-use Rattle.vr_first_insert.specs.declared.kept.Kept.{Kept}
 use Rattle.vr_first_insert.specs.declared.vehicle_list.VehicleList.{VehicleList}
 use Rattle.vr_first_insert.specs.declared.vehicle_list.PairIn.{PairIn}
-use Rattle.vr_first_insert.specs.VehicleLists.{IsReadyList}
 use Rattle.vr_first_insert.specs.Placings.{item_in, key_of, pair_choice, placed, weigh, AreWithin, MayHold}
 use Rattle.vr_first_insert.proofs.PlacedLemmas.{placed-distinct, placed-visits, split-three}
 
@@ -60,24 +59,23 @@ MayHold-pickup model list p d may = record {
 }
 
 -- a list that may hold an item is short
-pub few-held : (list : VehicleList) {item : Item} → MayHold list.closed.model.now list.nodes.now item → length list.nodes.now ≤ 1000
-few-held list may = omega (arith, visits-few list.closed.model.now list.nodes.now may.visits may.distinct, list.closed.well_formed.number_of_nodes.1)
+pub few-held : (list : VehicleList) {item : Item} → MayHold list.lookups.now.closed.model.now list.nodes.now item → length list.nodes.now ≤ 1000
+few-held list may = omega (arith, visits-few list.lookups.now.closed.model.now list.nodes.now may.visits may.distinct, list.lookups.now.closed.well_formed.number_of_nodes.1)
 
 -- ---- a list with the pickup of a pair
 
-pub half-used : (pair : PairIn) (s : ℕ) (half : List ℕ) → s ≤ length pair.list.nodes.now → half ≡ insert pair.list.nodes.now s pair.pickup → IsUsed pair.list.closed.model.now half
+pub half-used : (pair : PairIn) (s : ℕ) (half : List ℕ) → s ≤ length pair.list.nodes.now → half ≡ insert pair.list.nodes.now s pair.pickup → IsUsed pair.list.lookups.now.closed.model.now half
 half-used pair s half within picked_up =
-    subst (IsUsed pair.list.closed.model.now) (sym picked_up)
-    (used-placed pair.list.closed.model.now pair.list.nodes.now (One pair.pickup s) within (MayHold-pickup pair.list.closed.model.now pair.list.nodes.now pair.pickup pair.delivery pair.may_hold))
+    subst (IsUsed pair.list.lookups.now.closed.model.now) (sym picked_up)
+    (used-placed pair.list.lookups.now.closed.model.now pair.list.nodes.now (One pair.pickup s) within (MayHold-pickup pair.list.lookups.now.closed.model.now pair.list.nodes.now pair.pickup pair.delivery pair.may_hold))
 
 -- a walk along it may go on
-pub half-goes_on : (pair : PairIn) (s k : ℕ) (half : List ℕ) (keeps : List Kept) (probes : Probes) → s ≤ length pair.list.nodes.now → half ≡ insert pair.list.nodes.now s pair.pickup → k ≤ suc (length pair.list.nodes.now)
-    → IsReadyList pair.list keeps → AreReachedAt pair.list.closed.model.now pair.list.vehicle half k probes → MayGoOn pair.list.closed.model.now pair.list.vehicle half k keeps probes
-half-goes_on pair s k half keeps probes within picked_up low ready here =
+pub half-goes_on : (pair : PairIn) (s k : ℕ) (half : List ℕ) (probes : Probes) → s ≤ length pair.list.nodes.now → half ≡ insert pair.list.nodes.now s pair.pickup → k ≤ suc (length pair.list.nodes.now)
+    → AreReachedAt pair.list.lookups.now.closed.model.now pair.list.vehicle half k probes → MayGoOn pair.list.lookups.now.closed.model.now pair.list.vehicle half k probes
+half-goes_on pair s k half probes within picked_up low here =
     let long = ap length picked_up ∙ length-insert pair.list.nodes.now s pair.pickup within in
     record {
       vehicle = pair.list.there;
-      stops = stops_of pair.list.closed.model.now pair.list.vehicle pair.list.nodes.now keeps ready.kept;
       used = half-used pair s half within picked_up;
       stop = omega (arith, long, low);
       here = here;
@@ -140,24 +138,13 @@ module _ (model : Model) (v : ℕ) (list : List ℕ) (placing : Placing) (within
   pub closed-by_vehicle : list_all (allows_vehicle model v) (nodes_of (item_in placing)) ≡ false → is_route_open model v (placed list placing) ≡ false
   closed-by_vehicle h =
       (λ i. some i || (is_feasible_in_each model v (placed list placing) && (list_all (serves_pair (placed list placing)) model.pairs && (keeps_policy model v (placed list placing) && (allowed ∙ h) i))))
-      ∙ last (is_feasible_in_each model v (placed list placing)) (list_all (serves_pair (placed list placing)) model.pairs) (keeps_policy model v (placed list placing))
-    where
-      last : (a b c : Bool) → (a && (b && (c && false))) ≡ false
-      last true true true = refl
-      last true true false = refl
-      last true false c = refl
-      last false b c = refl
+      ∙ last_fails (is_feasible_in_each model v (placed list placing)) (list_all (serves_pair (placed list placing)) model.pairs) (keeps_policy model v (placed list placing))
 
   pub open-by_pairs : list_all (allows_vehicle model v) (nodes_of (item_in placing)) ≡ true → is_feasible_in_each model v (placed list placing) ≡ true
       → is_route_open model v (placed list placing) ≡ (list_all (serves_pair (placed list placing)) model.pairs && keeps_policy model v (placed list placing))
   open-by_pairs h g =
       (λ i. some i || (g i && (list_all (serves_pair (placed list placing)) model.pairs && (keeps_policy model v (placed list placing) && (allowed ∙ h) i))))
-      ∙ both (list_all (serves_pair (placed list placing)) model.pairs) (keeps_policy model v (placed list placing))
-    where
-      both : (a b : Bool) → (true && (a && (b && true))) ≡ (a && b)
-      both true true = refl
-      both true false = refl
-      both false b = refl
+      ∙ inner_tell (list_all (serves_pair (placed list placing)) model.pairs) (keeps_policy model v (placed list placing))
 
 -- ---- choices that are passed over
 

@@ -8,12 +8,11 @@ use Rattle.vr_model.proofs.routes.Lists.{route_set_same, route_set_other}
 use Rattle.vr_model.specs.declared.records.Model.{Model}
 use Rattle.vr_reach.specs.Rows.{BothWays}
 use Rattle.vr_reach.specs.KnownRows.{AreRowsIfUsed}
-use Rattle.vr_reach.specs.Stops.{AreStops}
 use Rattle.vr_reach.specs.Stretches.{SharesFront}
 use Rattle.vr_reach.proofs.StandingLemmas.{reached_in}
 use Rattle.vr_first_insert.specs.declared.kept.Kept.{Kept}
 use Rattle.vr_first_insert.specs.declared.probes.Probes.{Probes}
-use Rattle.vr_first_insert.specs.KeptRows.{AreKept, AreKeptOf, AreStopsOfEach, IsKept, IsKeptOf}
+use Rattle.vr_first_insert.specs.KeptRows.{AreKept, AreKeptOf, IsKept, IsKeptOf}
 use Rattle.vr_first_insert.specs.Probes.{AreReachedAt}
 
 -- the list that code reads at a place
@@ -35,17 +34,13 @@ kept_of model lists keeps are v low = record {
   each = λ d other d_low.
       let kept = are.each d other d_low in
       let many = kept.many in
-      record { stops_ask = kept.stops_ask; there = omega (arith, low, many); rows_of_list = λ rows. kept.rows_of_each v rows (omega (arith, low, many)) };
+      record { there = omega (arith, low, many); rows_of_list = λ rows. kept.rows_of_each v rows (omega (arith, low, many)) };
 }
 
-pub stops_of : (model : Model) (v : ℕ) (list : List ℕ) (keeps : List Kept) → AreKeptOf model v list keeps → AreStopsOfEach model keeps
-stops_of model v list keeps are = record { one_of_each = are.one_of_each; each = λ d other low. (are.each d other low).stops_ask }
-
 -- the rows of one list were written over those of another
-pub kept_again : (model : Model) (d : ℕ) (lists : List (List ℕ)) (v : ℕ) (list : List ℕ) (before after : Kept) (rows : BothWays) → after.stops ≡ before.stops → after.rows.items ≡ set before.rows.items v rows
+pub kept_again : (model : Model) (d : ℕ) (lists : List (List ℕ)) (v : ℕ) (list : List ℕ) (before after : Kept) (rows : BothWays) → after.rows.items ≡ set before.rows.items v rows
     → v < length lists → AreRowsIfUsed model d v list rows → IsKept model d lists before → IsKept model d (with_route lists v list) after
-kept_again model d lists v list before after rows same_stops written there new kept = record {
-  stops_ask = subst (AreStops model d) (sym same_stops) kept.stops_ask;
+kept_again model d lists v list before after rows written there new kept = record {
   many = ap length written ∙ length-set before.rows.items v rows ∙ kept.many ∙ sym (length-set lists v list);
   rows_of_each = λ w other low.
       subst (λ all. AreRowsIfUsed model d w (route (with_route lists v list) w) (get_or all w other)) (sym written) (elim (eqb_tells w v) [

@@ -3,6 +3,7 @@ use Rattle.std.specs.Prelude.{◌≡◌, ℕ, ◌<◌, true, Bool, List, Option,
 use Rattle.std.specs.List.{list_all}
 use Rattle.vr_model.specs.first.Items.{first_node}
 use Rattle.vr_model.specs.routes.Routes.{route}
+use Rattle.vr_model.specs.declared.records.Model.{Model}
 use Rattle.vr_rules.specs.declared.items.Candidate.{Candidate}
 use Rattle.vr_rules.specs.Placing.{fits_by, nodes_of, AreBuilt, AreCandidates, AreMarks}
 use Rattle.vr_first_insert.specs.declared.choice.Choice.{Choice}
@@ -15,38 +16,40 @@ use Rattle.vr_first_insert.specs.KeptRows.{AreKept}
 use Rattle.vr_first_insert.specs.Placings.{best_in, best_in_lists, counts, MayHold}
 use Rattle.vr_first_insert.specs.Ready.{AreReady}
 
--- all items of a model, with what was looked up of it
-pub record AreItems (items : Items) : Type 0 where
-  pub lookups : items.lookups.now ≡ items.closed.model.now
-  pub candidates : AreCandidates items.closed.model.now items.candidates.now
+-- the model whose items they are
+abbrev pub items_model : Items → Model
+items_model items = items.lookups.now.closed.model.now
+
+-- all items of a model
+abbrev pub AreItems : Items → Type 0
+AreItems items = AreCandidates (items_model items) items.candidates.now
 
 -- a list for each vehicle, which it may drive, and what is kept is that of the lists
 pub record AreAsked (on : Asked) : Type 0 where
-  pub lookups : on.items.lookups.now ≡ on.items.closed.model.now
-  pub ready : AreReady on.items.closed.model.now on.lists.now on.keeps.now
-  pub vehicles : length on.lists.now ≡ length on.items.closed.model.now.vehicles
+  pub ready : AreReady (items_model on.items) on.lists.now on.keeps.now
+  pub vehicles : length on.lists.now ≡ length (items_model on.items).vehicles
 
 -- each list may hold candidate i
 abbrev pub MayBeHeld : Asked → ℕ → Type 0
 MayBeHeld on i = (v : ℕ) → v < length on.lists.now
-    → MayHold on.items.closed.model.now (route on.lists.now v) (candidate_at on.items.candidates.now i).item
+    → MayHold (items_model on.items) (route on.lists.now v) (candidate_at on.items.candidates.now i).item
 
 -- the best beside candidate i in the list of vehicle v
 abbrev pub best_asked : Asked → ℕ → ℕ → Option Choice → Option Choice
-best_asked on v i = best_in on.items.closed.model.now v (route on.lists.now v) (candidate_at on.items.candidates.now i)
+best_asked on v i = best_in (items_model on.items) v (route on.lists.now v) (candidate_at on.items.candidates.now i)
 
 -- the best beside candidate i in each list
 abbrev pub best_asked_of_each : Asked → ℕ → Option Choice → Option Choice
-best_asked_of_each on i = best_in_lists on.items.closed.model.now on.lists.now (candidate_at on.items.candidates.now i)
+best_asked_of_each on i = best_in_lists (items_model on.items) on.lists.now (candidate_at on.items.candidates.now i)
     (length on.lists.now)
 
 -- a row has what is known of the candidates in the list of vehicle v
 abbrev pub AreKnownIn : Asked → ℕ → List Known → Type 0
-AreKnownIn on v = AreKnown on.items.closed.model.now v (route on.lists.now v) on.items.candidates.now
+AreKnownIn on v = AreKnown (items_model on.items) v (route on.lists.now v) on.items.candidates.now
 
 -- the same of each list
 abbrev pub AreKnownInEach : Asked → List (List Known) → Type 0
-AreKnownInEach on = AreRows on.items.closed.model.now on.lists.now on.items.candidates.now
+AreKnownInEach on = AreRows (items_model on.items) on.lists.now on.items.candidates.now
 
 -- the list of vehicle v may be asked for candidate i, where the row has what is known of the candidates in it
 pub record MayAsk (on : Asked) (v i : ℕ) (known : List Known) : Type 0 where
@@ -65,19 +68,18 @@ pub record MayAskEach (on : Asked) (i : ℕ) (known : List (List Known)) : Type 
 
 -- whether an item may count can be told: the nodes that stand in lists are marked, so that no group has too many
 pub record MayCount (items : Items) (marked : List Bool) (candidate : Candidate) : Type 0 where
-  pub lookups : items.lookups.now ≡ items.closed.model.now
-  pub marks : length marked ≡ items.closed.model.now.nodes
-  pub fit : IsTrue (list_all (fits_by marked) items.closed.model.now.groups)
-  pub first : first_node (nodes_of candidate.item) < items.closed.model.now.nodes
+  pub marks : length marked ≡ (items_model items).nodes
+  pub fit : IsTrue (list_all (fits_by marked) (items_model items).groups)
+  pub first : first_node (nodes_of candidate.item) < (items_model items).nodes
 
 -- the best so far may be set beside candidate i: each list may be asked for it where it counts
 pub record MayWeigh (on : Asked) (marked : List Bool) (i : ℕ) (known : List (List Known)) : Type 0 where
   pub asked : AreAsked on
-  pub marks : length marked ≡ on.items.closed.model.now.nodes
-  pub fit : IsTrue (list_all (fits_by marked) on.items.closed.model.now.groups)
+  pub marks : length marked ≡ (items_model on.items).nodes
+  pub fit : IsTrue (list_all (fits_by marked) (items_model on.items).groups)
   pub candidate : i < length on.items.candidates.now
-  pub first : first_node (nodes_of (candidate_at on.items.candidates.now i).item) < on.items.closed.model.now.nodes
-  pub may_hold : counts on.items.closed.model.now marked (candidate_at on.items.candidates.now i) ≡ true
+  pub first : first_node (nodes_of (candidate_at on.items.candidates.now i).item) < (items_model on.items).nodes
+  pub may_hold : counts (items_model on.items) marked (candidate_at on.items.candidates.now i) ≡ true
       → MayBeHeld on i
   pub rows : AreKnownInEach on known
 
@@ -86,17 +88,17 @@ pub record MayWeigh (on : Asked) (marked : List Bool) (i : ℕ) (known : List (L
 pub record MayInsert (items : Items) (keeps : List Kept) (marked : List Bool) (lists : List (List ℕ))
     (known : List (List Known)) : Type 0 where
   pub items_are : AreItems items
-  pub kept : AreKept items.closed.model.now lists keeps
-  pub built : AreBuilt items.closed.model.now lists
-  pub marks : AreMarks items.closed.model.now.nodes lists marked
-  pub rows : AreRows items.closed.model.now lists items.candidates.now known
+  pub kept : AreKept (items_model items) lists keeps
+  pub built : AreBuilt (items_model items) lists
+  pub marks : AreMarks (items_model items).nodes lists marked
+  pub rows : AreRows (items_model items) lists items.candidates.now known
 
 -- other open lists may be taken over, whose nodes are marked, and items be inserted into them
 pub record MayTakeOver (items : Items) (others : List (List ℕ)) (keeps : List Kept) (lists : List (List ℕ))
     (marked : List Bool) (known : List (List Known)) : Type 0 where
   pub items_are : AreItems items
-  pub vehicles : length lists ≡ length items.closed.model.now.vehicles
-  pub kept : AreKept items.closed.model.now lists keeps
-  pub rows : AreRows items.closed.model.now lists items.candidates.now known
-  pub built : AreBuilt items.closed.model.now others
-  pub marks : AreMarks items.closed.model.now.nodes others marked
+  pub vehicles : length lists ≡ length (items_model items).vehicles
+  pub kept : AreKept (items_model items) lists keeps
+  pub rows : AreRows (items_model items) lists items.candidates.now known
+  pub built : AreBuilt (items_model items) others
+  pub marks : AreMarks (items_model items).nodes others marked

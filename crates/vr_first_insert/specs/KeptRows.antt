@@ -5,10 +5,13 @@ use Rattle.vr_model.specs.declared.records.Model.{Model}
 use Rattle.vr_reach.specs.Rows.{BothWays}
 use Rattle.vr_reach.specs.KnownRows.{AreRowsIfUsed}
 use Rattle.vr_reach.specs.Lists.{IsTour, IsUsed}
-use Rattle.vr_reach.specs.Stops.{AreStops}
 use Rattle.vr_reach.specs.Stretches.{SharesBack, SharesFront}
 use Rattle.vr_first_insert.specs.declared.kept.Kept.{Kept}
 use Rattle.vr_first_insert.specs.declared.vehicle_list.VehicleList.{VehicleList}
+
+-- the model whose lists are asked
+abbrev pub list_model : VehicleList → Model
+list_model list = list.lookups.now.closed.model.now
 
 -- each list holds distinct visits
 abbrev pub AreTours : Model → List (List ℕ) → Type 0
@@ -19,15 +22,13 @@ abbrev pub AreRowsOfEach : Model → ℕ → List (List ℕ) → List BothWays �
 AreRowsOfEach model d lists rows = (v : ℕ) (other : BothWays) → v < length rows
     → AreRowsIfUsed model d v (route lists v) (slice_index_or rows v other)
 
--- what is kept in dimension d is that of the lists
+-- the rows that are kept in dimension d are those of the lists
 pub record IsKept (model : Model) (d : ℕ) (lists : List (List ℕ)) (kept : Kept) : Type 0 where
-  pub stops_ask : AreStops model d kept.stops
   pub many : length kept.rows.items ≡ length lists
   pub rows_of_each : AreRowsOfEach model d lists kept.rows.items
 
--- what is kept in dimension d is that of the list of vehicle v alone
+-- those of vehicle v are those of its list
 pub record IsKeptOf (model : Model) (d v : ℕ) (list : List ℕ) (kept : Kept) : Type 0 where
-  pub stops_ask : AreStops model d kept.stops
   pub there : v < length kept.rows.items
   pub rows_of_list : (other : BothWays) → AreRowsIfUsed model d v list (slice_index_or kept.rows.items v other)
 
@@ -40,15 +41,10 @@ pub record AreKeptOf (model : Model) (v : ℕ) (list : List ℕ) (keeps : List K
   pub one_of_each : length keeps ≡ length model.dimensions
   pub each : (d : ℕ) (other : Kept) → d < length keeps → IsKeptOf model d v list (slice_index_or keeps d other)
 
--- what the stops of each dimension ask
-pub record AreStopsOfEach (model : Model) (keeps : List Kept) : Type 0 where
-  pub one_of_each : length keeps ≡ length model.dimensions
-  pub each : (d : ℕ) (other : Kept) → d < length keeps → AreStops model d (slice_index_or keeps d other).stops
-
 -- a list may be walked between its first and its last nodes, which it shares with the one before, whose rows are kept
 pub record MayGoBetween (old : VehicleList) (new : List ℕ) (first last : ℕ) (keeps : List Kept) : Type 0 where
-  pub kept : AreKeptOf old.closed.model.now old.vehicle old.nodes.now keeps
-  pub used : IsUsed old.closed.model.now new
+  pub kept : AreKeptOf (list_model old) old.vehicle old.nodes.now keeps
+  pub used : IsUsed (list_model old) new
   pub front : SharesFront old.nodes.now new first
   pub back : SharesBack old.nodes.now new last
   pub apart : first + last ≤ length new

@@ -11,7 +11,7 @@ use Rattle.vr_rules.specs.RoutesOpen.{is_feasible_in_each}
 use Rattle.vr_first_insert.specs.declared.kept.Kept.{Kept}
 use Rattle.vr_first_insert.specs.declared.probes.Probes.{Probes}
 use Rattle.vr_first_insert.specs.declared.vehicle_list.VehicleList.{VehicleList}
-use Rattle.vr_first_insert.specs.KeptRows.{AreKeptOf, AreStopsOfEach}
+use Rattle.vr_first_insert.specs.KeptRows.{list_model, AreKeptOf}
 
 -- the levels are what vehicle v reaches at stop k of a list, in each dimension
 pub record AreReachedAt (model : Model) (v : ℕ) (list : List ℕ) (k : ℕ) (probes : Probes) : Type 0 where
@@ -31,23 +31,22 @@ is_stuck_in_some model probes =
 
 -- a list may leave the one before behind its first nodes, which it shares with it and whose rows are kept
 pub record MayLeave (old : VehicleList) (new : List ℕ) (shared : ℕ) (keeps : List Kept) : Type 0 where
-  pub kept : AreKeptOf old.closed.model.now old.vehicle old.nodes.now keeps
-  pub used : IsUsed old.closed.model.now new
+  pub kept : AreKeptOf (list_model old) old.vehicle old.nodes.now keeps
+  pub used : IsUsed (list_model old) new
   pub front : SharesFront old.nodes.now new shared
 
 -- a walk that stands at stop k of a list may go to its last nodes, which it shares with the one before
 pub record MayGoFrom (old : VehicleList) (new : List ℕ) (k shared : ℕ) (keeps : List Kept) (probes : Probes) : Type 0
   where
-    pub kept : AreKeptOf old.closed.model.now old.vehicle old.nodes.now keeps
-    pub used : IsUsed old.closed.model.now new
-    pub here : AreReachedAt old.closed.model.now old.vehicle new k probes
+    pub kept : AreKeptOf (list_model old) old.vehicle old.nodes.now keeps
+    pub used : IsUsed (list_model old) new
+    pub here : AreReachedAt (list_model old) old.vehicle new k probes
     pub back : SharesBack old.nodes.now new shared
     pub apart : k + shared ≤ length new
 
 -- a walk that stands at stop k of a list may go on to the next
-pub record MayGoOn (model : Model) (v : ℕ) (list : List ℕ) (k : ℕ) (keeps : List Kept) (probes : Probes) : Type 0 where
+pub record MayGoOn (model : Model) (v : ℕ) (list : List ℕ) (k : ℕ) (probes : Probes) : Type 0 where
   pub vehicle : v < length model.vehicles
-  pub stops : AreStopsOfEach model keeps
   pub used : IsUsed model list
   pub stop : k ≤ length list
   pub here : AreReachedAt model v list k probes

@@ -12,60 +12,61 @@ use Rattle.vr_first_insert.specs.declared.vehicle_list.VisitIn.{VisitIn}
 use Rattle.vr_first_insert.specs.declared.vehicle_list.PairIn.{PairIn}
 use Rattle.vr_first_insert.specs.Kept.{sought, tried, IsKnown}
 use Rattle.vr_first_insert.specs.Placings.{best_in, pair_choice, placed, visit_choice, weigh, AreLeastAhead}
+use Rattle.vr_first_insert.specs.KeptRows.{list_model}
 use Rattle.vr_first_insert.specs.Probes.{AreReachedAt}
 use Rattle.vr_first_insert.specs.Ready.{IsReady}
 
 -- the vehicle may drive its list, and what is kept is that of the list
 abbrev pub IsReadyList : VehicleList → List Kept → Type 0
-IsReadyList list = IsReady list.closed.model.now list.vehicle list.nodes.now
+IsReadyList list = IsReady (list_model list) list.vehicle list.nodes.now
 
 -- the better of the best so far and a choice in the list
 abbrev pub weigh_in : VehicleList → Option Choice → Choice → Option Choice
-weigh_in list = weigh list.closed.model.now list.nodes.now
+weigh_in list = weigh (list_model list) list.nodes.now
 
 -- the visit before place t
 abbrev pub visit_before : VisitIn → ℕ → Choice
-visit_before visit = visit_choice visit.list.closed.model.now visit.list.vehicle visit.list.nodes.now visit.class
+visit_before visit = visit_choice (list_model visit.list) visit.list.vehicle visit.list.nodes.now visit.class
     visit.node
 
 -- the pair before places s and t
 abbrev pub pair_before : PairIn → ℕ → ℕ → Choice
-pair_before pair = pair_choice pair.list.closed.model.now pair.list.vehicle pair.list.nodes.now pair.class pair.pickup
+pair_before pair = pair_choice (list_model pair.list) pair.list.vehicle pair.list.nodes.now pair.class pair.pickup
     pair.delivery
 
 -- the best beside a candidate in its list
 abbrev pub best_of_candidate : CandidateIn → Option Choice → Option Choice
-best_of_candidate of = best_in of.list.closed.model.now of.list.vehicle of.list.nodes.now of.candidate
+best_of_candidate of = best_in (list_model of.list) of.list.vehicle of.list.nodes.now of.candidate
 
 -- what a search of the list tells that begins with the best so far
 abbrev pub sought_in : CandidateIn → Option Choice → Known
-sought_in of = sought of.list.closed.model.now of.list.vehicle of.list.nodes.now of.candidate
+sought_in of = sought (list_model of.list) of.list.vehicle of.list.nodes.now of.candidate
 
 -- what is known once the candidate was asked whether it is better than the best so far
 abbrev pub tried_in : CandidateIn → Bound → Option Choice → Known
-tried_in of = tried of.list.closed.model.now of.list.vehicle of.list.nodes.now of.candidate
+tried_in of = tried (list_model of.list) of.list.vehicle of.list.nodes.now of.candidate
 
 -- what is known of the candidate is so
 abbrev pub IsKnownOf : CandidateIn → Known → Type 0
-IsKnownOf of = IsKnown of.list.closed.model.now of.list.vehicle of.list.nodes.now of.candidate
+IsKnownOf of = IsKnown (list_model of.list) of.list.vehicle of.list.nodes.now of.candidate
 
 -- a visit before place t may be tested: the list is ready, and the list with the visit is written
-pub record MayTestVisit (visit : VisitIn) (t : ℕ) (keeps : List Kept) (written : List ℕ) : Type 0 where
-  pub ready : IsReadyList visit.list keeps
+pub record MayTestVisit (visit : VisitIn) (t : ℕ) (written : List ℕ) : Type 0 where
+  pub ready : IsReadyList visit.list visit.keeps.now
   pub within : t ≤ length visit.list.nodes.now
   pub longer : written ≡ placed visit.list.nodes.now (One visit.node t)
 
 -- a pair before places s and t may be tested: the same, and what the list with the pickup reaches at the node before
 -- the delivery is known
-pub record MayTestPair (pair : PairIn) (s t : ℕ) (keeps : List Kept) (probes : Probes) (written : List ℕ) : Type 0 where
-  pub ready : IsReadyList pair.list keeps
+pub record MayTestPair (pair : PairIn) (s t : ℕ) (probes : Probes) (written : List ℕ) : Type 0 where
+  pub ready : IsReadyList pair.list pair.keeps.now
   pub order : s ≤ t
   pub within : t ≤ length pair.list.nodes.now
-  pub here : AreReachedAt pair.list.closed.model.now pair.list.vehicle (insert pair.list.nodes.now s pair.pickup)
+  pub here : AreReachedAt (list_model pair.list) pair.list.vehicle (insert pair.list.nodes.now s pair.pickup)
       (t + 1) probes
   pub longer : written ≡ placed pair.list.nodes.now (Two pair.pickup pair.delivery s t)
 
 -- the list is ready, and the least that the delivery of a pair adds before its last places is known
-pub record IsReadyPair (pair : PairIn) (keeps : List Kept) (least : List ℤ) : Type 0 where
-  pub ready : IsReadyList pair.list keeps
-  pub ahead : AreLeastAhead pair.list.closed.model.now pair.list.vehicle pair.list.nodes.now pair.delivery least
+pub record IsReadyPair (pair : PairIn) (least : List ℤ) : Type 0 where
+  pub ready : IsReadyList pair.list pair.keeps.now
+  pub ahead : AreLeastAhead (list_model pair.list) pair.list.vehicle pair.list.nodes.now pair.delivery least

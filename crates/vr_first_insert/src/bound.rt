@@ -3,15 +3,16 @@
 ghost use Rattle.std.specs.Prelude.{◌≡◌, ℕ, ◌<◌, ◌≤◌, ◌^◌, OnOk, cond, int_lt, length, neg_ℤ, pos, ◌+ℤ◌, ◌≤ℤ◌};
 ghost use Rattle.vr_first_insert.specs.Increases.{pair_increase as pair_increase_of, IsIncrease};
 ghost use Rattle.vr_first_insert.specs.Placings.{AreLeastAhead, IsFirstLeast, IsLeast, IsLeastIncrease};
+ghost use Rattle.vr_first_insert.specs.KeptRows.{list_model};
 
 use crate::increase::{pair_increase, visit_increase};
 use crate::vehicle_list::VehicleList;
 use vr_model::{NoMemory, Seq};
 
 /// The least that a visit adds to a list.
-pub(crate) fn least_visit(list: &VehicleList<'_>, node: u32) -> i64
-    requires { node < list.now.closed.model.now.nodes }
-    ensures least { IsLeast list.now.closed.model.now list.now.vehicle list.now.nodes.now node result }
+pub(crate) fn least_visit(list: &VehicleList<'_, '_, '_>, node: u32) -> i64
+    requires { node < (list_model list.now).nodes }
+    ensures least { IsLeast (list_model list.now) list.now.vehicle list.now.nodes.now node result }
     ensures low { neg_ℤ (pos (2 ^ 40)) ≤ℤ result }
     ensures high { result ≤ℤ pos (2 ^ 41) }
 {
@@ -44,9 +45,9 @@ fn cheaper(at: Cheapest, t: usize, next: i64) -> Cheapest
 }
 
 /// The first of the places of a list before which a visit adds least.
-pub(crate) fn least_place(list: &VehicleList<'_>, node: u32) -> usize
-    requires { node < list.now.closed.model.now.nodes }
-    ensures { IsFirstLeast list.now.closed.model.now list.now.vehicle list.now.nodes.now node result }
+pub(crate) fn least_place(list: &VehicleList<'_, '_, '_>, node: u32) -> usize
+    requires { node < (list_model list.now).nodes }
+    ensures { IsFirstLeast (list_model list.now) list.now.vehicle list.now.nodes.now node result }
 {
     let mut at = Cheapest {
         place: 0,
@@ -61,12 +62,12 @@ pub(crate) fn least_place(list: &VehicleList<'_>, node: u32) -> usize
 /// Writes the least that a visit adds to a list before its last places: before the last one, before
 /// the last two, and so on up to all.
 pub(crate) fn write_ahead(
-    list: &VehicleList<'_>,
+    list: &VehicleList<'_, '_, '_>,
     node: u32,
     ahead: &mut Seq<i64>,
 ) -> Result<(), NoMemory>
-    requires { node < list.now.closed.model.now.nodes }
-    ensures { OnOk result (AreLeastAhead list.now.closed.model.now list.now.vehicle list.now.nodes.now node
+    requires { node < (list_model list.now).nodes }
+    ensures { OnOk result (AreLeastAhead (list_model list.now) list.now.vehicle list.now.nodes.now node
         ahead.new) }
 {
     ahead.truncate(0);
@@ -91,18 +92,18 @@ pub(crate) fn least_apart(pickup: i64, least: i64) -> i64
 
 /// What a pair adds at least with its pickup before place `s`, where the delivery alone adds `least` at least.
 pub(crate) fn least_behind(
-    list: &VehicleList<'_>,
+    list: &VehicleList<'_, '_, '_>,
     pickup: u32,
     delivery: u32,
     s: usize,
     least: i64,
 ) -> i64
-    requires pickup { pickup < list.now.closed.model.now.nodes }
-    requires delivery { delivery < list.now.closed.model.now.nodes }
+    requires pickup { pickup < (list_model list.now).nodes }
+    requires delivery { delivery < (list_model list.now).nodes }
     requires within { s ≤ length list.now.nodes.now }
-    requires least { IsLeastIncrease list.now.closed.model.now list.now.vehicle list.now.nodes.now delivery least }
+    requires least { IsLeastIncrease (list_model list.now) list.now.vehicle list.now.nodes.now delivery least }
     ensures least { (t : ℕ) → t ≤ length list.now.nodes.now
-        → result ≤ℤ pair_increase_of list.now.closed.model.now list.now.vehicle list.now.nodes.now
+        → result ≤ℤ pair_increase_of (list_model list.now) list.now.vehicle list.now.nodes.now
         pickup delivery s t }
     ensures low { neg_ℤ (pos (2 ^ 41)) ≤ℤ result }
     ensures high { result ≤ℤ pos (2 ^ 42) }
@@ -114,14 +115,19 @@ pub(crate) fn least_behind(
 
 /// What a pair adds at least with its pickup before place `s` and its delivery behind, where the delivery alone adds
 /// `least` at least.
-pub(crate) fn least_further(list: &VehicleList<'_>, pickup: u32, s: usize, least: i64) -> i64
-    requires pickup { pickup < list.now.closed.model.now.nodes }
+pub(crate) fn least_further(
+    list: &VehicleList<'_, '_, '_>,
+    pickup: u32,
+    s: usize,
+    least: i64,
+) -> i64
+    requires pickup { pickup < (list_model list.now).nodes }
     requires within { s ≤ length list.now.nodes.now }
     requires least { IsIncrease least }
     ensures least { (delivery t : ℕ)
-        → IsLeast list.now.closed.model.now list.now.vehicle list.now.nodes.now delivery least
+        → IsLeast (list_model list.now) list.now.vehicle list.now.nodes.now delivery least
         → s < t → t ≤ length list.now.nodes.now
-        → result ≤ℤ pair_increase_of list.now.closed.model.now list.now.vehicle list.now.nodes.now
+        → result ≤ℤ pair_increase_of (list_model list.now) list.now.vehicle list.now.nodes.now
         pickup delivery s t }
     ensures low { neg_ℤ (pos (2 ^ 41)) ≤ℤ result }
     ensures high { result ≤ℤ pos (2 ^ 42) }
@@ -130,11 +136,11 @@ pub(crate) fn least_further(list: &VehicleList<'_>, pickup: u32, s: usize, least
 }
 
 /// The least that a pair adds to a list.
-pub(crate) fn least_pair(list: &VehicleList<'_>, pickup: u32, delivery: u32) -> i64
-    requires pickup { pickup < list.now.closed.model.now.nodes }
-    requires delivery { delivery < list.now.closed.model.now.nodes }
+pub(crate) fn least_pair(list: &VehicleList<'_, '_, '_>, pickup: u32, delivery: u32) -> i64
+    requires pickup { pickup < (list_model list.now).nodes }
+    requires delivery { delivery < (list_model list.now).nodes }
     ensures { (s t : ℕ) → s ≤ length list.now.nodes.now → t ≤ length list.now.nodes.now
-        → result ≤ℤ pair_increase_of list.now.closed.model.now list.now.vehicle list.now.nodes.now
+        → result ≤ℤ pair_increase_of (list_model list.now) list.now.vehicle list.now.nodes.now
         pickup delivery s t }
 {
     let alone = least_visit(list, delivery);

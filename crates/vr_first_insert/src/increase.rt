@@ -7,70 +7,80 @@ ghost use Rattle.vr_model.specs.routes.Routes.{is_empty};
 ghost use Rattle.vr_first_insert.specs.Increases.{node_before as node_before_of, node_behind as node_behind_of};
 ghost use Rattle.vr_first_insert.specs.Increases.{pair_increase as pair_increase_of};
 ghost use Rattle.vr_first_insert.specs.Increases.{visit_increase as visit_increase_of};
+ghost use Rattle.vr_first_insert.specs.KeptRows.{list_model};
 
 use crate::vehicle_list::VehicleList;
 
 // The node before a place: the start before the first.
-fn node_before(list: &VehicleList<'_>, t: usize) -> u32
+fn node_before(list: &VehicleList<'_, '_, '_>, t: usize) -> u32
     requires { t ≤ length list.now.nodes.now }
-    ensures node { result ≡ node_before_of list.now.closed.model.now list.now.vehicle list.now.nodes.now t }
-    ensures below { result < list.now.closed.model.now.nodes }
+    ensures node { result ≡ node_before_of (list_model list.now) list.now.vehicle list.now.nodes.now t }
+    ensures below { result < (list_model list.now).nodes }
 {
+    let lookups = list.lookups;
     if t == 0 {
-        list.closed.model.vehicles.get(list.vehicle as usize).start
+        lookups
+            .closed
+            .model
+            .vehicles
+            .get(list.vehicle as usize)
+            .start
     } else {
         list.nodes[t - 1]
     }
 }
 
 // The node at a place, the end behind the last.
-fn node_behind(list: &VehicleList<'_>, t: usize) -> u32
+fn node_behind(list: &VehicleList<'_, '_, '_>, t: usize) -> u32
     requires { t ≤ length list.now.nodes.now }
-    ensures node { result ≡ node_behind_of list.now.closed.model.now list.now.vehicle list.now.nodes.now t }
-    ensures below { result < list.now.closed.model.now.nodes }
+    ensures node { result ≡ node_behind_of (list_model list.now) list.now.vehicle list.now.nodes.now t }
+    ensures below { result < (list_model list.now).nodes }
 {
+    let lookups = list.lookups;
     if t < list.nodes.len() {
         list.nodes[t]
     } else {
-        list.closed.model.vehicles.get(list.vehicle as usize).end
+        lookups.closed.model.vehicles.get(list.vehicle as usize).end
     }
 }
 
 // What the arc between two neighbours costs, nothing in an empty list.
-fn arc_between(list: &VehicleList<'_>, a: u32, b: u32) -> i64
-    requires first { a < list.now.closed.model.now.nodes }
-    requires second { b < list.now.closed.model.now.nodes }
+fn arc_between(list: &VehicleList<'_, '_, '_>, a: u32, b: u32) -> i64
+    requires first { a < (list_model list.now).nodes }
+    requires second { b < (list_model list.now).nodes }
     ensures value { result ≡ cond (is_empty list.now.nodes.now) (pos 0)
-        (arc_cost list.now.closed.model.now list.now.vehicle a b) }
+        (arc_cost (list_model list.now) list.now.vehicle a b) }
     ensures low { pos 0 ≤ℤ result }
     ensures high { result ≤ℤ pos (2 ^ 40) }
 {
     if list.nodes.is_empty() {
         return 0;
     }
-    list.closed.model.arc_cost(list.vehicle, a, b)
+    let lookups = list.lookups;
+    lookups.closed.model.arc_cost(list.vehicle, a, b)
 }
 
 // From a node over another to a third, less what was driven there before.
-fn detour(list: &VehicleList<'_>, a: u32, x: u32, b: u32, before: i64) -> i64
-    requires first { a < list.now.closed.model.now.nodes }
-    requires second { x < list.now.closed.model.now.nodes }
-    requires third { b < list.now.closed.model.now.nodes }
+fn detour(list: &VehicleList<'_, '_, '_>, a: u32, x: u32, b: u32, before: i64) -> i64
+    requires first { a < (list_model list.now).nodes }
+    requires second { x < (list_model list.now).nodes }
+    requires third { b < (list_model list.now).nodes }
     requires not_negative { pos 0 ≤ℤ before }
     requires bound { before ≤ℤ pos (2 ^ 40) }
-    ensures value { result ≡ detour_of list.now.closed.model.now list.now.vehicle a x b before }
+    ensures value { result ≡ detour_of (list_model list.now) list.now.vehicle a x b before }
     ensures low { neg_ℤ (pos (2 ^ 40)) ≤ℤ result }
     ensures high { result ≤ℤ pos (2 ^ 41) }
 {
-    let model = list.closed.model;
+    let lookups = list.lookups;
+    let model = lookups.closed.model;
     model.arc_cost(list.vehicle, a, x) + model.arc_cost(list.vehicle, x, b) - before
 }
 
 /// What a visit before a place adds: three arcs, whatever the length of the list.
-pub(crate) fn visit_increase(list: &VehicleList<'_>, x: u32, t: usize) -> i64
+pub(crate) fn visit_increase(list: &VehicleList<'_, '_, '_>, x: u32, t: usize) -> i64
     requires within { t ≤ length list.now.nodes.now }
-    requires visit { x < list.now.closed.model.now.nodes }
-    ensures value { result ≡ visit_increase_of list.now.closed.model.now list.now.vehicle list.now.nodes.now x t }
+    requires visit { x < (list_model list.now).nodes }
+    ensures value { result ≡ visit_increase_of (list_model list.now) list.now.vehicle list.now.nodes.now x t }
     ensures low { neg_ℤ (pos (2 ^ 40)) ≤ℤ result }
     ensures high { result ≤ℤ pos (2 ^ 41) }
 {
@@ -80,33 +90,34 @@ pub(crate) fn visit_increase(list: &VehicleList<'_>, x: u32, t: usize) -> i64
 }
 
 // What a pair before one place adds.
-fn together(list: &VehicleList<'_>, pickup: u32, delivery: u32, s: usize) -> i64
+fn together(list: &VehicleList<'_, '_, '_>, pickup: u32, delivery: u32, s: usize) -> i64
     requires within { s ≤ length list.now.nodes.now }
-    requires pickup { pickup < list.now.closed.model.now.nodes }
-    requires delivery { delivery < list.now.closed.model.now.nodes }
-    ensures value { result ≡ (arc_cost list.now.closed.model.now list.now.vehicle
-        (node_before_of list.now.closed.model.now list.now.vehicle list.now.nodes.now s) pickup
-        +ℤ detour_of list.now.closed.model.now list.now.vehicle pickup delivery
-        (node_behind_of list.now.closed.model.now list.now.vehicle list.now.nodes.now s)
-        (arc_at_of list.now.closed.model.now list.now.vehicle list.now.nodes.now s)) }
+    requires pickup { pickup < (list_model list.now).nodes }
+    requires delivery { delivery < (list_model list.now).nodes }
+    ensures value { result ≡ (arc_cost (list_model list.now) list.now.vehicle
+        (node_before_of (list_model list.now) list.now.vehicle list.now.nodes.now s) pickup
+        +ℤ detour_of (list_model list.now) list.now.vehicle pickup delivery
+        (node_behind_of (list_model list.now) list.now.vehicle list.now.nodes.now s)
+        (arc_at_of (list_model list.now) list.now.vehicle list.now.nodes.now s)) }
     ensures low { neg_ℤ (pos (2 ^ 41)) ≤ℤ result }
     ensures high { result ≤ℤ pos (2 ^ 42) }
 {
     let a = node_before(list, s);
     let b = node_behind(list, s);
-    list.closed.model.arc_cost(list.vehicle, a, pickup)
+    let lookups = list.lookups;
+    lookups.closed.model.arc_cost(list.vehicle, a, pickup)
         + detour(list, pickup, delivery, b, arc_between(list, a, b))
 }
 
 // What a pair before two places adds.
-fn apart(list: &VehicleList<'_>, pickup: u32, delivery: u32, s: usize, t: usize) -> i64
+fn apart(list: &VehicleList<'_, '_, '_>, pickup: u32, delivery: u32, s: usize, t: usize) -> i64
     requires first { s ≤ length list.now.nodes.now }
     requires second { t ≤ length list.now.nodes.now }
-    requires pickup { pickup < list.now.closed.model.now.nodes }
-    requires delivery { delivery < list.now.closed.model.now.nodes }
-    ensures value { result ≡ (visit_increase_of list.now.closed.model.now list.now.vehicle list.now.nodes.now
+    requires pickup { pickup < (list_model list.now).nodes }
+    requires delivery { delivery < (list_model list.now).nodes }
+    ensures value { result ≡ (visit_increase_of (list_model list.now) list.now.vehicle list.now.nodes.now
         pickup s
-        +ℤ visit_increase_of list.now.closed.model.now list.now.vehicle list.now.nodes.now delivery t) }
+        +ℤ visit_increase_of (list_model list.now) list.now.vehicle list.now.nodes.now delivery t) }
     ensures low { neg_ℤ (pos (2 ^ 41)) ≤ℤ result }
     ensures high { result ≤ℤ pos (2 ^ 42) }
 {
@@ -115,7 +126,7 @@ fn apart(list: &VehicleList<'_>, pickup: u32, delivery: u32, s: usize, t: usize)
 
 /// What a pair adds, the pickup before place `s` and the delivery before place `t`: six arcs at most.
 pub(crate) fn pair_increase(
-    list: &VehicleList<'_>,
+    list: &VehicleList<'_, '_, '_>,
     pickup: u32,
     delivery: u32,
     s: usize,
@@ -123,9 +134,9 @@ pub(crate) fn pair_increase(
 ) -> i64
     requires first { s ≤ length list.now.nodes.now }
     requires second { t ≤ length list.now.nodes.now }
-    requires pickup { pickup < list.now.closed.model.now.nodes }
-    requires delivery { delivery < list.now.closed.model.now.nodes }
-    ensures value { result ≡ pair_increase_of list.now.closed.model.now list.now.vehicle list.now.nodes.now
+    requires pickup { pickup < (list_model list.now).nodes }
+    requires delivery { delivery < (list_model list.now).nodes }
+    ensures value { result ≡ pair_increase_of (list_model list.now) list.now.vehicle list.now.nodes.now
         pickup delivery s t }
     ensures low { neg_ℤ (pos (2 ^ 41)) ≤ℤ result }
     ensures high { result ≤ℤ pos (2 ^ 42) }

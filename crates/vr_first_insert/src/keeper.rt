@@ -7,8 +7,8 @@ ghost use Rattle.vr_model.specs.moves.Moves.{with_route};
 ghost use Rattle.vr_model.specs.routes.Routes.{route};
 ghost use Rattle.vr_rules.specs.declared.items.Candidate.{Candidate as AnyCandidate};
 ghost use Rattle.vr_rules.specs.Placing.{AreBuilt};
-ghost use Rattle.vr_first_insert.specs.Asking.{MayTakeOver};
-ghost use Rattle.vr_first_insert.specs.KeptRows.{AreKept};
+ghost use Rattle.vr_first_insert.specs.Asking.{items_model, MayTakeOver};
+ghost use Rattle.vr_first_insert.specs.KeptRows.{list_model, AreKept};
 ghost use Rattle.vr_first_insert.specs.Keeping.{IsKeeper};
 ghost use Rattle.vr_first_insert.specs.Kept.{AreRows};
 
@@ -19,8 +19,8 @@ use crate::scratch::Scratch;
 use crate::search::{Items, insert_all};
 use crate::vehicle_list::VehicleList;
 use std::alloc::Global;
-use vr_lists::NodeTables;
-use vr_model::{Closed, NoMemory, Seq};
+use vr_model::{NoMemory, Seq};
+use vr_plan::Lookups;
 use vr_routes::Routes;
 use vr_rules::{Candidate, active_marks, candidates, empty_lists};
 
@@ -48,17 +48,17 @@ fn take_list(
     alloc: Global,
     keeps: &mut [Kept],
     lists: &mut [Seq<u32>],
-    new: &VehicleList<'_>,
+    new: &VehicleList<'_, '_, '_>,
     rows: &mut [Row],
 ) -> Result<(), NoMemory>
     requires there { new.now.vehicle < length lists.old }
-    requires kept { AreKept new.now.closed.model.now lists.old keeps.old }
+    requires kept { AreKept (list_model new.now) lists.old keeps.old }
     requires row { new.now.vehicle < length rows.old }
     ensures lists { OnOk result (lists.new ≡ with_route lists.old new.now.vehicle new.now.nodes.now) }
-    ensures kept { OnOk result (AreKept new.now.closed.model.now lists.new keeps.new) }
+    ensures kept { OnOk result (AreKept (list_model new.now) lists.new keeps.new) }
     ensures rows { OnOk result ((known : List AnyCandidate)
-        → AreRows new.now.closed.model.now lists.old known rows.old
-        → AreRows new.now.closed.model.now lists.new known rows.new) }
+        → AreRows (list_model new.now) lists.old known rows.old
+        → AreRows (list_model new.now) lists.new known rows.new) }
 {
     let v = new.vehicle;
     let before = lists[v as usize].as_slice();
@@ -73,7 +73,7 @@ fn take_list(
 // Takes the lists of routes over, and inserts items into them as long as one may be inserted.
 fn insert_into(
     scratch: &mut Scratch,
-    items: &Items<'_>,
+    items: &Items<'_, '_, '_>,
     routes: &Routes,
     keeps: &mut [Kept],
     lists: &mut [Seq<u32>],
@@ -82,14 +82,14 @@ fn insert_into(
 ) -> Result<(), NoMemory>
     requires { MayTakeOver items.now routes.now.lists keeps.old lists.old marks.old rows.old }
     ensures rebuilt { OnOk result (lists.new
-        ≡ rebuilt items.now.closed.model.now (length (items_of items.now.closed.model.now)) routes.now.lists) }
-    ensures built { OnOk result (AreBuilt items.now.closed.model.now lists.new) }
-    ensures kept { OnOk result (AreKept items.now.closed.model.now lists.new keeps.new) }
-    ensures rows { OnOk result (AreRows items.now.closed.model.now lists.new items.now.candidates.now rows.new) }
+        ≡ rebuilt (items_model items.now) (length (items_of (items_model items.now))) routes.now.lists) }
+    ensures built { OnOk result (AreBuilt (items_model items.now) lists.new) }
+    ensures kept { OnOk result (AreKept (items_model items.now) lists.new keeps.new) }
+    ensures rows { OnOk result (AreRows (items_model items.now) lists.new items.now.candidates.now rows.new) }
 {
     for v in 0..routes.vehicles() {
         let new = VehicleList {
-            closed: items.closed,
+            lookups: items.lookups,
             vehicle: v,
             nodes: routes.list(v),
         };
@@ -101,18 +101,14 @@ fn insert_into(
 
 impl Keeper {
     /// Empty lists, of which nothing is known. The only refusal is want of memory.
-    pub(crate) fn open(
-        alloc: Global,
-        closed: Closed<'_>,
-        lookups: &NodeTables<'_>,
-    ) -> Result<Keeper, NoMemory>
-        requires lookups { lookups.now ≡ closed.model.now }
-        ensures { IfOk result (IsKeeper closed.entry.model.now) }
+    pub(crate) fn open(alloc: Global, lookups: &Lookups<'_>) -> Result<Keeper, NoMemory>
+        ensures { IfOk result (IsKeeper lookups.now.closed.model.now) }
     {
-        let candidates = candidates(alloc, lookups)?;
-        let lists = empty_lists(alloc, closed.model)?;
-        let rows = rows_of(alloc, closed.model.vehicles.len(), candidates.len())?;
-        let keeps = keep_each(alloc, closed, &lists)?;
+        let model = lookups.closed.model;
+        let candidates = candidates(alloc, lookups.nodes())?;
+        let lists = empty_lists(alloc, model)?;
+        let rows = rows_of(alloc, model.vehicles.len(), candidates.len())?;
+        let keeps = keep_each(alloc, lookups, &lists)?;
         Ok(Keeper {
             candidates,
             lists,
@@ -124,23 +120,16 @@ impl Keeper {
 
     /// Makes the lists those at which insertion ends when it begins with open routes. What is known of a list that is
     /// the same as before is not found again. After want of memory nothing is said of the lists.
-    pub(crate) fn rebuild(
-        &mut self,
-        closed: Closed<'_>,
-        lookups: &NodeTables<'_>,
-        routes: &Routes,
-    ) -> Result<(), NoMemory>
-        requires lookups { lookups.now ≡ closed.model.now }
-        requires keeper { IsKeeper closed.model.now self.old }
-        requires built { AreBuilt closed.model.now routes.now.lists }
-        ensures keeper { OnOk result (IsKeeper closed.entry.model.now self.new) }
+    pub(crate) fn rebuild(&mut self, lookups: &Lookups<'_>, routes: &Routes) -> Result<(), NoMemory>
+        requires keeper { IsKeeper lookups.now.closed.model.now self.old }
+        requires built { AreBuilt lookups.now.closed.model.now routes.now.lists }
+        ensures keeper { OnOk result (IsKeeper lookups.now.closed.model.now self.new) }
         ensures rebuilt { OnOk result (self.new.lists.items
-            ≡ rebuilt closed.entry.model.now (length (items_of closed.entry.model.now)) routes.now.lists) }
-        ensures built { OnOk result (AreBuilt closed.entry.model.now self.new.lists.items) }
+            ≡ rebuilt lookups.now.closed.model.now (length (items_of lookups.now.closed.model.now)) routes.now.lists) }
+        ensures built { OnOk result (AreBuilt lookups.now.closed.model.now self.new.lists.items) }
     {
-        let mut marks = active_marks(self.scratch.alloc, closed.model, routes)?;
+        let mut marks = active_marks(self.scratch.alloc, lookups.closed.model, routes)?;
         let items = Items {
-            closed,
             lookups,
             candidates: &self.candidates,
         };

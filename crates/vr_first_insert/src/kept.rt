@@ -2,41 +2,50 @@
 
 ghost use Rattle.std.specs.Prelude.{◌≡◌, ◌<◌, length, IfOk, OnOk};
 ghost use Rattle.vr_model.specs.moves.Moves.{with_route};
-ghost use Rattle.vr_reach.specs.Stops.{AreStops};
 ghost use Rattle.vr_rules.specs.RoutesOpen.{is_feasible_in_each};
-ghost use Rattle.vr_first_insert.specs.KeptRows.{AreKept, AreRowsOfEach, AreTours, IsKept, MayGoBetween};
+ghost use Rattle.vr_first_insert.specs.KeptRows.{list_model, AreKept, AreTours, IsKept, MayGoBetween};
 
 use crate::place::write_list;
 use crate::vehicle_list::VehicleList;
 use std::alloc::Global;
-use vr_model::{Closed, NoMemory, Seq};
-use vr_reach::{
-    KnownList, Rows, Stops, StopsFor, Stretch, Walk, goes_between, rewrite_rows, write_rows,
-};
+use vr_model::{NoMemory, Seq};
+use vr_plan::Lookups;
+use vr_reach::{KnownList, Rows, StopsFor, Stretch, Walk, goes_between, rewrite_rows, write_rows};
 
-/// What is kept of lists in one dimension: what its stops ask, and the rows of the list of each vehicle.
+/// The rows of the list of each vehicle in one dimension.
 #[derive(Drop)]
 pub(crate) struct Kept {
-    pub(crate) stops: Stops,
     pub(crate) rows: Vec<Rows>,
 }
 
 impl Kept {
-    // What is kept of lists in dimension `d`.
+    // The rows of lists in dimension `d`.
     fn build(
         alloc: Global,
-        closed: Closed<'_>,
+        lookups: &Lookups<'_>,
         d: u32,
         lists: &[Seq<u32>],
     ) -> Result<Kept, NoMemory>
-        requires dimension { d < length closed.model.now.dimensions }
-        requires vehicles { length lists.now ≡ length closed.model.now.vehicles }
-        requires tours { AreTours closed.model.now lists.now }
-        ensures { IfOk result (IsKept closed.entry.model.now d lists.now) }
+        requires dimension { d < length lookups.now.closed.model.now.dimensions }
+        requires vehicles { length lists.now ≡ length lookups.now.closed.model.now.vehicles }
+        requires tours { AreTours lookups.now.closed.model.now lists.now }
+        ensures { IfOk result (IsKept lookups.now.closed.model.now d lists.now) }
     {
-        let stops = Stops::build(alloc, closed, d)?;
-        let rows = rows_of_each(alloc, closed, d, &stops, lists)?;
-        Ok(Kept { stops, rows })
+        let table = lookups.table(d);
+        let mut known = Vec::with_capacity(alloc, lists.len())?;
+        for v in 0..lists.len() {
+            let mut rows = Rows::new(alloc);
+            let list = lists[v].as_slice();
+            let stops = StopsFor {
+                closed: lookups.closed,
+                d,
+                v: v as u32,
+                of_dimension: &table.stops,
+            };
+            write_rows(alloc, &stops, list, &mut rows)?;
+            known.push(rows)?;
+        }
+        Ok(Kept { rows: known })
     }
 
     // Writes the rows of a list of vehicle `v` over those of its list before.
@@ -45,71 +54,42 @@ impl Kept {
         alloc: Global,
         d: u32,
         lists: &[Seq<u32>],
-        new: &VehicleList<'_>,
+        new: &VehicleList<'_, '_, '_>,
     ) -> Result<(), NoMemory>
-        requires dimension { d < length new.now.closed.model.now.dimensions }
+        requires dimension { d < length (list_model new.now).dimensions }
         requires there { new.now.vehicle < length lists.now }
-        requires kept { IsKept new.now.closed.model.now d lists.now self.old }
-        ensures { OnOk result (IsKept new.now.closed.model.now d
+        requires kept { IsKept (list_model new.now) d lists.now self.old }
+        ensures { OnOk result (IsKept (list_model new.now) d
             (with_route lists.now new.now.vehicle new.now.nodes.now) self.new) }
     {
         let v = new.vehicle;
+        let table = new.lookups.table(d);
         let old = lists[v as usize].as_slice();
         let stops = StopsFor {
-            closed: new.closed,
+            closed: new.lookups.closed,
             d,
             v,
-            of_dimension: &self.stops,
+            of_dimension: &table.stops,
         };
         rewrite_rows(alloc, &stops, old, new.nodes, &mut self.rows[v as usize])?;
         Ok(())
     }
 }
 
-// The rows of each list in dimension `d`.
-fn rows_of_each(
-    alloc: Global,
-    closed: Closed<'_>,
-    d: u32,
-    stops: &Stops,
-    lists: &[Seq<u32>],
-) -> Result<Vec<Rows>, NoMemory>
-    requires dimension { d < length closed.model.now.dimensions }
-    requires stops { AreStops closed.model.now d stops.now }
-    requires vehicles { length lists.now ≡ length closed.model.now.vehicles }
-    requires tours { AreTours closed.model.now lists.now }
-    ensures many { IfOk result (λ rows. length rows.items ≡ length lists.now) }
-    ensures each { IfOk result (λ rows. AreRowsOfEach closed.entry.model.now d lists.now rows.items) }
-{
-    let mut known = Vec::with_capacity(alloc, lists.len())?;
-    for v in 0..lists.len() {
-        let mut rows = Rows::new(alloc);
-        let list = lists[v].as_slice();
-        let stops = StopsFor {
-            closed,
-            d,
-            v: v as u32,
-            of_dimension: stops,
-        };
-        write_rows(alloc, &stops, list, &mut rows)?;
-        known.push(rows)?;
-    }
-    Ok(known)
-}
-
 /// What is kept of lists in each dimension. The only refusal is want of memory.
 pub(crate) fn keep_each(
     alloc: Global,
-    closed: Closed<'_>,
+    lookups: &Lookups<'_>,
     lists: &[Seq<u32>],
 ) -> Result<Vec<Kept>, NoMemory>
-    requires vehicles { length lists.now ≡ length closed.model.now.vehicles }
-    requires tours { AreTours closed.model.now lists.now }
-    ensures { IfOk result (λ keeps. AreKept closed.entry.model.now lists.now keeps.items) }
+    requires vehicles { length lists.now ≡ length lookups.now.closed.model.now.vehicles }
+    requires tours { AreTours lookups.now.closed.model.now lists.now }
+    ensures { IfOk result (λ keeps. AreKept lookups.now.closed.model.now lists.now keeps.items) }
 {
-    let mut keeps = Vec::with_capacity(alloc, closed.model.dimensions.len())?;
-    for d in 0..closed.model.dimensions.len() {
-        keeps.push(Kept::build(alloc, closed, d as u32, lists)?)?;
+    let model = lookups.closed.model;
+    let mut keeps = Vec::with_capacity(alloc, model.dimensions.len())?;
+    for d in 0..model.dimensions.len() {
+        keeps.push(Kept::build(alloc, lookups, d as u32, lists)?)?;
     }
     Ok(keeps)
 }
@@ -122,11 +102,11 @@ pub(crate) fn learn(
     alloc: Global,
     keeps: &mut [Kept],
     lists: &[Seq<u32>],
-    new: &VehicleList<'_>,
+    new: &VehicleList<'_, '_, '_>,
 ) -> Result<(), NoMemory>
     requires there { new.now.vehicle < length lists.now }
-    requires kept { AreKept new.now.closed.model.now lists.now keeps.old }
-    ensures { OnOk result (AreKept new.now.closed.model.now
+    requires kept { AreKept (list_model new.now) lists.now keeps.old }
+    ensures { OnOk result (AreKept (list_model new.now)
         (with_route lists.now new.now.vehicle new.now.nodes.now) keeps.new) }
 {
     for d in 0..keeps.len() {
@@ -141,12 +121,12 @@ pub(crate) fn change_list(
     alloc: Global,
     keeps: &mut [Kept],
     lists: &mut [Seq<u32>],
-    new: &VehicleList<'_>,
+    new: &VehicleList<'_, '_, '_>,
 ) -> Result<(), NoMemory>
     requires there { new.now.vehicle < length lists.old }
-    requires kept { AreKept new.now.closed.model.now lists.old keeps.old }
+    requires kept { AreKept (list_model new.now) lists.old keeps.old }
     ensures lists { OnOk result (lists.new ≡ with_route lists.old new.now.vehicle new.now.nodes.now) }
-    ensures kept { OnOk result (AreKept new.now.closed.model.now lists.new keeps.new) }
+    ensures kept { OnOk result (AreKept (list_model new.now) lists.new keeps.new) }
 {
     learn(alloc, keeps, lists, new)?;
     write_list(new.nodes, &mut lists[new.vehicle as usize])?;
@@ -161,24 +141,25 @@ pub(crate) fn change_list(
 /// than any before.
 pub(crate) fn is_feasible_between(
     keeps: &[Kept],
-    old: &VehicleList<'_>,
+    old: &VehicleList<'_, '_, '_>,
     new: &[u32],
     front: usize,
     back: usize,
     walk: &mut Walk,
 ) -> Result<bool, NoMemory>
     requires { MayGoBetween old.now new.now front back keeps.now }
-    ensures { IfOk result (λ answer. answer ≡ is_feasible_in_each old.now.closed.model.now old.now.vehicle new.now) }
+    ensures { IfOk result (λ answer. answer ≡ is_feasible_in_each (list_model old.now) old.now.vehicle new.now) }
 {
     let v = old.vehicle;
     for d in 0..keeps.len() {
+        let table = old.lookups.table(d as u32);
         let kept = &keeps[d];
         let rows = &kept.rows[v as usize];
         let stops = StopsFor {
-            closed: old.closed,
+            closed: old.lookups.closed,
             d: d as u32,
             v,
-            of_dimension: &kept.stops,
+            of_dimension: &table.stops,
         };
         let known = KnownList {
             list: old.nodes,

@@ -6,10 +6,10 @@ ghost use Rattle.vr_first_insert.specs.Kept.{is_settled as is_settled_of, told_b
 ghost use Rattle.vr_first_insert.specs.Kept.{AddsAtLeast, BestAddsAtLeast, IsForgotten};
 ghost use Rattle.vr_first_insert.specs.VehicleLists.{best_of_candidate, sought_in, tried_in, IsKnownOf, IsReadyList};
 ghost use Rattle.vr_first_insert.specs.declared.known.Known.TheVariants.{Nothing};
+ghost use Rattle.vr_first_insert.specs.KeptRows.{list_model};
 
 use crate::bound::{least_pair, least_visit};
 use crate::choice::{Choice, improves, may_improve};
-use crate::kept::Kept;
 use crate::one_list::best_in_list;
 use crate::row::Row;
 use crate::scratch::Scratch;
@@ -70,8 +70,8 @@ fn better(best: Option<Choice>, next: Choice) -> Option<Choice>
 }
 
 // What a candidate adds at least to a list.
-fn least_in(of: &CandidateIn<'_>) -> i64
-    ensures { AddsAtLeast of.now.list.closed.model.now of.now.list.vehicle of.now.list.nodes.now
+fn least_in(of: &CandidateIn<'_, '_, '_>) -> i64
+    ensures { AddsAtLeast (list_model of.now.list) of.now.list.vehicle of.now.list.nodes.now
         of.now.candidate.item result }
 {
     match of.candidate.item {
@@ -122,39 +122,37 @@ fn begun_with(item: Item, searched: bool, best: Option<Choice>) -> Option<Choice
 // What a search of a list tells that begins with the best so far.
 fn sought(
     scratch: &mut Scratch,
-    keeps: &[Kept],
-    of: &CandidateIn<'_>,
+    of: &CandidateIn<'_, '_, '_>,
     best: Option<Choice>,
 ) -> Result<Known, NoMemory>
-    requires { IsReadyList of.now.list keeps.now }
+    requires { IsReadyList of.now.list of.now.keeps.now }
     ensures { IfOk result (λ known. known ≡ sought_in of.now best) }
 {
-    let found = best_in_list(scratch, keeps, of, best)?;
+    let found = best_in_list(scratch, of, best)?;
     Ok(told_by(best, found))
 }
 
 /// What is known of a candidate in a list once it was asked whether it is better than the best so far.
 pub(crate) fn asked(
     scratch: &mut Scratch,
-    keeps: &[Kept],
-    of: &CandidateIn<'_>,
+    of: &CandidateIn<'_, '_, '_>,
     known: Known,
     best: Option<Choice>,
 ) -> Result<Known, NoMemory>
-    requires ready { IsReadyList of.now.list keeps.now }
+    requires ready { IsReadyList of.now.list of.now.keeps.now }
     requires known { IsKnownOf of.now known }
     ensures known { IfOk result (IsKnownOf of.now) }
     ensures better { IfOk result (λ known. best_of known best ≡ best_of_candidate of.now best) }
 {
     match known {
         Known::Best(_) => Ok(known),
-        Known::AtLeast(bound) => tried(scratch, keeps, of, bound, best),
+        Known::AtLeast(bound) => tried(scratch, of, bound, best),
         Known::Nothing => {
             let bound = Bound {
                 least: least_in(of),
                 searched: false,
             };
-            tried(scratch, keeps, of, bound, best)
+            tried(scratch, of, bound, best)
         }
     }
 }
@@ -163,13 +161,12 @@ pub(crate) fn asked(
 // and the list is not searched.
 fn tried(
     scratch: &mut Scratch,
-    keeps: &[Kept],
-    of: &CandidateIn<'_>,
+    of: &CandidateIn<'_, '_, '_>,
     bound: Bound,
     best: Option<Choice>,
 ) -> Result<Known, NoMemory>
-    requires ready { IsReadyList of.now.list keeps.now }
-    requires bound { BestAddsAtLeast of.now.list.closed.model.now of.now.list.vehicle of.now.list.nodes.now
+    requires ready { IsReadyList of.now.list of.now.keeps.now }
+    requires bound { BestAddsAtLeast (list_model of.now.list) of.now.list.vehicle of.now.list.nodes.now
         of.now.candidate bound.least }
     ensures exact { IfOk result (λ known. known ≡ tried_in of.now bound best) }
     ensures known { IfOk result (IsKnownOf of.now) }
@@ -179,7 +176,7 @@ fn tried(
         return Ok(Known::AtLeast(bound));
     }
     let begin = begun_with(of.candidate.item, bound.searched, best);
-    let known = sought(scratch, keeps, of, begin)?;
+    let known = sought(scratch, of, begin)?;
     Ok(known)
 }
 

@@ -11,11 +11,11 @@ ghost use Rattle.vr_first_insert.specs.Placings.{key_of, placed, IsLeastIncrease
 ghost use Rattle.vr_first_insert.specs.declared.choice.Placing.TheVariants.{One};
 ghost use Rattle.vr_first_insert.specs.VehicleLists.{best_of_candidate, pair_before, visit_before, weigh_in};
 ghost use Rattle.vr_first_insert.specs.VehicleLists.{IsReadyList, IsReadyPair, MayTestPair, MayTestVisit};
+ghost use Rattle.vr_first_insert.specs.KeptRows.{list_model};
 
 use crate::bound::{least_apart, least_behind, least_further, least_place, write_ahead};
 use crate::choice::{Choice, Placing, improves, may_improve};
 use crate::increase::{pair_increase, visit_increase};
-use crate::kept::Kept;
 use crate::place::{move_on, write_placed};
 use crate::probes::Probes;
 use crate::scratch::Scratch;
@@ -26,7 +26,7 @@ use vr_model::{NoMemory, Seq};
 use vr_rules::{Item, allows_item};
 
 // A visit before place `t`.
-fn visit_at(visit: &VisitIn<'_>, t: usize) -> Choice
+fn visit_at(visit: &VisitIn<'_, '_, '_>, t: usize) -> Choice
     requires { t ≤ length visit.now.list.nodes.now }
     ensures { result ≡ visit_before visit.now t }
 {
@@ -41,12 +41,11 @@ fn visit_at(visit: &VisitIn<'_>, t: usize) -> Choice
 // The better of the best so far and a visit before place `t`, as it is written, which is tested only where it improves.
 fn weigh_visit(
     trying: &mut Trying,
-    keeps: &[Kept],
-    visit: &VisitIn<'_>,
+    visit: &VisitIn<'_, '_, '_>,
     t: usize,
     best: Option<Choice>,
 ) -> Result<Option<Choice>, NoMemory>
-    requires { MayTestVisit visit.now t keeps.now trying.old.longer }
+    requires { MayTestVisit visit.now t trying.old.longer }
     ensures best { IfOk result (λ chosen. chosen ≡ weigh_in visit.now.list best (visit_before visit.now t)) }
     ensures longer { trying.new.longer ≡ trying.old.longer }
 {
@@ -54,7 +53,7 @@ fn weigh_visit(
     if !improves(best, next) {
         return Ok(best);
     }
-    if may_visit(trying, keeps, visit, t)? {
+    if may_visit(trying, visit, t)? {
         Ok(Some(next))
     } else {
         Ok(best)
@@ -64,31 +63,29 @@ fn weigh_visit(
 // Whether a visit before place `t` is better than the best so far, and its vehicle may drive the list with it.
 fn is_visit_taken(
     trying: &mut Trying,
-    keeps: &[Kept],
-    visit: &VisitIn<'_>,
+    visit: &VisitIn<'_, '_, '_>,
     t: usize,
     best: Option<Choice>,
 ) -> Result<bool, NoMemory>
-    requires { MayTestVisit visit.now t keeps.now trying.old.longer }
+    requires { MayTestVisit visit.now t trying.old.longer }
     ensures { IfOk result (λ taken. taken ≡ (improves_by key_of best (visit_before visit.now t)
-        && is_route_open visit.now.list.closed.model.now visit.now.list.vehicle
+        && is_route_open (list_model visit.now.list) visit.now.list.vehicle
         (placed visit.now.list.nodes.now (One visit.now.node t)))) }
 {
     if !improves(best, visit_at(visit, t)) {
         return Ok(false);
     }
-    may_visit(trying, keeps, visit, t)
+    may_visit(trying, visit, t)
 }
 
 // The best beside a visit before each place of a list. The first place at which it adds least comes first: where that
 // is taken, no other is looked at.
 fn best_visit(
     scratch: &mut Scratch,
-    keeps: &[Kept],
-    visit: &VisitIn<'_>,
+    visit: &VisitIn<'_, '_, '_>,
     best: Option<Choice>,
 ) -> Result<Option<Choice>, NoMemory>
-    requires { IsReadyList visit.now.list keeps.now }
+    requires { IsReadyList visit.now.list visit.now.keeps.now }
     ensures { IfOk result (λ chosen. chosen ≡ fold (weigh_in visit.now.list) best
         (map (visit_before visit.now) (gaps visit.now.list.nodes.now))) }
 {
@@ -99,37 +96,36 @@ fn best_visit(
         Placing::One(visit.node, t as u32),
         &mut trying.longer,
     )?;
-    if is_visit_taken(trying, keeps, visit, t, best)? {
+    if is_visit_taken(trying, visit, t, best)? {
         return Ok(Some(visit_at(visit, t)));
     }
-    best_of_places(scratch, keeps, visit, best)
+    best_of_places(scratch, visit, best)
 }
 
 // The same, by one place after another.
 fn best_of_places(
     scratch: &mut Scratch,
-    keeps: &[Kept],
-    visit: &VisitIn<'_>,
+    visit: &VisitIn<'_, '_, '_>,
     best: Option<Choice>,
 ) -> Result<Option<Choice>, NoMemory>
-    requires { IsReadyList visit.now.list keeps.now }
+    requires { IsReadyList visit.now.list visit.now.keeps.now }
     ensures { IfOk result (λ chosen. chosen ≡ fold (weigh_in visit.now.list) best
         (map (visit_before visit.now) (gaps visit.now.list.nodes.now))) }
 {
     let trying = &mut scratch.trying;
     let list = visit.list.nodes;
     write_placed(list, Placing::One(visit.node, 0), &mut trying.longer)?;
-    let first = weigh_visit(trying, keeps, visit, 0, best)?;
+    let first = weigh_visit(trying, visit, 0, best)?;
     let mut best = first;
     for t in 0..list.len() {
         move_on(&mut trying.longer, t);
-        best = weigh_visit(trying, keeps, visit, t + 1, best)?;
+        best = weigh_visit(trying, visit, t + 1, best)?;
     }
     Ok(best)
 }
 
 // A pickup before place `s` and its delivery before place `t`.
-fn pair_at(pair: &PairIn<'_>, s: usize, t: usize) -> Choice
+fn pair_at(pair: &PairIn<'_, '_, '_>, s: usize, t: usize) -> Choice
     requires order { s ≤ t }
     requires within { t ≤ length pair.now.list.nodes.now }
     ensures { result ≡ pair_before pair.now s t }
@@ -147,13 +143,12 @@ fn pair_at(pair: &PairIn<'_>, s: usize, t: usize) -> Choice
 fn weigh_pair(
     trying: &mut Trying,
     probes: &Probes,
-    keeps: &[Kept],
-    pair: &PairIn<'_>,
+    pair: &PairIn<'_, '_, '_>,
     s: usize,
     t: usize,
     best: Option<Choice>,
 ) -> Result<Option<Choice>, NoMemory>
-    requires { MayTestPair pair.now s t keeps.now probes.now trying.old.longer }
+    requires { MayTestPair pair.now s t probes.now trying.old.longer }
     ensures best { IfOk result (λ chosen. chosen ≡ weigh_in pair.now.list best (pair_before pair.now s t)) }
     ensures longer { trying.new.longer ≡ trying.old.longer }
 {
@@ -161,7 +156,7 @@ fn weigh_pair(
     if !improves(best, next) {
         return Ok(best);
     }
-    if may_serve(trying, probes, keeps, pair, s, t)? {
+    if may_serve(trying, probes, pair, s, t)? {
         Ok(Some(next))
     } else {
         Ok(best)
@@ -170,13 +165,13 @@ fn weigh_pair(
 
 // A pickup before place `s`, and its delivery somewhere behind.
 #[derive(Clone, Copy)]
-struct Begun<'a> {
-    pair: PairIn<'a>,
+struct Begun<'l, 'm, 'k, 's> {
+    pair: PairIn<'l, 'm, 'k>,
     s: usize,
     // the list with the pickup
-    half: &'a [u32],
+    half: &'s [u32],
     // the least that the delivery adds before the last places of the list
-    ahead: &'a Seq<i64>,
+    ahead: &'s Seq<i64>,
     ghost within: { s ≤ length pair.list.nodes.now },
     ghost picked_up: { half.now ≡ insert pair.list.nodes.now s pair.pickup },
 }
@@ -187,12 +182,11 @@ struct Begun<'a> {
 fn best_further(
     trying: &mut Trying,
     probes: &mut Probes,
-    keeps: &[Kept],
-    begun: &Begun<'_>,
+    begun: &Begun<'_, '_, '_, '_>,
     best: Option<Choice>,
 ) -> Result<Option<Choice>, NoMemory>
-    requires ready { IsReadyPair begun.now.pair keeps.now begun.now.ahead.now }
-    requires here { AreReachedAt begun.now.pair.list.closed.model.now begun.now.pair.list.vehicle begun.now.half.now
+    requires ready { IsReadyPair begun.now.pair begun.now.ahead.now }
+    requires here { AreReachedAt (list_model begun.now.pair.list) begun.now.pair.list.vehicle begun.now.half.now
         (begun.now.s + 2) probes.old }
     requires longer { trying.old.longer ≡ insert begun.now.half.now (begun.now.s + 1) begun.now.pair.delivery }
     ensures { IfOk result (λ chosen. chosen ≡ fold (weigh_in begun.now.pair.list) best
@@ -209,14 +203,13 @@ fn best_further(
         if !may_improve(best, pair.class, least_apart(alone, least)) {
             return Ok(best);
         }
-        if probes.is_stuck(list.closed) {
+        if probes.is_stuck(list.lookups.closed) {
             return Ok(best);
         }
         move_on(&mut trying.longer, t);
-        best = weigh_pair(trying, probes, keeps, pair, s, t, best)?;
+        best = weigh_pair(trying, probes, pair, s, t, best)?;
         probes.go_on(
-            list.closed,
-            keeps,
+            list.lookups,
             list.vehicle,
             begun.half,
             t + 1,
@@ -232,13 +225,12 @@ fn best_behind(
     alloc: Global,
     trying: &mut Trying,
     probes: &mut Probes,
-    keeps: &[Kept],
-    begun: &Begun<'_>,
+    begun: &Begun<'_, '_, '_, '_>,
     least: i64,
     best: Option<Choice>,
 ) -> Result<Option<Choice>, NoMemory>
-    requires ready { IsReadyPair begun.now.pair keeps.now begun.now.ahead.now }
-    requires least { IsLeastIncrease begun.now.pair.list.closed.model.now begun.now.pair.list.vehicle
+    requires ready { IsReadyPair begun.now.pair begun.now.ahead.now }
+    requires least { IsLeastIncrease (list_model begun.now.pair.list) begun.now.pair.list.vehicle
         begun.now.pair.list.nodes.now begun.now.pair.delivery least }
     ensures { IfOk result (λ chosen. chosen ≡ fold (weigh_in begun.now.pair.list) best
         (map (pair_before begun.now.pair begun.now.s)
@@ -247,25 +239,24 @@ fn best_behind(
     let pair = &begun.pair;
     let list = &pair.list;
     let s = begun.s;
-    probes.leave(alloc, keeps, list, begun.half, s, &mut trying.walk)?;
-    if probes.is_stuck(list.closed) {
+    probes.leave(alloc, pair.keeps, list, begun.half, s, &mut trying.walk)?;
+    if probes.is_stuck(list.lookups.closed) {
         return Ok(best);
     }
     let placing = Placing::Two(pair.pickup, pair.delivery, s as u32, s as u32);
     write_placed(list.nodes, placing, &mut trying.longer)?;
-    let near = weigh_pair(trying, probes, keeps, pair, s, s, best)?;
+    let near = weigh_pair(trying, probes, pair, s, s, best)?;
     if !may_improve(near, pair.class, least_further(list, pair.pickup, s, least)) {
         return Ok(near);
     }
     probes.go_on(
-        list.closed,
-        keeps,
+        list.lookups,
         list.vehicle,
         begun.half,
         s + 1,
         &mut trying.walk,
     )?;
-    let best = best_further(trying, probes, keeps, begun, near)?;
+    let best = best_further(trying, probes, begun, near)?;
     Ok(best)
 }
 
@@ -273,12 +264,11 @@ fn best_behind(
 // delivery adds is in the scratch: then no place is looked at where none can be better.
 fn best_delivery(
     scratch: &mut Scratch,
-    keeps: &[Kept],
-    pair: &PairIn<'_>,
+    pair: &PairIn<'_, '_, '_>,
     s: usize,
     best: Option<Choice>,
 ) -> Result<Option<Choice>, NoMemory>
-    requires ready { IsReadyPair pair.now keeps.now scratch.old.ahead }
+    requires ready { IsReadyPair pair.now scratch.old.ahead }
     requires within { s ≤ length pair.now.list.nodes.now }
     ensures best { IfOk result (λ chosen. chosen ≡ fold (weigh_in pair.now.list) best
         (map (pair_before pair.now s)
@@ -307,17 +297,16 @@ fn best_delivery(
     };
     let trying = &mut scratch.trying;
     let probes = &mut scratch.probes;
-    best_behind(scratch.alloc, trying, probes, keeps, &begun, least, best)
+    best_behind(scratch.alloc, trying, probes, &begun, least, best)
 }
 
 // The best beside a pair before each two places of a list.
 fn best_pair(
     scratch: &mut Scratch,
-    keeps: &[Kept],
-    pair: &PairIn<'_>,
+    pair: &PairIn<'_, '_, '_>,
     best: Option<Choice>,
 ) -> Result<Option<Choice>, NoMemory>
-    requires { IsReadyList pair.now.list keeps.now }
+    requires { IsReadyList pair.now.list pair.now.keeps.now }
     ensures { IfOk result (λ chosen. chosen ≡ fold (weigh_in pair.now.list) best
         (each (gaps pair.now.list.nodes.now) (λ s. map (pair_before pair.now s)
         (from_to s (suc (length pair.now.list.nodes.now)))))) }
@@ -325,7 +314,7 @@ fn best_pair(
     write_ahead(&pair.list, pair.delivery, &mut scratch.ahead)?;
     let mut best = best;
     for s in 0..pair.list.nodes.len() + 1 {
-        best = best_delivery(scratch, keeps, pair, s, best)?;
+        best = best_delivery(scratch, pair, s, best)?;
     }
     Ok(best)
 }
@@ -333,31 +322,37 @@ fn best_pair(
 // The best beside an item in a list, whose vehicle may visit its nodes.
 fn best_where_allowed(
     scratch: &mut Scratch,
-    keeps: &[Kept],
-    of: &CandidateIn<'_>,
+    of: &CandidateIn<'_, '_, '_>,
     best: Option<Choice>,
 ) -> Result<Option<Choice>, NoMemory>
-    requires ready { IsReadyList of.now.list keeps.now }
-    requires allowed { IsTrue (list_all (allows_vehicle of.now.list.closed.model.now of.now.list.vehicle)
+    requires ready { IsReadyList of.now.list of.now.keeps.now }
+    requires allowed { IsTrue (list_all (allows_vehicle (list_model of.now.list) of.now.list.vehicle)
         (nodes_of of.now.candidate.item)) }
     ensures { IfOk result (λ chosen. chosen ≡ best_of_candidate of.now best) }
 {
     let list = of.list;
+    let keeps = of.keeps;
     let candidate = of.candidate;
     let class = candidate.class;
     let best = match candidate.item {
         Item::Visit(node) => {
-            let visit = VisitIn { list, class, node };
-            best_visit(scratch, keeps, &visit, best)?
+            let visit = VisitIn {
+                list,
+                keeps,
+                class,
+                node,
+            };
+            best_visit(scratch, &visit, best)?
         }
         Item::PickupAndDelivery(pickup, delivery) => {
             let pair = PairIn {
                 list,
+                keeps,
                 class,
                 pickup,
                 delivery,
             };
-            best_pair(scratch, keeps, &pair, best)?
+            best_pair(scratch, &pair, best)?
         }
     };
     Ok(best)
@@ -366,15 +361,14 @@ fn best_where_allowed(
 /// The best beside an item in a list. Whether its vehicle may visit the nodes of the item is asked once.
 pub(crate) fn best_in_list(
     scratch: &mut Scratch,
-    keeps: &[Kept],
-    of: &CandidateIn<'_>,
+    of: &CandidateIn<'_, '_, '_>,
     best: Option<Choice>,
 ) -> Result<Option<Choice>, NoMemory>
-    requires { IsReadyList of.now.list keeps.now }
+    requires { IsReadyList of.now.list of.now.keeps.now }
     ensures { IfOk result (λ chosen. chosen ≡ best_of_candidate of.now best) }
 {
-    if !allows_item(of.lookups, of.list.vehicle, of.candidate.item) {
+    if !allows_item(of.list.lookups.nodes(), of.list.vehicle, of.candidate.item) {
         return Ok(best);
     }
-    best_where_allowed(scratch, keeps, of, best)
+    best_where_allowed(scratch, of, best)
 }

@@ -11,7 +11,8 @@ use crate::choice::{Choice, Placing};
 use crate::kept::{Kept, change_list};
 use crate::vehicle_list::VehicleList;
 use std::alloc::Global;
-use vr_model::{Closed, NoMemory, Seq};
+use vr_model::{NoMemory, Seq};
+use vr_plan::Lookups;
 
 /// Writes the list with an item placed in it over another list.
 pub(crate) fn write_placed(
@@ -66,24 +67,24 @@ pub(crate) fn write_list(list: &[u32], out: &mut Seq<u32>) -> Result<(), NoMemor
 pub(crate) fn place_in(
     longer: &mut Seq<u32>,
     alloc: Global,
-    closed: Closed<'_>,
+    lookups: &Lookups<'_>,
     keeps: &mut [Kept],
     lists: &mut [Seq<u32>],
     choice: Choice,
 ) -> Result<(), NoMemory>
-    requires may { MayBeInserted closed.model.now lists.old choice }
-    requires built { AreBuilt closed.model.now lists.old }
-    requires kept { AreKept closed.model.now lists.old keeps.old }
+    requires may { MayBeInserted lookups.now.closed.model.now lists.old choice }
+    requires built { AreBuilt lookups.now.closed.model.now lists.old }
+    requires kept { AreKept lookups.now.closed.model.now lists.old keeps.old }
     ensures lists { OnOk result (lists.new ≡ with_route lists.old choice.vehicle
         (placed_of (route lists.old choice.vehicle) choice.placing)) }
-    ensures kept { OnOk result (AreKept closed.entry.model.now lists.new keeps.new) }
+    ensures kept { OnOk result (AreKept lookups.now.closed.model.now lists.new keeps.new) }
 {
     let v = choice.vehicle;
     let before = lists[v as usize].as_slice();
     write_placed(before, choice.placing, longer)?;
     let nodes = longer.as_slice();
     let list = VehicleList {
-        closed,
+        lookups,
         vehicle: v,
         nodes,
     };

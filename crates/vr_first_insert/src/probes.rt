@@ -4,11 +4,13 @@ ghost use Rattle.std.specs.Prelude.{◌≡◌, ◌+◌, ◌≤◌, IsTrue, lengt
 ghost use Rattle.vr_rules.specs.RoutesOpen.{is_feasible_in_each};
 ghost use Rattle.vr_first_insert.specs.Probes.{is_stuck_in_some, AreReachedAt, ReachNoEnd};
 ghost use Rattle.vr_first_insert.specs.Probes.{MayGoFrom, MayGoOn, MayLeave};
+ghost use Rattle.vr_first_insert.specs.KeptRows.{list_model};
 
 use crate::kept::Kept;
 use crate::vehicle_list::VehicleList;
 use std::alloc::Global;
 use vr_model::{Closed, NoMemory};
+use vr_plan::Lookups;
 use vr_reach::{KnownList, StopsFor, Walk, go_on, goes_from, is_stuck, leave_rows};
 use vr_steps::Levels;
 
@@ -35,13 +37,13 @@ impl Probes {
         &mut self,
         alloc: Global,
         keeps: &[Kept],
-        old: &VehicleList<'_>,
+        old: &VehicleList<'_, '_, '_>,
         new: &[u32],
         front: usize,
         walk: &mut Walk,
     ) -> Result<(), NoMemory>
         requires { MayLeave old.now new.now front keeps.now }
-        ensures { OnOk result (AreReachedAt old.now.closed.model.now old.now.vehicle new.now (front + 1) self.new) }
+        ensures { OnOk result (AreReachedAt (list_model old.now) old.now.vehicle new.now (front + 1) self.new) }
     {
         fit(alloc, self, keeps.len())?;
         leave_each(self, keeps, old, new, front, walk)
@@ -70,7 +72,7 @@ impl Probes {
     pub(crate) fn goes_from(
         &self,
         keeps: &[Kept],
-        old: &VehicleList<'_>,
+        old: &VehicleList<'_, '_, '_>,
         new: &[u32],
         k: usize,
         back: usize,
@@ -78,18 +80,19 @@ impl Probes {
     ) -> Result<bool, NoMemory>
         requires { MayGoFrom old.now new.now k back keeps.now self.now }
         ensures { IfOk result (λ answer. answer
-            ≡ is_feasible_in_each old.now.closed.model.now old.now.vehicle new.now) }
+            ≡ is_feasible_in_each (list_model old.now) old.now.vehicle new.now) }
     {
         let v = old.vehicle;
         for d in 0..keeps.len() {
+            let table = old.lookups.table(d as u32);
             let kept = &keeps[d];
             let rows = &kept.rows[v as usize];
             let here = &self.here[d];
             let stops = StopsFor {
-                closed: old.closed,
+                closed: old.lookups.closed,
                 d: d as u32,
                 v,
-                of_dimension: &kept.stops,
+                of_dimension: &table.stops,
             };
             let known = KnownList {
                 list: old.nodes,
@@ -108,22 +111,23 @@ impl Probes {
     /// `NoMemory` as of `is_feasible_between`.
     pub(crate) fn go_on(
         &mut self,
-        closed: Closed<'_>,
-        keeps: &[Kept],
+        lookups: &Lookups<'_>,
         v: u32,
         list: &[u32],
         k: usize,
         walk: &mut Walk,
     ) -> Result<(), NoMemory>
-        requires { MayGoOn closed.model.now v list.now k keeps.now self.old }
-        ensures { OnOk result (AreReachedAt closed.entry.model.now v list.now (k + 1) self.new) }
+        requires { MayGoOn lookups.now.closed.model.now v list.now k self.old }
+        ensures { OnOk result (AreReachedAt lookups.now.closed.model.now v list.now (k + 1) self.new) }
     {
-        for d in 0..keeps.len() {
+        let closed = lookups.closed;
+        for d in 0..closed.model.dimensions.len() {
+            let table = lookups.table(d as u32);
             let stops = StopsFor {
                 closed,
                 d: d as u32,
                 v,
-                of_dimension: &keeps[d].stops,
+                of_dimension: &table.stops,
             };
             go_on(&stops, list, k, walk, &mut self.here[d])?;
         }
@@ -145,24 +149,25 @@ fn fit(alloc: Global, probes: &mut Probes, wanted: usize) -> Result<(), NoMemory
 fn leave_each(
     probes: &mut Probes,
     keeps: &[Kept],
-    old: &VehicleList<'_>,
+    old: &VehicleList<'_, '_, '_>,
     new: &[u32],
     front: usize,
     walk: &mut Walk,
 ) -> Result<(), NoMemory>
     requires leaves { MayLeave old.now new.now front keeps.now }
     requires enough { length keeps.now ≤ length probes.old.here.items }
-    ensures { OnOk result (AreReachedAt old.now.closed.model.now old.now.vehicle new.now (front + 1) probes.new) }
+    ensures { OnOk result (AreReachedAt (list_model old.now) old.now.vehicle new.now (front + 1) probes.new) }
 {
     let v = old.vehicle;
     for d in 0..keeps.len() {
+        let table = old.lookups.table(d as u32);
         let kept = &keeps[d];
         let rows = &kept.rows[v as usize];
         let stops = StopsFor {
-            closed: old.closed,
+            closed: old.lookups.closed,
             d: d as u32,
             v,
-            of_dimension: &kept.stops,
+            of_dimension: &table.stops,
         };
         let known = KnownList {
             list: old.nodes,

@@ -7,7 +7,7 @@ ghost use Rattle.vr_rules.specs.Placing.{AreBuilt, AreMarks};
 ghost use Rattle.vr_first_insert.specs.KeptRows.{AreKept};
 ghost use Rattle.vr_first_insert.specs.Kept.{candidate_at, AreRows};
 ghost use Rattle.vr_first_insert.specs.Placings.{best_beside, counts as counts_of, insertion_of, MayBeInserted};
-ghost use Rattle.vr_first_insert.specs.Asking.{best_asked, best_asked_of_each, AreKnownIn, AreKnownInEach};
+ghost use Rattle.vr_first_insert.specs.Asking.{best_asked, best_asked_of_each, items_model, AreKnownIn, AreKnownInEach};
 ghost use Rattle.vr_first_insert.specs.Asking.{MayAsk, MayAskEach, MayCount, MayInsert, MayWeigh};
 
 use crate::choice::Choice;
@@ -17,30 +17,29 @@ use crate::place::place_in;
 use crate::row::Row;
 use crate::scratch::Scratch;
 use crate::vehicle_list::{CandidateIn, VehicleList};
-use vr_lists::NodeTables;
-use vr_model::{Closed, NoMemory, Seq};
+use vr_model::{NoMemory, Seq};
+use vr_plan::Lookups;
 use vr_rules::{Candidate, groups_have_room, mark_item};
 
 /// What is put into lists: the items of a model, with what was looked up of it.
 #[derive(Clone, Copy)]
-pub(crate) struct Items<'a> {
-    pub(crate) closed: Closed<'a>,
-    pub(crate) lookups: &'a NodeTables<'a>,
-    pub(crate) candidates: &'a [Candidate],
+pub(crate) struct Items<'l, 'm, 'c> {
+    pub(crate) lookups: &'l Lookups<'m>,
+    pub(crate) candidates: &'c [Candidate],
 }
 
 // Lists of which rows are kept, and what may be put into them.
 #[derive(Clone, Copy)]
-struct Asked<'a> {
-    items: Items<'a>,
-    keeps: &'a [Kept],
-    lists: &'a [Seq<u32>],
+struct Asked<'l, 'm, 'c, 'k> {
+    items: Items<'l, 'm, 'c>,
+    keeps: &'k [Kept],
+    lists: &'k [Seq<u32>],
 }
 
 // The best beside candidate `i` in the list of vehicle `v`, where `row` has what is known of the candidates in it.
 fn settle(
     scratch: &mut Scratch,
-    on: &Asked<'_>,
+    on: &Asked<'_, '_, '_, '_>,
     v: usize,
     i: usize,
     row: &mut Row,
@@ -63,7 +62,7 @@ fn settle(
 #[inline(never)]
 fn ask(
     scratch: &mut Scratch,
-    on: &Asked<'_>,
+    on: &Asked<'_, '_, '_, '_>,
     v: usize,
     i: usize,
     row: &mut Row,
@@ -79,16 +78,16 @@ fn ask(
     let lists = on.lists;
     let nodes = lists[v].as_slice();
     let list = VehicleList {
-        closed: on.items.closed,
+        lookups: on.items.lookups,
         vehicle: v as u32,
         nodes,
     };
     let of = CandidateIn {
         list,
-        lookups: on.items.lookups,
+        keeps: on.keeps,
         candidate,
     };
-    let told = asked(scratch, on.keeps, &of, known, best)?;
+    let told = asked(scratch, &of, known, best)?;
     row.set(i, told);
     Ok(better_of(best, &told))
 }
@@ -96,7 +95,7 @@ fn ask(
 // The best beside candidate `i` in each list, where `rows` have what is known of the candidates in each.
 fn best_in_lists(
     scratch: &mut Scratch,
-    on: &Asked<'_>,
+    on: &Asked<'_, '_, '_, '_>,
     i: usize,
     rows: &mut [Row],
     best: Option<Choice>,
@@ -114,28 +113,28 @@ fn best_in_lists(
 }
 
 // Whether an item may count: its first node is not marked, and the groups have room for it.
-fn counts(items: &Items<'_>, marks: &[bool], candidate: Candidate) -> bool
+fn counts(items: &Items<'_, '_, '_>, marks: &[bool], candidate: Candidate) -> bool
     requires { MayCount items.now marks.now candidate }
-    ensures { result ≡ counts_of items.now.closed.model.now marks.now candidate }
+    ensures { result ≡ counts_of (items_model items.now) marks.now candidate }
 {
     if marks[candidate.item.number() as usize] {
         false
     } else {
-        groups_have_room(items.closed.model, items.lookups, marks, candidate.item)
+        groups_have_room(items.lookups, marks, candidate.item)
     }
 }
 
 // Takes the best beside all insertions of candidate `i`.
 fn beside(
     scratch: &mut Scratch,
-    on: &Asked<'_>,
+    on: &Asked<'_, '_, '_, '_>,
     marks: &[bool],
     i: usize,
     rows: &mut [Row],
     best: &mut Option<Choice>,
 ) -> Result<(), NoMemory>
     requires { MayWeigh on.now marks.now i rows.old }
-    ensures best { OnOk result (best.new ≡ best_beside on.now.items.closed.model.now on.now.lists.now marks.now
+    ensures best { OnOk result (best.new ≡ best_beside (items_model on.now.items) on.now.lists.now marks.now
         (candidate_at on.now.items.candidates.now i) best.old) }
     ensures rows { OnOk result (AreKnownInEach on.now rows.new) }
 {
@@ -149,7 +148,7 @@ fn beside(
 // The insertion to make next, if any may be made.
 fn next_insertion(
     scratch: &mut Scratch,
-    items: &Items<'_>,
+    items: &Items<'_, '_, '_>,
     keeps: &[Kept],
     marks: &[bool],
     lists: &[Seq<u32>],
@@ -157,9 +156,9 @@ fn next_insertion(
 ) -> Result<Option<Choice>, NoMemory>
     requires { MayInsert items.now keeps.now marks.now lists.now rows.old }
     ensures next { IfOk result (λ next. option_map insertion_of next
-        ≡ next_inserted items.now.closed.model.now lists.now) }
-    ensures may { IfOk result (λ next. IfSome next (MayBeInserted items.now.closed.model.now lists.now)) }
-    ensures rows { OnOk result (AreRows items.now.closed.model.now lists.now items.now.candidates.now rows.new) }
+        ≡ next_inserted (items_model items.now) lists.now) }
+    ensures may { IfOk result (λ next. IfSome next (MayBeInserted (items_model items.now) lists.now)) }
+    ensures rows { OnOk result (AreRows (items_model items.now) lists.now items.now.candidates.now rows.new) }
 {
     let on = Asked {
         items: *items,
@@ -179,7 +178,7 @@ fn next_insertion(
 /// After want of memory nothing is said of the lists.
 pub(crate) fn insert_all(
     scratch: &mut Scratch,
-    items: &Items<'_>,
+    items: &Items<'_, '_, '_>,
     keeps: &mut [Kept],
     lists: &mut [Seq<u32>],
     marks: &mut [bool],
@@ -187,17 +186,17 @@ pub(crate) fn insert_all(
 ) -> Result<(), NoMemory>
     requires { MayInsert items.now keeps.old marks.old lists.old rows.old }
     ensures rebuilt { OnOk result (lists.new
-        ≡ rebuilt items.now.closed.model.now (length (items_of items.now.closed.model.now)) lists.old) }
-    ensures built { OnOk result (AreBuilt items.now.closed.model.now lists.new) }
-    ensures marked { OnOk result (AreMarks items.now.closed.model.now.nodes lists.new marks.new) }
-    ensures kept { OnOk result (AreKept items.now.closed.model.now lists.new keeps.new) }
-    ensures rows { OnOk result (AreRows items.now.closed.model.now lists.new items.now.candidates.now rows.new) }
+        ≡ rebuilt (items_model items.now) (length (items_of (items_model items.now))) lists.old) }
+    ensures built { OnOk result (AreBuilt (items_model items.now) lists.new) }
+    ensures marked { OnOk result (AreMarks (items_model items.now).nodes lists.new marks.new) }
+    ensures kept { OnOk result (AreKept (items_model items.now) lists.new keeps.new) }
+    ensures rows { OnOk result (AreRows (items_model items.now) lists.new items.now.candidates.now rows.new) }
 {
     for _step in 0..items.candidates.len() {
         match next_insertion(scratch, items, keeps, marks, lists, rows)? {
             Some(choice) => {
                 let longer = &mut scratch.trying.longer;
-                place_in(longer, scratch.alloc, items.closed, keeps, lists, choice)?;
+                place_in(longer, scratch.alloc, items.lookups, keeps, lists, choice)?;
                 mark_item(marks, choice.placing.item());
                 forget(rows, choice.vehicle);
             }

@@ -12,8 +12,8 @@ ghost use Rattle.vr_first_insert.specs.Keeping.{IsKeeper, IsRebuilder};
 
 use crate::keeper::Keeper;
 use std::alloc::Global;
-use vr_lists::NodeTables;
 use vr_model::{Closed, Model, NoMemory};
+use vr_plan::Lookups;
 use vr_routes::Routes;
 use vr_rules::complete_routes;
 
@@ -28,16 +28,10 @@ pub struct Rebuilder {
 
 impl Rebuilder {
     /// What rebuilds routes of a model. The only refusal is want of memory.
-    pub fn open(
-        alloc: Global,
-        model: &Model,
-        lookups: &NodeTables<'_>,
-    ) -> Result<Rebuilder, NoMemory>
-        requires well_formed { IsWellFormed model.now }
-        requires lookups { lookups.now ≡ model.now }
-        ensures { IfOk result (IsRebuilder model.now) }
+    pub fn open(alloc: Global, lookups: &Lookups<'_>) -> Result<Rebuilder, NoMemory>
+        ensures { IfOk result (IsRebuilder lookups.now.closed.model.now) }
     {
-        let keeper = Keeper::open(alloc, Closed { model }, lookups)?;
+        let keeper = Keeper::open(alloc, lookups)?;
         Ok(Rebuilder {
             keeper: Box::new(alloc, keeper)?,
         })
@@ -47,26 +41,19 @@ impl Rebuilder {
     /// `rebuild` gives them.
     ///
     /// After `NoMemory` the routes are as before, and nothing is said of what is kept.
-    pub fn rebuild(
-        &mut self,
-        model: &Model,
-        lookups: &NodeTables<'_>,
-        routes: &mut Routes,
-    ) -> Result<(), NoMemory>
-        requires well_formed { IsWellFormed model.now }
-        requires lookups { lookups.now ≡ model.now }
-        requires rebuilder { IsRebuilder model.now self.old }
-        requires of_model { routes.old.visits ≡ visits model.now }
-        requires lists { IsTrue (are_lists model.now routes.old.lists) }
-        requires open_lists { IsTrue (is_open model.now routes.old.lists) }
-        ensures rebuilder { OnOk result (IsRebuilder model.now self.new) }
-        ensures lists { OnOk result (routes.new.lists
-            ≡ rebuilt model.now (length (items model.now)) routes.old.lists) }
-        ensures built { OnOk result (AreBuilt model.now routes.new.lists) }
+    pub fn rebuild(&mut self, lookups: &Lookups<'_>, routes: &mut Routes) -> Result<(), NoMemory>
+        requires rebuilder { IsRebuilder lookups.now.closed.model.now self.old }
+        requires of_model { routes.old.visits ≡ visits lookups.now.closed.model.now }
+        requires lists { IsTrue (are_lists lookups.now.closed.model.now routes.old.lists) }
+        requires open_lists { IsTrue (is_open lookups.now.closed.model.now routes.old.lists) }
+        ensures rebuilder { OnOk result (IsRebuilder lookups.now.closed.model.now self.new) }
+        ensures lists { OnOk result (routes.new.lists ≡ rebuilt lookups.now.closed.model.now
+            (length (items lookups.now.closed.model.now)) routes.old.lists) }
+        ensures built { OnOk result (AreBuilt lookups.now.closed.model.now routes.new.lists) }
         ensures as_before { OnErr result (routes.new.lists ≡ routes.old.lists) }
         ensures visits { routes.new.visits ≡ routes.old.visits }
     {
-        rebuild_in_place(&mut self.keeper, Closed { model }, lookups, routes)?;
+        rebuild_in_place(&mut self.keeper, lookups, routes)?;
         Ok(())
     }
 }
@@ -74,22 +61,20 @@ impl Rebuilder {
 // Makes routes those at which insertion ends, by what is kept of lists.
 fn rebuild_in_place(
     keeper: &mut Keeper,
-    closed: Closed<'_>,
-    lookups: &NodeTables<'_>,
+    lookups: &Lookups<'_>,
     routes: &mut Routes,
 ) -> Result<(), NoMemory>
-    requires lookups { lookups.now ≡ closed.model.now }
-    requires keeper { IsKeeper closed.model.now keeper.old }
-    requires of_model { routes.old.visits ≡ visits closed.model.now }
-    requires built { AreBuilt closed.model.now routes.old.lists }
-    ensures keeper { OnOk result (IsKeeper closed.entry.model.now keeper.new) }
-    ensures lists { OnOk result (routes.new.lists
-        ≡ rebuilt closed.entry.model.now (length (items closed.entry.model.now)) routes.old.lists) }
-    ensures built { OnOk result (AreBuilt closed.entry.model.now routes.new.lists) }
+    requires keeper { IsKeeper lookups.now.closed.model.now keeper.old }
+    requires of_model { routes.old.visits ≡ visits lookups.now.closed.model.now }
+    requires built { AreBuilt lookups.now.closed.model.now routes.old.lists }
+    ensures keeper { OnOk result (IsKeeper lookups.now.closed.model.now keeper.new) }
+    ensures lists { OnOk result (routes.new.lists ≡ rebuilt lookups.now.closed.model.now
+        (length (items lookups.now.closed.model.now)) routes.old.lists) }
+    ensures built { OnOk result (AreBuilt lookups.now.closed.model.now routes.new.lists) }
     ensures as_before { OnErr result (routes.new.lists ≡ routes.old.lists) }
     ensures visits { routes.new.visits ≡ routes.old.visits }
 {
-    keeper.rebuild(closed, lookups, routes)?;
+    keeper.rebuild(lookups, routes)?;
     routes.set_lists(&keeper.lists);
     Ok(())
 }
@@ -98,42 +83,34 @@ fn rebuild_in_place(
 fn rebuilt_routes(
     alloc: Global,
     keeper: &mut Keeper,
-    closed: Closed<'_>,
-    lookups: &NodeTables<'_>,
+    lookups: &Lookups<'_>,
     routes: &Routes,
 ) -> Result<Routes, NoMemory>
-    requires lookups { lookups.now ≡ closed.model.now }
-    requires keeper { IsKeeper closed.model.now keeper.old }
-    requires built { AreBuilt closed.model.now routes.now.lists }
-    ensures keeper { OnOk result (IsKeeper closed.entry.model.now keeper.new) }
-    ensures lists { IfOk result (λ after. after.lists
-        ≡ rebuilt closed.entry.model.now (length (items closed.entry.model.now)) routes.now.lists) }
-    ensures visits { IfOk result (λ after. after.visits ≡ visits closed.entry.model.now) }
-    ensures built { IfOk result (λ after. AreBuilt closed.entry.model.now after.lists) }
+    requires keeper { IsKeeper lookups.now.closed.model.now keeper.old }
+    requires built { AreBuilt lookups.now.closed.model.now routes.now.lists }
+    ensures keeper { OnOk result (IsKeeper lookups.now.closed.model.now keeper.new) }
+    ensures lists { IfOk result (λ after. after.lists ≡ rebuilt lookups.now.closed.model.now
+        (length (items lookups.now.closed.model.now)) routes.now.lists) }
+    ensures visits { IfOk result (λ after. after.visits ≡ visits lookups.now.closed.model.now) }
+    ensures built { IfOk result (λ after. AreBuilt lookups.now.closed.model.now after.lists) }
 {
-    keeper.rebuild(closed, lookups, routes)?;
-    match Routes::from_lists(alloc, closed.model, &keeper.lists)? {
+    keeper.rebuild(lookups, routes)?;
+    match Routes::from_lists(alloc, lookups.closed.model, &keeper.lists)? {
         Some(after) => Ok(after),
         None => unreachable!(),
     }
 }
 
 // The same, where nothing is kept yet.
-fn rebuilt_anew(
-    alloc: Global,
-    closed: Closed<'_>,
-    lookups: &NodeTables<'_>,
-    routes: &Routes,
-) -> Result<Routes, NoMemory>
-    requires lookups { lookups.now ≡ closed.model.now }
-    requires built { AreBuilt closed.model.now routes.now.lists }
-    ensures lists { IfOk result (λ after. after.lists
-        ≡ rebuilt closed.entry.model.now (length (items closed.entry.model.now)) routes.now.lists) }
-    ensures visits { IfOk result (λ after. after.visits ≡ visits closed.entry.model.now) }
-    ensures built { IfOk result (λ after. AreBuilt closed.entry.model.now after.lists) }
+fn rebuilt_over(alloc: Global, lookups: &Lookups<'_>, routes: &Routes) -> Result<Routes, NoMemory>
+    requires { AreBuilt lookups.now.closed.model.now routes.now.lists }
+    ensures lists { IfOk result (λ after. after.lists ≡ rebuilt lookups.now.closed.model.now
+        (length (items lookups.now.closed.model.now)) routes.now.lists) }
+    ensures visits { IfOk result (λ after. after.visits ≡ visits lookups.now.closed.model.now) }
+    ensures built { IfOk result (λ after. AreBuilt lookups.now.closed.model.now after.lists) }
 {
-    let mut keeper = Keeper::open(alloc, closed, lookups)?;
-    rebuilt_routes(alloc, &mut keeper, closed, lookups, routes)
+    let mut keeper = Keeper::open(alloc, lookups)?;
+    rebuilt_routes(alloc, &mut keeper, lookups, routes)
 }
 
 /// The routes at which parallel cheapest insertion ends when it begins with these open routes: as long as an item may
@@ -149,25 +126,19 @@ pub fn rebuild(alloc: Global, model: &Model, routes: &Routes) -> Result<Routes, 
     ensures visits { IfOk result (λ after. after.visits ≡ visits model.now) }
     ensures built { IfOk result (λ after. AreBuilt model.now after.lists) }
 {
-    let closed = Closed { model };
-    let lookups = NodeTables::open(alloc, model)?;
-    rebuilt_anew(alloc, closed, &lookups, routes)
+    let lookups = Lookups::open(alloc, Closed { model })?;
+    rebuilt_over(alloc, &lookups, routes)
 }
 
 // Makes the lists those at which insertion ends when it begins with empty ones.
-fn rebuild_empty(
-    alloc: Global,
-    keeper: &mut Keeper,
-    closed: Closed<'_>,
-    lookups: &NodeTables<'_>,
-) -> Result<(), NoMemory>
-    requires lookups { lookups.now ≡ closed.model.now }
-    requires keeper { IsKeeper closed.model.now keeper.old }
-    ensures lists { OnOk result (keeper.new.lists.items ≡ parallel_cheapest_insertion closed.entry.model.now) }
-    ensures built { OnOk result (AreBuilt closed.entry.model.now keeper.new.lists.items) }
+fn rebuild_empty(alloc: Global, keeper: &mut Keeper, lookups: &Lookups<'_>) -> Result<(), NoMemory>
+    requires { IsKeeper lookups.now.closed.model.now keeper.old }
+    ensures lists { OnOk result (keeper.new.lists.items
+        ≡ parallel_cheapest_insertion lookups.now.closed.model.now) }
+    ensures built { OnOk result (AreBuilt lookups.now.closed.model.now keeper.new.lists.items) }
 {
-    let empty = Routes::empty(alloc, closed.model)?;
-    keeper.rebuild(closed, lookups, &empty)?;
+    let empty = Routes::empty(alloc, lookups.closed.model)?;
+    keeper.rebuild(lookups, &empty)?;
     Ok(())
 }
 
@@ -175,35 +146,30 @@ fn rebuild_empty(
 fn first_kept(
     alloc: Global,
     keeper: &mut Keeper,
-    closed: Closed<'_>,
-    lookups: &NodeTables<'_>,
+    lookups: &Lookups<'_>,
 ) -> Result<Option<Routes>, NoMemory>
-    requires lookups { lookups.now ≡ closed.model.now }
-    requires keeper { IsKeeper closed.model.now keeper.old }
-    ensures first { IfOk result (λ first. lists_in first
-        ≡ cond (is_valid closed.entry.model.now (parallel_cheapest_insertion closed.entry.model.now))
-        (Some (parallel_cheapest_insertion closed.entry.model.now)) None) }
-    ensures visits { IfOk result (λ first. IfSome first (λ routes. routes.visits ≡ visits closed.entry.model.now)) }
+    requires { IsKeeper lookups.now.closed.model.now keeper.old }
+    ensures first { IfOk result (λ first. lists_in first ≡ cond
+        (is_valid lookups.now.closed.model.now (parallel_cheapest_insertion lookups.now.closed.model.now))
+        (Some (parallel_cheapest_insertion lookups.now.closed.model.now)) None) }
+    ensures visits { IfOk result (λ first.
+        IfSome first (λ routes. routes.visits ≡ visits lookups.now.closed.model.now)) }
 {
-    rebuild_empty(alloc, keeper, closed, lookups)?;
-    let first = complete_routes(alloc, closed.model, lookups, &keeper.lists)?;
+    rebuild_empty(alloc, keeper, lookups)?;
+    let first = complete_routes(alloc, lookups, &keeper.lists)?;
     Ok(first)
 }
 
-// The first solution, over what was looked up.
-fn first_over(
-    alloc: Global,
-    closed: Closed<'_>,
-    lookups: &NodeTables<'_>,
-) -> Result<Option<Routes>, NoMemory>
-    requires lookups { lookups.now ≡ closed.model.now }
-    ensures first { IfOk result (λ first. lists_in first
-        ≡ cond (is_valid closed.entry.model.now (parallel_cheapest_insertion closed.entry.model.now))
-        (Some (parallel_cheapest_insertion closed.entry.model.now)) None) }
-    ensures visits { IfOk result (λ first. IfSome first (λ routes. routes.visits ≡ visits closed.entry.model.now)) }
+/// The first solution, as `first` gives it, over what was looked up of the model.
+pub fn first_over(alloc: Global, lookups: &Lookups<'_>) -> Result<Option<Routes>, NoMemory>
+    ensures first { IfOk result (λ first. lists_in first ≡ cond
+        (is_valid lookups.now.closed.model.now (parallel_cheapest_insertion lookups.now.closed.model.now))
+        (Some (parallel_cheapest_insertion lookups.now.closed.model.now)) None) }
+    ensures visits { IfOk result (λ first.
+        IfSome first (λ routes. routes.visits ≡ visits lookups.now.closed.model.now)) }
 {
-    let mut keeper = Keeper::open(alloc, closed, lookups)?;
-    first_kept(alloc, &mut keeper, closed, lookups)
+    let mut keeper = Keeper::open(alloc, lookups)?;
+    first_kept(alloc, &mut keeper, lookups)
 }
 
 /// The first solution of a model by parallel cheapest insertion (`PARALLEL_CHEAPEST_INSERTION` in OR-Tools): empty
@@ -217,7 +183,6 @@ pub fn first(alloc: Global, model: &Model) -> Result<Option<Routes>, NoMemory>
         (Some (parallel_cheapest_insertion model.now)) None) }
     ensures visits { IfOk result (λ first. IfSome first (λ routes. routes.visits ≡ visits model.now)) }
 {
-    let closed = Closed { model };
-    let lookups = NodeTables::open(alloc, model)?;
-    first_over(alloc, closed, &lookups)
+    let lookups = Lookups::open(alloc, Closed { model })?;
+    first_over(alloc, &lookups)
 }

@@ -5,8 +5,9 @@ ghost use Rattle.vr_model.specs.routes.Rules.{is_route_open};
 ghost use Rattle.vr_first_insert.specs.Placings.{placed};
 ghost use Rattle.vr_first_insert.specs.VehicleLists.{MayTestPair, MayTestVisit};
 ghost use Rattle.vr_first_insert.specs.declared.choice.Placing.TheVariants.{One, Two};
+ghost use Rattle.vr_first_insert.specs.KeptRows.{list_model};
 
-use crate::kept::{Kept, is_feasible_between};
+use crate::kept::is_feasible_between;
 use crate::probes::Probes;
 use crate::vehicle_list::{PairIn, VisitIn};
 use std::alloc::Global;
@@ -38,24 +39,28 @@ impl Trying {
 /// two arcs that are new.
 pub(crate) fn may_visit(
     trying: &mut Trying,
-    keeps: &[Kept],
-    visit: &VisitIn<'_>,
+    visit: &VisitIn<'_, '_, '_>,
     t: usize,
 ) -> Result<bool, NoMemory>
-    requires { MayTestVisit visit.now t keeps.now trying.old.longer }
+    requires { MayTestVisit visit.now t trying.old.longer }
     ensures open { IfOk result (λ may. may
-        ≡ is_route_open visit.now.list.closed.model.now visit.now.list.vehicle
+        ≡ is_route_open (list_model visit.now.list) visit.now.list.vehicle
         (placed visit.now.list.nodes.now (One visit.now.node t))) }
     ensures longer { trying.new.longer ≡ trying.old.longer }
 {
     let list = &visit.list;
     let longer = trying.longer.as_slice();
     let back = list.nodes.len() - t;
-    if !is_feasible_between(keeps, list, longer, t, back, &mut trying.walk)? {
+    if !is_feasible_between(visit.keeps, list, longer, t, back, &mut trying.walk)? {
         return Ok(false);
     }
-    let model = list.closed.model;
-    Ok(keeps_pairs(model, list.vehicle, longer, &mut trying.pairs))
+    let lookups = list.lookups;
+    Ok(keeps_pairs(
+        lookups.closed.model,
+        list.vehicle,
+        longer,
+        &mut trying.pairs,
+    ))
 }
 
 /// Whether the vehicle of a list may drive it with a pickup before place `s` and its delivery before place `t`, as it
@@ -63,23 +68,27 @@ pub(crate) fn may_visit(
 pub(crate) fn may_serve(
     trying: &mut Trying,
     probes: &Probes,
-    keeps: &[Kept],
-    pair: &PairIn<'_>,
+    pair: &PairIn<'_, '_, '_>,
     s: usize,
     t: usize,
 ) -> Result<bool, NoMemory>
-    requires { MayTestPair pair.now s t keeps.now probes.now trying.old.longer }
+    requires { MayTestPair pair.now s t probes.now trying.old.longer }
     ensures open { IfOk result (λ may. may
-        ≡ is_route_open pair.now.list.closed.model.now pair.now.list.vehicle
+        ≡ is_route_open (list_model pair.now.list) pair.now.list.vehicle
         (placed pair.now.list.nodes.now (Two pair.now.pickup pair.now.delivery s t))) }
     ensures longer { trying.new.longer ≡ trying.old.longer }
 {
     let list = &pair.list;
     let longer = trying.longer.as_slice();
     let back = list.nodes.len() - t;
-    if !probes.goes_from(keeps, list, longer, t + 1, back, &mut trying.walk)? {
+    if !probes.goes_from(pair.keeps, list, longer, t + 1, back, &mut trying.walk)? {
         return Ok(false);
     }
-    let model = list.closed.model;
-    Ok(keeps_pairs(model, list.vehicle, longer, &mut trying.pairs))
+    let lookups = list.lookups;
+    Ok(keeps_pairs(
+        lookups.closed.model,
+        list.vehicle,
+        longer,
+        &mut trying.pairs,
+    ))
 }

@@ -1,7 +1,6 @@
 //! The list of a vehicle, and what may be put into it.
 
-ghost use Rattle.std.proofs.Props.{props};
-ghost use Rattle.std.specs.Prelude.{◌≡◌, ◌<◌, All, IsTrue, length};
+ghost use Rattle.std.specs.Prelude.{◌<◌, All, IsTrue, length};
 ghost use Rattle.std.specs.List.{list_all};
 ghost use Rattle.vr_model.specs.routes.Rules.{allows_vehicle};
 ghost use Rattle.vr_reach.specs.Lists.{IsTour};
@@ -9,49 +8,51 @@ ghost use Rattle.vr_rules.specs.declared.items.Item.TheVariants.{Visit, PickupAn
 ghost use Rattle.vr_rules.specs.Placing.{nodes_of};
 ghost use Rattle.vr_first_insert.specs.Placings.{MayHold};
 
-use vr_lists::NodeTables;
-use vr_model::Closed;
+use crate::kept::Kept;
+use vr_plan::Lookups;
 use vr_rules::Candidate;
 
-/// The list of a vehicle.
+/// The list of a vehicle, with what was looked up of the model.
 #[derive(Clone, Copy)]
-pub(crate) struct VehicleList<'a> {
-    pub(crate) closed: Closed<'a>,
+pub(crate) struct VehicleList<'l, 'm, 'k> {
+    pub(crate) lookups: &'l Lookups<'m>,
     pub(crate) vehicle: u32,
-    pub(crate) nodes: &'a [u32],
-    ghost there: { vehicle < length closed.model.now.vehicles },
-    ghost tour: { IsTour closed.model.now nodes.now },
-    ghost below: { All (λ node. node < closed.model.now.nodes) nodes.now },
+    pub(crate) nodes: &'k [u32],
+    ghost there: { vehicle < length lookups.now.closed.model.now.vehicles },
+    ghost tour: { IsTour lookups.now.closed.model.now nodes.now },
+    ghost below: { All (λ node. node < lookups.now.closed.model.now.nodes) nodes.now },
 }
 
-/// A candidate that a list may hold, with what was looked up of the model.
+/// A candidate that a list may hold, with what is kept of lists.
 #[derive(Clone, Copy)]
-pub(crate) struct CandidateIn<'a> {
-    pub(crate) list: VehicleList<'a>,
-    pub(crate) lookups: &'a NodeTables<'a>,
+pub(crate) struct CandidateIn<'l, 'm, 'k> {
+    pub(crate) list: VehicleList<'l, 'm, 'k>,
+    pub(crate) keeps: &'k [Kept],
     pub(crate) candidate: Candidate,
-    ghost of_model: { lookups.now ≡ list.closed.model.now } by { Prim.hlevel props },
-    ghost may_hold: { MayHold list.closed.model.now list.nodes.now candidate.item },
+    ghost may_hold: { MayHold list.lookups.now.closed.model.now list.nodes.now candidate.item },
 }
 
 /// A visit of a class that a list may hold, and that its vehicle may make.
 #[derive(Clone, Copy)]
-pub(crate) struct VisitIn<'a> {
-    pub(crate) list: VehicleList<'a>,
+pub(crate) struct VisitIn<'l, 'm, 'k> {
+    pub(crate) list: VehicleList<'l, 'm, 'k>,
+    pub(crate) keeps: &'k [Kept],
     pub(crate) class: u32,
     pub(crate) node: u32,
-    ghost may_hold: { MayHold list.closed.model.now list.nodes.now (Visit node) },
-    ghost allowed: { IsTrue (list_all (allows_vehicle list.closed.model.now list.vehicle) (nodes_of (Visit node))) },
+    ghost may_hold: { MayHold list.lookups.now.closed.model.now list.nodes.now (Visit node) },
+    ghost allowed: { IsTrue (list_all (allows_vehicle list.lookups.now.closed.model.now list.vehicle)
+        (nodes_of (Visit node))) },
 }
 
 /// A pair of a class that a list may hold, and that its vehicle may serve.
 #[derive(Clone, Copy)]
-pub(crate) struct PairIn<'a> {
-    pub(crate) list: VehicleList<'a>,
+pub(crate) struct PairIn<'l, 'm, 'k> {
+    pub(crate) list: VehicleList<'l, 'm, 'k>,
+    pub(crate) keeps: &'k [Kept],
     pub(crate) class: u32,
     pub(crate) pickup: u32,
     pub(crate) delivery: u32,
-    ghost may_hold: { MayHold list.closed.model.now list.nodes.now (PickupAndDelivery pickup delivery) },
-    ghost allowed: { IsTrue (list_all (allows_vehicle list.closed.model.now list.vehicle)
+    ghost may_hold: { MayHold list.lookups.now.closed.model.now list.nodes.now (PickupAndDelivery pickup delivery) },
+    ghost allowed: { IsTrue (list_all (allows_vehicle list.lookups.now.closed.model.now list.vehicle)
         (nodes_of (PickupAndDelivery pickup delivery))) },
 }

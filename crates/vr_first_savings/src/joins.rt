@@ -9,13 +9,12 @@ ghost use Rattle.vr_model.specs.tables.Tables.{arc_cost};
 ghost use Rattle.vr_first_savings.specs.Joins.{best_behind as best_behind_of, choice_at as choice_at_of, join_of};
 ghost use Rattle.vr_first_savings.specs.Joins.{weigh, AreApart, MayBeJoined};
 ghost use Rattle.vr_first_savings.specs.RouteEnds.{ends_of, AreEnds};
-ghost use Rattle.vr_first_savings.specs.Tables.{AreModelTables};
 
 use crate::choice::{Choice, improves};
 use crate::ends::{Ends, ends_of_each};
-use crate::tables::ModelTables;
 use std::alloc::Global;
 use vr_model::{Closed, NoMemory, Seq};
+use vr_plan::Lookups;
 use vr_rules::{Driving, is_route_open};
 
 // What it saves to drive from the last node of one route to the first of another, and not over the end and the start.
@@ -70,17 +69,16 @@ pub(crate) fn joined(
 // The better of the best so far and a choice, which is tested only where it improves.
 fn consider(
     alloc: Global,
-    tables: &ModelTables,
+    lookups: &Lookups<'_>,
     routes: &[Seq<u32>],
     next: Choice,
     best: Option<Choice>,
     driving: &mut Driving,
 ) -> Result<Option<Choice>, NoMemory>
-    requires tables { AreModelTables tables.now }
-    requires apart { AreApart tables.now.model.now routes.now }
+    requires apart { AreApart lookups.now.closed.model.now routes.now }
     requires front { next.front < length routes.now }
     requires back { next.back < length routes.now }
-    ensures { IfOk result (λ chosen. chosen ≡ weigh tables.now.model.now routes.now best next) }
+    ensures { IfOk result (λ chosen. chosen ≡ weigh lookups.now.closed.model.now routes.now best next) }
 {
     if !improves(best, next) {
         return Ok(best);
@@ -89,14 +87,7 @@ fn consider(
         return Ok(best);
     }
     let longer = joined(alloc, routes, next)?;
-    if is_route_open(
-        tables.model,
-        tables.dimensions,
-        tables.nodes,
-        0,
-        &longer,
-        driving,
-    )? {
+    if is_route_open(lookups, 0, &longer, driving)? {
         Ok(Some(next))
     } else {
         Ok(best)
@@ -106,32 +97,23 @@ fn consider(
 // The best beside the joins of one route with each.
 fn best_behind(
     alloc: Global,
-    tables: &ModelTables,
+    lookups: &Lookups<'_>,
     routes: &[Seq<u32>],
     ends: &[Ends],
     i: usize,
     best: Option<Choice>,
     driving: &mut Driving,
 ) -> Result<Option<Choice>, NoMemory>
-    requires tables { AreModelTables tables.now }
-    requires apart { AreApart tables.now.model.now routes.now }
-    requires ends { ends.now ≡ map (ends_of tables.now.model.now) routes.now }
+    requires apart { AreApart lookups.now.closed.model.now routes.now }
+    requires ends { ends.now ≡ map (ends_of lookups.now.closed.model.now) routes.now }
     requires front { i < length routes.now }
     ensures { IfOk result
-        (λ chosen. chosen ≡ best_behind_of tables.now.model.now routes.now i (length routes.now) best) }
+        (λ chosen. chosen ≡ best_behind_of lookups.now.closed.model.now routes.now i (length routes.now) best) }
 {
     let mut best = best;
     for j in 0..routes.len() {
-        let next = choice_at(
-            Closed {
-                model: tables.model,
-            },
-            routes,
-            ends,
-            i,
-            j,
-        );
-        best = consider(alloc, tables, routes, next, best, driving)?;
+        let next = choice_at(lookups.closed, routes, ends, i, j);
+        best = consider(alloc, lookups, routes, next, best, driving)?;
     }
     Ok(best)
 }
@@ -139,26 +121,19 @@ fn best_behind(
 /// The best join of two routes, if any may be joined.
 pub(crate) fn best_join(
     alloc: Global,
-    tables: &ModelTables,
+    lookups: &Lookups<'_>,
     routes: &[Seq<u32>],
     driving: &mut Driving,
 ) -> Result<Option<Choice>, NoMemory>
-    requires tables { AreModelTables tables.now }
-    requires apart { AreApart tables.now.model.now routes.now }
+    requires apart { AreApart lookups.now.closed.model.now routes.now }
     ensures best { IfOk result (λ best. option_map (join_of routes.now) best
-        ≡ least_by (join_key tables.now.model.now) (joins tables.now.model.now routes.now)) }
-    ensures may { IfOk result (λ best. IfSome best (MayBeJoined tables.now.model.now routes.now)) }
+        ≡ least_by (join_key lookups.now.closed.model.now) (joins lookups.now.closed.model.now routes.now)) }
+    ensures may { IfOk result (λ best. IfSome best (MayBeJoined lookups.now.closed.model.now routes.now)) }
 {
-    let ends = ends_of_each(
-        alloc,
-        Closed {
-            model: tables.model,
-        },
-        routes,
-    )?;
+    let ends = ends_of_each(alloc, lookups.closed, routes)?;
     let mut best: Option<Choice> = None;
     for i in 0..routes.len() {
-        best = best_behind(alloc, tables, routes, &ends, i, best, driving)?;
+        best = best_behind(alloc, lookups, routes, &ends, i, best, driving)?;
     }
     Ok(best)
 }

@@ -6,13 +6,12 @@ ghost use Rattle.vr_model.specs.first.Items.{first_node};
 ghost use Rattle.vr_model.specs.routes.Routes.{route};
 ghost use Rattle.vr_model.specs.first.SavingsJoins.{joined as joined_by, merged as merged_of};
 ghost use Rattle.vr_first_savings.specs.Joins.{join_of, AreApart};
-ghost use Rattle.vr_first_savings.specs.Tables.{AreModelTables};
 
 use crate::choice::Choice;
 use crate::joins::{best_join, joined};
-use crate::tables::ModelTables;
 use std::alloc::Global;
 use vr_model::{Model, NoMemory, Seq};
+use vr_plan::Lookups;
 use vr_rules::Driving;
 
 // Puts a copy of a route behind others, where its first node is neither of two.
@@ -71,21 +70,20 @@ fn is_wanted(model: &Model, routes: usize, choice: Choice) -> bool
 /// Joins routes as long as the best join saves, or there are more routes than vehicles.
 pub(crate) fn merged(
     alloc: Global,
-    tables: &ModelTables,
+    lookups: &Lookups<'_>,
     routes: Vec<Seq<u32>>,
     driving: &mut Driving,
 ) -> Result<Vec<Seq<u32>>, NoMemory>
-    requires tables { AreModelTables tables.now }
-    requires apart { AreApart tables.now.model.now routes.items }
+    requires apart { AreApart lookups.now.closed.model.now routes.items }
     ensures merged { IfOk result
-        (λ after. after.items ≡ merged_of tables.now.model.now (length routes.items) routes.items) }
-    ensures apart { IfOk result (λ after. AreApart tables.now.model.now after.items) }
+        (λ after. after.items ≡ merged_of lookups.now.closed.model.now (length routes.items) routes.items) }
+    ensures apart { IfOk result (λ after. AreApart lookups.now.closed.model.now after.items) }
 {
     let mut routes = routes;
     for _step in 0..routes.len() {
-        match best_join(alloc, tables, &routes, driving)? {
+        match best_join(alloc, lookups, &routes, driving)? {
             Some(choice) => {
-                if !is_wanted(tables.model, routes.len(), choice) {
+                if !is_wanted(lookups.closed.model, routes.len(), choice) {
                     return Ok(routes);
                 }
                 routes = join(alloc, &routes, choice)?;

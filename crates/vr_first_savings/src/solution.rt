@@ -7,78 +7,67 @@ ghost use Rattle.vr_model.specs.first.SavingsJoins.{savings};
 ghost use Rattle.vr_model.specs.tables.Tables.{visits};
 ghost use Rattle.vr_model.specs.tables.WellFormed.{IsWellFormed};
 ghost use Rattle.vr_rules.specs.Placing.{lists_in};
-ghost use Rattle.vr_plan.specs.Tables.{AreTables};
-ghost use Rattle.vr_first_savings.specs.Tables.{AreModelTables};
 
 use crate::merge::merged;
 use crate::ranks::{lists_of, ranked};
 use crate::singles::single_routes;
-use crate::tables::ModelTables;
 use std::alloc::Global;
-use vr_lists::NodeTables;
 use vr_model::{Closed, Model, NoMemory, Seq};
-use vr_plan::{Table, tables_of};
+use vr_plan::Lookups;
 use vr_routes::Routes;
-use vr_rules::{Driving, valid};
+use vr_rules::{Driving, Rules};
 
-// The lists at which the construction ends, over what was looked up. Nothing large is owned where it ends early.
+// The lists at which the construction ends. Nothing large is owned where it ends early.
 fn lists_joined(
     alloc: Global,
-    tables: &ModelTables,
+    lookups: &Lookups<'_>,
     driving: &mut Driving,
 ) -> Result<Vec<Seq<u32>>, NoMemory>
-    requires tables { AreModelTables tables.now }
-    ensures savings { IfOk result (λ lists. lists.items ≡ savings tables.now.model.now) }
-    ensures lists { IfOk result (λ lists. IsTrue (are_lists tables.now.model.now lists.items)) }
+    ensures savings { IfOk result (λ lists. lists.items ≡ savings lookups.now.closed.model.now) }
+    ensures lists { IfOk result (λ lists. IsTrue (are_lists lookups.now.closed.model.now lists.items)) }
 {
-    let singles = single_routes(alloc, tables, driving)?;
-    let routes = merged(alloc, tables, singles, driving)?;
-    let lists = lists_of(alloc, tables.model, ranked(alloc, tables.nodes, &routes)?)?;
+    let singles = single_routes(alloc, lookups, driving)?;
+    let routes = merged(alloc, lookups, singles, driving)?;
+    let (model, nodes) = (lookups.closed.model, lookups.nodes());
+    let lists = lists_of(alloc, model, ranked(alloc, nodes, &routes)?)?;
     Ok(lists)
 }
 
 // The same, with room of its own for the walks.
-fn lists_over(
-    alloc: Global,
-    closed: Closed<'_>,
-    tables: &[Table],
-    lookups: &NodeTables<'_>,
-) -> Result<Vec<Seq<u32>>, NoMemory>
-    requires tables { AreTables closed.model.now tables.now }
-    requires lookups { lookups.now ≡ closed.model.now }
-    ensures savings { IfOk result (λ lists. lists.items ≡ savings closed.entry.model.now) }
-    ensures lists { IfOk result (λ lists. IsTrue (are_lists closed.entry.model.now lists.items)) }
+fn lists_by_savings(alloc: Global, lookups: &Lookups<'_>) -> Result<Vec<Seq<u32>>, NoMemory>
+    ensures savings { IfOk result (λ lists. lists.items ≡ savings lookups.now.closed.model.now) }
+    ensures lists { IfOk result (λ lists. IsTrue (are_lists lookups.now.closed.model.now lists.items)) }
 {
     let mut driving = Driving::new(alloc);
-    let tables = ModelTables {
-        model: closed.model,
-        dimensions: tables,
-        nodes: lookups,
+    lists_joined(alloc, lookups, &mut driving)
+}
+
+// Whether routes of the model are valid.
+fn are_valid(alloc: Global, lookups: &Lookups<'_>, routes: &Routes) -> Result<bool, NoMemory>
+    requires { IsTrue (are_lists lookups.now.closed.model.now routes.now.lists) }
+    ensures { IfOk result (λ answer. answer ≡ is_valid lookups.now.closed.model.now routes.now.lists) }
+{
+    let mut rules = Rules::over(alloc, lookups)?;
+    rules.valid(routes)
+}
+
+/// The first solution, as `first` gives it, over what was looked up of the model.
+pub fn first_over(alloc: Global, lookups: &Lookups<'_>) -> Result<Option<Routes>, NoMemory>
+    ensures first { IfOk result (λ first. lists_in first ≡ cond
+        (is_valid lookups.now.closed.model.now (savings lookups.now.closed.model.now))
+        (Some (savings lookups.now.closed.model.now)) None) }
+    ensures visits { IfOk result (λ first.
+        IfSome first (λ routes. routes.visits ≡ visits lookups.now.closed.model.now)) }
+{
+    let lists = lists_by_savings(alloc, lookups)?;
+    let Some(routes) = Routes::from_lists(alloc, lookups.closed.model, &lists)? else {
+        return Ok(None);
     };
-    lists_joined(alloc, &tables, &mut driving)
-}
-
-// The same, with look-ups of its own.
-fn lists_from_tables(
-    alloc: Global,
-    closed: Closed<'_>,
-    tables: &[Table],
-) -> Result<Vec<Seq<u32>>, NoMemory>
-    requires tables { AreTables closed.model.now tables.now }
-    ensures savings { IfOk result (λ lists. lists.items ≡ savings closed.entry.model.now) }
-    ensures lists { IfOk result (λ lists. IsTrue (are_lists closed.entry.model.now lists.items)) }
-{
-    let lookups = NodeTables::open(alloc, closed.model)?;
-    lists_over(alloc, closed, tables, &lookups)
-}
-
-// The lists at which the construction ends.
-fn lists_by_savings(alloc: Global, closed: Closed<'_>) -> Result<Vec<Seq<u32>>, NoMemory>
-    ensures savings { IfOk result (λ lists. lists.items ≡ savings closed.entry.model.now) }
-    ensures lists { IfOk result (λ lists. IsTrue (are_lists closed.entry.model.now lists.items)) }
-{
-    let tables = tables_of(alloc, closed.model)?;
-    lists_from_tables(alloc, closed, &tables)
+    if are_valid(alloc, lookups, &routes)? {
+        Ok(Some(routes))
+    } else {
+        Ok(None)
+    }
 }
 
 /// The first solution of a model by savings (`SAVINGS` in OR-Tools, after Clarke and Wright): each item begins as a
@@ -92,13 +81,6 @@ pub fn first(alloc: Global, model: &Model) -> Result<Option<Routes>, NoMemory>
         ≡ cond (is_valid model.now (savings model.now)) (Some (savings model.now)) None) }
     ensures visits { IfOk result (λ first. IfSome first (λ routes. routes.visits ≡ visits model.now)) }
 {
-    let lists = lists_by_savings(alloc, Closed { model })?;
-    let Some(routes) = Routes::from_lists(alloc, model, &lists)? else {
-        return Ok(None);
-    };
-    if valid(alloc, model, &routes)? {
-        Ok(Some(routes))
-    } else {
-        Ok(None)
-    }
+    let lookups = Lookups::open(alloc, Closed { model })?;
+    first_over(alloc, &lookups)
 }

@@ -1,5 +1,5 @@
 -- Lists of which nodes are taken out are lists of the model.
-use Rattle.std.proofs.Common.{◌≡◌, ◌∙◌, ℕ, ◌+◌, ◌<◌, ◌≤◌, Bool, true, false, cond, List, [], ◌∷◌, ◌++◌, length, map, take, ap, arith}
+use Rattle.std.proofs.Common.{◌≡◌, ◌∙◌, ℕ, ◌+◌, ◌<◌, ◌≤◌, Bool, true, false, cond, not, List, [], ◌∷◌, ◌++◌, length, map, take, ap, arith}
 use Rattle.std.specs.Prelude.{IsTrue, ◌==◌, filter}
 use Rattle.std.specs.List.{list_all, concat}
 use Rattle.std.proofs.lemmas.Grind.{take_at_read}
@@ -7,9 +7,12 @@ use Rattle.std.proofs.lemmas.List.{get_or-map, length-map}
 use Rattle.vr_model.specs.deciding.Testing.{and_left, and_right, and_both, eq_of_test, test_of_eq}
 use Rattle.vr_model.specs.tables.Tables.{is_visit}
 use Rattle.vr_model.specs.routes.Routes.{route, holds, are_lists}
+use Rattle.vr_model.specs.first.Items.{pair_of}
 use Rattle.vr_model.specs.declared.records.Model.{Model}
 use Rattle.vr_model.proofs.moves.Times.{hit, times, times_in, joined_times, held_times, times_held, distinct_of_times, all_held, all_of_held}
 use Rattle.vr_model.proofs.moves.KeptLists.{few}
+use Rattle.vr_lns.specs.Cuts.{chain_of, goes_with, left_by}
+use Rattle.vr_lns.specs.declared.leaving.CutOf.{CutOf}
 
 module _ (stays : ℕ → Bool) where
   filter_times : (x : ℕ) (xs : List ℕ) → times x (filter stays xs) ≤ times x xs
@@ -42,6 +45,12 @@ module _ (stays : ℕ → Bool) where
     lists_left = and_both (length (map (filter stays) lists) == length model.vehicles) _
         (test_of_eq (length (map (filter stays) lists)) (length model.vehicles) (length-map lists (filter stays) ∙ eq_of_test (length lists) (length model.vehicles) (and_left (length lists == length model.vehicles) _ are)))
         (and_both (list_all (is_visit model) (concat (map (filter stays) lists))) _ (all_of_held (is_visit model) (concat (map (filter stays) lists)) visit_left) (distinct_of_times (concat (map (filter stays) lists)) few_left))
+
+-- what a cut leaves are lists of the model
+pub left_are_lists : (cut : CutOf) → are_lists cut.lookups.now.closed.model.now (left_by cut.lookups.now.closed.model.now cut.most cut.routes.now.lists cut.at) ≡ true
+left_are_lists cut =
+    let chain = chain_of cut.most cut.routes.now.lists cut.at in
+    lists_left (λ node. not (goes_with chain node (pair_of cut.lookups.now.closed.model.now node))) cut.lookups.now.closed.model.now cut.routes.now.lists cut.lists
 
 -- ---- list by list
 

@@ -1,5 +1,8 @@
 -- A round of cuts, cut by cut and list by list.
 use Rattle.std.proofs.Common.{◌≡◌, ◌∙◌, ℕ, suc, ◌+◌, ◌<◌, ◌≤◌, Bool, true, false, cond, List, [], ◌∷◌, ◌++◌, Option, Some, None, refl, sym, ap, arith, nat_lt, nat_le}
+use Rattle.std.specs.Prelude.{map}
+use Rattle.vr_model.specs.tables.Numbers.{from_to}
+use Rattle.vr_model.proofs.tables.Ranges.{walk_opens}
 use Rattle.vr_lns.specs.Rounds.{Round, ends_at, round_from}
 use Rattle.vr_lns.specs.Rounds.Round.{Accepted, Complete, Short}
 use Rattle.vr_lns.specs.Standing.{is_taken, round_end}
@@ -10,6 +13,10 @@ use Rattle.vr_lns.specs.declared.rounds.RoundEnd.TheVariants as ends
 -- the cut at a place of the list of a vehicle
 abbrev pub cut_at : ℕ → ℕ → Cut
 cut_at v a = record { vehicle = v; place = a }
+
+-- the cut that comes next in the list of a vehicle, and those behind it
+pub next_cut : {A : Type 0} (f : List Cut → A) (v n a : ℕ) (whole : A) → f (map (cut_at v) (from_to a n)) ≡ whole → a < n → f (cut_at v a ∷ map (cut_at v) (from_to (a + 1) n)) ≡ whole
+next_cut f v n a whole left low = walk_opens (λ xs. f (map (cut_at v) xs)) n a left low
 
 -- a result that is taken over is there, and one that is not is not
 taken_told : (o : Option (List (List ℕ))) → is_taken o ≡ true → (after : List (List ℕ)) × (o ≡ Some after)
@@ -33,31 +40,28 @@ round_behind accepted rest cs (Complete n) = round_from n accepted rest cs
 round_behind accepted rest cs Short = Short
 
 module _ (accepted : Cut → Option (List (List ℕ))) (rest : ℕ) where
+  -- a cut that may not be tried any more changes nothing where the tries run out behind it
+  untried : (place : ℕ) (c : Cut) (cs : List Cut) → rest ≤ place → round_from (suc place) accepted rest cs ≡ Short → round_from place accepted rest (c ∷ cs) ≡ Short
+  untried place c cs far = go (accepted c)
+    where
+      here : nat_le (suc place) rest ≡ false
+      here = Prim.grind arith
+
+      go : (o : Option (List (List ℕ))) → round_from (suc place) accepted rest cs ≡ Short → ends_at place rest o (round_from (suc place) accepted rest cs) ≡ Short
+      go None e = e
+      go (Some after) e = ap (λ b. cond b (Accepted (suc place) after) Short) here
+
   -- once more cuts were passed than may be tried, the tries have run out
   short_behind : (place : ℕ) (cs : List Cut) → rest < place → round_from place accepted rest cs ≡ Short
   short_behind place [] far = ap (λ b. cond b Short (Complete place)) (is_far far)
     where
       is_far : rest < place → nat_lt rest place ≡ true
       is_far far = Prim.grind arith
-  short_behind place (c ∷ cs) far = go (accepted c) (short_behind (suc place) cs (omega (arith, far)))
-    where
-      here : nat_le (suc place) rest ≡ false
-      here = Prim.grind arith
-
-      go : (o : Option (List (List ℕ))) → round_from (suc place) accepted rest cs ≡ Short → ends_at place rest o (round_from (suc place) accepted rest cs) ≡ Short
-      go None e = e
-      go (Some after) e = ap (λ b. cond b (Accepted (suc place) after) Short) here
+  short_behind place (c ∷ cs) far = untried place c cs (omega (arith, far)) (short_behind (suc place) cs (omega (arith, far)))
 
   -- a cut is left, and no try
   pub short_here : (place : ℕ) (c : Cut) (cs : List Cut) → place ≡ rest → round_from place accepted rest (c ∷ cs) ≡ Short
-  short_here place c cs e = go (accepted c) (short_behind (suc place) cs (omega arith))
-    where
-      here : nat_le (suc place) rest ≡ false
-      here = Prim.grind arith
-
-      go : (o : Option (List (List ℕ))) → round_from (suc place) accepted rest cs ≡ Short → ends_at place rest o (round_from (suc place) accepted rest cs) ≡ Short
-      go None e = e
-      go (Some after) e = ap (λ b. cond b (Accepted (suc place) after) Short) here
+  short_here place c cs e = untried place c cs (omega (arith, e)) (short_behind (suc place) cs (omega (arith, e)))
 
   -- the next cut is acceptable, and may be tried
   accepted_here : (place : ℕ) (c : Cut) (cs : List Cut) (after : List (List ℕ)) → place < rest → accepted c ≡ Some after → round_from place accepted rest (c ∷ cs) ≡ Accepted (place + 1) after

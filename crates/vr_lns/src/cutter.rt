@@ -12,11 +12,11 @@ ghost use Rattle.vr_lns.specs.Standing.{is_taken, lists_after, HoldValid};
 
 use crate::Rebuild;
 use crate::cutting::Cut;
-use crate::leaving::leave;
+use crate::leaving::{CutOf, leave};
 use std::alloc::Global;
 use std::marker::Model;
-use vr_lists::NodeTables;
-use vr_model::{Closed, NoMemory};
+use vr_model::NoMemory;
+use vr_plan::Lookups;
 use vr_routes::Routes;
 use vr_rules::Rules;
 
@@ -26,7 +26,7 @@ use vr_rules::Rules;
 pub(crate) struct Cutter<'m> {
     alloc: Global,
     most: u32,
-    lookups: NodeTables<'m>,
+    lookups: Lookups<'m>,
     rules: Rules<'m>,
 }
 
@@ -35,22 +35,26 @@ impl<'m> Model for Cutter<'m> {
 
     ghost Value = { Cutter };
 
-    ghost view = { λ c. record { model = c.lookups; most = c.most } };
+    ghost view = { λ c. record { model = c.lookups.closed.model.now; most = c.most } };
 
-    ghost invariant = { λ c. IsCutter c.lookups c.rules c.most };
+    ghost invariant = { λ c. IsCutter c.lookups.closed.model.now c.rules c.most };
 }
 
 impl<'m> Cutter<'m> {
     /// The only refusal is want of memory.
-    pub(crate) fn open(alloc: Global, closed: Closed<'m>, most: u32) -> Result<Cutter<'m>, NoMemory>
+    pub(crate) fn open(
+        alloc: Global,
+        lookups: &Lookups<'m>,
+        most: u32,
+    ) -> Result<Cutter<'m>, NoMemory>
         requires few { most ≤ 100 }
-        ensures { IfOk result (λ cutter. cutter ≡ record { model = closed.entry.model.now; most = most }) }
+        ensures { IfOk result (λ cutter. cutter ≡ record { model = lookups.now.closed.model.now; most = most }) }
     {
         Ok(Cutter {
             alloc,
             most,
-            lookups: NodeTables::open(alloc, closed.model)?,
-            rules: Rules::open(alloc, closed.model)?,
+            lookups: lookups.share()?,
+            rules: Rules::over(alloc, lookups)?,
         })
     }
 
@@ -69,7 +73,7 @@ impl<'m> Cutter<'m> {
         ensures knows { OnOk result (R.knows rebuild.new self.now.model) }
         ensures made { R.made rebuild.new ≡ R.made rebuild.old }
     {
-        rebuild.know(self.lookups.model(), &self.lookups)?;
+        rebuild.know(&self.lookups)?;
         Ok(())
     }
 
@@ -95,11 +99,17 @@ impl<'m> Cutter<'m> {
         ensures knows { OnOk result (R.knows rebuild.new self.old.model) }
         ensures made { R.made rebuild.new ≤ R.made rebuild.old + 1 }
     {
-        leave(self.alloc, routes, &self.lookups, at, self.most, after)?;
+        let cut = CutOf {
+            lookups: &self.lookups,
+            routes,
+            at,
+            most: self.most,
+        };
+        leave(self.alloc, &cut, after)?;
         if !self.rules.open_beside(routes, after)? {
             return Ok(false);
         }
-        rebuild.rebuild_known(self.lookups.model(), &self.lookups, after)?;
+        rebuild.rebuild_known(&self.lookups, after)?;
         Ok(true)
     }
 

@@ -11,7 +11,8 @@ use crate::Rebuild;
 use crate::cutter::Cutter;
 use std::alloc::Global;
 use std::marker::Model;
-use vr_model::{Closed, NoMemory};
+use vr_model::NoMemory;
+use vr_plan::Lookups;
 use vr_routes::Routes;
 
 /// A cut: the vehicle whose list a chain of visits is taken out of, and the place there where the chain begins.
@@ -43,15 +44,15 @@ impl<'m> Cutting<'m> {
     /// What cuts of at most `most` visits of a model are tried by. The only refusal is want of memory.
     pub(crate) fn open(
         alloc: Global,
-        closed: Closed<'m>,
+        lookups: &Lookups<'m>,
         most: u32,
     ) -> Result<Cutting<'m>, NoMemory>
         requires few { most ≤ 100 }
-        ensures { IfOk result (λ cutting. cutting ≡ record { model = closed.entry.model.now; most = most }) }
+        ensures { IfOk result (λ cutting. cutting ≡ record { model = lookups.now.closed.model.now; most = most }) }
     {
-        let after = Routes::empty(alloc, closed.model)?;
+        let after = Routes::empty(alloc, lookups.closed.model)?;
         Ok(Cutting {
-            cutter: Cutter::open(alloc, closed, most)?,
+            cutter: Cutter::open(alloc, lookups, most)?,
             after,
         })
     }

@@ -1,7 +1,7 @@
 //! What a cut leaves of routes.
 
-ghost use Rattle.std.specs.Prelude.{◌≡◌, ◌+◌, ◌<◌, ◌≤◌, IfOk, IsTrue, OnOk, length, map, min};
-ghost use Rattle.vr_model.specs.first.Items.{pair_of};
+ghost use Rattle.std.specs.Prelude.{◌≡◌, ◌+◌, ◌<◌, ◌≤◌, IfOk, IsTrue, OnOk, length, min};
+ghost use Rattle.vr_model.specs.first.Items.{pair_of as pair_in};
 ghost use Rattle.vr_model.specs.routes.Routes.{are_lists, holds, route};
 ghost use Rattle.vr_lns.specs.Chains.{is_between as is_between_of};
 ghost use Rattle.vr_lns.specs.Cutters.{AreRoutesOf};
@@ -9,9 +9,22 @@ ghost use Rattle.vr_lns.specs.Cuts.{chain_of, goes_with as goes_with_of, left_by
 
 use crate::cutting::Cut;
 use std::alloc::Global;
-use vr_lists::NodeTables;
-use vr_model::{NoMemory, Seq};
+use vr_model::{NoMemory, Pair, Seq};
+use vr_plan::Lookups;
 use vr_routes::{Routes, Seat};
+
+/// A cut of routes, of at most `most` visits.
+#[derive(Clone, Copy)]
+pub(crate) struct CutOf<'l, 'm, 'r> {
+    pub(crate) lookups: &'l Lookups<'m>,
+    pub(crate) routes: &'r Routes,
+    pub(crate) at: Cut,
+    pub(crate) most: u32,
+    ghost lists: { IsTrue (are_lists lookups.now.closed.model.now routes.now.lists) },
+    ghost vehicle: { at.vehicle < length routes.now.lists },
+    ghost place: { at.place < length (route routes.now.lists at.vehicle) },
+    ghost few: { most ≤ 100 },
+}
 
 // Whether a seat lies in the chain of a cut that ends before place `end`.
 fn is_between(seat: Seat, at: Cut, end: u32) -> bool
@@ -21,55 +34,45 @@ fn is_between(seat: Seat, at: Cut, end: u32) -> bool
 }
 
 // Whether a node stands in the chain that a cut takes out.
-fn is_in_chain(routes: &Routes, at: Cut, most: u32, node: u32) -> bool
-    requires vehicle { at.vehicle < length routes.now.lists }
-    requires place { at.place < length (route routes.now.lists at.vehicle) }
-    requires few { most ≤ 100 }
-    ensures { result ≡ holds (chain_of most routes.now.lists at) node }
+fn is_in_chain(cut: &CutOf<'_, '_, '_>, node: u32) -> bool
+    ensures { result ≡ holds (chain_of cut.now.most cut.now.routes.now.lists cut.now.at) node }
 {
+    let (routes, at) = (cut.routes, cut.at);
     routes.know_once();
     let length = routes.len(at.vehicle);
-    let end = (at.place + most).min(length);
+    let end = (at.place + cut.most).min(length);
     match routes.seat(node) {
         Some(seat) => is_between(seat, at, end),
         None => false,
     }
 }
 
-// Whether a node goes with that chain: it stands in it, or the other node of its pair does.
-fn goes_with(routes: &Routes, lookups: &NodeTables<'_>, at: Cut, most: u32, node: u32) -> bool
-    requires vehicle { at.vehicle < length routes.now.lists }
-    requires place { at.place < length (route routes.now.lists at.vehicle) }
-    requires few { most ≤ 100 }
-    ensures { result ≡ goes_with_of (chain_of most routes.now.lists at) node (pair_of lookups.now node) }
+// The pair that a node is in.
+fn pair_of(lookups: &Lookups<'_>, node: u32) -> Option<Pair>
+    ensures { result ≡ pair_in lookups.now.closed.model.now node }
 {
-    match lookups.pair_of(node) {
-        Some(pair) => {
-            is_in_chain(routes, at, most, pair.pickup)
-                || is_in_chain(routes, at, most, pair.delivery)
-        }
-        None => is_in_chain(routes, at, most, node),
+    lookups.nodes().pair_of(node)
+}
+
+// Whether a node goes with that chain: it stands in it, or the other node of its pair does.
+fn goes_with(cut: &CutOf<'_, '_, '_>, node: u32) -> bool
+    ensures { result ≡ goes_with_of (chain_of cut.now.most cut.now.routes.now.lists cut.now.at) node
+        (pair_in cut.now.lookups.now.closed.model.now node) }
+{
+    match pair_of(cut.lookups, node) {
+        Some(pair) => is_in_chain(cut, pair.pickup) || is_in_chain(cut, pair.delivery),
+        None => is_in_chain(cut, node),
     }
 }
 
 // A list without the nodes that go with that chain.
-fn without_chain(
-    alloc: Global,
-    routes: &Routes,
-    lookups: &NodeTables<'_>,
-    at: Cut,
-    most: u32,
-    list: &[u32],
-) -> Result<Seq<u32>, NoMemory>
-    requires vehicle { at.vehicle < length routes.now.lists }
-    requires place { at.place < length (route routes.now.lists at.vehicle) }
-    requires few { most ≤ 100 }
-    ensures { IfOk result (λ left. left
-        ≡ without_chain_of lookups.now (chain_of most routes.now.lists at) list.now) }
+fn without_chain(alloc: Global, cut: &CutOf<'_, '_, '_>, list: &[u32]) -> Result<Seq<u32>, NoMemory>
+    ensures { IfOk result (λ left. left ≡ without_chain_of cut.now.lookups.now.closed.model.now
+        (chain_of cut.now.most cut.now.routes.now.lists cut.now.at) list.now) }
 {
     let mut left = Seq::with_capacity(alloc, list.len())?;
     for &node in list {
-        if !goes_with(routes, lookups, at, most, node) {
+        if !goes_with(cut, node) {
             left.push(node)?;
         }
     }
@@ -77,21 +80,14 @@ fn without_chain(
 }
 
 // The lists that a cut leaves.
-fn lists_left(
-    alloc: Global,
-    routes: &Routes,
-    lookups: &NodeTables<'_>,
-    at: Cut,
-    most: u32,
-) -> Result<Vec<Seq<u32>>, NoMemory>
-    requires vehicle { at.vehicle < length routes.now.lists }
-    requires place { at.place < length (route routes.now.lists at.vehicle) }
-    requires few { most ≤ 100 }
-    ensures { IfOk result (λ left. left.items ≡ left_by lookups.now most routes.now.lists at) }
+fn lists_left(alloc: Global, cut: &CutOf<'_, '_, '_>) -> Result<Vec<Seq<u32>>, NoMemory>
+    ensures { IfOk result (λ left. left.items ≡ left_by cut.now.lookups.now.closed.model.now cut.now.most
+        cut.now.routes.now.lists cut.now.at) }
 {
+    let routes = cut.routes;
     let mut left = Vec::with_capacity(alloc, routes.vehicles() as usize)?;
     for v in 0..routes.vehicles() {
-        let list = without_chain(alloc, routes, lookups, at, most, routes.list(v))?;
+        let list = without_chain(alloc, cut, routes.list(v))?;
         left.push(list)?;
     }
     Ok(left)
@@ -101,21 +97,15 @@ fn lists_left(
 /// of its nodes.
 pub(crate) fn leave(
     alloc: Global,
-    routes: &Routes,
-    lookups: &NodeTables<'_>,
-    at: Cut,
-    most: u32,
+    cut: &CutOf<'_, '_, '_>,
     left: &mut Routes,
 ) -> Result<(), NoMemory>
-    requires lists { IsTrue (are_lists lookups.now routes.now.lists) }
-    requires vehicle { at.vehicle < length routes.now.lists }
-    requires place { at.place < length (route routes.now.lists at.vehicle) }
-    requires few { most ≤ 100 }
-    requires of_model { AreRoutesOf lookups.now left.old }
-    ensures lists { OnOk result (left.new.lists ≡ left_by lookups.now most routes.now.lists at) }
-    ensures of_model { AreRoutesOf lookups.now left.new }
+    requires { AreRoutesOf cut.now.lookups.now.closed.model.now left.old }
+    ensures lists { OnOk result (left.new.lists ≡ left_by cut.now.lookups.now.closed.model.now cut.now.most
+        cut.now.routes.now.lists cut.now.at) }
+    ensures of_model { AreRoutesOf cut.now.lookups.now.closed.model.now left.new }
 {
-    let lists = lists_left(alloc, routes, lookups, at, most)?;
+    let lists = lists_left(alloc, cut)?;
     left.set_lists(&lists);
     Ok(())
 }

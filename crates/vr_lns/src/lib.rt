@@ -25,5 +25,5 @@ mod standing;
 pub use cutting::Cut;
 pub use laws::path_lns_is_sound;
 pub use rebuilding::Rebuild;
-pub use searching::lns;
+pub use searching::{lns, lns_over};
 pub use vr_model::Limit;

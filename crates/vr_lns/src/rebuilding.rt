@@ -10,8 +10,8 @@ ghost use Rattle.vr_model.specs.tables.WellFormed.{IsWellFormed};
 ghost use Rattle.vr_model.specs.declared.records.Model.{Model as RoutingModel};
 ghost use Rattle.vr_rules.specs.Placing.{AreBuilt};
 
-use vr_lists::NodeTables;
 use vr_model::{Model, NoMemory};
+use vr_plan::Lookups;
 use vr_routes::Routes;
 
 /// Rebuilds open routes. It may keep from call to call what it knows of a model and of lists: what it answers does not
@@ -38,34 +38,25 @@ pub trait Rebuild {
         ensures built { IfOk result (λ after. AreBuilt model.now after.lists) }
         ensures made { made self.new ≤ made self.old + 1 };
 
-    /// Looks up what it keeps of a model, by the tables of its nodes. The only refusal is want of memory.
-    fn know(&mut self, model: &Model, lookups: &NodeTables<'_>) -> Result<(), NoMemory>
-        requires well_formed { IsWellFormed model.now }
-        requires lookups { lookups.now ≡ model.now }
-        ensures knows { OnOk result (knows self.new model.now) }
+    /// Looks up what it keeps of a model. The only refusal is want of memory.
+    fn know(&mut self, lookups: &Lookups<'_>) -> Result<(), NoMemory>
+        ensures knows { OnOk result (knows self.new lookups.now.closed.model.now) }
         ensures made { made self.new ≡ made self.old };
 
     /// Makes open routes those that `rebuild` gives, of the model that it knows: what it found of lists in the call
     /// before it may keep for lists that are the same.
     ///
     /// The only refusal is want of memory. The routes are as before then.
-    fn rebuild_known(
-        &mut self,
-        model: &Model,
-        lookups: &NodeTables<'_>,
-        routes: &mut Routes,
-    ) -> Result<(), NoMemory>
-        requires well_formed { IsWellFormed model.now }
-        requires lookups { lookups.now ≡ model.now }
-        requires knows { knows self.old model.now }
-        requires of_model { routes.old.visits ≡ visits model.now }
-        requires lists { IsTrue (are_lists model.now routes.old.lists) }
-        requires open_lists { IsTrue (is_open model.now routes.old.lists) }
-        ensures lists { OnOk result (routes.new.lists
-            ≡ rebuilt model.now (length (items model.now)) routes.old.lists) }
-        ensures built { OnOk result (AreBuilt model.now routes.new.lists) }
+    fn rebuild_known(&mut self, lookups: &Lookups<'_>, routes: &mut Routes) -> Result<(), NoMemory>
+        requires knows { knows self.old lookups.now.closed.model.now }
+        requires of_model { routes.old.visits ≡ visits lookups.now.closed.model.now }
+        requires lists { IsTrue (are_lists lookups.now.closed.model.now routes.old.lists) }
+        requires open_lists { IsTrue (is_open lookups.now.closed.model.now routes.old.lists) }
+        ensures lists { OnOk result (routes.new.lists ≡ rebuilt lookups.now.closed.model.now
+            (length (items lookups.now.closed.model.now)) routes.old.lists) }
+        ensures built { OnOk result (AreBuilt lookups.now.closed.model.now routes.new.lists) }
         ensures as_before { OnErr result (routes.new.lists ≡ routes.old.lists) }
         ensures visits { routes.new.visits ≡ routes.old.visits }
-        ensures knows { OnOk result (knows self.new model.now) }
+        ensures knows { OnOk result (knows self.new lookups.now.closed.model.now) }
         ensures made { made self.new ≤ made self.old + 1 };
 }

@@ -17,6 +17,7 @@ use crate::standing::advance;
 use std::alloc::Global;
 use vr_descent::Progress;
 use vr_model::{Closed, End, Kind, Limit, Model, NoMemory, Report};
+use vr_plan::Lookups;
 use vr_routes::Routes;
 use vr_watch::{Watch, note_all};
 
@@ -66,7 +67,50 @@ pub fn lns<R: Rebuild>(
         (path_lns model.now routes.old.lists limit cut).events) }
     ensures made_at_most { OnErr result (R.made rebuild.new ≤ R.made rebuild.old + limit.tries) }
 {
-    let mut cutting = Cutting::open(alloc, Closed { model }, cut)?;
+    let lookups = Lookups::open(alloc, Closed { model })?;
+    lns_over(alloc, &lookups, rebuild, routes, limit, cut, watch)
+}
+
+/// The search, as `lns` makes it, over what was looked up of the model.
+pub fn lns_over<R: Rebuild>(
+    alloc: Global,
+    lookups: &Lookups<'_>,
+    rebuild: &mut R,
+    routes: &mut Routes,
+    limit: Limit,
+    cut: u32,
+    watch: &mut Vec<Box<dyn Watch>>,
+) -> Result<Report, NoMemory>
+    requires of_model { routes.old.visits ≡ visits lookups.now.closed.model.now }
+    requires valid { IsTrue (is_valid lookups.now.closed.model.now routes.old.lists) }
+    requires tries { limit.tries ≤ 1000000000 }
+    requires one_solution { 1 ≤ limit.solutions }
+    requires solutions { limit.solutions ≤ 1000000000 }
+    requires one_visit { 1 ≤ cut }
+    requires few_visits { cut ≤ 100 }
+    ensures report { IfOk result (λ report. report
+        ≡ (path_lns lookups.now.closed.model.now routes.old.lists limit cut).report) }
+    ensures last { OnOk result (routes.new.lists
+        ≡ (path_lns lookups.now.closed.model.now routes.old.lists limit cut).last) }
+    ensures best { OnOk result (routes.new.lists
+        ≡ (path_lns lookups.now.closed.model.now routes.old.lists limit cut).best) }
+    ensures told { OnOk result (Told (λ w later. after w later) watch.old.items watch.new.items
+        (path_lns lookups.now.closed.model.now routes.old.lists limit cut).events) }
+    ensures made { IfOk result (λ report. R.made rebuild.new ≤ R.made rebuild.old + report.tries) }
+
+    ensures no_more_tries { IfOk result (λ report. report.tries ≤ limit.tries) }
+    ensures some_solution { IfOk result (λ report. 1 ≤ report.solutions) }
+    ensures no_more_solutions { IfOk result (λ report. report.solutions ≤ limit.solutions) }
+    ensures no_dearer { OnOk result (cost lookups.now.closed.model.now routes.new.lists
+        ≤ℤ cost lookups.now.closed.model.now routes.old.lists) }
+
+    ensures of_model { routes.new.visits ≡ routes.old.visits }
+    ensures valid { IsTrue (is_valid lookups.now.closed.model.now routes.new.lists) }
+    ensures told_in_part { OnErr result (ToldInPart (λ w later. after w later) watch.old.items watch.new.items
+        (path_lns lookups.now.closed.model.now routes.old.lists limit cut).events) }
+    ensures made_at_most { OnErr result (R.made rebuild.new ≤ R.made rebuild.old + limit.tries) }
+{
+    let mut cutting = Cutting::open(alloc, lookups, cut)?;
     search(&mut cutting, rebuild, routes, limit, watch)
 }
 

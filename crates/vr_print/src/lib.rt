@@ -12,4 +12,4 @@ mod routes;
 mod solution;
 
 pub use leaves::wholes;
-pub use solution::{solution_line, solution_tree};
+pub use solution::{solution_line, solution_line_over, solution_tree, solution_tree_over};

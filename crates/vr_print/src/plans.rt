@@ -61,62 +61,52 @@ fn plan_tree(alloc: Global, dimension: &Dimension, plan: &Plan) -> Result<Value,
     Ok(tree.finish())
 }
 
+/// The route of a vehicle.
+#[derive(Clone, Copy)]
+pub(crate) struct RouteOf<'m, 'r> {
+    pub(crate) closed: Closed<'m>,
+    pub(crate) routes: &'r Routes,
+    pub(crate) v: u32,
+    ghost lists: { IsTrue (are_lists closed.model.now routes.now.lists) },
+    ghost vehicle: { v < length routes.now.lists },
+}
+
 // The chosen plan of a used vehicle in dimension `d`.
-fn dimension_tree(
-    alloc: Global,
-    closed: Closed<'_>,
-    routes: &Routes,
-    v: u32,
-    d: u32,
-) -> Result<Value, NoMemory>
-    requires lists { IsTrue (are_lists closed.model.now routes.now.lists) }
-    requires vehicle { v < length routes.now.lists }
-    requires dimension { d < length closed.model.now.dimensions }
-    requires used { is_empty (route routes.now.lists v) ≡ false }
-    ensures { let assignment = assigned closed.entry.model.now routes.now.lists in
-        IfOk result (λ tree. view tree ≡ solution.dimension_tree closed.entry.model.now assignment v d) }
+fn dimension_tree(alloc: Global, of: &RouteOf<'_, '_>, d: u32) -> Result<Value, NoMemory>
+    requires dimension { d < length of.now.closed.model.now.dimensions }
+    requires used { is_empty (route of.now.routes.now.lists of.now.v) ≡ false }
+    ensures { let assignment = assigned of.now.closed.model.now of.now.routes.now.lists in
+        IfOk result (λ tree. view tree ≡ solution.dimension_tree of.now.closed.model.now assignment of.now.v d) }
 {
-    let plan = chosen_plan(alloc, closed, d, v, routes.list(v))?;
+    let (closed, v) = (of.closed, of.v);
+    let plan = chosen_plan(alloc, closed, d, v, of.routes.list(v))?;
     let tree = plan_tree(alloc, closed.model.dimensions.get(d as usize), &plan)?;
     Ok(tree)
 }
 
 // The chosen plans of a used vehicle, one in each dimension.
-fn used_plans_tree(
-    alloc: Global,
-    closed: Closed<'_>,
-    routes: &Routes,
-    v: u32,
-) -> Result<Value, NoMemory>
-    requires lists { IsTrue (are_lists closed.model.now routes.now.lists) }
-    requires vehicle { v < length routes.now.lists }
-    requires used { is_empty (route routes.now.lists v) ≡ false }
-    ensures { let assignment = assigned closed.entry.model.now routes.now.lists in
-        IfOk result (λ tree. view tree ≡ solution.used_plans_tree closed.entry.model.now assignment v) }
+fn used_plans_tree(alloc: Global, of: &RouteOf<'_, '_>) -> Result<Value, NoMemory>
+    requires { is_empty (route of.now.routes.now.lists of.now.v) ≡ false }
+    ensures { let assignment = assigned of.now.closed.model.now of.now.routes.now.lists in
+        IfOk result (λ tree. view tree ≡ solution.used_plans_tree of.now.closed.model.now assignment of.now.v) }
 {
+    let closed = of.closed;
     let mut trees = Vec::new(alloc);
     for d in 0..closed.model.dimensions.len() {
-        let tree = dimension_tree(alloc, closed, routes, v, d as u32)?;
+        let tree = dimension_tree(alloc, of, d as u32)?;
         trees.push(tree)?;
     }
     Ok(Value::Array(trees))
 }
 
 /// The chosen plans of a vehicle, one in each dimension; none where it is not used.
-pub(crate) fn plans_tree(
-    alloc: Global,
-    closed: Closed<'_>,
-    routes: &Routes,
-    v: u32,
-) -> Result<Value, NoMemory>
-    requires lists { IsTrue (are_lists closed.model.now routes.now.lists) }
-    requires vehicle { v < length routes.now.lists }
-    ensures { let assignment = assigned closed.entry.model.now routes.now.lists in
-        IfOk result (λ tree. view tree ≡ solution.plans_tree closed.entry.model.now assignment v) }
+pub(crate) fn plans_tree(alloc: Global, of: &RouteOf<'_, '_>) -> Result<Value, NoMemory>
+    ensures { let assignment = assigned of.now.closed.model.now of.now.routes.now.lists in
+        IfOk result (λ tree. view tree ≡ solution.plans_tree of.now.closed.model.now assignment of.now.v) }
 {
-    if routes.len(v) == 0 {
+    if of.routes.len(of.v) == 0 {
         return Ok(Value::Array(Vec::new(alloc)));
     }
-    let tree = used_plans_tree(alloc, closed, routes, v)?;
+    let tree = used_plans_tree(alloc, of)?;
     Ok(tree)
 }

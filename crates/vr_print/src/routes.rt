@@ -9,7 +9,7 @@ ghost use Rattle.vr_print.specs.Numbers as numbers;
 ghost use Rattle.vr_print.specs.Solution as solution;
 
 use crate::leaves::counts;
-use crate::plans::plans_tree;
+use crate::plans::{RouteOf, plans_tree};
 use serde_json::Value;
 use std::alloc::Global;
 use vr_json::Tree;
@@ -49,15 +49,17 @@ fn nodes_tree(alloc: Global, model: &Model, vehicle: u32, list: &[u32]) -> Resul
 
 // The route of a vehicle.
 #[tactic(auto, unfolding(crate::specs::Solution::route_tree))]
-fn route_tree(alloc: Global, closed: Closed<'_>, routes: &Routes, v: u32) -> Result<Value, NoMemory>
-    requires lists { IsTrue (are_lists closed.model.now routes.now.lists) }
-    requires vehicle { v < length routes.now.lists }
-    ensures { let assignment = assigned closed.entry.model.now routes.now.lists in
-        IfOk result (λ tree. view tree ≡ solution.route_tree closed.entry.model.now assignment v) }
+fn route_tree(alloc: Global, of: &RouteOf<'_, '_>) -> Result<Value, NoMemory>
+    ensures { let assignment = assigned of.now.closed.model.now of.now.routes.now.lists in
+        IfOk result (λ tree. view tree ≡ solution.route_tree of.now.closed.model.now assignment of.now.v) }
 {
+    let (closed, v) = (of.closed, of.v);
     let mut tree = Tree::new(alloc);
-    tree.put("dimensions", plans_tree(alloc, closed, routes, v)?)?;
-    tree.put("nodes", nodes_tree(alloc, closed.model, v, routes.list(v))?)?;
+    tree.put("dimensions", plans_tree(alloc, of)?)?;
+    tree.put(
+        "nodes",
+        nodes_tree(alloc, closed.model, v, of.routes.list(v))?,
+    )?;
     tree.put("vehicle", Value::from(v))?;
     Ok(tree.finish())
 }
@@ -74,7 +76,8 @@ pub(crate) fn routes_tree(
 {
     let mut trees = Vec::new(alloc);
     for v in 0..routes.vehicles() {
-        let route = route_tree(alloc, closed, routes, v)?;
+        let of = RouteOf { closed, routes, v };
+        let route = route_tree(alloc, &of)?;
         trees.push(route)?;
     }
     Ok(Value::Array(trees))

@@ -6,6 +6,7 @@ ghost use Rattle.serde_json.specs.Read.{max_depth, read};
 ghost use Rattle.serde_json.specs.View.{view};
 ghost use Rattle.serde_json.specs.Written.{has_float};
 ghost use Rattle.vr_json.specs.Trees.{line_of, members_put};
+ghost use Rattle.vr_model.specs.routes.Costs.{assigned, parts_at};
 ghost use Rattle.vr_model.specs.routes.Rules.{is_valid};
 ghost use Rattle.vr_model.specs.tables.WellFormed.{IsWellFormed};
 ghost use Rattle.vr_rules.specs.Totals.{HasTotal};
@@ -17,8 +18,9 @@ use serde_json::Value;
 use std::alloc::Global;
 use vr_json::{Tree, to_line};
 use vr_model::{Closed, End, Model, NoMemory, Parts, Report, Seq};
+use vr_plan::Lookups;
 use vr_routes::Routes;
-use vr_rules::{cost, total_cost};
+use vr_rules::{Rules, total_cost};
 
 // The six parts of a cost.
 #[tactic(auto, unfolding(crate::specs::Solution::parts_tree))]
@@ -97,6 +99,38 @@ fn tree_of(
     Ok(tree.finish())
 }
 
+/// The tree of a solution, as `solution_tree` gives it, over what was looked up of the model.
+pub fn solution_tree_over(
+    alloc: Global,
+    lookups: &Lookups<'_>,
+    routes: &Routes,
+    first_cost: i64,
+    report: Report,
+) -> Result<Value, NoMemory>
+    requires valid { IsTrue (is_valid lookups.now.closed.model.now routes.now.lists) }
+    ensures tree { let wanted = solution.solution_tree lookups.now.closed.model.now routes.now.lists first_cost
+        report in IfOk result (λ tree. view tree ≡ wanted) }
+    ensures whole { IfOk result (λ tree. has_float (view tree) ≡ false) }
+    ensures nested { IfOk result (λ tree. depth (view tree) ≤ max_depth) }
+{
+    let parts = parts_of(alloc, lookups, routes)?;
+    let dropped = inactive(alloc, lookups.closed.model, routes)?;
+    let trees = routes_tree(alloc, lookups.closed, routes)?;
+    let tree = tree_of(alloc, &parts, &dropped, trees, first_cost, report)?;
+    Ok(tree)
+}
+
+// What valid routes cost.
+fn parts_of(alloc: Global, lookups: &Lookups<'_>, routes: &Routes) -> Result<Parts, NoMemory>
+    requires { IsTrue (is_valid lookups.now.closed.model.now routes.now.lists) }
+    ensures parts { IfOk result (λ parts. parts ≡ parts_at lookups.now.closed.model.now
+        (assigned lookups.now.closed.model.now routes.now.lists)) }
+    ensures total { IfOk result HasTotal }
+{
+    let mut rules = Rules::over(alloc, lookups)?;
+    rules.cost(routes)
+}
+
 /// The tree of valid routes of a model: their cost with its six parts, the visits that are dropped, ascending, and for
 /// each vehicle its nodes from start to end and, in each dimension, the cumuls, slacks and break starts of the schedule
 /// that its rule chooses; beside these what the first solution cost and how the search went.
@@ -116,11 +150,27 @@ pub fn solution_tree(
     ensures whole { IfOk result (λ tree. has_float (view tree) ≡ false) }
     ensures nested { IfOk result (λ tree. depth (view tree) ≤ max_depth) }
 {
-    let parts = cost(alloc, model, routes)?;
-    let dropped = inactive(alloc, model, routes)?;
-    let trees = routes_tree(alloc, Closed { model }, routes)?;
-    let tree = tree_of(alloc, &parts, &dropped, trees, first_cost, report)?;
-    Ok(tree)
+    let lookups = Lookups::open(alloc, Closed { model })?;
+    solution_tree_over(alloc, &lookups, routes, first_cost, report)
+}
+
+/// The line of a solution, as `solution_line` gives it, over what was looked up of the model.
+pub fn solution_line_over(
+    alloc: Global,
+    lookups: &Lookups<'_>,
+    routes: &Routes,
+    first_cost: i64,
+    report: Report,
+) -> Result<Seq<u8>, NoMemory>
+    requires valid { IsTrue (is_valid lookups.now.closed.model.now routes.now.lists) }
+    ensures text { let wanted = solution.solution_tree lookups.now.closed.model.now routes.now.lists first_cost
+        report in IfOk result (λ line. line ≡ line_of wanted) }
+    ensures reads_back { let wanted = solution.solution_tree lookups.now.closed.model.now routes.now.lists first_cost
+        report in IfOk result (λ line. read line ≡ Some wanted) }
+{
+    let tree = solution_tree_over(alloc, lookups, routes, first_cost, report)?;
+    let line = to_line(alloc, &tree)?;
+    Ok(line)
 }
 
 /// The line of valid routes of a model: the text of their tree, and a line feed. Reading it gives the tree back.
@@ -140,7 +190,6 @@ pub fn solution_line(
     ensures reads_back { let wanted = solution.solution_tree model.now routes.now.lists first_cost report in
         IfOk result (λ line. read line ≡ Some wanted) }
 {
-    let tree = solution_tree(alloc, model, routes, first_cost, report)?;
-    let line = to_line(alloc, &tree)?;
-    Ok(line)
+    let lookups = Lookups::open(alloc, Closed { model })?;
+    solution_line_over(alloc, &lookups, routes, first_cost, report)
 }

@@ -13,20 +13,20 @@ use Rattle.vr_first_arc.proofs.fill.fill.Goals as goal
 
 pub returns-in-None-clause-filled : goal.returns-in-None-clause-filled
 returns-in-None-clause-filled c =
-    let model = c.args.filling.now.model.now in
+    let model = c.args.filling.now.lookups.now.closed.model.now in
     sym (filled-stops model c.args.v (length c.args.filling.now.candidates.now - c.loop-step._step) c.loop-step.lists (sym c.in_ok-item.ensures.next ∙ ap (option_map nodes_of) c.in-None.is))
-    ∙ c.loop-step.invariant.fills ∙ ap (λ n. filled model c.args.v n c.args.lists.now) (candidates-count model c.args.filling.now.candidates.now c.requires.filling.candidates)
+    ∙ c.loop-step.invariant.fills ∙ ap (λ n. filled model c.args.v n c.args.lists.now) (candidates-count model c.args.filling.now.candidates.now c.requires.filling)
 
 pub place-requires-clause-longer : goal.place-requires-clause-longer
 place-requires-clause-longer c =
-    let model = c.args.filling.now.model.now in
+    let model = c.args.filling.now.lookups.now.closed.model.now in
     let lists : List (List ℕ) = c.loop-step.lists in
     let may : MayBeAppended model lists c.args.v c.in-Some.item = rw c.in-Some.is at c.in_ok-item.ensures.may in
     IsDriven-item model lists c.args.v c.loop-step.invariant.built (omega (arith, c.requires.vehicle, c.loop-step.invariant.count)) c.in-Some.item may.is_item may.inactive
 
 pub loop-step-preserved : goal.loop-step-preserved
 loop-step-preserved c =
-    let model = c.args.filling.now.model.now in
+    let model = c.args.filling.now.lookups.now.closed.model.now in
     let v : ℕ = c.args.v in
     let lists : List (List ℕ) = c.loop-step.lists in
     let n : ℕ = length c.args.filling.now.candidates.now in

@@ -5,10 +5,10 @@ use Rattle.vr_routes.specs.Tours.{Tours}
 use Rattle.vr_rules.specs.Placing.{lists_in, AreBuilt}
 use Rattle.vr_first_arc.proofs.solution.first_over.Goals as goal
 
-pub complete_routes-requires-clause-built : goal.complete_routes-requires-clause-built
-complete_routes-requires-clause-built c = subst (AreBuilt c.args.closed.model.now) (sym c.deref.ensures.value) c.in_ok-lists.ensures.built
+pub complete_routes-requires : goal.complete_routes-requires
+complete_routes-requires c = subst (AreBuilt c.args.lookups.now.closed.model.now) (sym c.deref.ensures.value) c.in_ok-lists.ensures.built
 
 pub returns-clause-first : goal.returns-clause-first
 returns-clause-first c =
-    let Are = λ (lists : List (List ℕ)) (found : Option Tours). lists_in found ≡ cond (is_valid c.args.closed.model.now lists) (Some lists) None in
+    let Are = λ (lists : List (List ℕ)) (found : Option Tours). lists_in found ≡ cond (is_valid c.args.lookups.now.closed.model.now lists) (Some lists) None in
     subst (λ lists. IfOk c.complete_routes.result (Are lists)) (c.deref.ensures.value ∙ c.in_ok-lists.ensures.lists) c.complete_routes.ensures.lists

@@ -5,7 +5,7 @@ use Rattle.vr_first_insert.proofs.bound.least_further.Goals as goal
 
 pub returns-clause-least : goal.returns-clause-least
 returns-clause-least c = λ delivery t is_least behind within.
-    let model = c.args.list.now.closed.model.now in
+    let model = c.args.list.now.lookups.now.closed.model.now in
     let list = c.args.list.now.nodes.now in
     let one = c.visit_increase.ensures in
     let here = least-further model c.args.list.now.vehicle list c.args.pickup delivery c.args.s t c.args.least is_least behind within in

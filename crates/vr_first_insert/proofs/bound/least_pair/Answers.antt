@@ -22,7 +22,7 @@ loop-s-init c =
       least = λ s low t within.
           let zero : s ≡ 0 = omega (arith, low) in
           let here = first.least t within in
-          subst (λ s. to_z w64 (of_z w64 c.least_behind-least.result) ≤ℤ pair_increase c.args.list.now.closed.model.now c.args.list.now.vehicle c.args.list.now.nodes.now c.args.pickup c.args.delivery s t) (sym zero)
+          subst (λ s. to_z w64 (of_z w64 c.least_behind-least.result) ≤ℤ pair_increase c.args.list.now.lookups.now.closed.model.now c.args.list.now.vehicle c.args.list.now.nodes.now c.args.pickup c.args.delivery s t) (sym zero)
           (omega (arith, ints, here, first.low, first.high));
       low = omega (arith, ints, first.low, first.high);
       high = omega (arith, ints, first.low, first.high);
@@ -30,7 +30,7 @@ loop-s-init c =
 
 pub loop-s-preserved : goal.loop-s-preserved
 loop-s-preserved c =
-    let model = c.args.list.now.closed.model.now in
+    let model = c.args.list.now.lookups.now.closed.model.now in
     let list = c.args.list.now.nodes.now in
     let so_far = c.loop-s.invariant in
     let next = c.least_behind.ensures in

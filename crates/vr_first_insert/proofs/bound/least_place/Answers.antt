@@ -6,7 +6,7 @@ use Rattle.vr_first_insert.proofs.bound.least_place.Goals as goal
 
 pub loop-t-preserved : goal.loop-t-preserved
 loop-t-preserved c =
-    let f : ℕ → ℤ = visit_increase c.args.list.now.closed.model.now c.args.list.now.vehicle c.args.list.now.nodes.now c.args.node in
+    let f : ℕ → ℤ = visit_increase c.args.list.now.lookups.now.closed.model.now c.args.list.now.vehicle c.args.list.now.nodes.now c.args.node in
     let t : ℕ = c.loop-t.t in
     let next = c.visit_increase-in-loop-t.ensures in
     let here : to_z w64 (of_z w64 c.visit_increase-in-loop-t.result) ≡ f t = omega (arith, ints, next.value, next.low, next.high) in
@@ -19,7 +19,7 @@ loop-t-preserved c =
 pub returns : goal.returns
 returns c =
     let list = c.args.list.now.nodes.now in
-    let first : IsLeastOf (visit_increase c.args.list.now.closed.model.now c.args.list.now.vehicle list c.args.node) c.loop-t.t c.loop-t.at.place = c.loop-t.invariant.first in
+    let first : IsLeastOf (visit_increase c.args.list.now.lookups.now.closed.model.now c.args.list.now.vehicle list c.args.node) c.loop-t.t c.loop-t.at.place = c.loop-t.invariant.first in
     let end : c.loop-t.t ≡ suc (length list) = omega arith in
     let earlier = first.earlier in
     record {

@@ -8,7 +8,7 @@ use Rattle.vr_first_insert.proofs.bound.write_ahead.Goals as goal
 
 pub loop-k-preserved : goal.loop-k-preserved
 loop-k-preserved c =
-    let model = c.args.list.now.closed.model.now in
+    let model = c.args.list.now.lookups.now.closed.model.now in
     let list = c.args.list.now.nodes.now in
     let v : ℕ = c.args.list.now.vehicle in
     let node : ℕ = c.args.node in

@@ -7,7 +7,7 @@ use Rattle.vr_first_insert.proofs.increase.pair_increase.Goals as goal
 
 pub returns-then-s-t-clause-value : goal.returns-then-s-t-clause-value
 returns-then-s-t-clause-value c =
-    let model = c.args.list.now.closed.model.now in
+    let model = c.args.list.now.lookups.now.closed.model.now in
     let list = c.args.list.now.nodes.now in
     let v : ℕ = c.args.list.now.vehicle in
     let s : ℕ = c.args.s in

@@ -11,13 +11,13 @@ use Rattle.vr_first_insert.proofs.keeper.insert_into.Goals as goal
 
 pub take_list-requires-clause-there : goal.take_list-requires-clause-there
 take_list-requires-clause-there c =
-    let count = built-count c.args.items.now.closed.model.now c.args.routes.now.lists c.requires.built in
+    let count = built-count c.args.items.now.lookups.now.closed.model.now c.args.routes.now.lists c.requires.built in
     let many = c.loop-v.invariant.vehicles in
     omega (arith, c.loop-v-test.true, c.vehicles-v-end.ensures.value, count, many)
 
 pub invariant_of-new : goal.invariant_of-new
 invariant_of-new c =
-    let model = c.args.items.now.closed.model.now in
+    let model = c.args.items.now.lookups.now.closed.model.now in
     let lists = c.args.routes.now.lists in
     let v : ℕ = c.loop-v.v in
     let count = built-count model lists c.requires.built in
@@ -30,7 +30,7 @@ invariant_of-new c =
 
 pub take_list-requires-clause-row : goal.take_list-requires-clause-row
 take_list-requires-clause-row c =
-    let count = built-count c.args.items.now.closed.model.now c.args.routes.now.lists c.requires.built in
+    let count = built-count c.args.items.now.lookups.now.closed.model.now c.args.routes.now.lists c.requires.built in
     let many = c.loop-v.invariant.vehicles in
     let rows = c.loop-v.invariant.rows.many in
     omega (arith, c.loop-v-test.true, c.vehicles-v-end.ensures.value, count, many, rows)
@@ -41,7 +41,7 @@ loop-v-preserved c =
     let v : ℕ = c.loop-v.v in
     let others = c.args.routes.now.lists in
     let list = c.list.result.now in
-    let count = built-count c.args.items.now.closed.model.now others c.requires.built in
+    let count = built-count c.args.items.now.lookups.now.closed.model.now others c.requires.built in
     let many = c.loop-v.invariant.vehicles in
     let there : v < length lists = omega (arith, c.loop-v-test.true, c.vehicles-v-end.ensures.value, count, many) in
     let is = c.in_ok-take_list.ensures.lists in
@@ -54,7 +54,7 @@ loop-v-preserved c =
 
 pub insert_all-requires : goal.insert_all-requires
 insert_all-requires c =
-    let model = c.args.items.now.closed.model.now in
+    let model = c.args.items.now.lookups.now.closed.model.now in
     let others = c.args.routes.now.lists in
     let so_far = c.loop-v.invariant in
     let many = so_far.vehicles ∙ sym (built-count model others c.requires.built) in
@@ -69,7 +69,7 @@ insert_all-requires c =
 
 pub returns-clause-rebuilt : goal.returns-clause-rebuilt
 returns-clause-rebuilt c =
-    let model = c.args.items.now.closed.model.now in
+    let model = c.args.items.now.lookups.now.closed.model.now in
     let others = c.args.routes.now.lists in
     let many = c.loop-v.invariant.vehicles ∙ sym (built-count model others c.requires.built) in
     let same = all-taken c.loop-v.lists others c.loop-v.v many (omega (arith, c.loop-v-test.false, c.vehicles-v-end.ensures.value)) c.loop-v.invariant.taken in

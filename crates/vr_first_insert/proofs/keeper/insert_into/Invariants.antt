@@ -7,8 +7,8 @@ use Rattle.vr_first_insert.proofs.keeper.insert_into.Given as goal
 -- the lists so far are those of the routes
 abbrev pub invariant-loop-v : goal.invariant-loop-v
 invariant-loop-v l = record {
-  vehicles : length l.lists ≡ length l.items.closed.model.now.vehicles;
+  vehicles : length l.lists ≡ length l.items.lookups.now.closed.model.now.vehicles;
   taken : (w : ℕ) → w < l.v → route l.lists w ≡ route l.routes.lists w;
-  kept : AreKept l.items.closed.model.now l.lists l.keeps;
-  rows : AreRows l.items.closed.model.now l.lists l.items.candidates.now l.rows;
+  kept : AreKept l.items.lookups.now.closed.model.now l.lists l.keeps;
+  rows : AreRows l.items.lookups.now.closed.model.now l.lists l.items.candidates.now l.rows;
 }

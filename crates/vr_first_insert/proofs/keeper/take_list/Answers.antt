@@ -18,5 +18,5 @@ forget-requires c = record { vehicle = c.requires.row }
 
 pub returns-clause-rows : goal.returns-clause-rows
 returns-clause-rows c = λ known are.
-    subst (λ lists. AreRows c.args.new.now.closed.model.now lists known c.forget.new.rows) (sym c.in_ok-change_list.ensures.lists)
-    (rows-forgotten c.args.new.now.closed.model.now c.args.lists.now known c.args.rows.now c.forget.new.rows c.args.new.now.vehicle c.args.new.now.nodes.now c.requires.there are c.forget.ensures)
+    subst (λ lists. AreRows c.args.new.now.lookups.now.closed.model.now lists known c.forget.new.rows) (sym c.in_ok-change_list.ensures.lists)
+    (rows-forgotten c.args.new.now.lookups.now.closed.model.now c.args.lists.now known c.args.rows.now c.forget.new.rows c.args.new.now.vehicle c.args.new.now.nodes.now c.requires.there are c.forget.ensures)

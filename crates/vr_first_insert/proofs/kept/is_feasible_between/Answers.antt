@@ -1,20 +1,13 @@
-use Rattle.std.proofs.Common.{◌∙◌, sym, arith, length}
-use Rattle.vr_model.specs.schedules.Lines.{line}
-use Rattle.vr_model.specs.schedules.Choices.{is_feasible}
-use Rattle.vr_rules.proofs.OpenLemmas.{one_fails, all_pass_below}
-use Rattle.vr_rules.proofs.FrontLemmas.{one_more}
+use Rattle.std.proofs.Common.{arith}
+use Rattle.vr_rules.proofs.OpenLemmas.{feasible_ends, feasible_goes_on, feasible_stops}
 use Rattle.vr_first_insert.proofs.kept.is_feasible_between.Goals as goal
 
 pub returns-then-not-branch : goal.returns-then-not-branch
 returns-then-not-branch c =
-    let model = c.args.old.now.closed.model.now in
-    sym (one_fails (λ d. is_feasible (line model d c.args.old.now.vehicle c.args.new.now)) (length model.dimensions) c.loop-d.d (omega (arith, c.requires.kept.one_of_each)) (sym c.in_ok-goes_between.ensures ∙ c.if-not-branch.true))
+    feasible_stops c.args.old.now.lookups.now.closed.model.now c.args.old.now.vehicle c.args.new.now c.loop-d.d c.in_ok-goes_between.field-0 (omega (arith, c.requires.kept.one_of_each)) c.in_ok-goes_between.ensures c.if-not-branch.true
 
 pub loop-d-preserved : goal.loop-d-preserved
-loop-d-preserved c = λ d lt.
-    one_more (λ d. is_feasible (line c.args.old.now.closed.model.now d c.args.old.now.vehicle c.args.new.now)) c.loop-d.d c.loop-d.invariant (sym c.in_ok-goes_between.ensures ∙ c.if-not-branch.false) d lt
+loop-d-preserved c = feasible_goes_on c.args.old.now.lookups.now.closed.model.now c.args.old.now.vehicle c.args.new.now c.loop-d.d c.in_ok-goes_between.field-0 c.loop-d.invariant c.in_ok-goes_between.ensures c.if-not-branch.false
 
 pub returns : goal.returns
-returns c =
-    let model = c.args.old.now.closed.model.now in
-    sym (all_pass_below (λ d. is_feasible (line model d c.args.old.now.vehicle c.args.new.now)) (length model.dimensions) (λ d lt. c.loop-d.invariant d (omega (arith, lt, c.requires.kept.one_of_each))))
+returns c = feasible_ends c.args.old.now.lookups.now.closed.model.now c.args.old.now.vehicle c.args.new.now c.loop-d.d (omega (arith, c.requires.kept.one_of_each)) c.loop-d.invariant

@@ -8,7 +8,7 @@ use Rattle.vr_first_insert.proofs.kept.keep_each.Goals as goal
 pub loop-d-preserved : goal.loop-d-preserved
 loop-d-preserved c =
     let m = c.loop-d.invariant in
-    let P = λ (d : ℕ) (kept : Kept). IsKept c.args.closed.model.now d c.args.lists.now kept in
+    let P = λ (d : ℕ) (kept : Kept). IsKept c.args.lookups.now.closed.model.now d c.args.lists.now kept in
     rw c.in_ok-push.ensures.items (record {
       long = length-append c.loop-d.keeps.items _ ∙ ap (λ n. n + 1) m.long;
       each = λ d other lt. each_push P c.loop-d.keeps.items c.in_ok-build.field-0 m.each (subst (λ n. P n c.in_ok-build.field-0) (sym m.long) c.in_ok-build.ensures) d other lt;

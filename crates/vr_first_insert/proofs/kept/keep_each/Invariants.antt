@@ -8,5 +8,5 @@ use Rattle.vr_first_insert.proofs.kept.keep_each.Given as goal
 abbrev pub invariant-loop-d : goal.invariant-loop-d
 invariant-loop-d l = record {
   long : length l.keeps.items ≡ l.d;
-  each : (d : ℕ) (other : Kept) → d < length l.keeps.items → IsKept l.closed.model.now d l.lists (slice_index_or l.keeps.items d other);
+  each : (d : ℕ) (other : Kept) → d < length l.keeps.items → IsKept l.lookups.closed.model.now d l.lists (slice_index_or l.keeps.items d other);
 }

@@ -13,7 +13,7 @@ learn-requires-clause-kept c =
 
 pub loop-d-preserved : goal.loop-d-preserved
 loop-d-preserved c =
-    let model = c.args.new.now.closed.model.now in
+    let model = c.args.new.now.lookups.now.closed.model.now in
     let lists = c.args.lists.now in
     let d : ℕ = c.loop-d.d in
     let m = c.loop-d.invariant in

@@ -5,14 +5,14 @@ use Rattle.vr_first_insert.proofs.known.asked.Goals as goal
 
 pub returns-in-Best-clause-better : goal.returns-in-Best-clause-better
 returns-in-Best-clause-better c =
-    let model = c.args.of.now.list.closed.model.now in
+    let model = c.args.of.now.list.lookups.now.closed.model.now in
     let list = c.args.of.now.list.nodes.now in
     ap (λ known. best_of known c.args.best) c.in-Best.is
     ∙ best-merged model c.args.of.now.list.vehicle list c.args.of.now.candidate c.in-Best.field-0 c.args.best (subst (IsKnown model c.args.of.now.list.vehicle list c.args.of.now.candidate) c.in-Best.is c.requires.known)
 
 pub tried-requires-in-Nothing-clause-bound : goal.tried-requires-in-Nothing-clause-bound
 tried-requires-in-Nothing-clause-bound c =
-    let model = c.args.of.now.list.closed.model.now in
+    let model = c.args.of.now.list.lookups.now.closed.model.now in
     let list = c.args.of.now.list.nodes.now in
     let v = c.args.of.now.list.vehicle in
     let fits : to_z w64 (of_z w64 c.least_in.result) ≡ c.least_in.result = search rules in

@@ -4,7 +4,7 @@ use Rattle.vr_first_insert.proofs.known.least_in.Goals as goal
 
 pub returns-in-PickupAndDelivery : goal.returns-in-PickupAndDelivery
 returns-in-PickupAndDelivery c =
-    let model = c.args.of.now.list.closed.model.now in
+    let model = c.args.of.now.list.lookups.now.closed.model.now in
     let v = c.args.of.now.list.vehicle in
     let list = c.args.of.now.list.nodes.now in
     let fits : to_z w64 (of_z w64 c.least_pair.result) ≡ c.least_pair.result = search rules in

@@ -10,12 +10,12 @@ pub returns-then-not-may_improve-clause-better : goal.returns-then-not-may_impro
 returns-then-not-may_improve-clause-better c =
     let candidate = c.args.of.now.candidate in
     let fits : to_z w64 (of_z w64 c.args.bound.least) ≡ c.args.bound.least = search rules in
-    bound-passed_over c.args.of.now.list.closed.model.now c.args.of.now.list.vehicle c.args.of.now.list.nodes.now candidate c.args.best c.args.bound.least c.requires.bound
+    bound-passed_over c.args.of.now.list.lookups.now.closed.model.now c.args.of.now.list.vehicle c.args.of.now.list.nodes.now candidate c.args.best c.args.bound.least c.requires.bound
     (ap (may_improve c.args.best candidate.class) (sym fits) ∙ sym c.may_improve.ensures ∙ c.if-not-may_improve.true)
 
 pub returns-clause-known : goal.returns-clause-known
 returns-clause-known c =
-    let model = c.args.of.now.list.closed.model.now in
+    let model = c.args.of.now.list.lookups.now.closed.model.now in
     let list = c.args.of.now.list.nodes.now in
     let v = c.args.of.now.list.vehicle in
     let fits : to_z w64 (of_z w64 c.args.bound.least) ≡ c.args.bound.least = search rules in
@@ -24,7 +24,7 @@ returns-clause-known c =
 
 pub returns-clause-better : goal.returns-clause-better
 returns-clause-better c =
-    let model = c.args.of.now.list.closed.model.now in
+    let model = c.args.of.now.list.lookups.now.closed.model.now in
     let list = c.args.of.now.list.nodes.now in
     let v = c.args.of.now.list.vehicle in
     ap (λ known. best_of known c.args.best) (c.in_ok-known.ensures ∙ ap (sought_in c.args.of.now) c.begun_with-begin.ensures)

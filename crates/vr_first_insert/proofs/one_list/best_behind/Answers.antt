@@ -26,14 +26,14 @@ leave-requires c =
 pub go_on-requires : goal.go_on-requires
 go_on-requires c =
     let begun = c.args.begun.now in
-    half-goes_on begun.pair begun.s (begun.s + 1) begun.half.now c.args.keeps.now c.leave.new.self begun.within begun.picked_up (let within = begun.within in omega (arith, within)) c.requires.ready.ready c.in_ok-leave.ensures
+    half-goes_on begun.pair begun.s (begun.s + 1) begun.half.now c.leave.new.self begun.within begun.picked_up (let within = begun.within in omega (arith, within)) c.in_ok-leave.ensures
 
 pub weigh_pair-requires : goal.weigh_pair-requires
 weigh_pair-requires c = record {
   ready = c.requires.ready.ready;
   order = omega arith;
   within = c.args.begun.now.within;
-  here = subst (λ half. AreReachedAt c.args.begun.now.pair.list.closed.model.now c.args.begun.now.pair.list.vehicle half (c.args.begun.now.s + 1) c.leave.new.self) c.args.begun.now.picked_up c.in_ok-leave.ensures;
+  here = subst (λ half. AreReachedAt c.args.begun.now.pair.list.lookups.now.closed.model.now c.args.begun.now.pair.list.vehicle half (c.args.begun.now.s + 1) c.leave.new.self) c.args.begun.now.picked_up c.in_ok-leave.ensures;
   longer = c.in_ok-write_placed.ensures;
 }
 
@@ -62,16 +62,16 @@ best_further-requires-clause-longer c =
 pub best_further-requires-clause-here : goal.best_further-requires-clause-here
 best_further-requires-clause-here c =
     let next : c.args.begun.now.s + 1 + 1 ≡ c.args.begun.now.s + 2 = omega arith in
-    subst (λ k. AreReachedAt c.args.begun.now.pair.list.closed.model.now c.args.begun.now.pair.list.vehicle c.args.begun.now.half.now k c.go_on.new.self) next c.in_ok-go_on.ensures
+    subst (λ k. AreReachedAt c.args.begun.now.pair.list.lookups.now.closed.model.now c.args.begun.now.pair.list.vehicle c.args.begun.now.half.now k c.go_on.new.self) next c.in_ok-go_on.ensures
 
 pub returns-then-is_stuck : goal.returns-then-is_stuck
 returns-then-is_stuck c =
-    deliveries-stuck c.args.begun.now.pair.list.closed.model.now c.args.begun.now.pair.list.vehicle c.args.begun.now.pair.list.nodes.now c.args.begun.now.pair.class c.args.begun.now.pair.pickup c.args.begun.now.pair.delivery c.args.begun.now.s c.args.begun.now.s c.args.best c.leave.new.self c.args.begun.now.pair.list.there c.args.begun.now.pair.may_hold (omega arith) c.args.begun.now.within
-    (subst (λ half. AreReachedAt c.args.begun.now.pair.list.closed.model.now c.args.begun.now.pair.list.vehicle half (c.args.begun.now.s + 1) c.leave.new.self) c.args.begun.now.picked_up c.in_ok-leave.ensures) (c.is_stuck.ensures.no_end c.if-is_stuck.true)
+    deliveries-stuck c.args.begun.now.pair.list.lookups.now.closed.model.now c.args.begun.now.pair.list.vehicle c.args.begun.now.pair.list.nodes.now c.args.begun.now.pair.class c.args.begun.now.pair.pickup c.args.begun.now.pair.delivery c.args.begun.now.s c.args.begun.now.s c.args.best c.leave.new.self c.args.begun.now.pair.list.there c.args.begun.now.pair.may_hold (omega arith) c.args.begun.now.within
+    (subst (λ half. AreReachedAt c.args.begun.now.pair.list.lookups.now.closed.model.now c.args.begun.now.pair.list.vehicle half (c.args.begun.now.s + 1) c.leave.new.self) c.args.begun.now.picked_up c.in_ok-leave.ensures) (c.is_stuck.ensures.no_end c.if-is_stuck.true)
 
 pub returns-then-not-may_improve : goal.returns-then-not-may_improve
 returns-then-not-may_improve c =
-    let model = c.args.begun.now.pair.list.closed.model.now in
+    let model = c.args.begun.now.pair.list.lookups.now.closed.model.now in
     let list = c.args.begun.now.pair.list.nodes.now in
     let f : ℕ → Choice = pair_choice model c.args.begun.now.pair.list.vehicle list c.args.begun.now.pair.class c.args.begun.now.pair.pickup c.args.begun.now.pair.delivery c.args.begun.now.s in
     let further = c.least_further.ensures in
@@ -85,7 +85,7 @@ returns-then-not-may_improve c =
 
 pub returns : goal.returns
 returns c =
-    let model = c.args.begun.now.pair.list.closed.model.now in
+    let model = c.args.begun.now.pair.list.lookups.now.closed.model.now in
     let list = c.args.begun.now.pair.list.nodes.now in
     let f : ℕ → Choice = pair_choice model c.args.begun.now.pair.list.vehicle list c.args.begun.now.pair.class c.args.begun.now.pair.pickup c.args.begun.now.pair.delivery c.args.begun.now.s in
     c.in_ok-best.ensures

@@ -13,7 +13,7 @@ write_placed-requires-clause-few c = few-held c.args.pair.now.list c.args.pair.n
 
 pub returns-then-not-may_improve-clause-best : goal.returns-then-not-may_improve-clause-best
 returns-then-not-may_improve-clause-best c =
-    let model = c.args.pair.now.list.closed.model.now in
+    let model = c.args.pair.now.list.lookups.now.closed.model.now in
     let list = c.args.pair.now.list.nodes.now in
     let fits : to_z w64 (of_z w64 c.least_behind.result) ≡ c.least_behind.result = omega (arith, ints, c.least_behind.ensures.low, c.least_behind.ensures.high) in
     deliveries-passed_over model c.args.pair.now.list.vehicle list c.args.pair.now.class c.args.pair.now.pickup c.args.pair.now.delivery c.args.s c.args.s c.args.best c.least_behind.result (λ t from high. c.least_behind.ensures.least t high)

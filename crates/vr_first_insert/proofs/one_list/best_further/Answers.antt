@@ -26,7 +26,7 @@ weigh_pair-requires c =
       ready = c.requires.ready.ready;
       order = omega arith;
       within = omega (arith, c.loop-t-test.true);
-      here = subst (λ half. AreReachedAt c.args.begun.now.pair.list.closed.model.now c.args.begun.now.pair.list.vehicle half (c.loop-t.t + 1) c.loop-t.probes) c.args.begun.now.picked_up c.loop-t.invariant.reached;
+      here = subst (λ half. AreReachedAt c.args.begun.now.pair.list.lookups.now.closed.model.now c.args.begun.now.pair.list.vehicle half (c.loop-t.t + 1) c.loop-t.probes) c.args.begun.now.picked_up c.loop-t.invariant.reached;
       longer = c.move_on.ensures half c.args.begun.now.pair.delivery (omega (arith, long, c.loop-t-test.true)) c.loop-t.invariant.longer
           ∙ ap (λ l. insert l (t + 1) c.args.begun.now.pair.delivery) c.args.begun.now.picked_up
           ∙ sym (pair_is pair list c.args.begun.now.s t (omega arith) (omega (arith, c.loop-t-test.true)) ∙ ap (λ n. insert (insert list c.args.begun.now.s c.args.begun.now.pair.pickup) n c.args.begun.now.pair.delivery) next);
@@ -43,11 +43,11 @@ move_on-requires c =
 pub go_on-requires : goal.go_on-requires
 go_on-requires c =
     let begun = c.args.begun.now in
-    half-goes_on begun.pair begun.s (c.loop-t.t + 1) begun.half.now c.args.keeps.now c.loop-t.probes begun.within begun.picked_up (omega (arith, c.loop-t-test.true)) c.requires.ready.ready c.loop-t.invariant.reached
+    half-goes_on begun.pair begun.s (c.loop-t.t + 1) begun.half.now c.loop-t.probes begun.within begun.picked_up (omega (arith, c.loop-t-test.true)) c.loop-t.invariant.reached
 
 pub loop-t-preserved : goal.loop-t-preserved
 loop-t-preserved c =
-    let model = c.args.begun.now.pair.list.closed.model.now in
+    let model = c.args.begun.now.pair.list.lookups.now.closed.model.now in
     let list = c.args.begun.now.pair.list.nodes.now in
     let f : ℕ → Choice = pair_choice model c.args.begun.now.pair.list.vehicle list c.args.begun.now.pair.class c.args.begun.now.pair.pickup c.args.begun.now.pair.delivery c.args.begun.now.s in
     record {
@@ -59,7 +59,7 @@ loop-t-preserved c =
 
 pub returns-then-is_stuck : goal.returns-then-is_stuck
 returns-then-is_stuck c =
-    let model = c.args.begun.now.pair.list.closed.model.now in
+    let model = c.args.begun.now.pair.list.lookups.now.closed.model.now in
     let list = c.args.begun.now.pair.list.nodes.now in
     deliveries-stuck model c.args.begun.now.pair.list.vehicle list c.args.begun.now.pair.class c.args.begun.now.pair.pickup c.args.begun.now.pair.delivery c.args.begun.now.s c.loop-t.t c.loop-t.best c.loop-t.probes c.args.begun.now.pair.list.there c.args.begun.now.pair.may_hold (omega arith) (omega arith)
     (subst (λ half. AreReachedAt model c.args.begun.now.pair.list.vehicle half (c.loop-t.t + 1) c.loop-t.probes) c.args.begun.now.picked_up c.loop-t.invariant.reached) (c.is_stuck.ensures.no_end c.if-is_stuck.true)
@@ -67,7 +67,7 @@ returns-then-is_stuck c =
 
 pub returns : goal.returns
 returns c =
-    let model = c.args.begun.now.pair.list.closed.model.now in
+    let model = c.args.begun.now.pair.list.lookups.now.closed.model.now in
     let list = c.args.begun.now.pair.list.nodes.now in
     let f : ℕ → Choice = pair_choice model c.args.begun.now.pair.list.vehicle list c.args.begun.now.pair.class c.args.begun.now.pair.pickup c.args.begun.now.pair.delivery c.args.begun.now.s in
     walk_ends (λ ks. fold (weigh model list) c.loop-t.best (map f ks)) (suc (length list)) c.loop-t.t c.loop-t.invariant.best (omega arith)
@@ -75,7 +75,7 @@ returns c =
 pub loop-t-init : goal.loop-t-init
 loop-t-init c =
     let next : c.args.begun.now.s + 2 ≡ c.args.begun.now.s + 1 + 1 = omega arith in
-    record { best = refl; longer = c.requires.longer; reached = subst (λ k. AreReachedAt c.args.begun.now.pair.list.closed.model.now c.args.begun.now.pair.list.vehicle c.args.begun.now.half.now k c.args.probes.now) next c.requires.here }
+    record { best = refl; longer = c.requires.longer; reached = subst (λ k. AreReachedAt c.args.begun.now.pair.list.lookups.now.closed.model.now c.args.begun.now.pair.list.vehicle c.args.begun.now.half.now k c.args.probes.now) next c.requires.here }
 
 pub get-least-requires : goal.get-least-requires
 get-least-requires c =
@@ -90,12 +90,12 @@ least_apart-requires-clause-pickup c =
 pub least_apart-requires-clause-least : goal.least_apart-requires-clause-least
 least_apart-requires-clause-least c =
     let list = c.args.begun.now.pair.list.nodes.now in
-    let is = ahead-read c.args.begun.now.pair.list.closed.model.now c.args.begun.now.pair.list.vehicle list c.args.begun.now.pair.delivery (length list - c.loop-t.t) c.args.begun.now.ahead.now c.get-least.result.now c.requires.ready.ahead (c.get-least.ensures.value (pos 0)) (omega arith) in
+    let is = ahead-read c.args.begun.now.pair.list.lookups.now.closed.model.now c.args.begun.now.pair.list.vehicle list c.args.begun.now.pair.delivery (length list - c.loop-t.t) c.args.begun.now.ahead.now c.get-least.result.now c.requires.ready.ahead (c.get-least.ensures.value (pos 0)) (omega arith) in
     record { low = is.low; high = is.high }
 
 pub returns-then-not-may_improve : goal.returns-then-not-may_improve
 returns-then-not-may_improve c =
-    let model = c.args.begun.now.pair.list.closed.model.now in
+    let model = c.args.begun.now.pair.list.lookups.now.closed.model.now in
     let list = c.args.begun.now.pair.list.nodes.now in
     let v : ℕ = c.args.begun.now.pair.list.vehicle in
     let t : ℕ = c.loop-t.t in

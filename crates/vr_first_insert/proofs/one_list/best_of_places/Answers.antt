@@ -31,7 +31,7 @@ weigh_visit-requires-in-loop-t c = record {
 
 pub loop-t-preserved : goal.loop-t-preserved
 loop-t-preserved c =
-    let model = c.args.visit.now.list.closed.model.now in
+    let model = c.args.visit.now.list.lookups.now.closed.model.now in
     let list = c.args.visit.now.list.nodes.now in
     let t : ℕ = c.loop-t.t in
     let f : ℕ → Choice = visit_choice model c.args.visit.now.list.vehicle list c.args.visit.now.class c.args.visit.now.node in
@@ -44,7 +44,7 @@ loop-t-preserved c =
 
 pub returns : goal.returns
 returns c =
-    let model = c.args.visit.now.list.closed.model.now in
+    let model = c.args.visit.now.list.lookups.now.closed.model.now in
     let list = c.args.visit.now.list.nodes.now in
     let f : ℕ → Choice = visit_choice model c.args.visit.now.list.vehicle list c.args.visit.now.class c.args.visit.now.node in
     let end : c.loop-t.t + 1 ≡ suc (length list) = omega arith in

@@ -11,7 +11,7 @@ best_delivery-requires-clause-ready c = record { ready = c.requires; ahead = c.l
 
 pub loop-s-preserved : goal.loop-s-preserved
 loop-s-preserved c =
-    let model = c.args.pair.now.list.closed.model.now in
+    let model = c.args.pair.now.list.lookups.now.closed.model.now in
     let list = c.args.pair.now.list.nodes.now in
     let f = deliveries model c.args.pair.now.list.vehicle list c.args.pair.now.class c.args.pair.now.pickup c.args.pair.now.delivery in
     record {
@@ -22,7 +22,7 @@ loop-s-preserved c =
 
 pub returns : goal.returns
 returns c =
-    let model = c.args.pair.now.list.closed.model.now in
+    let model = c.args.pair.now.list.lookups.now.closed.model.now in
     let list = c.args.pair.now.list.nodes.now in
     let f = deliveries model c.args.pair.now.list.vehicle list c.args.pair.now.class c.args.pair.now.pickup c.args.pair.now.delivery in
     let end : c.loop-s.s ≡ suc (length list) = omega arith in

@@ -20,7 +20,7 @@ is_visit_taken-requires c = record { ready = c.requires; within = c.least_place-
 
 pub returns-then-branch : goal.returns-then-branch
 returns-then-branch c =
-    let model = c.args.visit.now.list.closed.model.now in
+    let model = c.args.visit.now.list.lookups.now.closed.model.now in
     let list = c.args.visit.now.list.nodes.now in
     let place : ℕ = c.least_place-t.result in
     let better = improves key_of c.args.best (visit_choice model c.args.visit.now.list.vehicle list c.args.visit.now.class c.args.visit.now.node place) in

@@ -18,16 +18,16 @@ write_placed-requires-clause-within c =
 
 pub write_placed-requires-clause-few : goal.write_placed-requires-clause-few
 write_placed-requires-clause-few c =
-    let model = c.args.closed.model.now in
+    let model = c.args.lookups.now.closed.model.now in
     let lists = c.args.lists.now in
     let v : ℕ = c.args.choice.vehicle in
     let before : c.as_slice-before.result.now ≡ route lists v = c.as_slice-before.ensures ∙ get_or_default lists v c.index-lists-v.result [] c.requires.may.vehicle in
     let long = ap length before in
-    omega (arith, long, visits-few model (route lists v) (built-visits model lists v c.requires.built) (built-distinct model lists v c.requires.built), c.args.closed.well_formed.number_of_nodes.1)
+    omega (arith, long, visits-few model (route lists v) (built-visits model lists v c.requires.built) (built-distinct model lists v c.requires.built), c.args.lookups.now.closed.well_formed.number_of_nodes.1)
 
 pub invariant_of-list : goal.invariant_of-list
 invariant_of-list c =
-    let model = c.args.closed.model.now in
+    let model = c.args.lookups.now.closed.model.now in
     let lists = c.args.lists.now in
     let v : ℕ = c.args.choice.vehicle in
     let placing = c.args.choice.placing in

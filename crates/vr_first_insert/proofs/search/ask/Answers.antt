@@ -12,14 +12,11 @@ invariant_of-of c =
     let lists = c.args.on.now.lists.now in
     let v : ℕ = c.args.v in
     let list : c.as_slice-nodes.result.now ≡ route lists v = list_at lists v c.as_slice-nodes.result.now c.index-lists-v.result c.as_slice-nodes.ensures c.index-lists-v.is c.requires.there in
-    record {
-      of_model = c.requires.asked.lookups;
-      may_hold = subst (λ list. MayHold c.args.on.now.items.closed.model.now list (candidate_at c.args.on.now.items.candidates.now c.args.i).item) (sym list) (c.requires.may_hold v c.requires.there);
-    }
+    record { may_hold = subst (λ list. MayHold c.args.on.now.items.lookups.now.closed.model.now list (candidate_at c.args.on.now.items.candidates.now c.args.i).item) (sym list) (c.requires.may_hold v c.requires.there) }
 
 pub asked-requires-clause-known : goal.asked-requires-clause-known
 asked-requires-clause-known c =
-    let model = c.args.on.now.items.closed.model.now in
+    let model = c.args.on.now.items.lookups.now.closed.model.now in
     let lists = c.args.on.now.lists.now in
     let v : ℕ = c.args.v in
     let list : c.as_slice-nodes.result.now ≡ route lists v = list_at lists v c.as_slice-nodes.result.now c.index-lists-v.result c.as_slice-nodes.ensures c.index-lists-v.is c.requires.there in
@@ -31,18 +28,18 @@ asked-requires-clause-ready c =
     let lists = c.args.on.now.lists.now in
     let v : ℕ = c.args.v in
     let list : c.as_slice-nodes.result.now ≡ route lists v = list_at lists v c.as_slice-nodes.result.now c.index-lists-v.result c.as_slice-nodes.ensures c.index-lists-v.is c.requires.there in
-    subst (λ list. IsReady c.args.on.now.items.closed.model.now v list c.args.on.now.keeps.now) (sym list) (c.requires.asked.ready v c.requires.there)
+    subst (λ list. IsReady c.args.on.now.items.lookups.now.closed.model.now v list c.args.on.now.keeps.now) (sym list) (c.requires.asked.ready v c.requires.there)
 
 pub returns-clause-best : goal.returns-clause-best
 returns-clause-best c =
     let lists = c.args.on.now.lists.now in
     let v : ℕ = c.args.v in
     let list : c.as_slice-nodes.result.now ≡ route lists v = list_at lists v c.as_slice-nodes.result.now c.index-lists-v.result c.as_slice-nodes.ensures c.index-lists-v.is c.requires.there in
-    c.better_of.ensures ∙ c.in_ok-told.ensures.better ∙ ap (λ list. best_in c.args.on.now.items.closed.model.now v list (candidate_at c.args.on.now.items.candidates.now c.args.i) c.args.best) list
+    c.better_of.ensures ∙ c.in_ok-told.ensures.better ∙ ap (λ list. best_in c.args.on.now.items.lookups.now.closed.model.now v list (candidate_at c.args.on.now.items.candidates.now c.args.i) c.args.best) list
 
 pub returns-clause-row : goal.returns-clause-row
 returns-clause-row c =
-    let model = c.args.on.now.items.closed.model.now in
+    let model = c.args.on.now.items.lookups.now.closed.model.now in
     let lists = c.args.on.now.lists.now in
     let v : ℕ = c.args.v in
     let candidate = candidate_at c.args.on.now.items.candidates.now c.args.i in

@@ -9,7 +9,7 @@ use Rattle.vr_first_insert.proofs.search.best_in_lists.Goals as goal
 
 pub settle-requires : goal.settle-requires
 settle-requires c =
-    let model = c.args.on.now.items.closed.model.now in
+    let model = c.args.on.now.items.lookups.now.closed.model.now in
     let lists = c.args.on.now.lists.now in
     let v : ℕ = c.loop-v.v in
     let rows = c.loop-v.rows in
@@ -26,7 +26,7 @@ settle-requires c =
 
 pub loop-v-preserved : goal.loop-v-preserved
 loop-v-preserved c =
-    let model = c.args.on.now.items.closed.model.now in
+    let model = c.args.on.now.items.lookups.now.closed.model.now in
     let lists = c.args.on.now.lists.now in
     let v : ℕ = c.loop-v.v in
     let candidate = candidate_at c.args.on.now.items.candidates.now c.args.i in

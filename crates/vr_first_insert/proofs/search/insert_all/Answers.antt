@@ -17,9 +17,9 @@ use Rattle.vr_first_insert.proofs.search.insert_all.Goals as goal
 
 pub returns-in-None-clause-rebuilt : goal.returns-in-None-clause-rebuilt
 returns-in-None-clause-rebuilt c =
-    let model = c.args.items.now.closed.model.now in
+    let model = c.args.items.now.lookups.now.closed.model.now in
     sym (rebuilt-stops model (length c.args.items.now.candidates.now - c.loop-step._step) c.loop-step.lists (sym c.in_ok-choice.ensures.next ∙ ap (option_map insertion_of) c.in-None.is))
-    ∙ c.loop-step.invariant.rebuilds ∙ ap (λ n. rebuilt model n c.args.lists.now) (candidates-count model c.args.items.now.candidates.now c.requires.items_are.candidates)
+    ∙ c.loop-step.invariant.rebuilds ∙ ap (λ n. rebuilt model n c.args.lists.now) (candidates-count model c.args.items.now.candidates.now c.requires.items_are)
 
 pub next_insertion-requires : goal.next_insertion-requires
 next_insertion-requires c =
@@ -31,7 +31,7 @@ place_in-requires-clause-may c = rw c.in-Some.is at c.in_ok-choice.ensures.may
 
 pub loop-step-preserved : goal.loop-step-preserved
 loop-step-preserved c =
-    let model = c.args.items.now.closed.model.now in
+    let model = c.args.items.now.lookups.now.closed.model.now in
     let lists : List (List ℕ) = c.loop-step.lists in
     let n : ℕ = length c.args.items.now.candidates.now in
     let choice : Choice = c.in-Some.choice in
@@ -57,7 +57,7 @@ loop-step-preserved c =
 
 pub forget-requires : goal.forget-requires
 forget-requires c =
-    let may : MayBeInserted c.args.items.now.closed.model.now c.loop-step.lists c.in-Some.choice = rw c.in-Some.is at c.in_ok-choice.ensures.may in
+    let may : MayBeInserted c.args.items.now.lookups.now.closed.model.now c.loop-step.lists c.in-Some.choice = rw c.in-Some.is at c.in_ok-choice.ensures.may in
     let there = may.vehicle in
     let many = c.in_ok-choice.ensures.rows.many in
     record { vehicle = omega (arith, there, many) }

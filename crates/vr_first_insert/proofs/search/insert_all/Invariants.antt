@@ -8,9 +8,9 @@ use Rattle.vr_first_insert.proofs.search.insert_all.Given as goal
 -- what is rebuilt from here with the steps that are left is what is rebuilt from the start with all of them
 abbrev pub invariant-loop-step : goal.invariant-loop-step
 invariant-loop-step l = record {
-  rebuilds : rebuilt l.items.closed.model.now (length l.items.candidates.now - l._step) l.lists ≡ rebuilt l.items.closed.model.now (length l.items.candidates.now) l.initial.lists;
-  built : AreBuilt l.items.closed.model.now l.lists;
-  marked : AreMarks l.items.closed.model.now.nodes l.lists l.marks;
-  rows : AreRows l.items.closed.model.now l.lists l.items.candidates.now l.rows;
-  kept : AreKept l.items.closed.model.now l.lists l.keeps;
+  rebuilds : rebuilt l.items.lookups.now.closed.model.now (length l.items.candidates.now - l._step) l.lists ≡ rebuilt l.items.lookups.now.closed.model.now (length l.items.candidates.now) l.initial.lists;
+  built : AreBuilt l.items.lookups.now.closed.model.now l.lists;
+  marked : AreMarks l.items.lookups.now.closed.model.now.nodes l.lists l.marks;
+  rows : AreRows l.items.lookups.now.closed.model.now l.lists l.items.candidates.now l.rows;
+  kept : AreKept l.items.lookups.now.closed.model.now l.lists l.keeps;
 }

@@ -10,7 +10,7 @@ use Rattle.vr_first_savings.proofs.merge.merged.Goals as goal
 
 pub returns-in-None-clause-merged : goal.returns-in-None-clause-merged
 returns-in-None-clause-merged c =
-    let model = c.args.tables.now.model.now in
+    let model = c.args.lookups.now.closed.model.now in
     let routes : List (List ℕ) = c.loop-step.routes.items in
     let none : least_by (join_key model) (joins model routes) ≡ None =
     sym (ap (λ routes. least_by (join_key model) (joins model routes)) c.deref.ensures.value) ∙ sym c.in_ok-choice.ensures.best ∙ ap (option_map (join_of c.deref.result.now)) c.in-None.is in
@@ -18,7 +18,7 @@ returns-in-None-clause-merged c =
 
 pub returns-then-not-is_wanted-clause-merged : goal.returns-then-not-is_wanted-clause-merged
 returns-then-not-is_wanted-clause-merged c =
-    let model = c.args.tables.now.model.now in
+    let model = c.args.lookups.now.closed.model.now in
     let routes : List (List ℕ) = c.loop-step.routes.items in
     let choice : Choice = c.in-Some.choice in
     let found = found-read model routes c.deref.result.now choice _ c.len.result c.is_wanted.result c.deref.ensures.value c.in-Some.is c.in_ok-choice.ensures.best c.in_ok-choice.ensures.may (omega arith) c.is_wanted.ensures in
@@ -26,7 +26,7 @@ returns-then-not-is_wanted-clause-merged c =
 
 pub loop-step-preserved : goal.loop-step-preserved
 loop-step-preserved c =
-    let model = c.args.tables.now.model.now in
+    let model = c.args.lookups.now.closed.model.now in
     let routes : List (List ℕ) = c.loop-step.routes.items in
     let choice : Choice = c.in-Some.choice in
     let join : Join = join_of routes choice in

@@ -6,6 +6,6 @@ use Rattle.vr_first_savings.proofs.merge.merged.Given as goal
 -- what is merged from here with the steps that are left is what is merged from the start with all of them
 abbrev pub invariant-loop-step : goal.invariant-loop-step
 invariant-loop-step l = record {
-  merges : merged l.tables.model.now (length l.initial.routes.items - l._step) l.routes.items ≡ merged l.tables.model.now (length l.initial.routes.items) l.initial.routes.items;
-  apart : AreApart l.tables.model.now l.routes.items;
+  merges : merged l.lookups.closed.model.now (length l.initial.routes.items - l._step) l.routes.items ≡ merged l.lookups.closed.model.now (length l.initial.routes.items) l.initial.routes.items;
+  apart : AreApart l.lookups.closed.model.now l.routes.items;
 }

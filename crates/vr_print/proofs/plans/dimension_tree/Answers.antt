@@ -13,15 +13,15 @@ use Rattle.vr_print.proofs.plans.dimension_tree.Goals as goal
 
 pub chosen_plan-requires-clause-visits : goal.chosen_plan-requires-clause-visits
 chosen_plan-requires-clause-visits c =
-    ap (list_all (is_visit c.args.closed.model.now)) c.list.ensures.value ∙ route-visits c.args.closed.model.now c.args.routes.now.lists c.args.v c.requires.lists
+    ap (list_all (is_visit c.args.of.now.closed.model.now)) c.list.ensures.value ∙ route-visits c.args.of.now.closed.model.now c.args.of.now.routes.now.lists c.args.of.now.v c.args.of.now.lists
 
 pub chosen_plan-requires-clause-distinct : goal.chosen_plan-requires-clause-distinct
 chosen_plan-requires-clause-distinct c =
-    ap is_distinct c.list.ensures.value ∙ route-distinct c.args.closed.model.now c.args.routes.now.lists c.args.v c.requires.lists
+    ap is_distinct c.list.ensures.value ∙ route-distinct c.args.of.now.closed.model.now c.args.of.now.routes.now.lists c.args.of.now.v c.args.of.now.lists
 
 pub returns : goal.returns
 returns c =
-    let model = c.args.closed.model.now in
-    let plan = c.in_ok-plan.ensures ∙ ap (λ list. unwrap_or (chosen (chosen_line model c.args.d c.args.v list)) no_plan) c.list.ensures.value
-    ∙ sym (plan-at model c.args.routes.now.lists c.args.d c.args.v c.requires.dimension c.requires.vehicle c.requires.used) in
+    let model = c.args.of.now.closed.model.now in
+    let plan = c.in_ok-plan.ensures ∙ ap (λ list. unwrap_or (chosen (chosen_line model c.args.d c.args.of.now.v list)) no_plan) c.list.ensures.value
+    ∙ sym (plan-at model c.args.of.now.routes.now.lists c.args.d c.args.of.now.v c.requires.dimension c.args.of.now.vehicle c.requires.used) in
     c.in_ok-tree.ensures ∙ ap₂ plan_tree (sym (c.get.ensures.value no_dimension)) plan

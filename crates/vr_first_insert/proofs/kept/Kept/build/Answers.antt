@@ -7,18 +7,18 @@ use Rattle.vr_reach.specs.Lists.{IsTour}
 use Rattle.vr_reach.proofs.Tables.{each_push}
 use Rattle.vr_first_insert.specs.KeptRows.{AreRowsOfEach}
 use Rattle.vr_first_insert.proofs.RowLemmas.{list_at}
-use Rattle.vr_first_insert.proofs.kept.rows_of_each.Goals as goal
+use Rattle.vr_first_insert.proofs.kept.Kept.build.Goals as goal
 
 pub write_rows-requires-clause-tour : goal.write_rows-requires-clause-tour
 write_rows-requires-clause-tour c =
     let lists = c.args.lists.now in
     let v : ℕ = c.loop-v.v in
     let list : c.as_slice-list.result.now ≡ route lists v = list_at lists v c.as_slice-list.result.now c.index-lists-v.result c.as_slice-list.ensures c.index-lists-v.is c.loop-v-test.true in
-    subst (IsTour c.args.closed.model.now) (sym list) (c.requires.tours v c.loop-v-test.true)
+    subst (IsTour c.args.lookups.now.closed.model.now) (sym list) (c.requires.tours v c.loop-v-test.true)
 
 pub loop-v-preserved : goal.loop-v-preserved
 loop-v-preserved c =
-    let model = c.args.closed.model.now in
+    let model = c.args.lookups.now.closed.model.now in
     let lists = c.args.lists.now in
     let v : ℕ = c.loop-v.v in
     let m = c.loop-v.invariant in
