@@ -5,16 +5,19 @@ use Rattle.std.proofs.Math.Seq.{drop-cons}
 use Rattle.std.proofs.lemmas.Int.{ints}
 use Rattle.std.proofs.lemmas.List.{get_or_default, length-drop}
 use Rattle.std.proofs.lemmas.List.Elements.{All-drop}
+use Rattle.std.proofs.lemmas.List.Sums.{fold_more}
 use Rattle.vr_spans.specs.declared.runs.Run.{Run}
 use Rattle.vr_model.specs.tables.Tables.{is_visit, transit, vehicle_at}
 use Rattle.vr_model.specs.schedules.Lines.{line}
 use Rattle.vr_model.specs.schedules.Schedules.{IsFeasible}
 use Rattle.vr_model.specs.declared.records.Model.{Model}
-use Rattle.vr_parts.proofs.RowLemmas.{rows-push}
+use Rattle.vr_model.proofs.routes.Lists.{visit_below}
+use Rattle.vr_earliest.proofs.KeptLemmas.{HaveCome, come-on}
 use Rattle.vr_routes.proofs.JoinedPieces.{all_left, all_right}
 use Rattle.vr_reach.specs.Lists.{IsTour}
 use Rattle.vr_costfilter.specs.KeptWays.{AreRestsTo, AreWays, AreWaysTo, HasWays}
 use Rattle.vr_costfilter.specs.GuideRuns.{runs_of}
+use Rattle.vr_costfilter.specs.Led.{AreFewVisits}
 use Rattle.vr_costfilter.specs.Rests.{rest_before, rest_by, rest_of, way_through, IsRestOf}
 use Rattle.vr_costfilter.specs.Runs.{Runs, AllowsRuns, AreRuns, no_run, run_at, stop_runs}
 use Rattle.vr_costfilter.specs.Ways.{way_along, way_on, way_out, way_to_visit, whole_way, IsWayOf}
@@ -25,31 +28,11 @@ use Rattle.vr_costfilter.specs.declared.tight.Way.{Way}
 use Rattle.vr_costfilter.proofs.EndLemmas.{bounds}
 use Rattle.vr_costfilter.proofs.KeptCumulLemmas.{all-visits}
 use Rattle.vr_costfilter.proofs.LeastLemmas.{arcs-many}
-use Rattle.vr_costfilter.proofs.RestLemmas.{end-way, rest-more, rest-range, whole-parts}
+use Rattle.vr_costfilter.proofs.RestLemmas.{before-rest, end-way, rest-more, rest-range, whole-parts}
 use Rattle.vr_costfilter.proofs.RunLemmas.{finish-run, line-allows, start-run, stop-last, stop-visit, visit-run}
-use Rattle.vr_costfilter.proofs.WayLemmas.{along-part, along-way, out-way, way-more}
+use Rattle.vr_costfilter.proofs.WayLemmas.{along-part, along-way, on-way, out-way, visit-ends, way-more}
 
 -- ---- place by place
-
--- one entry more
-entries-more : {A : Type 0} (f : ℕ → A) (xs more : List A) (x : A) (n : ℕ) → length xs ≡ suc n → ((k : ℕ) (other : A) → k ≤ n → slice_index_or xs k other ≡ f k)
-    → more ≡ xs ++ x ∷ [] → x ≡ f (n + 1) → (k : ℕ) (other : A) → k ≤ n + 1 → slice_index_or more k other ≡ f k
-entries-more f xs more x n many each is next k other high =
-    rows-push (λ j y. y ≡ f j) other xs more x (n + 1) (omega (arith, many)) (λ j less. each j other (omega (arith, less))) next is k (omega (arith, high))
-
-pub ways-more : (model : Model) (d v : ℕ) (runs : Runs) (list : List ℕ) (n : ℕ) (ways more : List Way) (way : Way) → AreWaysTo model d v runs list n ways → more ≡ ways ++ way ∷ []
-    → way ≡ way_along model d v runs (way_out model v runs) (take (n + 1) list) → AreWaysTo model d v runs list (n + 1) more
-ways-more model d v runs list n ways more way h is next = record {
-  many = (ap length is ∙ length-append ways (way ∷ []) ∙ (let e : length ways + 1 ≡ suc (n + 1) = omega (arith, h.many) in e));
-  each = entries-more (λ k. way_along model d v runs (way_out model v runs) (take k list)) ways more way n h.many h.each is next;
-}
-
-pub rests-more : (model : Model) (d v : ℕ) (runs : Runs) (list : List ℕ) (n : ℕ) (rests more : List Rest) (rest : Rest) → AreRestsTo model d v runs list n rests → more ≡ rests ++ rest ∷ []
-    → rest ≡ rest_of model d v runs (drop (length list - (n + 1)) list) → AreRestsTo model d v runs list (n + 1) more
-rests-more model d v runs list n rests more rest h is next = record {
-  many = (ap length is ∙ length-append rests (rest ∷ []) ∙ (let e : length rests + 1 ≡ suc (n + 1) = omega (arith, h.many) in e));
-  each = entries-more (λ k. rest_of model d v runs (drop (length list - k) list)) rests more rest n h.many h.each is next;
-}
 
 -- what is left from one place on, by what is left from the next one on
 pub rest-next : (model : Model) (d v : ℕ) (runs : Runs) (list : List ℕ) (k : ℕ) → k < length list
@@ -59,6 +42,28 @@ rest-next model d v runs list k low =
     let next : suc (length list - (k + 1)) ≡ length list - k = omega (arith, low) in
     ap (rest_of model d v runs) (drop-cons list (length list - (k + 1)) 0 (omega (arith, low)))
     ∙ ap₂ (λ i n. rest_before model d v runs (slice_index_or list i 0) (rest_of model d v runs (drop n list))) here next
+
+module _ (g : Guide) (list : List ℕ) (are : AreFewVisits g.model.now list) (k : ℕ) (low : k < length list) where
+  -- one visit more
+  pub walked-on : {ways more : List Way} {way next : Way} → AreWaysTo g.model.now g.d g.v (runs_of g) list k ways → way ≡ way_along g.model.now g.d g.v (runs_of g) (way_out g.model.now g.v (runs_of g)) (take k list) → IsWayOf g.model.now k way
+      → next ≡ way_to_visit g.model.now g.d g.v (runs_of g) way (slice_index_or list k 0) → more ≡ ways ++ next ∷ []
+      → HaveCome (λ n. way_along g.model.now g.d g.v (runs_of g) (way_out g.model.now g.v (runs_of g)) (take n list)) (IsWayOf g.model.now) (k + 1) more next
+  walked-on {ways} {more} {way} {next} ways_are at range is pushed =
+      let node : ℕ = slice_index_or list k 0 in
+      let known = are.visits k 0 low in
+      let allowed = visit-ends g.model.now g.sound.well_formed g.d g.v g.sound.dimension g.sound.vehicle (runs_of g) g.sound.visits node no_run known in
+      come-on (λ n. way_along g.model.now g.d g.v (runs_of g) (way_out g.model.now g.v (runs_of g)) (take n list)) (IsWayOf g.model.now) (λ (w : Way). way_to_visit g.model.now g.d g.v (runs_of g) w node) k
+      (sym (fold_more (way_to_visit g.model.now g.d g.v (runs_of g)) (way_out g.model.now g.v (runs_of g)) list k 0 low)) ways_are at
+      (on-way g.model.now g.sound.well_formed g.d g.v g.sound.dimension g.sound.vehicle k way node (slice_index_or g.visits.now node no_run) range (visit_below g.model.now node known) allowed) is pushed
+
+  -- one visit more, from the end backwards
+  pub left-behind : {rests more : List Rest} {rest next : Rest} → AreRestsTo g.model.now g.d g.v (runs_of g) list k rests → rest ≡ rest_of g.model.now g.d g.v (runs_of g) (drop (length list - k) list) → IsRestOf g.model.now k rest
+      → next ≡ rest_before g.model.now g.d g.v (runs_of g) (slice_index_or list (length list - 1 - k) 0) rest → more ≡ rests ++ next ∷ []
+      → HaveCome (λ n. rest_of g.model.now g.d g.v (runs_of g) (drop (length list - n) list)) (IsRestOf g.model.now) (k + 1) more next
+  left-behind {rests} {more} {rest} {next} rests_are at range is pushed =
+      come-on (λ n. rest_of g.model.now g.d g.v (runs_of g) (drop (length list - n) list)) (IsRestOf g.model.now) (λ (r : Rest). rest_before g.model.now g.d g.v (runs_of g) (slice_index_or list (length list - 1 - k) 0) r) k
+      (sym (rest-next g.model.now g.d g.v (runs_of g) list k low)) rests_are at
+      (before-rest g.model.now g.sound.well_formed g.d g.v g.sound.dimension g.sound.vehicle (runs_of g) g.sound.visits k rest (slice_index_or list (length list - 1 - k) 0) range (are.visits (length list - 1 - k) 0 (omega (arith, low)))) is pushed
 
 -- ---- by whatever table the runs were looked up
 

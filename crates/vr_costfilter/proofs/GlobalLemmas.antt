@@ -1,5 +1,5 @@
 -- Global spans by the orders of the used vehicles and what is told of the lists after a change.
-use Rattle.std.proofs.Common.{◌≡◌, ◌≢◌, ◌∙◌, ◌+◌, ◌<◌, ◌⊎◌, ◌++◌, ℕ, zero, suc, Bool, true, false, true≢false, not, List, [], ◌∷◌, length, take, Option, Some, None, refl, ap, sym, subst, arith, inl, inr}
+use Rattle.std.proofs.Common.{◌≡◌, ◌≢◌, ◌∙◌, ◌+◌, ◌<◌, ◌⊎◌, ◌++◌, ℕ, zero, suc, Bool, true, false, true≢false, not, List, [], ◌∷◌, length, length-append, take, Option, Some, None, refl, ap, sym, subst, arith, inl, inr}
 use Rattle.std.specs.Prelude.{pos, ◌==◌, ◌||◌, All, IsTrue, IfSome, fold, slice_index_or}
 use Rattle.std.specs.List.{AllPairs}
 use Rattle.std.proofs.lemmas.Bool.{not-false, not-true}
@@ -27,8 +27,9 @@ use Rattle.vr_costfilter.specs.Orders.{beside, extent_but, IsInRange, IsReach, I
 use Rattle.vr_costfilter.specs.Order.{names}
 use Rattle.vr_costfilter.specs.declared.orders.Orders.{Orders}
 use Rattle.vr_costfilter.proofs.ReachLemmas.{is-not, extent-but-is, reach-all, reach-more, reach-same}
-use Rattle.vr_costfilter.specs.GlobalCosts.{extent_after, global_cost_of, has_global_span, is_some_spanned, orders_at, span_cost_after, spans_cost_after, told_in, vehicles_of, AreAllOrders, IsRow, AreLike, AreNextRows, AreRanged, AreRows, IsGlobalCost, KeptSpans, Pays, StandsSpans}
+use Rattle.vr_costfilter.specs.GlobalCosts.{extent_after, global_cost_of, has_global_span, is_some_spanned, orders_at, span_cost_after, spans_cost_after, told_in, vehicles_of, AreAllOrders, IsRow, AreLike, AreNextRows, AreRanged, AreRowsAfter, IsGlobalCost, KeptSpans, Pays, StandsSpans}
 use Rattle.vr_costfilter.specs.Known.{IsValidChange}
+use Rattle.vr_parts.proofs.RowLemmas.{rows-push}
 use Rattle.vr_parts.proofs.SumLemmas.{part-list, route-kept}
 
 -- ---- tests of vehicles
@@ -103,7 +104,7 @@ module _ (model : Model) (lists : List (List ℕ)) (orders : List Orders) (are :
     in_rows = λ d low pays k less. absurd (omega (arith, less));
   }
 
-  module _ (parts : List ListAfter) (next : List (List (Option Timing))) (rows : AreRows model lists parts next) where
+  module _ (parts : List ListAfter) (next : List (List (Option Timing))) (rows : AreRowsAfter model lists parts (length parts) next) where
     -- with the rows of a change too
     pub ranged-after : AreRanged model orders next
     ranged-after = record {
@@ -138,7 +139,7 @@ cost-alone model lists orders are =
 
 -- what they cost after a change of lists
 pub cost-after : (model : Model) (lists : List (List ℕ)) (orders : List Orders) → AreAllOrders model lists orders → (parts : List ListAfter) → AreParts lists parts
-    → (next : List (List (Option Timing))) → AreRows model lists parts next → spans_cost_after model orders (vehicles_of parts) next ≡ global_cost_of model (changed lists parts)
+    → (next : List (List (Option Timing))) → AreRowsAfter model lists parts (length parts) next → spans_cost_after model orders (vehicles_of parts) next ≡ global_cost_of model (changed lists parts)
 cost-after model lists orders are parts parts_are next rows =
     cost-told model (changed lists parts) orders (vehicles_of parts) next (reach-after model lists orders are parts next rows parts_are)
 
@@ -183,6 +184,14 @@ stands-like before later tours stands like = record {
   cumuls = subst (λ (m : Model). AreAllKept m tours.lists later.cumuls) (sym like.model) (subst (λ ks. AreAllKept before.model tours.lists ks) (sym like.cumuls) stands.cumuls);
 }
 
+-- the rows of the lists that the first parts give, and that of the next one
+pub rows-after-push : (model : Model) (lists : List (List ℕ)) (parts : List ListAfter) (k : ℕ) (rows more : List (List (Option Timing))) (row : List (Option Timing)) → AreRowsAfter model lists parts k rows
+    → IsRow model (part_at parts k).vehicle (joined lists (part_at parts k).pieces) row → more ≡ rows ++ row ∷ [] → AreRowsAfter model lists parts (k + 1) more
+rows-after-push model lists parts k rows more row h new is = record {
+  many = ap length is ∙ length-append rows (row ∷ []) ∙ ap (λ n. n + 1) h.many;
+  rows = rows-push (λ j x. IsRow model (part_at parts j).vehicle (joined lists (part_at parts j).pieces) x) [] rows more row k h.many h.rows new is;
+}
+
 -- the same orders and rows, as code reads them
 pub ranged-same : (m n : Model) (os os' : List Orders) (rows rows' : List (List (Option Timing))) → n ≡ m → os' ≡ os → rows' ≡ rows → AreRanged m os rows → AreRanged n os' rows'
 ranged-same m n os os' rows rows' model_is orders_are rows_are h =
@@ -194,7 +203,7 @@ cost-same m n os os' us us' rows rows' model_is orders_are vehicles_are rows_are
     ap (λ x. spans_cost_after x os' us' rows') model_is ∙ ap (λ x. spans_cost_after m x us' rows') orders_are ∙ ap (λ x. spans_cost_after m os x rows') vehicles_are ∙ ap (λ x. spans_cost_after m os us x) rows_are
 
 -- its rows of the lists after a change are of these orders, where it is like one that stands at the lists before
-pub rows-like : (before later : KeptSpans) (tours : Tours) (parts : List ListAfter) → IsValidChange (StandsSpans before) before.model tours parts → AreLike before later → AreRows later.model tours.lists parts later.next
+pub rows-like : (before later : KeptSpans) (tours : Tours) (parts : List ListAfter) → IsValidChange (StandsSpans before) before.model tours parts → AreLike before later → AreRowsAfter later.model tours.lists parts (length parts) later.next
     → AreNextRows later.model tours.lists parts later.orders later.next
 rows-like before later tours parts h like rows =
     let stands = stands-like before later tours h.stands like in

@@ -38,6 +38,14 @@ valid-part model seen same well kept tours parts h k part = record {
   part = part;
 }
 
+-- a change stays valid where the model stays as it was
+pub still-valid : {before later : Tours → Type 0} {model other : Model} {tours : Tours} {parts : List ListAfter} → IsValidChange before model tours parts → other ≡ model → later tours → IsValidChange later other tours parts
+still-valid {before} {later} {model} {other} {tours} {parts} h same stands = record {
+  stands = stands;
+  made = h.made;
+  valid = subst (λ m. IsTrue (is_valid m (changed tours.lists parts))) (sym same) h.valid;
+}
+
 -- ---- cumuls of lists at which a part of the cost stands
 
 pub plans-cumuls : (kept : KeptPlans) (tours : Tours) (parts : List ListAfter) → IsValidChange (StandsPlans kept) kept.model tours parts → IsValidChange (AreCumulsAt kept.model kept.cumuls) kept.model tours parts

@@ -1,5 +1,5 @@
 -- Pieces along which a guide leads, one by one.
-use Rattle.std.proofs.Common.{◌≡◌, ◌+◌, ◌-◌, ◌<◌, ℕ, Bool, List, drop, length, length-append, take, ap, subst, sym, arith}
+use Rattle.std.proofs.Common.{◌≡◌, ◌∙◌, ◌+◌, ◌-◌, ◌<◌, ℕ, Bool, List, drop, length, length-append, take, ap, subst, sym, arith}
 use Rattle.std.specs.Prelude.{All, IsTrue, slice_index_or}
 use Rattle.vr_model.specs.tables.Tables.{is_visit}
 use Rattle.vr_model.specs.declared.records.Model.{Model}
@@ -25,6 +25,10 @@ piece-of model lists pieces are k other low =
 -- the node of a piece is a visit
 pub node-visit : {model : Model} {lists : List (List ℕ)} {piece : Piece} {node : ℕ} → IsPieceOf model lists piece → piece ≡ Node node → IsTrue (is_visit model node)
 node-visit {model} {lists} {piece} {node} are is = subst (λ p. All (λ node. IsTrue (is_visit model node)) (nodes_of lists p)) is are.nodes.visits 0 0 (omega arith)
+
+-- the nodes of a piece that is a chain, in the list as it was read
+pub chain-is : (lists : List (List ℕ)) {piece : Piece} {v from to : ℕ} {reversed : Bool} {list : List ℕ} → piece ≡ Chain v from to reversed → list ≡ route lists v → in_order reversed (take (to - from) (drop from list)) ≡ nodes_of lists piece
+chain-is lists {piece} {v} {from} {to} {reversed} {list} is read = ap (λ (l : List ℕ). in_order reversed (take (to - from) (drop from l))) read ∙ sym (ap (nodes_of lists) is)
 
 -- the nodes of a chain are few visits, in the list as it was read
 pub chain-few : {model : Model} {lists : List (List ℕ)} {piece : Piece} {v from to : ℕ} {reversed : Bool} {list : List ℕ} → IsPieceOf model lists piece → piece ≡ Chain v from to reversed → list ≡ route lists v

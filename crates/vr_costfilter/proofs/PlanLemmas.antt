@@ -1,5 +1,5 @@
 -- Soft bounds and spans as a sum over the lists of vehicles.
-use Rattle.std.proofs.Common.{◌≡◌, ◌∙◌, ℕ, suc, ◌<◌, Bool, true, false, cond, List, [], ◌∷◌, length, refl, ap, ap₂, sym, subst, arith, to_z, of_z, w64}
+use Rattle.std.proofs.Common.{◌≡◌, ◌∙◌, ℕ, suc, ◌<◌, ◌+◌, ◌*◌, Bool, true, false, cond, List, [], ◌∷◌, length, refl, ap, ap₂, sym, subst, arith, to_z, of_z, w64}
 use Rattle.std.specs.Prelude.{IsTrue, ℤ, pos, ◌+ℤ◌, ◌-ℤ◌, ◌*ℤ◌, ◌&&◌, slice_index_or}
 use Rattle.std.specs.List.{list_all, range_with_len}
 use Rattle.std.proofs.lemmas.Int.{ints}
@@ -14,7 +14,7 @@ use Rattle.vr_model.specs.schedules.Schedules.{Plan, cumul}
 use Rattle.vr_model.specs.routes.Costs.{plan_at, assigned, over_plans, soft_part, span_part}
 use Rattle.vr_model.specs.declared.records.Model.{Model}
 use Rattle.vr_model.proofs.tables.Tests.{all-from_list_all}
-use Rattle.vr_model.proofs.tables.Totals.{sum_range, sum_nothing, sum_same, total_by-failing, total_by-plus}
+use Rattle.vr_model.proofs.tables.Totals.{sum_range, sum_nothing, sum_same, total_by-failing, total_by-more, total_by-plus}
 use Rattle.vr_plan.specs.Paying.{is_free, PaysNothing}
 use Rattle.vr_plan.specs.Tables.{AreTables}
 use Rattle.vr_plan.specs.declared.tables.Table.{Table}
@@ -24,7 +24,7 @@ use Rattle.vr_plan.proofs.ExtentLemmas.{times-none}
 use Rattle.vr_plan.proofs.PlanCostLemmas.{plan-at}
 use Rattle.vr_parts.specs.Sums.{over_routes}
 use Rattle.vr_earliest.specs.Ways.{least_span}
-use Rattle.vr_costfilter.specs.PlanCosts.{pays_no_plan, plans_cost, spans_least, IsPlanCost, KeptPlans, StandsPlans}
+use Rattle.vr_costfilter.specs.PlanCosts.{pays_no_plan, plan_paid, plan_saved, plans_cost, spans_least, ArePlansLike, IsFrom, IsPlanCost, IsPlanCostIn, KeptPlans, StandsPlans}
 
 -- ---- a sum over the lists
 
@@ -133,17 +133,43 @@ read-cost x h = omega (arith, ints, h.low, h.high)
 pub nothing-is-cost : IsPlanCost (pos 0)
 nothing-is-cost = record { low = omega (arith, ints); high = omega (arith, ints) }
 
+-- ---- dimension by dimension
+
+-- what a list costs in the first n dimensions
+pub record IsCostIn (model : Model) (v : ℕ) (list : List ℕ) (n : ℕ) (cost : ℤ) : Type 0 where
+  pub sum : cost ≡ total_by (λ d. soft_with model d v list +ℤ span_with model d v list) (below n)
+  pub range : IsFrom (plan_saved * n) (plan_paid * n) cost
+
+-- in one dimension more
+pub cost-in-more : (model : Model) (v : ℕ) (list : List ℕ) (n : ℕ) (cost one next : ℤ) → IsCostIn model v list n cost → one ≡ soft_with model n v list +ℤ span_with model n v list → IsPlanCostIn one → next ≡ cost +ℤ one → IsCostIn model v list (n + 1) next
+cost-in-more model v list n cost one next h value small is =
+    let f : ℕ → ℤ = λ d. soft_with model d v list +ℤ span_with model d v list in
+    let more = total_by-more f n in
+    let here : one ≡ f n = value in
+    record {
+      sum = omega (arith, ints, more, h.sum, here, is);
+      range = record { low = omega (arith, ints, is, small.low, h.range.low); high = omega (arith, ints, is, small.high, h.range.high) };
+    }
+
+-- in all of them
+pub cost-in-all : (model : Model) (v : ℕ) (list : List ℕ) → is_empty list ≡ false → (n : ℕ) → n ≡ length model.dimensions → (cost : ℤ) → IsCostIn model v list n cost → cost ≡ plans_cost model v list
+cost-in-all model v list some n all cost h =
+    let f : ℕ → ℤ = λ d. soft_with model d v list +ℤ span_with model d v list in
+    h.sum ∙ ap (λ k. total_by f (below k)) all ∙ sym (ap (λ b. cond b (pos 0) (total_by f (below (length model.dimensions)))) some)
+
 -- ---- what is kept
 
 -- what is like what stands, stands
-pub plans-like : (before later : KeptPlans) (tours : Tours) → StandsPlans before tours → later.model ≡ before.model → later.costs ≡ before.costs → later.cumuls ≡ before.cumuls → StandsPlans later tours
-plans-like before later tours stands model costs cumuls = record {
-  well_formed = subst IsWellFormed (sym model) stands.well_formed;
-  of_model = stands.of_model ∙ ap visits (sym model);
-  valid = subst (λ m. IsTrue (is_valid m tours.lists)) (sym model) stands.valid;
-  as_many = stands.as_many ∙ ap (λ (m : Model). length m.vehicles) (sym model);
-  many = ap (λ (l : List ℤ). length l) costs ∙ stands.many ∙ ap (λ (m : Model). length m.vehicles) (sym model);
-  costs = λ v known. ap (λ l. number_at l v) costs ∙ stands.costs v known ∙ ap (λ (m : Model). plans_cost m v (route tours.lists v)) (sym model);
-  range = λ v known. subst (λ l. IsPlanCost (number_at l v)) (sym costs) (stands.range v known);
-  cumuls = subst (λ (m : Model). AreAllKept m tours.lists later.cumuls) (sym model) (subst (λ ks. AreAllKept before.model tours.lists ks) (sym cumuls) stands.cumuls);
-}
+pub plans-like : (before later : KeptPlans) (tours : Tours) → StandsPlans before tours → ArePlansLike before later → StandsPlans later tours
+plans-like before later tours stands like =
+    let same = sym like.model in
+    record {
+      well_formed = subst IsWellFormed same stands.well_formed;
+      of_model = stands.of_model ∙ ap visits same;
+      valid = subst (λ m. IsTrue (is_valid m tours.lists)) same stands.valid;
+      as_many = stands.as_many ∙ ap (λ (m : Model). length m.vehicles) same;
+      many = ap (λ (l : List ℤ). length l) like.costs ∙ stands.many ∙ ap (λ (m : Model). length m.vehicles) same;
+      costs = λ v known. ap (λ l. number_at l v) like.costs ∙ stands.costs v known ∙ ap (λ (m : Model). plans_cost m v (route tours.lists v)) same;
+      range = λ v known. subst (λ l. IsPlanCost (number_at l v)) (sym like.costs) (stands.range v known);
+      cumuls = subst (λ (m : Model). AreAllKept m tours.lists later.cumuls) same (subst (λ ks. AreAllKept before.model tours.lists ks) (sym like.cumuls) stands.cumuls);
+    }

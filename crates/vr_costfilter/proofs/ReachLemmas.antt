@@ -14,7 +14,7 @@ use Rattle.vr_plan.specs.Timings.{last_with, start_with}
 use Rattle.vr_plan.specs.declared.extents.Extent.{Extent}
 use Rattle.vr_plan.specs.declared.timings.Timing.{Timing}
 use Rattle.vr_costfilter.specs.Order.{first_but, names}
-use Rattle.vr_costfilter.specs.Orders.{beside, extent_but, extent_of, left_with, number_of, AreOrders, IsReach, IsTold}
+use Rattle.vr_costfilter.specs.Orders.{beside, extent_but, extent_of, left_with, number_if_used, AreOrders, IsReach, IsTold}
 use Rattle.vr_costfilter.specs.declared.orders.Orders.{Orders}
 use Rattle.vr_costfilter.proofs.OrderLemmas.{first-told, none-told}
 use Rattle.vr_costfilter.proofs.OrdersLemmas.{number-is, number-not, number-some, used-known}
@@ -43,11 +43,11 @@ pub extent-but-is : (model : Model) (d : ℕ) (lists : List (List ℕ)) (orders 
 extent-but-is model d lists orders are vehicles = go (first_but vehicles orders.starts) refl (first_but vehicles orders.ends) refl
   where
     go : (s : Option ℤ) → first_but vehicles orders.starts ≡ s → (l : Option ℤ) → first_but vehicles orders.ends ≡ l → IsReach model d lists (λ v. not (names vehicles v)) (extent_of s l)
-    go None s l e = λ v away. number-not (start_with model d) lists v (none-told (number_of (start_with model d) lists) orders.starts are.starts vehicles s v (is-not (names vehicles v) away))
-    go (Some x) s None e = λ v away. number-not (left_with model d) lists v (none-told (number_of (left_with model d) lists) orders.ends are.ends vehicles e v (is-not (names vehicles v) away))
+    go None s l e = λ v away. number-not (start_with model d) lists v (none-told (number_if_used (start_with model d) lists) orders.starts are.starts vehicles s v (is-not (names vehicles v) away))
+    go (Some x) s None e = λ v away. number-not (left_with model d) lists v (none-told (number_if_used (left_with model d) lists) orders.ends are.ends vehicles e v (is-not (names vehicles v) away))
     go (Some x) s (Some y) e =
-        let a = first-told (number_of (start_with model d) lists) orders.starts are.starts vehicles x s in
-        let b = first-told (number_of (left_with model d) lists) orders.ends are.ends vehicles y e in
+        let a = first-told (number_if_used (start_with model d) lists) orders.starts are.starts vehicles x s in
+        let b = first-told (number_if_used (left_with model d) lists) orders.ends are.ends vehicles y e in
         let p = number-is (start_with model d) lists a.0.0 x a.0.2 in
         let q = number-is (left_with model d) lists b.0.0 y b.0.2 in
         record {

@@ -1,16 +1,24 @@
 -- Where a vehicle cannot go on along steps.
-use Rattle.std.proofs.Common.{◌≡◌, ◌∙◌, ◌+◌, ◌<◌, ℕ, List, [], ◌∷◌, ◌++◌, length, take, drop, refl, sym, ap, arith, Option, Some, None}
+use Rattle.std.proofs.Common.{◌≡◌, ◌∙◌, ◌+◌, ◌<◌, ℕ, List, [], ◌∷◌, ◌++◌, length, take, drop, false, refl, sym, subst, ap, arith, Option, Some, None}
 use Rattle.std.specs.Prelude.{slice_index_or}
 use Rattle.std.specs.Option.{option_and_then}
 use Rattle.std.proofs.lemmas.List.{drop_more}
 use Rattle.std.proofs.lemmas.List.Sums.{fold_more}
 use Rattle.vr_model.specs.declared.records.Model.{Model}
+use Rattle.vr_model.specs.schedules.Choices.{is_feasible}
+use Rattle.vr_model.specs.schedules.Narrowed.{chosen_line}
+use Rattle.vr_plan.specs.declared.timings.Timing.{Timing}
+use Rattle.vr_costfilter.specs.Asked.{IsTimingFound}
 use Rattle.vr_costfilter.specs.Runs.{Runs}
 use Rattle.vr_costfilter.specs.Stages.{along, to_end, to_visit, visit_more, whole}
 use Rattle.vr_costfilter.specs.declared.guides.Stage.{Stage}
 use Rattle.vr_costfilter.specs.declared.trails.Step.{Step}
 use Rattle.vr_costfilter.proofs.MetLemmas.{front-split}
 use Rattle.vr_costfilter.proofs.StageLemmas.{along-append, whole-append}
+
+-- no timing is found where no schedule is
+pub untold : {model : Model} {d v : ℕ} {list : List ℕ} {found : Option Timing} → found ≡ None → is_feasible (chosen_line model d v list) ≡ false → IsTimingFound model d v list found
+untold {model} {d} {v} {list} {found} none unfeasible = subst (IsTimingFound model d v list) (sym none) (record { known = sym unfeasible; timing = tt; range = tt })
 
 module _ (model : Model) (d v : ℕ) (runs : Runs) where
   -- there is no way on from nowhere

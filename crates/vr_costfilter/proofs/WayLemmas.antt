@@ -1,9 +1,9 @@
 -- Ways along lists: their numbers, and that a whole way tells where the tight schedule starts and ends.
-use Rattle.std.proofs.Common.{◌≡◌, ◌∙◌, ℕ, zero, suc, ◌+◌, ◌<◌, ◌≤◌, Bool, true, false, cond, List, [], ◌∷◌, length, reverse, take, refl, ap, ap₂, sym, subst, add-one, arith, to_z, of_z, w64}
+use Rattle.std.proofs.Common.{◌≡◌, ◌∙◌, ℕ, zero, suc, ◌+◌, ◌<◌, ◌≤◌, List, [], ◌∷◌, length, take, refl, ap, ap₂, sym, subst, add-one, arith, to_z, of_z, w64}
 use Rattle.std.specs.Prelude.{FitsSigned, ℤ, pos, neg_ℤ, ◌^◌, ◌+ℤ◌, ◌-ℤ◌, ◌≤ℤ◌, All, IsTrue, slice_index_or}
 use Rattle.std.specs.Int.{int_max, int_min}
 use Rattle.std.proofs.lemmas.Int.{ints, int_max_is, int_min_is}
-use Rattle.std.proofs.lemmas.List.{length-reverse, length-take-le, take_all}
+use Rattle.std.proofs.lemmas.List.{length-take-le, take_all}
 use Rattle.std.proofs.lemmas.List.Elements.{All-take}
 use Rattle.std.proofs.lemmas.List.Sums.{fold_more}
 use Rattle.vr_spans.specs.declared.runs.Run.{Run}
@@ -44,10 +44,6 @@ way-more model n m way le h = record {
   soonest = omega (arith, ints, h.soonest, le);
   latest = h.latest;
 }
-
-pub ordered-long : (back : Bool) (xs : List ℕ) → length (cond back (reverse xs) xs) ≡ length xs
-ordered-long false xs = refl
-ordered-long true xs = length-reverse xs
 
 -- what is read of a way that goes on, r being the transit as it was read
 module _ {model : Model} {way : Way} {allowed : Run} {t r : ℤ} (h : IsWayOf model 3000 way) (ends : HasCumulEnds allowed) (same : r ≡ t) (least : neg_ℤ (pos (2 ^ 31)) ≤ℤ r) (greatest : r ≤ℤ pos (2 ^ 31)) where

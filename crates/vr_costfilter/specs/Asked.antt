@@ -1,9 +1,11 @@
 -- What is asked of a list that comes in the place of another one.
-use Rattle.std.specs.Prelude.{ℕ, List}
+use Rattle.std.specs.Prelude.{◌≡◌, ◌+◌, ℕ, IfSome, List, Option, is_some, length}
 use Rattle.vr_model.specs.routes.Routes.{route}
+use Rattle.vr_model.specs.schedules.Choices.{is_feasible}
 use Rattle.vr_model.specs.schedules.Lines.{line, Line}
 use Rattle.vr_model.specs.schedules.Narrowed.{chosen_line}
-use Rattle.vr_plan.specs.Timings.{IsTiming}
+use Rattle.vr_model.specs.declared.records.Model.{Model}
+use Rattle.vr_plan.specs.Timings.{IsTiming, IsTimingOf}
 use Rattle.vr_plan.specs.declared.timings.Timing.{Timing}
 use Rattle.vr_routes.specs.Pieces.{joined}
 use Rattle.vr_model.specs.declared.records.ScheduleRule.{ScheduleRule}
@@ -37,6 +39,16 @@ ChoiceAllows asked runs = AllowsRuns asked.guide.now.model.now asked.guide.now.d
 -- what its chosen schedule comes to
 abbrev pub IsNewTiming : Asked → Timing → Type 0
 IsNewTiming asked = IsTiming asked.guide.now.model.now asked.guide.now.d asked.guide.now.v (new_list asked)
+
+-- what the chosen schedule of a list of vehicle v comes to, nothing exactly where there is none
+pub record IsTimingFound (model : Model) (d v : ℕ) (list : List ℕ) (found : Option Timing) : Type 0 where
+  pub known : is_some found ≡ is_feasible (chosen_line model d v list)
+  pub timing : IfSome found (IsTiming model d v list)
+  pub range : IfSome found (IsTimingOf (length list + 2))
+
+-- that of the list that is asked of
+abbrev pub IsNewTimingFound : Asked → Option Timing → Type 0
+IsNewTimingFound asked = IsTimingFound asked.guide.now.model.now asked.guide.now.d asked.guide.now.v (new_list asked)
 
 -- schedules of the vehicle are chosen by this rule, and what is kept is of the list that it has
 pub record IsKeptBy (rule : ScheduleRule) (asked : Asked) (kept : KeptList) : Type 0 where

@@ -11,9 +11,7 @@ use Rattle.vr_model.specs.declared.records.Dimension.{Dimension}
 use Rattle.vr_model.specs.declared.records.Model.{Model}
 use Rattle.vr_plan.specs.Bounds.{cumul_cost, IsAround}
 use Rattle.vr_plan.specs.Extents.{length_of}
-use Rattle.vr_plan.specs.Tables.{AreTables}
 use Rattle.vr_plan.specs.declared.extents.Extent.{Extent}
-use Rattle.vr_plan.specs.declared.tables.Table.{Table}
 use Rattle.vr_plan.specs.declared.timings.Timing.{Timing}
 use Rattle.vr_costfilter.specs.Kept.{AreAllKept}
 use Rattle.vr_costfilter.specs.declared.kept.KeptList.{KeptList}
@@ -104,12 +102,6 @@ pub record AreBlank (model : Model) (orders : List Orders) : Type 0 where
   pub starts : (d : ℕ) → (orders_at orders d).starts ≡ []
   pub ends : (d : ℕ) → (orders_at orders d).ends ≡ []
 
--- the model is well formed, the tables are those of its dimensions, and it is called idle where no global span pays
-pub record AreSpanRules (model : Model) (tables : List Table) (idle : Bool) : Type 0 where
-  pub well_formed : IsWellFormed model
-  pub of_dimensions : AreTables model tables
-  pub idle_is : idle ≡ not (is_some_spanned model)
-
 -- what the global spans of a model may cost
 abbrev pub IsGlobalCost : ℤ → Type 0
 IsGlobalCost = IsAround (cumul_cost * 4)
@@ -142,11 +134,11 @@ pub record StandsSpans (kept : KeptSpans) (tours : Tours) : Type 0 where
 abbrev pub vehicles_of : List ListAfter → List ℕ
 vehicles_of parts = map (λ part. part.vehicle) parts
 
--- these are the rows of the lists after a change
-pub record AreRows (model : Model) (lists : List (List ℕ)) (parts : List ListAfter)
+-- these are the rows of the lists that the first n parts of a change give their vehicles
+pub record AreRowsAfter (model : Model) (lists : List (List ℕ)) (parts : List ListAfter) (n : ℕ)
     (next : List (List (Option Timing))) : Type 0 where
-  pub many : length next ≡ length parts
-  pub rows : (k : ℕ) → k < length parts
+  pub many : length next ≡ n
+  pub rows : (k : ℕ) → k < n
       → IsRow model (part_at parts k).vehicle (joined lists (part_at parts k).pieces) (slice_index_or next k [])
 
 -- what they tell in dimension d is what the chosen schedules of these lists come to
@@ -160,7 +152,7 @@ pub record AreNextRows (model : Model) (lists : List (List ℕ)) (parts : List L
   pub orders_are : AreAllOrders model lists orders
   pub as_many : length lists ≡ length model.vehicles
   pub parts_are : AreParts lists parts
-  pub rows : AreRows model lists parts next
+  pub rows : AreRowsAfter model lists parts (length parts) next
 
 -- the same in one of its first four dimensions
 pub record AreNextRowsIn (model : Model) (d : ℕ) (lists : List (List ℕ)) (parts : List ListAfter) (orders : Orders)

@@ -1,9 +1,11 @@
 -- The runs of cumuls that a guide has.
-use Rattle.std.specs.Prelude.{◌≡◌}
+use Rattle.std.specs.Prelude.{◌≡◌, ◌≤◌, ◌+◌, ℕ, IfSome, List, Option, length}
 use Rattle.vr_model.specs.tables.Tables.{vehicle_at}
 use Rattle.vr_model.specs.declared.records.ScheduleRule.{ScheduleRule}
+use Rattle.vr_costfilter.specs.Floors.{first_step, IsStep, WentBack}
 use Rattle.vr_costfilter.specs.Runs.{Runs, AreRuns}
 use Rattle.vr_costfilter.specs.declared.guides.Guide.{Guide}
+use Rattle.vr_costfilter.specs.declared.trails.Step.{Step}
 
 -- the runs of its start, of the visits and of its end
 abbrev pub runs_of : Guide → Runs
@@ -12,6 +14,19 @@ runs_of guide = record { start = guide.start; visits = guide.visits.now; finish 
 -- they are what the stops of its vehicle allow, which has no breaks
 abbrev pub HasItsRuns : Guide → Type 0
 HasItsRuns guide = AreRuns guide.model.now guide.d guide.v (runs_of guide)
+
+-- the steps to nodes, back from the next step on, may be put on a trail
+pub record CanWalkBack (guide : Guide) (nodes : List ℕ) (next : Step) (old : List Step) : Type 0 where
+  pub step : IsStep guide.model.now next
+  pub room : length old + length nodes ≤ 1000
+
+-- they were put there, and this is the first of them, or the next step where there is no node; none exactly where some
+-- stop allows no cumul from its floor on
+pub record HasWalkedBack (guide : Guide) (nodes : List ℕ) (next : Step) (old new : List Step) (first : Option Step) :
+    Type 0 where
+  pub value : first ≡ first_step guide.model.now guide.d guide.v (runs_of guide) nodes next
+  pub back : IfSome first (WentBack guide.model.now guide.d guide.v (runs_of guide) nodes next old new)
+  pub range : IfSome first (IsStep guide.model.now)
 
 -- the rule by which the schedules of its vehicle are chosen
 abbrev pub rule_of : Guide → ScheduleRule

@@ -1,8 +1,9 @@
 -- What is kept of committed lists of vehicles that choose their tight schedules.
-use Rattle.std.specs.Prelude.{◌≡◌, ◌<◌, ◌≤◌, ◌-◌, ℕ, suc, pos, List, drop, length, slice_index_or, take}
+use Rattle.std.specs.Prelude.{◌≡◌, ◌<◌, ◌-◌, ℕ, suc, pos, List, drop, length, slice_index_or, take}
 use Rattle.vr_model.specs.tables.Numbers.{horizon}
 use Rattle.vr_model.specs.tables.WellFormed.{IsIn}
 use Rattle.vr_model.specs.declared.records.Model.{Model}
+use Rattle.vr_earliest.specs.Kept.{AreEntries}
 use Rattle.vr_costfilter.specs.Runs.{Runs, AreRuns}
 use Rattle.vr_costfilter.specs.Rests.{rest_of}
 use Rattle.vr_costfilter.specs.Ways.{last_by, nearest_cumul, start_by, way_along, way_out, whole_way}
@@ -12,17 +13,14 @@ use Rattle.vr_costfilter.specs.declared.tight.TightEnds.{TightEnds}
 use Rattle.vr_costfilter.specs.declared.tight.Way.{Way}
 
 -- the ways of vehicle v along the first visits of a list, for each number of them up to n
-pub record AreWaysTo (model : Model) (d v : ℕ) (runs : Runs) (list : List ℕ) (n : ℕ) (ways : List Way) : Type 0 where
-  pub many : length ways ≡ suc n
-  pub each : (k : ℕ) (other : Way) → k ≤ n
-      → slice_index_or ways k other ≡ way_along model d v runs (way_out model v runs) (take k list)
+abbrev pub AreWaysTo : Model → ℕ → ℕ → Runs → List ℕ → ℕ → List Way → Type 0
+AreWaysTo model d v runs list n ways =
+    AreEntries (λ k. way_along model d v runs (way_out model v runs) (take k list)) n ways
 
 -- what is left from each of the last stops of its line on, from the end backwards through n visits
-pub record AreRestsTo (model : Model) (d v : ℕ) (runs : Runs) (list : List ℕ) (n : ℕ) (rests : List Rest) :
-    Type 0 where
-  pub many : length rests ≡ suc n
-  pub each : (k : ℕ) (other : Rest) → k ≤ n
-      → slice_index_or rests k other ≡ rest_of model d v runs (drop (length list - k) list)
+abbrev pub AreRestsTo : Model → ℕ → ℕ → Runs → List ℕ → ℕ → List Rest → Type 0
+AreRestsTo model d v runs list n rests =
+    AreEntries (λ k. rest_of model d v runs (drop (length list - k) list)) n rests
 
 -- what is kept has the ways along a list of vehicle v, and what is left behind each of its places, by these runs
 pub record HasWays (model : Model) (d v : ℕ) (runs : Runs) (list : List ℕ) (ends : KeptWays) : Type 0 where

@@ -11,9 +11,7 @@ use Rattle.vr_model.specs.routes.Rules.{is_valid}
 use Rattle.vr_model.specs.declared.records.Model.{Model}
 use Rattle.vr_plan.specs.Bounds.{IsAround}
 use Rattle.vr_plan.specs.Paying.{is_free}
-use Rattle.vr_plan.specs.Tables.{AreTables}
 use Rattle.vr_plan.specs.Timings.{soft_with, span_with}
-use Rattle.vr_plan.specs.declared.tables.Table.{Table}
 use Rattle.vr_earliest.specs.Ways.{least_span}
 use Rattle.vr_costfilter.specs.Kept.{AreAllKept}
 use Rattle.vr_costfilter.specs.declared.kept.KeptList.{KeptList}
@@ -74,12 +72,6 @@ plans_least model lists parts = total_by (part_less (spans_least model) (plans_c
 abbrev pub pays_no_plan : Model → Bool
 pays_no_plan model = list_all is_free model.dimensions
 
--- the model is well formed, the tables are those of its dimensions, and it is called idle where no plan is paid
-pub record ArePlanRules (model : Model) (tables : List Table) (idle : Bool) : Type 0 where
-  pub well_formed : IsWellFormed model
-  pub of_dimensions : AreTables model tables
-  pub idle_is : idle ≡ pays_no_plan model
-
 -- what contracts see of what is kept: what each list costs and the lists of a change that is ready, and cumuls of the
 -- chosen schedules
 pub record KeptPlans : Type 0 where
@@ -110,11 +102,22 @@ pub record AreCosts (model : Model) (lists : List (List ℕ)) (n : ℕ) (costs :
 abbrev pub cost_after : Model → List (List ℕ) → ListAfter → ℤ
 cost_after model lists part = plans_cost model part.vehicle (joined lists part.pieces)
 
+-- these are the costs of the lists that the first n parts of a change give their vehicles
+pub record AreCostsAfter (model : Model) (lists : List (List ℕ)) (parts : List ListAfter) (n : ℕ) (costs : List ℤ) :
+    Type 0 where
+  pub many : length costs ≡ n
+  pub next : (k : ℕ) → k < n → number_at costs k ≡ cost_after model lists (part_at parts k)
+  pub range : (k : ℕ) → k < n → IsPlanCost (number_at costs k)
+
 -- the costs of the lists after a change are there
-pub record AreNextCosts (kept : KeptPlans) (tours : Tours) (parts : List ListAfter) : Type 0 where
-  pub many : length kept.next ≡ length parts
-  pub next : (k : ℕ) → k < length parts → number_at kept.next k ≡ cost_after kept.model tours.lists (part_at parts k)
-  pub range : (k : ℕ) → k < length parts → IsPlanCost (number_at kept.next k)
+abbrev pub AreNextCosts : KeptPlans → Tours → List ListAfter → Type 0
+AreNextCosts kept tours parts = AreCostsAfter kept.model tours.lists parts (length parts) kept.next
+
+-- the model is the same, and what is kept of the lists too
+pub record ArePlansLike (before later : KeptPlans) : Type 0 where
+  pub model : later.model ≡ before.model
+  pub costs : later.costs ≡ before.costs
+  pub cumuls : later.cumuls ≡ before.cumuls
 
 -- they are there, and were made ready
 pub record ArePlansReady (kept : KeptPlans) (tours : Tours) (parts : List ListAfter) : Type 0 where

@@ -1,11 +1,9 @@
 //! Lists that come in the place of others, of which it is asked what their chosen schedules come to.
 
 ghost use Rattle.std.proofs.Props.{props};
-ghost use Rattle.std.specs.Prelude.{◌≡◌, ◌+◌, IfSome, is_some, length};
-ghost use Rattle.vr_model.specs.schedules.Choices.{is_feasible};
+ghost use Rattle.std.specs.Prelude.{◌≡◌};
 ghost use Rattle.vr_model.specs.schedules.Schedules.{IsFeasible};
 ghost use Rattle.vr_model.specs.schedules.Tight.{IsLatestStart, IsLeastEnd};
-ghost use Rattle.vr_plan.specs.Timings.{IsTimingOf};
 ghost use Rattle.vr_costfilter.specs.Joined.{AreJoined, IsWithin-prop};
 
 use crate::guides::Guide;
@@ -29,7 +27,7 @@ pub struct Asked<'a, 'm> {
 }
 
 impl<'a, 'm> Asked<'a, 'm> {
-    ghost use Rattle.vr_costfilter.specs.Asked.{new_choice, new_line, new_list, old_list, ChoiceAllows, IsNewTiming};
+    ghost use Rattle.vr_costfilter.specs.Asked.{new_line, old_list, ChoiceAllows, IsNewTimingFound};
     ghost use Rattle.vr_costfilter.specs.GuideRuns.{runs_of, HasItsRuns};
     ghost use Rattle.vr_costfilter.specs.KeptWays.{AreWays, HasCumuls};
     ghost use Rattle.vr_costfilter.specs.Runs.{between_runs};
@@ -40,9 +38,7 @@ impl<'a, 'm> Asked<'a, 'm> {
         requires allows { ChoiceAllows self.now
             (between_runs (runs_of self.now.guide.now) ends.start ends.last) }
         requires ends { HasCumuls ends }
-        ensures known { is_some result ≡ is_feasible (new_choice self.now) }
-        ensures timing { IfSome result (IsNewTiming self.now) }
-        ensures range { IfSome result (IsTimingOf (length (new_list self.now) + 2)) }
+        ensures { IsNewTimingFound self.now result }
     {
         let guide = self.guide.between(ends);
         let asked = Asked {
@@ -56,9 +52,7 @@ impl<'a, 'm> Asked<'a, 'm> {
     // The same, where the line of which it is chosen allows the runs of the guide.
     fn timing_along(&self, trail: &mut Trail) -> Option<Timing>
         requires { ChoiceAllows self.now (runs_of self.now.guide.now) }
-        ensures known { is_some result ≡ is_feasible (new_choice self.now) }
-        ensures timing { IfSome result (IsNewTiming self.now) }
-        ensures range { IfSome result (IsTimingOf (length (new_list self.now) + 2)) }
+        ensures { IsNewTimingFound self.now result }
     {
         trail.steps.clear();
         let next = self.guide.end_step();

@@ -10,7 +10,7 @@ ghost use Rattle.vr_routes.specs.Changes.{IsMadeOn, NothingReady};
 ghost use Rattle.vr_plan.specs.Bounds.{cumul_cost, IsAround};
 ghost use Rattle.vr_earliest.specs.Earlies.{AreEarlies};
 ghost use Rattle.vr_costfilter.specs.GlobalCosts.{global_cost_of, is_some_spanned, IsRow, AreLike, AreNextRows};
-ghost use Rattle.vr_costfilter.specs.GlobalCosts.{AreRows};
+ghost use Rattle.vr_costfilter.specs.GlobalCosts.{AreRowsAfter};
 ghost use Rattle.vr_costfilter.specs.Known.{IsValidChange};
 ghost use Rattle.vr_costfilter.specs.GlobalCosts.{AreSpansReady, IsGlobalCost, StandsSpans};
 ghost use Rattle.vr_parts.specs.Parts.{CostAlike};
@@ -27,6 +27,7 @@ use std::mem;
 use vr_earliest::Earlies;
 use vr_model::{Closed, Model as RoutingModel, NoMemory};
 use vr_parts::CostPart;
+use vr_plan::Lookups;
 use vr_routes::{Change, Routes};
 
 /// What global spans cost (`SetGlobalSpanCostCoefficient` in OR-Tools). A change is told, in the dimensions whose
@@ -82,7 +83,22 @@ impl<'m> GlobalSpan<'m> {
         ensures model { IfOk result (λ part. part.model ≡ model.now) }
         ensures stands { IfOk result (λ part. StandsSpans part routes.now) }
     {
-        let rules = SpanRules::open(alloc, Closed { model })?;
+        let lookups = Lookups::open(alloc, Closed { model })?;
+        GlobalSpan::over(alloc, &lookups, routes)
+    }
+
+    /// The same, over what was looked up of the model.
+    pub fn over(
+        alloc: Global,
+        lookups: &Lookups<'m>,
+        routes: &Routes,
+    ) -> Result<GlobalSpan<'m>, NoMemory>
+        requires of_model { routes.now.visits ≡ visits lookups.now.closed.model.now }
+        requires valid { IsTrue (is_valid lookups.now.closed.model.now routes.now.lists) }
+        ensures model { IfOk result (λ part. part.model ≡ lookups.now.closed.model.now) }
+        ensures stands { IfOk result (λ part. StandsSpans part routes.now) }
+    {
+        let rules = SpanRules::over(lookups)?;
         let mut scratch = Scratch::new(alloc);
         let (orders, next_orders, cumuls) = rules.kept(alloc, routes, &mut scratch.timer)?;
         let cost = rules.cost(&orders, &[], &[]);
@@ -121,7 +137,7 @@ impl<'m> GlobalSpan<'m> {
             -ℤ global_cost_of self.now.model routes.now.lists) }
         ensures range { IsAround (cumul_cost * 8) result }
     {
-        if self.rules.is_idle() {
+        if self.is_idle() {
             return 0;
         }
         self.rules.least(earlies, &self.orders, routes, change) - self.cost
@@ -152,7 +168,8 @@ impl<'m> GlobalSpan<'m> {
     // Writes the rows of the lists after a change, and makes none ready.
     fn write_next(&mut self, routes: &Routes, change: &Change) -> Result<(), NoMemory>
         requires change { IsValidChange (StandsSpans self.old) self.old.model routes.now change.now }
-        ensures next { OnOk result (AreRows self.new.model routes.now.lists change.now self.new.next) }
+        ensures next { OnOk result (AreRowsAfter self.new.model routes.now.lists change.now (length change.now)
+            self.new.next) }
         ensures unprepared { self.new.is_prepared ≡ false }
         ensures like { AreLike self.old self.new }
     {
@@ -220,7 +237,7 @@ impl<'m> CostPart for GlobalSpan<'m> {
         ensures model { self.new.model ≡ self.old.model }
         ensures range { IfOk result (IsAround (cumul_cost * 8)) }
     {
-        if self.rules.is_idle() {
+        if self.is_idle() {
             return Ok(0);
         }
         self.write_next(routes, change)?;

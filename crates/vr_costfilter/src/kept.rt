@@ -5,7 +5,6 @@ ghost use Rattle.std.specs.Prelude.{◌↔◌, is_some};
 ghost use Rattle.vr_model.specs.moves.Moves.{with_route};
 ghost use Rattle.vr_model.specs.routes.Routes.{route};
 ghost use Rattle.vr_model.specs.routes.Rules.{is_valid};
-ghost use Rattle.vr_model.specs.schedules.Choices.{is_feasible};
 ghost use Rattle.vr_model.specs.schedules.Lines.{line, Line};
 ghost use Rattle.vr_model.specs.schedules.Schedules.{IsFeasible};
 ghost use Rattle.vr_model.specs.tables.Numbers.{horizon};
@@ -17,8 +16,8 @@ ghost use Rattle.vr_plan.specs.Tables.{IsKnownDimension};
 ghost use Rattle.vr_plan.specs.Timings.{IsTiming, IsTimingOf};
 ghost use Rattle.vr_costfilter.specs.Joined.{AreJoinedFeasibly};
 ghost use Rattle.vr_costfilter.specs.KeptWays.{AreEndsOf, HasCumuls, HaveKeptWays};
-ghost use Rattle.vr_costfilter.specs.Asked.{new_choice, new_line, new_list, old_list};
-ghost use Rattle.vr_costfilter.specs.Asked.{ChoiceAllows, IsKeptBy, IsNewTiming};
+ghost use Rattle.vr_costfilter.specs.Asked.{new_line, new_list, old_list};
+ghost use Rattle.vr_costfilter.specs.Asked.{ChoiceAllows, IsKeptBy, IsNewTiming, IsNewTimingFound};
 ghost use Rattle.vr_costfilter.specs.GuideRuns.{runs_of, IsGuideBy};
 ghost use Rattle.vr_costfilter.specs.Kept.{is_tight, AreKept, HasRoom, IsKept, IsKnown, HasAllStages, HasAllWays};
 ghost use Rattle.vr_costfilter.specs.Kept.{HasWaysAlone};
@@ -172,9 +171,7 @@ impl KeptList {
             (between_runs (runs_of asked.now.guide.now) ends.start ends.last) }
         requires kept { IsKeptBy Tight asked.now self.now }
         requires ends { HasCumuls ends }
-        ensures known { is_some result ≡ is_feasible (new_choice asked.now) }
-        ensures timing { IfSome result (IsNewTiming asked.now) }
-        ensures range { IfSome result (IsTimingOf (length (new_list asked.now) + 2)) }
+        ensures { IsNewTimingFound asked.now result }
     {
         let list = asked.routes.list(asked.guide.v);
         if self.steps.are_of(list.len()) {
@@ -192,9 +189,7 @@ impl KeptList {
         requires kept { IsKeptBy Tight asked.now self.now }
         requires start { IsIn (pos 0) horizon start }
         requires many { length self.now.steps.stages.items ≡ length (old_list asked.now) + 2 }
-        ensures known { is_some result ≡ is_feasible (new_choice asked.now) }
-        ensures timing { IfSome result (IsNewTiming asked.now) }
-        ensures range { IfSome result (IsTimingOf (length (new_list asked.now) + 2)) }
+        ensures { IsNewTimingFound asked.now result }
     {
         let kept = asked.guide.between(self.between);
         let asked = Asked {

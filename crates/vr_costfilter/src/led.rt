@@ -1,10 +1,9 @@
 //! Visits along which guides lead.
 
 ghost use Rattle.std.proofs.Props.{props};
-ghost use Rattle.std.specs.Prelude.{◌≡◌, ◌<◌, ◌≤◌, ◌+◌, IfSome, length, slice_index_or};
+ghost use Rattle.std.specs.Prelude.{◌≡◌, ◌<◌, length, slice_index_or};
 ghost use Rattle.vr_routes.specs.Pieces.{joined, nodes_of};
-ghost use Rattle.vr_costfilter.specs.Floors.{first_step, IsStep, WentBack};
-ghost use Rattle.vr_costfilter.specs.GuideRuns.{runs_of};
+ghost use Rattle.vr_costfilter.specs.GuideRuns.{runs_of, CanWalkBack, HasWalkedBack};
 ghost use Rattle.vr_costfilter.specs.Joined.{IsWithin-prop};
 ghost use Rattle.vr_costfilter.specs.Led.{in_order, AreFewVisits, ArePiecesOf, IsPieceOf};
 ghost use Rattle.vr_costfilter.specs.Ways.{way_along as along_by, IsWayOf};
@@ -60,14 +59,10 @@ impl<'a, 'm> LedChain<'a, 'm> {
     /// its floor on.
     #[inline]
     pub fn back_along(&self, next: Step, trail: &mut Trail) -> Option<Step>
-        requires next { IsStep self.now.guide.now.model.now next }
-        requires room { length trail.old.steps.items + length (in_order self.now.reversed self.now.nodes.now) ≤ 1000 }
-        ensures value { result ≡ first_step self.now.guide.now.model.now self.now.guide.now.d self.now.guide.now.v
-            (runs_of self.now.guide.now) (in_order self.now.reversed self.now.nodes.now) next }
-        ensures back { IfSome result (WentBack self.now.guide.now.model.now self.now.guide.now.d self.now.guide.now.v
-            (runs_of self.now.guide.now) (in_order self.now.reversed self.now.nodes.now) next
-            trail.old.steps.items trail.new.steps.items) }
-        ensures range { IfSome result (IsStep self.now.guide.now.model.now) }
+        requires { CanWalkBack self.now.guide.now (in_order self.now.reversed self.now.nodes.now) next
+            trail.old.steps.items }
+        ensures { HasWalkedBack self.now.guide.now (in_order self.now.reversed self.now.nodes.now) next
+            trail.old.steps.items trail.new.steps.items result }
     {
         let mut first = next;
         for k in 0..self.nodes.len() {
@@ -103,15 +98,10 @@ impl<'a, 'm> LedPiece<'a, 'm> {
     /// from its floor on.
     #[inline]
     pub fn back_along(&self, next: Step, trail: &mut Trail) -> Option<Step>
-        requires next { IsStep self.now.guide.now.model.now next }
-        requires room { length trail.old.steps.items + length (nodes_of self.now.routes.now.lists self.now.piece) ≤
-            1000 }
-        ensures value { result ≡ first_step self.now.guide.now.model.now self.now.guide.now.d self.now.guide.now.v
-            (runs_of self.now.guide.now) (nodes_of self.now.routes.now.lists self.now.piece) next }
-        ensures back { IfSome result (WentBack self.now.guide.now.model.now self.now.guide.now.d self.now.guide.now.v
-            (runs_of self.now.guide.now) (nodes_of self.now.routes.now.lists self.now.piece) next
-            trail.old.steps.items trail.new.steps.items) }
-        ensures range { IfSome result (IsStep self.now.guide.now.model.now) }
+        requires { CanWalkBack self.now.guide.now (nodes_of self.now.routes.now.lists self.now.piece) next
+            trail.old.steps.items }
+        ensures { HasWalkedBack self.now.guide.now (nodes_of self.now.routes.now.lists self.now.piece) next
+            trail.old.steps.items trail.new.steps.items result }
     {
         match self.piece {
             Piece::Node { node } => self.guide.step_back(node, next, trail),
@@ -165,15 +155,10 @@ impl<'a, 'm> LedPieces<'a, 'm> {
     /// its floor on.
     #[inline]
     pub fn back_along(&self, next: Step, trail: &mut Trail) -> Option<Step>
-        requires next { IsStep self.now.guide.now.model.now next }
-        requires room { length trail.old.steps.items + length (joined self.now.routes.now.lists self.now.pieces.now) ≤
-            1000 }
-        ensures value { result ≡ first_step self.now.guide.now.model.now self.now.guide.now.d self.now.guide.now.v
-            (runs_of self.now.guide.now) (joined self.now.routes.now.lists self.now.pieces.now) next }
-        ensures back { IfSome result (WentBack self.now.guide.now.model.now self.now.guide.now.d self.now.guide.now.v
-            (runs_of self.now.guide.now) (joined self.now.routes.now.lists self.now.pieces.now) next
-            trail.old.steps.items trail.new.steps.items) }
-        ensures range { IfSome result (IsStep self.now.guide.now.model.now) }
+        requires { CanWalkBack self.now.guide.now (joined self.now.routes.now.lists self.now.pieces.now) next
+            trail.old.steps.items }
+        ensures { HasWalkedBack self.now.guide.now (joined self.now.routes.now.lists self.now.pieces.now) next
+            trail.old.steps.items trail.new.steps.items result }
     {
         let mut first = next;
         for k in 0..self.pieces.len() {

@@ -10,7 +10,7 @@ ghost use Rattle.vr_earliest.specs.Earlies.{AreEarlies};
 ghost use Rattle.vr_parts.specs.Parts.{CostAlike};
 ghost use Rattle.vr_costfilter.specs.PlanCosts.{cost_after, pays_no_plan, soft_and_span, AreNextCosts, ArePlansReady};
 ghost use Rattle.vr_costfilter.specs.Known.{IsValidChange};
-ghost use Rattle.vr_costfilter.specs.PlanCosts.{plans_least, IsPlanChange, IsPlanCost, StandsPlans};
+ghost use Rattle.vr_costfilter.specs.PlanCosts.{plans_least, ArePlansLike, IsPlanChange, IsPlanCost, StandsPlans};
 
 use crate::dimensions::AllCumuls;
 use crate::schedule_costs::PlanRules;
@@ -21,6 +21,7 @@ use std::marker::Model;
 use vr_earliest::Earlies;
 use vr_model::{Closed, Model as RoutingModel, NoMemory};
 use vr_parts::CostPart;
+use vr_plan::Lookups;
 use vr_routes::{Change, Routes};
 
 /// What soft upper bounds and spans cost (`SetCumulVarSoftUpperBound` and `SetSpanCostCoefficientForVehicle` in
@@ -70,7 +71,22 @@ impl<'m> PlanCost<'m> {
         ensures model { IfOk result (λ part. part.model ≡ model.now) }
         ensures stands { IfOk result (λ part. StandsPlans part routes.now) }
     {
-        let rules = PlanRules::open(alloc, Closed { model })?;
+        let lookups = Lookups::open(alloc, Closed { model })?;
+        PlanCost::over(alloc, &lookups, routes)
+    }
+
+    /// The same, over what was looked up of the model.
+    pub fn over(
+        alloc: Global,
+        lookups: &Lookups<'m>,
+        routes: &Routes,
+    ) -> Result<PlanCost<'m>, NoMemory>
+        requires of_model { routes.now.visits ≡ visits lookups.now.closed.model.now }
+        requires valid { IsTrue (is_valid lookups.now.closed.model.now routes.now.lists) }
+        ensures model { IfOk result (λ part. part.model ≡ lookups.now.closed.model.now) }
+        ensures stands { IfOk result (λ part. StandsPlans part routes.now) }
+    {
+        let rules = PlanRules::over(lookups)?;
         let mut scratch = Scratch::new(alloc);
         let (costs, cumuls) = rules.kept(alloc, routes, &mut scratch.timer)?;
         Ok(PlanCost {
@@ -104,7 +120,7 @@ impl<'m> PlanCost<'m> {
             -ℤ soft_and_span self.now.model routes.now.lists) }
         ensures range { IsPlanChange result }
     {
-        if self.rules.is_idle() {
+        if self.is_idle() {
             return 0;
         }
         let mut least = 0;
@@ -138,9 +154,7 @@ impl<'m> PlanCost<'m> {
         requires change { IsValidChange (StandsPlans self.old) self.old.model routes.now change.now }
         ensures next { OnOk result (AreNextCosts self.new routes.now change.now) }
         ensures unprepared { self.new.is_prepared ≡ false }
-        ensures model { self.new.model ≡ self.old.model }
-        ensures costs { self.new.costs ≡ self.old.costs }
-        ensures cumuls { self.new.cumuls ≡ self.old.cumuls }
+        ensures like { ArePlansLike self.old self.new }
     {
         self.is_prepared = false;
         self.next.clear();
@@ -156,9 +170,8 @@ impl<'m> PlanCost<'m> {
         requires change { IsValidChange (StandsPlans self.old) self.old.model routes.now change.now }
         ensures ready { OnOk result (ArePlansReady self.new routes.now change.now) }
         ensures unready { OnErr result (NothingReady (ArePlansReady self.new)) }
-        ensures model { self.new.model ≡ self.old.model }
-        ensures costs { self.new.costs ≡ self.old.costs }
-        ensures cumuls { self.new.cumuls ≡ self.old.cumuls }
+        ensures stands { StandsPlans self.new routes.now }
+        ensures like { ArePlansLike self.old self.new }
     {
         self.write_next(routes, change)?;
         self.is_prepared = true;
@@ -188,7 +201,7 @@ impl<'m> CostPart for PlanCost<'m> {
         ensures model { self.new.model ≡ self.old.model }
         ensures range { IfOk result IsPlanChange }
     {
-        if self.rules.is_idle() {
+        if self.is_idle() {
             return Ok(0);
         }
         self.make_ready(routes, change)?;

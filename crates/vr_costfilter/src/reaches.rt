@@ -32,7 +32,7 @@ use std::alloc::Global;
 use std::marker::Model;
 use vr_earliest::Earlies;
 use vr_model::{Closed, Model as RoutingModel, NoMemory};
-use vr_plan::{Extent, Table, Timer, Timing, global_cost, tables_of, timing_of};
+use vr_plan::{Extent, Lookups, Table, Timer, Timing, global_cost, timing_of};
 use vr_routes::{Change, Routes};
 
 /// What the schedule of a list comes to in each dimension whose global span has a coefficient, none of an empty one.
@@ -41,34 +41,31 @@ pub type ListTimings = [Option<Timing>; 4];
 /// What is looked up of a model once. Contracts see the model.
 #[derive(Drop)]
 pub struct SpanRules<'m> {
-    model: &'m RoutingModel,
-    tables: Vec<Table>,
+    lookups: Lookups<'m>,
     // whether no global span has a coefficient
     idle: bool,
 }
 
 impl<'m> Model for SpanRules<'m> {
+    ghost use Rattle.std.specs.Prelude.{◌≡◌, not};
     ghost use Rattle.vr_model.specs.declared.records.Model.{Model as Defined};
-    ghost use Rattle.vr_costfilter.specs.GlobalCosts.{AreSpanRules};
+    ghost use Rattle.vr_costfilter.specs.GlobalCosts.{is_some_spanned};
 
     ghost Value = { Defined };
 
-    ghost view = { λ rules. rules.model.now };
+    ghost view = { λ rules. rules.lookups.closed.model.now };
 
-    ghost invariant = { λ rules. AreSpanRules rules.model.now rules.tables.items rules.idle };
+    ghost invariant = { λ rules. rules.idle ≡ not (is_some_spanned rules.lookups.closed.model.now) };
 }
 
 impl<'m> SpanRules<'m> {
-    /// What is looked up of a model.
-    pub fn open(alloc: Global, closed: Closed<'m>) -> Result<SpanRules<'m>, NoMemory>
-        ensures { IfOk result (λ rules. rules ≡ closed.entry.model.now) }
+    /// The rules, over what was looked up of a model. `NoMemory` only where as many share it as can be counted.
+    pub fn over(lookups: &Lookups<'m>) -> Result<SpanRules<'m>, NoMemory>
+        ensures { IfOk result (λ rules. rules ≡ lookups.now.closed.model.now) }
     {
-        let model = closed.model;
-        let tables = tables_of(alloc, model)?;
         Ok(SpanRules {
-            model,
-            tables,
-            idle: !is_some_spanned(model),
+            lookups: lookups.share()?,
+            idle: !is_some_spanned(lookups.closed.model),
         })
     }
 
@@ -96,8 +93,8 @@ impl<'m> SpanRules<'m> {
         let next_orders = self.no_orders(alloc)?;
         let cumuls = AllCumuls::open(
             alloc,
-            Closed { model: self.model },
-            &self.tables,
+            self.lookups.closed,
+            self.lookups.tables(),
             Paid::Together,
             routes,
         )?;
@@ -108,8 +105,8 @@ impl<'m> SpanRules<'m> {
     fn no_orders(&self, alloc: Global) -> Result<Vec<Orders>, NoMemory>
         ensures { IfOk result (λ orders. AreBlank self.now orders.items) }
     {
-        let mut orders = Vec::with_capacity(alloc, self.model.dimensions.len())?;
-        for _d in 0..self.model.dimensions.len() {
+        let mut orders = Vec::with_capacity(alloc, self.lookups.closed.model.dimensions.len())?;
+        for _d in 0..self.lookups.closed.model.dimensions.len() {
             orders.push(Orders::new())?;
         }
         Ok(orders)
@@ -125,7 +122,8 @@ impl<'m> SpanRules<'m> {
         requires valid { IsTrue (is_valid self.now routes.now.lists) }
         ensures { IfOk result (λ orders. AreAllOrders self.now routes.now.lists orders.items) }
     {
-        let closed = Closed { model: self.model };
+        let closed = self.lookups.closed;
+        let tables = self.lookups.tables();
         let mut orders = self.no_orders(alloc)?;
         for v in 0..routes.vehicles() {
             let tour = Tour {
@@ -133,7 +131,7 @@ impl<'m> SpanRules<'m> {
                 v,
                 list: routes.list(v),
             };
-            let row = row_of_list(&tour, &self.tables, timer)?;
+            let row = row_of_list(&tour, tables, timer)?;
             set_list(closed, &mut orders, routes, v, &row);
         }
         Ok(orders)
@@ -144,7 +142,7 @@ impl<'m> SpanRules<'m> {
         requires { IsValidChange (AreCumulsAt self.now cumuls.old) self.now routes.now change.now }
         ensures { AreAllKept self.now (changed routes.now.lists change.now) cumuls.new }
     {
-        cumuls.commit(Closed { model: self.model }, &self.tables, routes, change);
+        cumuls.commit(self.lookups.closed, self.lookups.tables(), routes, change);
     }
 
     /// What the chosen schedules of the list come to that part `k` of a change gives its vehicle. The list is written
@@ -163,12 +161,12 @@ impl<'m> SpanRules<'m> {
             (joined routes.now.lists (part_at change.now k).pieces)) }
     {
         let part = PartAfter {
-            model: self.model,
+            model: self.lookups.closed.model,
             routes,
             change,
             k,
         };
-        let timings = row_of_part(&part, &self.tables, cumuls, scratch)?;
+        let timings = row_of_part(&part, self.lookups.tables(), cumuls, scratch)?;
         Ok(timings)
     }
 
@@ -178,7 +176,7 @@ impl<'m> SpanRules<'m> {
         ensures value { result ≡ spans_cost_after self.now orders.now vehicles.now next.now }
         ensures range { IsGlobalCost result }
     {
-        cost_of_spans(Closed { model: self.model }, orders, vehicles, next)
+        cost_of_spans(self.lookups.closed, orders, vehicles, next)
     }
 
     /// Writes the orders of the lists after a change. It takes no memory.
@@ -194,14 +192,7 @@ impl<'m> SpanRules<'m> {
         requires room { length out.old ≡ length self.now.dimensions }
         ensures { AreAllOrders self.now (changed routes.now.lists change.now) out.new }
     {
-        write_all(
-            Closed { model: self.model },
-            orders,
-            routes,
-            change,
-            next,
-            out,
-        );
+        write_all(self.lookups.closed, orders, routes, change, next, out);
     }
 
     /// What the global spans cost at least after a change. No schedule is built.
@@ -218,7 +209,7 @@ impl<'m> SpanRules<'m> {
         ensures range { IsGlobalCost result }
     {
         let early = EarlyChange {
-            model: self.model,
+            model: self.lookups.closed.model,
             routes,
             change,
             earlies,

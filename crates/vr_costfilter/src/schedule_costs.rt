@@ -29,42 +29,38 @@ use crate::tours::Tour;
 use std::alloc::Global;
 use std::marker::Model;
 use vr_earliest::Earlies;
-use vr_model::{Closed, Model as RoutingModel, NoMemory};
-use vr_plan::{Table, Timer, Timing, may_pay_alone, span_cost, tables_of, times, timing_of};
+use vr_model::{Closed, NoMemory};
+use vr_plan::{Lookups, Table, Timer, Timing, may_pay_alone, span_cost, times, timing_of};
 use vr_routes::{Change, Piece, Routes};
 
 /// What is looked up of a model once. Contracts see the model.
 #[derive(Drop)]
 pub struct PlanRules<'m> {
-    model: &'m RoutingModel,
-    // what is looked up of each dimension
-    tables: Vec<Table>,
+    lookups: Lookups<'m>,
     // whether no plan is paid
     idle: bool,
 }
 
 impl<'m> Model for PlanRules<'m> {
+    ghost use Rattle.std.specs.Prelude.{◌≡◌};
     ghost use Rattle.vr_model.specs.declared.records.Model.{Model as Defined};
-    ghost use Rattle.vr_costfilter.specs.PlanCosts.{ArePlanRules};
+    ghost use Rattle.vr_costfilter.specs.PlanCosts.{pays_no_plan};
 
     ghost Value = { Defined };
 
-    ghost view = { λ rules. rules.model.now };
+    ghost view = { λ rules. rules.lookups.closed.model.now };
 
-    ghost invariant = { λ rules. ArePlanRules rules.model.now rules.tables.items rules.idle };
+    ghost invariant = { λ rules. rules.idle ≡ pays_no_plan rules.lookups.closed.model.now };
 }
 
 impl<'m> PlanRules<'m> {
-    /// What is looked up of a model.
-    pub fn open(alloc: Global, closed: Closed<'m>) -> Result<PlanRules<'m>, NoMemory>
-        ensures { IfOk result (λ rules. rules ≡ closed.entry.model.now) }
+    /// The rules, over what was looked up of a model. `NoMemory` only where as many share it as can be counted.
+    pub fn over(lookups: &Lookups<'m>) -> Result<PlanRules<'m>, NoMemory>
+        ensures { IfOk result (λ rules. rules ≡ lookups.now.closed.model.now) }
     {
-        let model = closed.model;
-        let tables = tables_of(alloc, model)?;
-        let idle = pays_no_plan(&tables);
+        let idle = pays_no_plan(lookups.tables());
         Ok(PlanRules {
-            model,
-            tables,
+            lookups: lookups.share()?,
             idle,
         })
     }
@@ -91,8 +87,8 @@ impl<'m> PlanRules<'m> {
         let costs = self.costs(alloc, routes, timer)?;
         let cumuls = AllCumuls::open(
             alloc,
-            Closed { model: self.model },
-            &self.tables,
+            self.lookups.closed,
+            self.lookups.tables(),
             Paid::Alone,
             routes,
         )?;
@@ -105,7 +101,8 @@ impl<'m> PlanRules<'m> {
         ensures { IfOk result (λ costs.
             AreCosts self.now routes.now.lists (length routes.now.lists) costs.items) }
     {
-        let closed = Closed { model: self.model };
+        let closed = self.lookups.closed;
+        let tables = self.lookups.tables();
         let mut costs = Vec::new(alloc);
         for v in 0..routes.vehicles() {
             let tour = Tour {
@@ -113,7 +110,7 @@ impl<'m> PlanRules<'m> {
                 v,
                 list: routes.list(v),
             };
-            let cost = cost_of_plans(&tour, &self.tables, timer)?;
+            let cost = cost_of_plans(&tour, tables, timer)?;
             costs.push(cost)?;
         }
         Ok(costs)
@@ -124,7 +121,7 @@ impl<'m> PlanRules<'m> {
         requires { IsValidChange (AreCumulsAt self.now cumuls.old) self.now routes.now change.now }
         ensures { AreAllKept self.now (changed routes.now.lists change.now) cumuls.new }
     {
-        cumuls.commit(Closed { model: self.model }, &self.tables, routes, change);
+        cumuls.commit(self.lookups.closed, self.lookups.tables(), routes, change);
     }
 
     /// What the list costs that part `k` of a change gives its vehicle. The list is written out only where what is kept
@@ -143,7 +140,7 @@ impl<'m> PlanRules<'m> {
         ensures range { IfOk result IsPlanCost }
     {
         let part = PartAfter {
-            model: self.model,
+            model: self.lookups.closed.model,
             routes,
             change,
             k,
@@ -151,7 +148,7 @@ impl<'m> PlanRules<'m> {
         if part.is_empty() {
             return Ok(0);
         }
-        let cost = cost_of_part(&part, &self.tables, cumuls, scratch)?;
+        let cost = cost_of_part(&part, self.lookups.tables(), cumuls, scratch)?;
         Ok(cost)
     }
 
@@ -167,7 +164,7 @@ impl<'m> PlanRules<'m> {
             return 0;
         }
         let early = EarlyChange {
-            model: self.model,
+            model: self.lookups.closed.model,
             routes,
             change,
             earlies,

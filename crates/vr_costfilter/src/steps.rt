@@ -4,14 +4,12 @@
 ghost use Rattle.std.specs.Prelude.{◌*◌, ◌-ℤ◌, pos};
 ghost use Rattle.std.specs.Prelude.{◌≡◌, ◌<◌, ◌≤◌, ◌+◌, All, IfSome, IsTrue, List, Some, drop, length};
 ghost use Rattle.std.specs.Prelude.{◌↔◌, is_some, option_map, slice_index_or, take};
-ghost use Rattle.vr_model.specs.schedules.Choices.{is_feasible};
 ghost use Rattle.vr_model.specs.schedules.Lines.{Line};
 ghost use Rattle.vr_model.specs.schedules.Schedules.{IsFeasible};
 ghost use Rattle.vr_model.specs.tables.Tables.{is_visit};
 ghost use Rattle.vr_model.specs.tables.Numbers.{horizon};
 ghost use Rattle.vr_model.specs.tables.WellFormed.{IsIn, WherePresent};
-ghost use Rattle.vr_plan.specs.Timings.{IsTimingOf};
-ghost use Rattle.vr_costfilter.specs.Asked.{new_choice, new_list, old_list, ChoiceAllows, IsNewTiming};
+ghost use Rattle.vr_costfilter.specs.Asked.{old_list, ChoiceAllows, IsNewTimingFound};
 ghost use Rattle.vr_costfilter.specs.GuideRuns.{runs_of};
 ghost use Rattle.vr_costfilter.specs.Floors.{end_step, first_of, first_step, IsStep, IsVisitStep};
 ghost use Rattle.vr_costfilter.specs.Runs.{only as only_of, start_run, starting, AllowsRuns};
@@ -151,9 +149,7 @@ impl KeptSteps {
         requires start { WherePresent (IsIn (pos 0) horizon) start }
         requires known { AreKnownSteps asked.now.guide.now.model.now asked.now.guide.now.d asked.now.guide.now.v
             (runs_of asked.now.guide.now) (old_list asked.now) self.now }
-        ensures known { is_some result ≡ is_feasible (new_choice asked.now) }
-        ensures timing { IfSome result (IsNewTiming asked.now) }
-        ensures range { IfSome result (IsTimingOf (length (new_list asked.now) + 2)) }
+        ensures { IsNewTimingFound asked.now result }
     {
         let guide = asked.guide;
         let list = asked.routes.list(guide.v);

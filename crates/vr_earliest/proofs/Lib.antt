@@ -4,3 +4,4 @@ pub mod KeptLemmas
 pub mod Earlier
 pub mod NoEarlier
 pub mod EarlyLemmas
+pub mod WritingLemmas

@@ -172,6 +172,10 @@ pub ordered-long : (back : Bool) (xs : List ℕ) → length (cond back (reverse 
 ordered-long false xs = refl
 ordered-long true xs = length-reverse xs
 
+-- what is so of a guide is so of what it is of
+pub by-guide : (guide : Guide) {model : Model} {d v : ℕ} → guide.model.now ≡ model → guide.d ≡ d → guide.v ≡ v → (P : Model → ℕ → ℕ → Type 0) → P guide.model.now guide.d guide.v → P model d v
+by-guide guide {model} {d} {v} m n w P is = subst (P model d) w (subst (λ e. P model e guide.v) n (subst (λ x. P x guide.d guide.v) m is))
+
 -- what a guide tells is of its model, its dimension and its vehicle
 pub guided : {A : Type 0} (f : Model → ℕ → ℕ → A) (guide : Guide) (model : Model) (d v : ℕ) → guide.model.now ≡ model → guide.d ≡ d → guide.v ≡ v → f guide.model.now guide.d guide.v ≡ f model d v
 guided f guide model d v m n w = ap (λ x. f x guide.d guide.v) m ∙ (ap (λ x. f model x guide.v) n ∙ ap (f model d) w)

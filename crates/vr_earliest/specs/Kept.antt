@@ -12,16 +12,18 @@ use Rattle.vr_earliest.specs.declared.ways.Way.{Way}
 use Rattle.vr_earliest.specs.Rests.{rest_of}
 use Rattle.vr_earliest.specs.Ways.{way_along}
 
+-- entry k is f k, for each number k up to n
+pub record AreEntries {A : Type 0} (f : ℕ → A) (n : ℕ) (entries : List A) : Type 0 where
+  pub many : length entries ≡ suc n
+  pub each : (k : ℕ) (other : A) → k ≤ n → slice_index_or entries k other ≡ f k
+
 -- the ways of vehicle v along the first visits of a list, for each number of them up to n
-pub record AreWaysTo (model : Model) (d v : ℕ) (list : List ℕ) (n : ℕ) (ways : List Way) : Type 0 where
-  pub many : length ways ≡ suc n
-  pub each : (k : ℕ) (other : Way) → k ≤ n → slice_index_or ways k other ≡ way_along model d v (take k list)
+abbrev pub AreWaysTo : Model → ℕ → ℕ → List ℕ → ℕ → List Way → Type 0
+AreWaysTo model d v list n ways = AreEntries (λ k. way_along model d v (take k list)) n ways
 
 -- what is left from each of the last stops of its line on, from the end backwards through n visits
-pub record AreRestsTo (model : Model) (d v : ℕ) (list : List ℕ) (n : ℕ) (rests : List Rest) : Type 0 where
-  pub many : length rests ≡ suc n
-  pub each : (k : ℕ) (other : Rest) → k ≤ n
-      → slice_index_or rests k other ≡ rest_of model d v (drop (length list - k) list)
+abbrev pub AreRestsTo : Model → ℕ → ℕ → List ℕ → ℕ → List Rest → Type 0
+AreRestsTo model d v list n rests = AreEntries (λ k. rest_of model d v (drop (length list - k) list)) n rests
 
 -- what is kept has the ways along a list of vehicle v, and what is left behind each of its places
 pub record HasWays (model : Model) (d v : ℕ) (list : List ℕ) (kept : KeptWays) : Type 0 where

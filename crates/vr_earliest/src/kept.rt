@@ -10,7 +10,7 @@ ghost use Rattle.vr_earliest.specs.declared.ways.Way.{Way as WayOf};
 ghost use Rattle.vr_earliest.specs.Kept.{AreRestsTo, AreWaysTo, HasWays, HaveWays, IsUnpaid};
 
 use crate::floors::Floors;
-use crate::ways::{Guide, Rest, Way};
+use crate::ways::{Guide, LedList, Rest, Way};
 use arrayvec::ArrayVec;
 use std::alloc::Global;
 use std::marker::Model;
@@ -55,23 +55,21 @@ impl KeptWays {
     }
 
     // Writes what is kept of a list.
-    fn write(&mut self, guide: &Guide, list: &[u32])
-        requires few { length list.now ≤ 1000 }
-        requires nodes { All (λ node. node < guide.now.model.now.nodes) list.now }
-        ensures { HasWays guide.now.model.now guide.now.d guide.now.v list.now self.new }
+    fn write(&mut self, led: &LedList)
+        ensures { HasWays led.now.guide.now.model.now led.now.guide.now.d led.now.guide.now.v led.now.list.now
+            self.new }
     {
-        self.write_ways(guide, list);
-        self.write_rests(guide, list);
+        self.write_ways(led);
+        self.write_rests(led);
     }
 
     // Writes the ways along a list.
-    fn write_ways(&mut self, guide: &Guide, list: &[u32])
-        requires few { length list.now ≤ 1000 }
-        requires nodes { All (λ node. node < guide.now.model.now.nodes) list.now }
-        ensures ways { AreWaysTo guide.now.model.now guide.now.d guide.now.v list.now (length list.now)
-            self.new.ways.items }
-        ensures rests { self.new.rests ≡ self.old.rests }
+    fn write_ways(&mut self, led: &LedList)
+        ensures { AreWaysTo led.now.guide.now.model.now led.now.guide.now.d led.now.guide.now.v led.now.list.now
+            (length led.now.list.now) self.new.ways.items }
     {
+        let guide = led.guide;
+        let list = led.list;
         let mut way = guide.setting_out();
         self.ways.clear();
         self.ways.push(way);
@@ -82,13 +80,13 @@ impl KeptWays {
     }
 
     // Writes what is left from each stop of a list on.
-    fn write_rests(&mut self, guide: &Guide, list: &[u32])
-        requires few { length list.now ≤ 1000 }
-        requires nodes { All (λ node. node < guide.now.model.now.nodes) list.now }
-        ensures rests { AreRestsTo guide.now.model.now guide.now.d guide.now.v list.now (length list.now)
-            self.new.rests.items }
+    fn write_rests(&mut self, led: &LedList)
+        ensures rests { AreRestsTo led.now.guide.now.model.now led.now.guide.now.d led.now.guide.now.v led.now.list.now
+            (length led.now.list.now) self.new.rests.items }
         ensures ways { self.new.ways ≡ self.old.ways }
     {
+        let guide = led.guide;
+        let list = led.list;
         let mut rest = guide.at_end();
         self.rests.clear();
         self.rests.push(rest);
@@ -133,7 +131,12 @@ impl KeptLists {
         let mut lists = Vec::with_capacity(alloc, many as usize)?;
         for v in 0..many {
             let mut kept = KeptWays::new();
-            kept.write(&Guide::of(closed, floors, d, v), routes.list(v));
+            let guide = Guide::of(closed, floors, d, v);
+            let led = LedList {
+                guide: &guide,
+                list: routes.list(v),
+            };
+            kept.write(&led);
             lists.push(kept)?;
         }
         Ok(KeptLists { lists })
@@ -151,7 +154,11 @@ impl KeptLists {
     {
         if (v as usize) < self.lists.len() {
             let guide = Guide::of(closed, floors, d, v);
-            self.lists[v as usize].write(&guide, list);
+            let led = LedList {
+                guide: &guide,
+                list,
+            };
+            self.lists[v as usize].write(&led);
         }
     }
 }

@@ -9,7 +9,7 @@ ghost use Rattle.vr_model.specs.tables.WellFormed.{IsIn};
 ghost use Rattle.vr_model.specs.tables.WellFormedOnce.{IsWellFormed-prop};
 ghost use Rattle.vr_routes.specs.Pieces.{joined, nodes_of, IsWithin};
 ghost use Rattle.vr_earliest.specs.Floors.{AreFloors};
-ghost use Rattle.vr_earliest.specs.Guides.{IsGuide};
+ghost use Rattle.vr_earliest.specs.Guides.{AreFewNodes, IsGuide};
 ghost use Rattle.vr_earliest.specs.Rests.{at_end as at_end_of, before as before_rest, to_end as to_end_on};
 ghost use Rattle.vr_earliest.specs.Rests.{IsListRest, IsRestOf};
 ghost use Rattle.vr_earliest.specs.Ways.{along, setting_out as setting_out_of, span_by as span_by_way};
@@ -48,6 +48,15 @@ pub struct Guide<'m> {
     pub evaluator: &'m Evaluator,
     /// It is that of a well formed model, and the look-ups are those of its dimension and its vehicle.
     pub ghost sound: { IsGuide model.now d v floors.now evaluator.now } by { Prim.hlevel (props, IsWellFormed-prop) },
+}
+
+/// A list of the vehicle of a guide.
+#[derive(Drop)]
+pub struct LedList<'a, 'm> {
+    pub guide: &'a Guide<'m>,
+    pub list: &'a [u32],
+    /// It has at most 1000 nodes of the model.
+    pub ghost sound: { AreFewNodes guide.now.model.now list.now },
 }
 
 impl<'m> Guide<'m> {

@@ -18,20 +18,16 @@ set-requires-clause-room c =
     let m = c.args.closed.model.now in
     let d = c.loop-d.d in
     let os : List Orders = c.loop-d.orders in
-    let i = c.loop-d.invariant in
-    let many = i.many in
-    let long = c.loop-d.auto.orders in
-    let less = c.loop-d-test.true in
-    let low : d < length m.dimensions = omega (arith, many, long, less) in
-    let inside : d < length os = omega (arith, long, less) in
+    let low : d < length m.dimensions = omega (arith, c.loop-d.invariant.many, c.loop-d.auto.orders, c.loop-d-test.true) in
+    let inside : d < length os = omega (arith, c.loop-d.auto.orders, c.loop-d-test.true) in
     let some = c.if-get-ne0.true in
     let same = ap (λ x. x.global_span_cost) (c.get.ensures.value no_dimension) in
     let pays : Pays m d = λ none. absurd (omega (arith, ints, some, same, none)) in
     let lists : List (List ℕ) = take c.args.v c.args._routes.now.lists in
     let read : slice_index_or os d c.index-orders-d.result ≡ orders_at os d = get_or_default os d c.index-orders-d.result no_orders inside in
-    let are = subst (AreOrders m d lists) (sym read) (i.left d (omega arith) low pays) in
+    let are = subst (AreOrders m d lists) (sym read) (c.loop-d.invariant.left d (omega arith) low pays) in
     let few = c.requires.few in
-    orders-room m d lists (slice_index_or os d c.index-orders-d.result) are c.args.v (c.args.v + 1) (λ u used. (let l = used-first c.args._routes.now.lists c.args.v u used in omega (arith, l))) (omega arith) (let known = c.requires.vehicle in omega (arith, few, known))
+    orders-room m d lists (slice_index_or os d c.index-orders-d.result) are c.args.v (c.args.v + 1) (λ u used. (let l = used-first c.args._routes.now.lists c.args.v u used in omega (arith, l))) (omega arith) (omega (arith, few, c.requires.vehicle))
 
 pub loop-d-preserved : goal.loop-d-preserved
 loop-d-preserved c =
@@ -41,15 +37,12 @@ loop-d-preserved c =
     let d = c.loop-d.d in
     let os : List Orders = c.loop-d.orders in
     let i = c.loop-d.invariant in
-    let many = i.many in
-    let long = c.loop-d.auto.orders in
-    let less = c.loop-d-test.true in
-    let low : d < length m.dimensions = omega (arith, many, long, less) in
-    let inside : d < length os = omega (arith, long, less) in
+    let low : d < length m.dimensions = omega (arith, c.loop-d.invariant.many, c.loop-d.auto.orders, c.loop-d-test.true) in
+    let inside : d < length os = omega (arith, c.loop-d.auto.orders, c.loop-d-test.true) in
     let same = ap (λ x. x.global_span_cost) (c.get.ensures.value no_dimension) in
     record {
       many = c.if-get-ne0.auto.orders ∙ i.many;
-      done = λ e under known pays. elim c.if-get-ne0.branch [
+      done = λ e under there pays. elim c.if-get-ne0.branch [
         | then-get-ne0 w ↦ (
             let here : Pays m d → AreOrders m d (take (v + 1) all) w.set.new.self = λ pay. (
             let read : slice_index_or os d w.index-orders-d.result ≡ orders_at os d = get_or_default os d w.index-orders-d.result no_orders inside in
@@ -57,18 +50,18 @@ loop-d-preserved c =
             let told : IsTold m d v (route (take (v + 1) all) v) (told_in d c.args.row.now) = subst (λ l. IsTold m d v l (told_in d c.args.row.now)) (sym (route-first all (v + 1) v (omega arith))) ((c.requires.row.each d low).told pay) in
             subst (AreOrders m d (take (v + 1) all)) (sym w.set.ensures) (orders-set m d (take v all) (slice_index_or os d w.index-orders-d.result) are v (take (v + 1) all) (λ u apart. route-more all v u apart) (told_in d c.args.row.now) told)) in
             subst (λ (xs : List Orders). AreOrders m e (take (v + 1) all) (orders_at xs e)) (sym w.orders-is)
-            (written-at (λ k x. Pays m k → AreOrders m k (take (v + 1) all) x) os d w.set.new.self inside here e under (λ before pay. i.done e before known pay) pays))
+            (written-at (λ k x. Pays m k → AreOrders m k (take (v + 1) all) x) os d w.set.new.self inside here e under (λ before pay. i.done e before there pay) pays))
         | else-get-ne0 w ↦ subst (λ (xs : List Orders). AreOrders m e (take (v + 1) all) (orders_at xs e)) (sym w.orders-is) (elim (cases_lt e d) [
-          | inl before ↦ i.done e before known pays
+          | inl before ↦ i.done e before there pays
           | inr past ↦ (
               let at : d ≡ e = omega (arith, under, past) in
               let none = w.if-get-ne0.false in
               absurd (subst (λ k. Pays m k) (sym at) pays (omega (arith, ints, none, same))))
         ])
       ];
-      left = λ e past known pays. elim c.if-get-ne0.branch [
+      left = λ e past there pays. elim c.if-get-ne0.branch [
         | then-get-ne0 w ↦ subst (λ (xs : List Orders). AreOrders m e (take v all) (orders_at xs e)) (sym w.orders-is)
-            (left-at (λ k x. AreOrders m k (take v all) x) os d w.set.new.self e past (i.left e (omega (arith, past)) known pays))
-        | else-get-ne0 w ↦ subst (λ (xs : List Orders). AreOrders m e (take v all) (orders_at xs e)) (sym w.orders-is) (i.left e (omega (arith, past)) known pays)
+            (left-at (λ k x. AreOrders m k (take v all) x) os d w.set.new.self e past (i.left e (omega (arith, past)) there pays))
+        | else-get-ne0 w ↦ subst (λ (xs : List Orders). AreOrders m e (take v all) (orders_at xs e)) (sym w.orders-is) (i.left e (omega (arith, past)) there pays)
       ];
     }

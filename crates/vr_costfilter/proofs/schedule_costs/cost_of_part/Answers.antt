@@ -1,11 +1,8 @@
-use Rattle.std.proofs.Common.{◌≡◌, ◌∙◌, ℕ, List, ap, sym, arith, length}
+use Rattle.std.proofs.Common.{arith}
 use Rattle.std.proofs.lemmas.Int.{ints}
-use Rattle.std.specs.Prelude.{ℤ, ◌+ℤ◌, cond, pos}
-use Rattle.vr_model.specs.tables.Numbers.{total_by, below}
-use Rattle.vr_model.proofs.tables.Totals.{total_by-more}
-use Rattle.vr_plan.specs.Timings.{soft_with, span_with}
+use Rattle.vr_costfilter.specs.PartsAfter.{list_after, vehicle_after}
 use Rattle.vr_costfilter.proofs.KnownLemmas.{known-at}
-use Rattle.vr_routes.specs.Pieces.{joined, part_at}
+use Rattle.vr_costfilter.proofs.PlanLemmas.{cost-in-all, cost-in-more}
 use Rattle.vr_costfilter.proofs.schedule_costs.cost_of_part.Goals as goal
 
 pub cost_of_plan_after-requires-clause-known : goal.cost_of_plan_after-requires-clause-known
@@ -13,31 +10,13 @@ cost_of_plan_after-requires-clause-known c = known-at c.args.part.now.model.now 
 
 pub loop-d-preserved : goal.loop-d-preserved
 loop-d-preserved c =
-    let model = c.args.part.now.model.now in
-    let v = (part_at c.args.part.now.change.now c.args.part.now.k).vehicle in
-    let list : List ℕ = joined c.args.part.now.routes.now.lists (part_at c.args.part.now.change.now c.args.part.now.k).pieces in
-    let f : ℕ → ℤ = λ d. soft_with model d v list +ℤ span_with model d v list in
-    let next = total_by-more f c.loop-d.d in
+    let part = c.args.part.now in
     let i = c.loop-d.invariant in
-    let is = c.loop-d.cost-is in
     let e = c.in_ok-cost.ensures in
-    let value : c.in_ok-cost.field-0 ≡ f c.loop-d.d = e.value in
-    let low = c.loop-d-test.true in
-    let n = c.requires.tables.one_of_each in
-    let few = c.args.part.now.sound.well_formed.number_of_dimensions in
-    record {
-      sum = omega (arith, ints, next, i.sum, is, value, e.range.low, e.range.high, i.range.low, i.range.high, low, few, n);
-      range = record { low = omega (arith, ints, is, e.range.low, e.range.high, i.range.low, i.range.high, low, few, n); high = omega (arith, ints, is, e.range.low, e.range.high, i.range.low, i.range.high, low, few, n) };
-    }
+    cost-in-more part.model.now (vehicle_after part) (list_after part) c.loop-d.d _ c.in_ok-cost.field-0 _ i e.value e.range
+    (omega (arith, ints, c.loop-d.cost-is, e.range.low, e.range.high, i.range.low, i.range.high, c.loop-d-test.true, part.sound.well_formed.number_of_dimensions, c.requires.tables.one_of_each))
 
 pub returns-clause-value : goal.returns-clause-value
 returns-clause-value c =
-    let model = c.args.part.now.model.now in
-    let v = (part_at c.args.part.now.change.now c.args.part.now.k).vehicle in
-    let list : List ℕ = joined c.args.part.now.routes.now.lists (part_at c.args.part.now.change.now c.args.part.now.k).pieces in
-    let f : ℕ → ℤ = λ d. soft_with model d v list +ℤ span_with model d v list in
-    let many = c.requires.tables.one_of_each in
-    let high = c.loop-d-test.false in
-    let end = c.loop-d.auto.d-end in
-    let all : c.loop-d.d ≡ length model.dimensions = omega (arith, many, high, end) in
-    c.loop-d.invariant.sum ∙ ap (λ n. total_by f (below n)) all ∙ sym (ap (λ b. cond b (pos 0) (total_by f (below (length model.dimensions)))) c.requires.used.some)
+    let part = c.args.part.now in
+    cost-in-all part.model.now (vehicle_after part) (list_after part) c.requires.used.some c.loop-d.d (omega (arith, c.requires.tables.one_of_each, c.loop-d-test.false, c.loop-d.auto.d-end)) _ c.loop-d.invariant

@@ -1,5 +1,5 @@
-use Rattle.std.proofs.Common.{◌≡◌, ◌∙◌, ℕ, List, ap, sym, arith, to_z, of_z, w64}
-use Rattle.std.specs.Prelude.{is_some, pos, ℤ}
+use Rattle.std.proofs.Common.{◌≡◌, ◌∙◌, ℕ, List, length, ap, sym, arith, to_z, of_z, w64}
+use Rattle.std.specs.Prelude.{pos, ℤ}
 use Rattle.std.specs.Option.{option_and_then}
 use Rattle.vr_model.specs.schedules.Narrowed.{chosen_line}
 use Rattle.vr_model.specs.tables.Numbers.{horizon}
@@ -17,6 +17,7 @@ use Rattle.vr_costfilter.proofs.AlongLemmas.{along-known, along-timed, floor-unm
 use Rattle.vr_costfilter.proofs.FeasibleLemmas.{begin-unfeasible}
 use Rattle.vr_costfilter.proofs.KeptCumulLemmas.{all-visits}
 use Rattle.vr_costfilter.proofs.StageLemmas.{stage-more}
+use Rattle.vr_costfilter.proofs.StuckLemmas.{untold}
 use Rattle.vr_costfilter.proofs.asked.Asked.timing_along.Goals as goal
 
 pub invariant_of-led : goal.invariant_of-led
@@ -24,6 +25,9 @@ invariant_of-led c =
     let asked = c.args.self.now in
     let h = asked.sound in
     record { sound = record { within = h.within; nodes = record { few = h.few; visits = all-visits asked.guide.now.model.now (joined asked.routes.now.lists asked.pieces.now) h.used.tour.visits } } }
+
+pub back_along-requires : goal.back_along-requires
+back_along-requires c = record { step = c.end_step-next.ensures.range; room = omega (arith, ap length c.clear.ensures, c.args.self.now.sound.few) }
 
 -- the vehicle stands at the floor that was found
 standing-read : (guide : Guide) (floor : ℤ) {stage : Stage} → IsIn (pos 0) horizon floor → stage ≡ standing guide.model.now guide.d guide.v (to_z w64 (of_z w64 floor)) → stage ≡ standing guide.model.now guide.d guide.v floor
@@ -45,25 +49,25 @@ returns c =
     (sym c.in_ok-gone.ensures.value) (sym c.in_ok-end.ensures.value) chosen_is_least h.well_formed h.dimension c.requires c.args.self.now.sound.few in
     record { known = sym it.feasible; timing = it.timed.is_timing; range = it.timed.range }
 
-pub returns-in_err-first-clause-known : goal.returns-in_err-first-clause-known
-returns-in_err-first-clause-known c =
+pub returns-in_err-first : goal.returns-in_err-first
+returns-in_err-first c =
     let g = c.args.self.now.guide.now in
     let list : List ℕ = joined c.args.self.now.routes.now.lists c.args.self.now.pieces.now in
-    ap is_some c.from_residual.ensures ∙ sym (begin-unfeasible g.model.now g.d g.v (runs_of g) list (chosen_line g.model.now g.d g.v list) c.requires
+    untold c.from_residual.ensures (begin-unfeasible g.model.now g.d g.v (runs_of g) list (chosen_line g.model.now g.d g.v list) c.requires
     (ap (first_step g.model.now g.d g.v (runs_of g) list) (sym c.end_step-next.ensures.value) ∙ sym c.in_err-first.ensures.value))
 
-pub returns-in_err-floor-clause-known : goal.returns-in_err-floor-clause-known
-returns-in_err-floor-clause-known c =
-    ap is_some c.from_residual-in_err-floor.ensures ∙ sym (floor-unmet (back-anew c.clear.ensures c.in_ok-first.ensures.back) c.end_step-next.ensures.value c.requires (sym c.in_err-floor.ensures.value))
+pub returns-in_err-floor : goal.returns-in_err-floor
+returns-in_err-floor c =
+    untold c.from_residual-in_err-floor.ensures (floor-unmet (back-anew c.clear.ensures c.in_ok-first.ensures.back) c.end_step-next.ensures.value c.requires (sym c.in_err-floor.ensures.value))
 
-pub returns-in_err-gone-clause-known : goal.returns-in_err-gone-clause-known
-returns-in_err-gone-clause-known c =
+pub returns-in_err-gone : goal.returns-in_err-gone
+returns-in_err-gone c =
     let g = c.args.self.now.guide.now in
-    ap is_some c.from_residual-in_err-gone.ensures ∙ sym (gone-unmet (back-anew c.clear.ensures c.in_ok-first.ensures.back) c.end_step-next.ensures.value c.requires c.in_ok-floor.floor (sym c.in_ok-floor.ensures.value) c.standing-stage.result (standing-read c.args.self.now.guide.now c.in_ok-floor.floor c.in_ok-floor.ensures.range c.standing-stage.ensures.value)
+    untold c.from_residual-in_err-gone.ensures (gone-unmet (back-anew c.clear.ensures c.in_ok-first.ensures.back) c.end_step-next.ensures.value c.requires c.in_ok-floor.floor (sym c.in_ok-floor.ensures.value) c.standing-stage.result (standing-read c.args.self.now.guide.now c.in_ok-floor.floor c.in_ok-floor.ensures.range c.standing-stage.ensures.value)
     (ap (option_and_then (to_end g.model.now g.d g.v (runs_of g))) (sym c.in_err-gone.ensures.value)))
 
-pub returns-in_err-end-clause-known : goal.returns-in_err-end-clause-known
-returns-in_err-end-clause-known c =
+pub returns-in_err-end : goal.returns-in_err-end
+returns-in_err-end c =
     let g = c.args.self.now.guide.now in
-    ap is_some c.from_residual-in_err-end.ensures ∙ sym (gone-unmet (back-anew c.clear.ensures c.in_ok-first.ensures.back) c.end_step-next.ensures.value c.requires c.in_ok-floor.floor (sym c.in_ok-floor.ensures.value) c.standing-stage.result (standing-read c.args.self.now.guide.now c.in_ok-floor.floor c.in_ok-floor.ensures.range c.standing-stage.ensures.value)
+    untold c.from_residual-in_err-end.ensures (gone-unmet (back-anew c.clear.ensures c.in_ok-first.ensures.back) c.end_step-next.ensures.value c.requires c.in_ok-floor.floor (sym c.in_ok-floor.ensures.value) c.standing-stage.result (standing-read c.args.self.now.guide.now c.in_ok-floor.floor c.in_ok-floor.ensures.range c.standing-stage.ensures.value)
     (ap (option_and_then (to_end g.model.now g.d g.v (runs_of g))) (sym c.in_ok-gone.ensures.value) ∙ sym c.in_err-end.ensures.value))

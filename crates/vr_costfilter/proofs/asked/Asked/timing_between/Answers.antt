@@ -1,9 +1,5 @@
-use Rattle.std.proofs.Common.{◌≡◌}
-use Rattle.std.specs.Prelude.{IfSome, is_some}
-use Rattle.vr_model.specs.schedules.Choices.{is_feasible}
 use Rattle.vr_model.specs.schedules.Narrowed.{chosen_line}
-use Rattle.vr_plan.specs.Timings.{IsTiming}
-use Rattle.vr_costfilter.specs.Asked.{new_list}
+use Rattle.vr_costfilter.specs.Asked.{new_list, IsTimingFound}
 use Rattle.vr_costfilter.specs.Joined.{AreJoined}
 use Rattle.vr_costfilter.specs.Runs.{AllowsRuns}
 use Rattle.vr_costfilter.proofs.GuideLemmas.{by-guide, of-guide}
@@ -20,12 +16,7 @@ timing_along-requires c =
     let e = c.between-guide.ensures in
     of-guide c.between-guide.result e.model e.dimension e.vehicle e.runs (λ model d v runs. AllowsRuns model d v runs (new_list c.args.self.now) (chosen_line model d v (new_list c.args.self.now))) c.requires.allows
 
-pub returns-clause-known : goal.returns-clause-known
-returns-clause-known c =
+pub returns : goal.returns
+returns c =
     let e = c.between-guide.ensures in
-    by-guide c.between-guide.result e.model e.dimension e.vehicle e.runs (λ model d v runs. is_some c.timing_along.result ≡ is_feasible (chosen_line model d v (new_list c.args.self.now))) c.timing_along.ensures.known
-
-pub returns-clause-timing : goal.returns-clause-timing
-returns-clause-timing c =
-    let e = c.between-guide.ensures in
-    by-guide c.between-guide.result e.model e.dimension e.vehicle e.runs (λ model d v runs. IfSome c.timing_along.result (IsTiming model d v (new_list c.args.self.now))) c.timing_along.ensures.timing
+    by-guide c.between-guide.result e.model e.dimension e.vehicle e.runs (λ model d v runs. IsTimingFound model d v (new_list c.args.self.now) c.timing_along.result) c.timing_along.ensures

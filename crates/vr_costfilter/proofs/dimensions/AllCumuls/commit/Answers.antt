@@ -1,8 +1,8 @@
-use Rattle.std.proofs.Common.{◌≡◌, ◌∙◌, ◌<◌, ◌≤◌, ◌+◌, ℕ, List, length, add-one, ap, sym, subst, arith}
-use Rattle.vr_model.specs.moves.Moves.{with_route}
+use Rattle.std.proofs.Common.{◌∙◌, ◌<◌, ◌≤◌, ◌+◌, ℕ, List, length, ap, sym, subst, arith}
 use Rattle.vr_routes.specs.Pieces.{joined, no_part, part_at}
 use Rattle.vr_parts.proofs.PartLemmas.{small}
-use Rattle.vr_parts.proofs.SumLemmas.{upto, upto-many, upto-next}
+use Rattle.vr_parts.proofs.SumLemmas.{upto}
+use Rattle.vr_earliest.proofs.WritingLemmas.{upto-put, upto-within}
 use Rattle.vr_parts.proofs.RowLemmas.{written}
 use Rattle.vr_costfilter.specs.declared.kept.KeptList.{KeptList}
 use Rattle.vr_costfilter.specs.Kept.{AreAllKept, AreAsMany}
@@ -37,18 +37,11 @@ loop-k-preserved c =
     let parts = c.args.change.now in
     let k = c.loop-k.k in
     let low = subst (λ n. k < n) c.parts-k-end.ensures.value c.loop-k-test.true in
-    let part = part_at parts k in
     let base : List (List ℕ) = upto lists parts k in
     let old : List (List KeptList) = c.loop-k.self-inside.dimensions.items in
     let new : List (List KeptList) = c.write_list.new.kept in
-    let v = c.vehicle.result in
-    let vehicle = c.vehicle.ensures in
-    let known = c.requires.made.makes.parts_are.each_vehicle k no_part low in
-    let all_many = upto-many lists parts k in
-    let list = c.as_slice.ensures.value ∙ c.join_into.ensures ∙ ap (joined lists) c.pieces.ensures.value in
-    let set = c.write_list.ensures.kept base (subst (AreAllKept m base) (sym c.deref_mut.ensures.value) i) (omega (arith, vehicle, known, all_many)) in
-    let next : with_route base v c.as_slice.result.now ≡ upto lists parts (k + 1) =
-    ap (with_route base v) list ∙ ap (λ w. with_route base w (joined lists part.pieces)) vehicle ∙ sym (ap (upto lists parts) (add-one k) ∙ upto-next lists parts k low) in
+    let set = c.write_list.ensures.kept base (subst (AreAllKept m base) (sym c.deref_mut.ensures.value) i) (upto-within lists parts c.requires.made.makes.parts_are k low c.vehicle.ensures) in
+    let next = upto-put lists parts k low c.vehicle.ensures (c.as_slice.ensures.value ∙ c.join_into.ensures ∙ ap (joined lists) c.pieces.ensures.value) in
     let as_many = as-many-then _ _ _ c.loop-k.invariant.as_many (subst (λ l. AreAsMany l new) c.deref_mut.ensures.value c.write_list.ensures.many) in
     let all = sym (written old new c.loop-k.self-inside.dimensions.len (set.many ∙ sym i.many) (sym c.deref_mut.ensures.len ∙ ap length c.deref_mut.ensures.value)) in
     record {

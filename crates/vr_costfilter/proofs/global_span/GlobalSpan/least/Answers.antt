@@ -6,18 +6,15 @@ use Rattle.vr_costfilter.specs.EarlyParts.{AreEarlyParts}
 use Rattle.vr_costfilter.specs.declared.orders.Orders.{Orders}
 use Rattle.vr_costfilter.specs.GlobalCosts.{AreAllOrders}
 use Rattle.vr_costfilter.specs.Spreads.{global_least}
-use Rattle.vr_costfilter.proofs.GlobalLemmas.{none-costs, none-pays, NonePays}
+use Rattle.vr_costfilter.proofs.GlobalLemmas.{none-costs, none-pays}
 use Rattle.vr_costfilter.proofs.SpreadLemmas.{least-holds, none-least}
 use Rattle.vr_costfilter.proofs.global_span.GlobalSpan.least.Goals as goal
 
 pub returns-then-is_idle-clause-least : goal.returns-then-is_idle-clause-least
 returns-then-is_idle-clause-least c valid =
-    let model = c.args.self.now.model in
     let lists : List (List ℕ) = c.args.routes.now.lists in
-    let none = subst NonePays (ap (λ s. s.model) c.self.view_is) (none-pays c.self.inside.rules (sym c.is_idle.ensures ∙ c.if-is_idle.true)) in
-    let a = none-costs model none lists in
-    let b = none-costs model none (changed lists c.args.change.now) in
-    omega (arith, ints, a, b)
+    let same = c.is_idle.ensures.alike c.if-is_idle.true lists (changed lists c.args.change.now) c.requires.stands.valid valid in
+    omega (arith, ints, same)
 
 pub least-requires-clause-earlies : goal.least-requires-clause-earlies
 least-requires-clause-earlies c =
@@ -35,7 +32,7 @@ pub returns-then-is_idle-clause-value : goal.returns-then-is_idle-clause-value
 returns-then-is_idle-clause-value c =
     let model = c.args.self.now.model in
     let lists : List (List ℕ) = c.args.routes.now.lists in
-    let none = subst NonePays (ap (λ s. s.model) c.self.view_is) (none-pays c.self.inside.rules (sym c.is_idle.ensures ∙ c.if-is_idle.true)) in
+    let none = none-pays model (sym c.is_idle.ensures.idle ∙ c.if-is_idle.true) in
     let a = none-least model none lists c.args.change.now in
     let b = none-costs model none lists in
     omega (arith, ints, a, b)

@@ -3,17 +3,14 @@ use Rattle.std.proofs.lemmas.Int.{ints}
 use Rattle.vr_routes.specs.Pieces.{changed}
 use Rattle.vr_model.specs.declared.records.Model.{Model}
 use Rattle.vr_costfilter.specs.GlobalCosts.{global_cost_of, IsGlobalCost}
-use Rattle.vr_costfilter.proofs.GlobalLemmas.{none-costs, none-pays, rows-like, stands-like, NonePays}
+use Rattle.vr_costfilter.proofs.GlobalLemmas.{rows-like, stands-like}
 use Rattle.vr_costfilter.proofs.global_span.GlobalSpanCostPart.difference.Goals as goal
 
 pub returns-then-is_idle-clause-exact : goal.returns-then-is_idle-clause-exact
 returns-then-is_idle-clause-exact c =
-    let model = c.args.self.now.model in
     let lists : List (List ℕ) = c.args.routes.now.lists in
-    let none = subst NonePays (ap (λ s. s.model) c.self.view_is) (none-pays c.self.inside.rules (sym c.is_idle.ensures ∙ c.if-is_idle.true)) in
-    let a = none-costs model none lists in
-    let b = none-costs model none (changed lists c.args.change.now) in
-    omega (arith, ints, a, b)
+    let same = c.is_idle.ensures.alike c.if-is_idle.true lists (changed lists c.args.change.now) c.requires.stands.valid c.requires.valid in
+    omega (arith, ints, same)
 
 pub returns-in_err-write_next-clause-stands : goal.returns-in_err-write_next-clause-stands
 returns-in_err-write_next-clause-stands c = stands-like c.args.self.now c.write_next.new.self c.args.routes.now c.requires.stands c.write_next.ensures.like
@@ -26,7 +23,7 @@ pub returns-clause-exact : goal.returns-clause-exact
 returns-clause-exact c =
     let lists : List (List ℕ) = changed c.args.routes.now.lists c.args.change.now in
     let like = c.in_ok-write_next.ensures.like in
-    let view = c.self-2.view_is in
+    let view = c.self.view_is in
     let after = c.cost_after.ensures.value ∙ ap (λ (m : Model). global_cost_of m lists) like.model in
     let before = ap (λ s. s.cost) view ∙ like.cost ∙ c.requires.stands.cost in
     let a = c.cost_after.ensures.range in
@@ -40,7 +37,7 @@ returns-clause-stands c =
 pub returns-clause-range : goal.returns-clause-range
 returns-clause-range c =
     let like = c.in_ok-write_next.ensures.like in
-    let view = c.self-2.view_is in
+    let view = c.self.view_is in
     let a = c.cost_after.ensures.range in
     let b = subst IsGlobalCost (sym (ap (λ s. s.cost) view ∙ like.cost)) c.requires.stands.range in
     record { low = omega (arith, ints, a.low, a.high, b.low, b.high); high = omega (arith, ints, a.low, a.high, b.low, b.high) }

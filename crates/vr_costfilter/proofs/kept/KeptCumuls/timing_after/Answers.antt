@@ -9,24 +9,15 @@ use Rattle.vr_routes.specs.Pieces.{joined}
 use Rattle.vr_model.specs.tables.Tables.{no_vehicle, vehicle_at}
 use Rattle.vr_model.specs.declared.records.Model.{Model}
 use Rattle.vr_model.specs.declared.records.ScheduleRule.{ScheduleRule}
-use Rattle.vr_model.specs.declared.records.ScheduleRule.TheVariants.{Earliest, Tight}
 use Rattle.vr_model.specs.declared.records.Vehicle.{Vehicle}
 use Rattle.vr_reach.specs.VisitRuns.{have_stops_one_run}
-use Rattle.vr_costfilter.specs.Kept.{AreKept, IsKept, IsKnown, HasAllAsked, HasAllStages, HasAllWays}
+use Rattle.vr_costfilter.specs.Kept.{AreKept, IsKept, IsKnown, HasAllAsked}
 use Rattle.vr_costfilter.specs.declared.kept.KeptList.{KeptList}
 use Rattle.vr_costfilter.specs.Joined.{AreJoined}
 use Rattle.vr_costfilter.specs.GuideRuns.{HasItsRuns, IsGuideBy}
 use Rattle.vr_costfilter.specs.declared.guides.Guide.{Guide}
 use Rattle.vr_costfilter.proofs.GuideLemmas.{of-guide}
 use Rattle.vr_costfilter.proofs.kept.KeptCumuls.timing_after.Goals as goal
-
--- what is kept of its list decides
-told-so : (model : Model) (d v : ℕ) (list : List ℕ) (inside seen : List KeptList) → inside ≡ seen → (kept : KeptList) → v < length inside → kept ≡ slice_index_or inside v kept → IsTrue (have_stops_one_run model d v) → (some : Bool)
-    → (IsTrue some → HasAllAsked (vehicle_at model v).schedule list kept) → (HasAllAsked (vehicle_at model v).schedule list kept → IsTrue some) → IsTrue some ↔ IsKnown model d v list seen
-told-so model d v list inside seen view kept low is one some to from = subst (λ (l : List KeptList). IsTrue some ↔ IsKnown model d v list l) view (
-  λ h. record { known = low; runs = one; tells = λ other. subst (HasAllAsked (vehicle_at model v).schedule list) (is ∙ get_or_default inside v kept other low) (to h) },
-  λ told. from (subst (HasAllAsked (vehicle_at model v).schedule list) (sym is) (told.tells kept)),
-)
 
 -- what is kept of its list, as the guide has it
 read-kept : (g : Guide) {model : Model} {d v : ℕ} (lists : List (List ℕ)) {inside seen : List KeptList} {kept : KeptList} → g.model.now ≡ model → g.d ≡ d → g.v ≡ v → inside ≡ seen → AreKept model d lists seen → v < length inside → kept ≡ slice_index_or inside v kept
@@ -57,41 +48,34 @@ pub returns-in_err-guide-clause-known : goal.returns-in_err-guide-clause-known
 returns-in_err-guide-clause-known c =
     (λ e. absurd (false≢true (sym (ap is_some c.from_residual.ensures) ∙ e)), λ told. absurd (false≢true (c.in_err-guide.ensures.known ∙ told.runs)))
 
+-- what is kept of the list of vehicle v decides, by the rule of the vehicle
+told-so : (model : Model) (d v u : ℕ) (lists : List (List ℕ)) (inside seen : List KeptList) → inside ≡ seen → (kept : KeptList) → v < length inside → kept ≡ slice_index_or inside v kept → IsTrue (have_stops_one_run model d v) → u ≡ v
+    → {vehicle : Vehicle} {rule : ScheduleRule} → vehicle_at model v ≡ vehicle → vehicle.schedule ≡ rule → (some : Bool) → IsTrue some ↔ HasAllAsked rule (route lists u) kept → IsTrue some ↔ IsKnown model d v (route lists v) seen
+told-so model d v u lists inside seen view kept low read one same {vehicle} {rule} at is some known =
+    let list : List ℕ = route lists v in
+    let here : (vehicle_at model v).schedule ≡ rule = ap (λ (w : Vehicle). w.schedule) at ∙ is in
+    let asked : HasAllAsked rule (route lists u) kept → HasAllAsked (vehicle_at model v).schedule list kept = λ h. subst (λ (r : ScheduleRule). HasAllAsked r list kept) (sym here) (subst (λ w. HasAllAsked rule (route lists w) kept) same h) in
+    let back : HasAllAsked (vehicle_at model v).schedule list kept → HasAllAsked rule (route lists u) kept = λ h. subst (λ w. HasAllAsked rule (route lists w) kept) (sym same) (subst (λ (r : ScheduleRule). HasAllAsked r list kept) here h) in
+    subst (λ (l : List KeptList). IsTrue some ↔ IsKnown model d v list l) view (
+      λ h. record { known = low; runs = one; tells = λ other. subst (HasAllAsked (vehicle_at model v).schedule list) (read ∙ get_or_default inside v kept other low) (asked (known.0 h)) },
+      λ told. known.1 (back (subst (HasAllAsked (vehicle_at model v).schedule list) (sym read) (told.tells kept))),
+    )
+
 pub returns-in-Earliest-clause-known : goal.returns-in-Earliest-clause-known
 returns-in-Earliest-clause-known c =
-    let m = c.args.at.now.model.now in
-    let d = c.args.at.now.d in
-    let v = c.args.v in
-    let list : List ℕ = route c.args.routes.now.lists v in
-    let kept : KeptList = c.index-kept.result.now in
-    let low : v < length c.self.inside.lists.items = omega (arith, c.len.ensures, c.if-v-len.false) in
-    let same = c.in_ok-guide.ensures.vehicle in
-    let rule : (vehicle_at m v).schedule ≡ Earliest = ap (λ (w : Vehicle). w.schedule) (c.get-vehicle.ensures.value no_vehicle) ∙ c.in-Earliest.is in
-    let model = c.in_ok-guide.ensures.model in
-    let new : List ℕ = joined c.args.routes.now.lists c.args.pieces.now in
+    let e = c.in_ok-guide.ensures in
     let guide = c.in_ok-guide.guide in
-    let f1 = subst (λ u. IsFeasible (line m d u new)) (sym same) c.requires.joined.feasible in
-    let f2 = subst (λ e. IsFeasible (line m e guide.v new)) (sym c.in_ok-guide.ensures.dimension) f1 in
-    let f3 = subst (λ w. IsFeasible (line w guide.d guide.v new)) (sym model) f2 in
-    let known = c.earliest_after.ensures.known f3 in
-    told-so m d v list c.self.inside.lists.items c.args.self.now c.self.view_is kept low c.index-kept.ensures (sym c.in_ok-guide.ensures.known) (is_some c.earliest_after.result)
-    (λ some. subst (λ (r : ScheduleRule). HasAllAsked r list kept) (sym rule) (subst (λ u. HasAllStages (route c.args.routes.now.lists u) kept) same (known.0 some)))
-    (λ told. known.1 (subst (λ u. HasAllStages (route c.args.routes.now.lists u) kept) (sym same) (subst (λ (r : ScheduleRule). HasAllAsked r list kept) rule told)))
+    let new : List ℕ = joined c.args.routes.now.lists c.args.pieces.now in
+    let feasible = subst (λ u. IsFeasible (line c.args.at.now.model.now c.args.at.now.d u new)) (sym e.vehicle) c.requires.joined.feasible in
+    let by_guide = subst (λ w. IsFeasible (line w guide.d guide.v new)) (sym e.model) (subst (λ n. IsFeasible (line c.args.at.now.model.now n guide.v new)) (sym e.dimension) feasible) in
+    told-so c.args.at.now.model.now c.args.at.now.d c.args.v guide.v c.args.routes.now.lists c.self.inside.lists.items c.args.self.now c.self.view_is c.index-kept.result.now (omega (arith, c.len.ensures, c.if-v-len.false)) c.index-kept.ensures (sym e.known) e.vehicle
+    (c.get-vehicle.ensures.value no_vehicle) c.in-Earliest.is (is_some c.earliest_after.result) (c.earliest_after.ensures.known by_guide)
 
 pub returns-in-Tight-clause-known : goal.returns-in-Tight-clause-known
 returns-in-Tight-clause-known c =
-    let m = c.args.at.now.model.now in
-    let d = c.args.at.now.d in
-    let v = c.args.v in
-    let list : List ℕ = route c.args.routes.now.lists v in
-    let kept : KeptList = c.index-kept.result.now in
-    let low : v < length c.self.inside.lists.items = omega (arith, c.len.ensures, c.if-v-len.false) in
-    let same = c.in_ok-guide.ensures.vehicle in
-    let rule : (vehicle_at m v).schedule ≡ Tight = ap (λ (w : Vehicle). w.schedule) (c.get-vehicle.ensures.value no_vehicle) ∙ c.in-Tight.is in
-    let known = c.tight_after.ensures.known in
-    told-so m d v list c.self.inside.lists.items c.args.self.now c.self.view_is kept low c.index-kept.ensures (sym c.in_ok-guide.ensures.known) (is_some c.tight_after.result)
-    (λ some. subst (λ (r : ScheduleRule). HasAllAsked r list kept) (sym rule) (subst (λ u. HasAllWays (route c.args.routes.now.lists u) kept) same (known.0 some)))
-    (λ told. known.1 (subst (λ u. HasAllWays (route c.args.routes.now.lists u) kept) (sym same) (subst (λ (r : ScheduleRule). HasAllAsked r list kept) rule told)))
+    let e = c.in_ok-guide.ensures in
+    told-so c.args.at.now.model.now c.args.at.now.d c.args.v c.in_ok-guide.guide.v c.args.routes.now.lists c.self.inside.lists.items c.args.self.now c.self.view_is c.index-kept.result.now (omega (arith, c.len.ensures, c.if-v-len.false)) c.index-kept.ensures (sym e.known) e.vehicle
+    (c.get-vehicle.ensures.value no_vehicle) c.in-Tight.is (is_some c.tight_after.result) c.tight_after.ensures.known
 
 pub earliest_after-requires : goal.earliest_after-requires
 earliest_after-requires c =

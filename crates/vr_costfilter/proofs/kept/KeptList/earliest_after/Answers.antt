@@ -34,3 +34,9 @@ pub returns-then-not-are_of-clause-known : goal.returns-then-not-are_of-clause-k
 returns-then-not-are_of-clause-known c feasible =
     let list = ap length c.list-list.ensures.value in
     (λ e. absurd (false≢true e), λ told. absurd (false≢true (sym c.if-not-are_of.true ∙ c.are_of.ensures.1 (omega (arith, told, list)))))
+
+pub returns-clause-timing : goal.returns-clause-timing
+returns-clause-timing c = c.after.ensures.timing
+
+pub returns-clause-range : goal.returns-clause-range
+returns-clause-range c = c.after.ensures.range

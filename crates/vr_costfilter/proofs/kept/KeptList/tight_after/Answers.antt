@@ -104,3 +104,9 @@ returns-then-not-has_ways-clause-known c =
           subst (λ (k : KeptWays). length k.ways.items ≡ length (route c.args.asked.now.routes.now.lists c.args.asked.now.guide.now.v) + 1) (sym c.index-kept.ensures) (told.ways c.index-kept.result.now) in
           absurd (false≢true (sym c.if-not-has_ways.true ∙ c.has_ways.ensures.1 (omega (arith, many, length_is))))),
     )
+
+pub returns-clause-timing : goal.returns-clause-timing
+returns-clause-timing c = c.timing_between.ensures.timing
+
+pub returns-clause-range : goal.returns-clause-range
+returns-clause-range c = c.timing_between.ensures.range

@@ -1,11 +1,9 @@
-use Rattle.std.proofs.Common.{◌≡◌, ℕ, List, subst, sym, arith, to_z, of_z, w64}
-use Rattle.std.specs.Prelude.{IfSome, is_some, ℤ}
+use Rattle.std.proofs.Common.{ℕ, List, subst, sym, arith, to_z, of_z, w64}
+use Rattle.std.specs.Prelude.{ℤ}
 use Rattle.vr_model.specs.routes.Routes.{route}
-use Rattle.vr_model.specs.schedules.Choices.{is_feasible}
 use Rattle.vr_model.specs.schedules.Narrowed.{chosen_line}
-use Rattle.vr_plan.specs.Timings.{IsTiming}
 use Rattle.vr_plan.proofs.BoundLemmas.{read-cumul}
-use Rattle.vr_costfilter.specs.Asked.{new_list}
+use Rattle.vr_costfilter.specs.Asked.{new_list, IsTimingFound}
 use Rattle.vr_costfilter.specs.GuideRuns.{runs_of}
 use Rattle.vr_costfilter.specs.Joined.{AreJoined}
 use Rattle.vr_costfilter.specs.Runs.{between_runs, only, starting, AllowsRuns}
@@ -38,12 +36,7 @@ after-requires-clause-known c =
     of-guide c.between-kept.result e.model e.dimension e.vehicle e.runs (λ model d v runs. AreKnownSteps model d v runs (route lists v) c.args.self.now.steps)
     (record { stages = (c.requires.kept.of_old.tight by.rule_is (runs_of asked.guide.now) by.runs).told (omega (arith, c.requires.many)); many = c.requires.many; few = asked.sound.short })
 
-pub returns-clause-known : goal.returns-clause-known
-returns-clause-known c =
+pub returns : goal.returns
+returns c =
     let e = c.between-kept.ensures in
-    by-guide c.between-kept.result e.model e.dimension e.vehicle e.runs (λ model d v runs. is_some c.after.result ≡ is_feasible (chosen_line model d v (new_list c.args.asked.now))) c.after.ensures.known
-
-pub returns-clause-timing : goal.returns-clause-timing
-returns-clause-timing c =
-    let e = c.between-kept.ensures in
-    by-guide c.between-kept.result e.model e.dimension e.vehicle e.runs (λ model d v runs. IfSome c.after.result (IsTiming model d v (new_list c.args.asked.now))) c.after.ensures.timing
+    by-guide c.between-kept.result e.model e.dimension e.vehicle e.runs (λ model d v runs. IsTimingFound model d v (new_list c.args.asked.now) c.after.result) c.after.ensures

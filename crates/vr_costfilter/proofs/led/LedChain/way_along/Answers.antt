@@ -4,7 +4,8 @@ use Rattle.std.proofs.lemmas.List.Sums.{fold_more}
 use Rattle.vr_model.specs.tables.Tables.{is_visit}
 use Rattle.vr_costfilter.specs.GuideRuns.{runs_of}
 use Rattle.vr_costfilter.specs.Ways.{way_along, way_to_visit, IsWayOf}
-use Rattle.vr_costfilter.proofs.WayLemmas.{along-part, ordered-long, way-more}
+use Rattle.vr_earliest.proofs.WayLemmas.{ordered-long}
+use Rattle.vr_costfilter.proofs.WayLemmas.{along-part, way-more}
 use Rattle.vr_costfilter.proofs.led.LedChain.way_along.Goals as goal
 
 pub way_to_visit-gone-requires-clause-node : goal.way_to_visit-gone-requires-clause-node

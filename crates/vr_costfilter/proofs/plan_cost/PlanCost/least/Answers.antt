@@ -1,15 +1,15 @@
-use Rattle.std.proofs.Common.{◌∙◌, ◌<◌, ℕ, List, length, ap, sym, subst, arith}
+use Rattle.std.proofs.Common.{◌∙◌, ◌<◌, ℕ, List, ap, sym, subst, arith}
 use Rattle.std.proofs.lemmas.Int.{ints}
 use Rattle.std.proofs.lemmas.List.{take_all}
 use Rattle.std.specs.Prelude.{◌-ℤ◌, ◌≤ℤ◌}
 use Rattle.vr_model.specs.tables.Numbers.{total_by}
 use Rattle.vr_model.specs.routes.Routes.{route}
 use Rattle.vr_model.specs.declared.records.Model.{Model}
-use Rattle.vr_routes.specs.Pieces.{changed, joined, no_part, part_at}
+use Rattle.vr_routes.specs.Pieces.{changed, joined, part_at}
 use Rattle.vr_costfilter.specs.EarlyParts.{AreEarlyParts}
 use Rattle.vr_costfilter.specs.PlanCosts.{plans_cost, soft_and_span, spans_least}
-use Rattle.vr_costfilter.proofs.CostLemmas.{kept-cost}
-use Rattle.vr_costfilter.proofs.PlanLemmas.{idle-where, IsIdle}
+use Rattle.vr_costfilter.proofs.CostLemmas.{old-cost}
+use Rattle.vr_costfilter.proofs.PlanLemmas.{idle-where}
 use Rattle.vr_parts.specs.Sums.{part_less}
 use Rattle.vr_costfilter.proofs.LeastSpanLemmas.{change-idle, change-least, least-idle, less-more}
 use Rattle.vr_costfilter.proofs.plan_cost.PlanCost.least.Goals as goal
@@ -22,46 +22,30 @@ least-requires-clause-earlies c =
 
 pub overflow_sub-least : goal.overflow_sub-least
 overflow_sub-least c =
-    let h = c.requires.stands in
-    let k = c.loop-k.k in
-    let low = subst (λ n. k < n) c.parts-k-end.ensures.value c.loop-k-test.true in
-    let v = c.vehicle-v.result in
-    let known = subst (λ w. w < length c.args.routes.now.lists) (sym c.vehicle-v.ensures) (c.requires.made.makes.parts_are.each_vehicle k no_part low) in
-    let before = kept-cost c.args.self.now c.args.routes.now h c.self.inside.costs.items (ap (λ s. s.costs) c.self.view_is) v known c.index.result.now c.index.ensures in
-    let b = before.range in
+    let low = subst (λ n. c.loop-k.k < n) c.parts-k-end.ensures.value c.loop-k-test.true in
+    let b = (old-cost c.args.self.now c.args.routes.now c.args.change.now c.requires.stands c.requires.made.makes.parts_are c.loop-k.k low c.self.inside.costs.items (ap (λ s. s.costs) c.self.view_is) c.vehicle-v.result c.vehicle-v.ensures c.index.result.now c.index.ensures).range in
     let r = c.least.ensures.range in
     omega (arith, ints, b.low, b.high, r.low, r.high)
 
 pub overflow_add-least : goal.overflow_add-least
 overflow_add-least c =
-    let h = c.requires.stands in
-    let k = c.loop-k.k in
-    let low = subst (λ n. k < n) c.parts-k-end.ensures.value c.loop-k-test.true in
-    let v = c.vehicle-v.result in
-    let known = subst (λ w. w < length c.args.routes.now.lists) (sym c.vehicle-v.ensures) (c.requires.made.makes.parts_are.each_vehicle k no_part low) in
-    let before = kept-cost c.args.self.now c.args.routes.now h c.self.inside.costs.items (ap (λ s. s.costs) c.self.view_is) v known c.index.result.now c.index.ensures in
-    let b = before.range in
+    let low = subst (λ n. c.loop-k.k < n) c.parts-k-end.ensures.value c.loop-k-test.true in
+    let b = (old-cost c.args.self.now c.args.routes.now c.args.change.now c.requires.stands c.requires.made.makes.parts_are c.loop-k.k low c.self.inside.costs.items (ap (λ s. s.costs) c.self.view_is) c.vehicle-v.result c.vehicle-v.ensures c.index.result.now c.index.ensures).range in
     let r = c.least.ensures.range in
-    let i = c.loop-k.invariant in
-    let same = c.loop-k.least-is in
-    let few = c.parts-k-end.ensures.few in
-    let less = c.loop-k-test.true in
-    omega (arith, ints, b.low, b.high, r.low, r.high, i.range.low, i.range.high, same, few, less)
+    let i = c.loop-k.invariant.range in
+    omega (arith, ints, b.low, b.high, r.low, r.high, i.low, i.high, c.loop-k.least-is, c.parts-k-end.ensures.few, c.loop-k-test.true)
 
 pub loop-k-preserved : goal.loop-k-preserved
 loop-k-preserved c =
     let model = c.args.self.now.model in
     let lists : List (List ℕ) = c.args.routes.now.lists in
-    let h = c.requires.stands in
     let k = c.loop-k.k in
     let low = subst (λ n. k < n) c.parts-k-end.ensures.value c.loop-k-test.true in
-    let v = c.vehicle-v.result in
     let part = part_at c.args.change.now k in
-    let known = subst (λ w. w < length lists) (sym c.vehicle-v.ensures) (c.requires.made.makes.parts_are.each_vehicle k no_part low) in
-    let before = kept-cost c.args.self.now c.args.routes.now h c.self.inside.costs.items (ap (λ s. s.costs) c.self.view_is) v known c.index.result.now c.index.ensures in
-    let old = before.value ∙ ap (λ w. plans_cost model w (route lists w)) c.vehicle-v.ensures in
+    let now = old-cost c.args.self.now c.args.routes.now c.args.change.now c.requires.stands c.requires.made.makes.parts_are c.loop-k.k low c.self.inside.costs.items (ap (λ s. s.costs) c.self.view_is) c.vehicle-v.result c.vehicle-v.ensures c.index.result.now c.index.ensures in
+    let old = now.value ∙ ap (λ w. plans_cost model w (route lists w)) c.vehicle-v.ensures in
     let new = c.least.ensures.value ∙ ap (λ m. spans_least m part.vehicle (joined lists part.pieces)) (ap (λ s. s.model) c.self.view_is) in
-    let b = before.range in
+    let b = now.range in
     let r = c.least.ensures.range in
     let i = c.loop-k.invariant in
     let same = c.loop-k.least-is in
@@ -97,10 +81,8 @@ returns-clause-least c valid =
 
 pub returns-then-is_idle-clause-value : goal.returns-then-is_idle-clause-value
 returns-then-is_idle-clause-value c =
-    let idle = subst IsIdle (ap (λ s. s.model) c.self.view_is) (idle-where c.self.inside.rules (sym c.is_idle.ensures ∙ c.if-is_idle.true)) in
-    sym (least-idle c.args.self.now.model idle c.args.routes.now.lists c.args.change.now)
+    sym (least-idle c.args.self.now.model (idle-where c.args.self.now.model (sym c.is_idle.ensures.idle ∙ c.if-is_idle.true)) c.args.routes.now.lists c.args.change.now)
 
 pub returns-then-is_idle-clause-least : goal.returns-then-is_idle-clause-least
 returns-then-is_idle-clause-least c valid =
-    let idle = subst IsIdle (ap (λ s. s.model) c.self.view_is) (idle-where c.self.inside.rules (sym c.is_idle.ensures ∙ c.if-is_idle.true)) in
-    change-idle c.args.self.now.model idle c.args.routes.now.lists (changed c.args.routes.now.lists c.args.change.now)
+    change-idle c.args.self.now.model (idle-where c.args.self.now.model (sym c.is_idle.ensures.idle ∙ c.if-is_idle.true)) c.args.routes.now.lists (changed c.args.routes.now.lists c.args.change.now)

@@ -1,26 +1,14 @@
-use Rattle.std.proofs.Common.{◌∙◌, ℕ, List, false, length, sym, subst}
-use Rattle.vr_model.specs.declared.records.Model.{Model}
-use Rattle.vr_costfilter.specs.Kept.{AreAllKept}
-use Rattle.vr_costfilter.specs.PlanCosts.{AreCosts, KeptPlans, StandsPlans}
-use Rattle.vr_parts.proofs.PartLemmas.{small}
+use Rattle.std.proofs.Common.{◌≡◌, sym, subst}
+use Rattle.std.specs.Prelude.{IfOk, IsTrue}
+use Rattle.vr_model.specs.routes.Rules.{is_valid}
+use Rattle.vr_model.specs.tables.Tables.{visits}
 use Rattle.vr_costfilter.proofs.plan_cost.PlanCost.open.Goals as goal
 
-pub returns-clause-stands : goal.returns-clause-stands
-returns-clause-stands c =
-    let lists : List (List ℕ) = c.args.routes.now.lists in
-    let model : Model = c.args.model.now in
-    let s = small model c.requires.well_formed lists c.requires.valid in
-    let kept = c.in_ok-costs in
-    let plans : Model → KeptPlans = λ m. record { model = m; costs = kept.costs.items; next = c.new.result.items; is_prepared = false; cumuls = kept.cumuls } in
-    let costs = subst (λ m. AreCosts m lists (length lists) kept.costs.items) c.in_ok-rules.ensures kept.ensures.costs in
-    let stands : StandsPlans (plans model) c.args.routes.now = record {
-      well_formed = c.requires.well_formed;
-      of_model = c.requires.of_model;
-      valid = c.requires.valid;
-      as_many = s.many;
-      many = costs.many ∙ s.many;
-      costs = costs.each;
-      range = costs.range;
-      cumuls = subst (λ m. AreAllKept m lists kept.cumuls) c.in_ok-rules.ensures kept.ensures.cumuls;
-    } in
-    subst (λ m. StandsPlans (plans m) c.args.routes.now) (sym c.in_ok-rules.ensures) stands
+pub over-requires-clause-of_model : goal.over-requires-clause-of_model
+over-requires-clause-of_model c = subst (λ m. c.args.routes.now.visits ≡ visits m) (sym c.in_ok-lookups.ensures) c.requires.of_model
+
+pub over-requires-clause-valid : goal.over-requires-clause-valid
+over-requires-clause-valid c = subst (λ m. IsTrue (is_valid m c.args.routes.now.lists)) (sym c.in_ok-lookups.ensures) c.requires.valid
+
+pub returns-clause-model : goal.returns-clause-model
+returns-clause-model c = subst (λ m. IfOk c.over.result (λ part. part.model ≡ m)) c.in_ok-lookups.ensures c.over.ensures.model

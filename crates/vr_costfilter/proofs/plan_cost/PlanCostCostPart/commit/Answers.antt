@@ -1,13 +1,13 @@
-use Rattle.std.proofs.Common.{◌≡◌, ◌∙◌, ◌<◌, ◌+◌, ℕ, List, length, length-set, add-one, ap, sym, subst, arith, to_z, of_z, w64}
+use Rattle.std.proofs.Common.{◌≡◌, ◌∙◌, ◌<◌, ◌+◌, ℕ, List, length, length-set, refl, ap, sym, subst, arith, to_z, of_z, w64}
 use Rattle.std.specs.Prelude.{ℤ, pos, slice_set}
 use Rattle.vr_model.specs.tables.Numbers.{number_at}
 use Rattle.vr_model.specs.routes.Routes.{route}
-use Rattle.vr_model.specs.moves.Moves.{with_route}
 use Rattle.vr_routes.specs.Pieces.{joined, no_part, part_at}
 use Rattle.vr_costfilter.specs.PlanCosts.{plans_cost, IsPlanCost}
 use Rattle.vr_costfilter.proofs.PlanLemmas.{read-cost}
 use Rattle.vr_parts.proofs.RowLemmas.{rows-set}
-use Rattle.vr_parts.proofs.SumLemmas.{upto, upto-next}
+use Rattle.vr_parts.proofs.SumLemmas.{upto}
+use Rattle.vr_earliest.proofs.WritingLemmas.{upto-put}
 use Rattle.vr_costfilter.specs.Known.{AreCumulsAt, IsValidChange}
 use Rattle.vr_costfilter.proofs.KnownLemmas.{plans-cumuls}
 use Rattle.vr_costfilter.specs.PlanCosts.{KeptPlans}
@@ -36,15 +36,14 @@ loop-k-preserved c =
     let stored : to_z w64 (of_z w64 (number_at c.deref.result.now k)) ≡ cost = ap (λ x. to_z w64 (of_z w64 x)) is ∙ read-cost cost range in
     let value : cost ≡ plans_cost model v (joined lists part.pieces) = c.requires.ready.costed.next k low ∙ ap (λ w. plans_cost model w (joined lists part.pieces)) (sym vehicle) in
     let set = rows-set (λ u l x. (x ≡ plans_cost model u l) × IsPlanCost x) (pos 0) base rows v (joined lists part.pieces) cost i.costs (omega (arith, vehicle, known, many, all_many, as_many)) (value, range) in
-    let next : upto lists parts (k + 1) ≡ with_route base v (joined lists part.pieces) =
-    ap (upto lists parts) (add-one k) ∙ upto-next lists parts k low ∙ ap (λ w. with_route base w (joined lists part.pieces)) (sym vehicle) in
+    let next = upto-put lists parts k low vehicle refl in
     record {
       model = i.model;
       cumuls = i.cumuls;
       next = i.next;
       many = length-set rows v _ ∙ many;
       costs = subst (λ x. (u : ℕ) → u < length (upto lists parts (k + 1)) → (number_at (slice_set rows v x) u ≡ plans_cost model u (route (upto lists parts (k + 1)) u)) × IsPlanCost (number_at (slice_set rows v x) u)) (sym stored)
-          (subst (λ l. (u : ℕ) → u < length l → (number_at (slice_set rows v cost) u ≡ plans_cost model u (route l u)) × IsPlanCost (number_at (slice_set rows v cost) u)) (sym next) set);
+          (subst (λ l. (u : ℕ) → u < length l → (number_at (slice_set rows v cost) u ≡ plans_cost model u (route l u)) × IsPlanCost (number_at (slice_set rows v cost) u)) next set);
     }
 
 pub commit-requires : goal.commit-requires

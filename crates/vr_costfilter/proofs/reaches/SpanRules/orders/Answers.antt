@@ -9,8 +9,8 @@ use Rattle.vr_costfilter.proofs.reaches.SpanRules.orders.Goals as goal
 
 pub invariant_of-tour : goal.invariant_of-tour
 invariant_of-tour c =
-    let m = c.self.inside.model.now in
-    let well = c.self.invariant.well_formed in
+    let m = c.self.inside.lookups.closed.model.now in
+    let well = c.self.inside.lookups.closed.well_formed in
     let lists : List (List ℕ) = c.args.routes.now.lists in
     let valid = subst (λ m. IsTrue (is_valid m lists)) (sym c.self.view_is) c.requires.valid in
     let many = (small m well lists valid).many in

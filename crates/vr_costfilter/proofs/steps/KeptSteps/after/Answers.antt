@@ -1,5 +1,5 @@
 use Rattle.std.proofs.Common.{◌∙◌, ◌++◌, List, [], ℕ, drop, length, length-append, take, ap, sym, subst, arith}
-use Rattle.std.specs.Prelude.{All, IsTrue, is_some}
+use Rattle.std.specs.Prelude.{All, IsTrue}
 use Rattle.std.proofs.lemmas.List.{length-take-le}
 use Rattle.vr_model.specs.tables.Tables.{is_visit}
 use Rattle.vr_model.proofs.schedules.ChoiceLaws.{chosen_is_least}
@@ -19,7 +19,7 @@ use Rattle.vr_costfilter.specs.declared.trails.Step.{Step}
 use Rattle.vr_costfilter.proofs.FloorLemmas.{back-many}
 use Rattle.vr_costfilter.proofs.KeptCumulLemmas.{all-visits}
 use Rattle.vr_costfilter.proofs.AfterLemmas.{back-anew, comes-to, front-unmet, led-along, middle-unmet, out-unmet, rest-unmet, trail-known, IsKeptAround}
-use Rattle.vr_costfilter.proofs.StuckLemmas.{whole-none}
+use Rattle.vr_costfilter.proofs.StuckLemmas.{untold, whole-none}
 use Rattle.vr_costfilter.proofs.steps.KeptSteps.after.Goals as goal
 
 pub invariant_of-known : goal.invariant_of-known
@@ -45,6 +45,15 @@ invariant_of-led c =
         nodes = record { few = omega (arith, asked.sound.few, long, two, more); visits = all_left P middle (drop ends.behind list) (all_right P (take ends.front list) (middle ++ drop ends.behind list) all) };
       };
     }
+
+pub back_along-requires : goal.back_along-requires
+back_along-requires c =
+    let middle : List ℕ = joined c.args.asked.now.routes.now.lists c.strip-ends.result.middle.now in
+    let list : List ℕ = route c.args.asked.now.routes.now.lists c.args.asked.now.guide.now.v in
+    let long = ap length c.strip-ends.ensures.joins in
+    let two = length-append (take c.strip-ends.result.front list) (middle ++ drop c.strip-ends.result.behind list) in
+    let more = length-append middle (drop c.strip-ends.result.behind list) in
+    record { step = c.step_behind-next.ensures.range; room = omega (arith, ap length c.clear.ensures, c.args.asked.now.sound.few, long, two, more) }
 
 -- what the change keeps of the list that the vehicle has, and the step behind what it puts in
 abbrev Around : Asked → KeptSteps → Ends → Step → Type 0
@@ -96,37 +105,37 @@ returns c =
 
 -- ---- where there is none
 
-pub returns-in_err-first-clause-known : goal.returns-in_err-first-clause-known
-returns-in_err-first-clause-known c =
+pub returns-in_err-first : goal.returns-in_err-first
+returns-in_err-first c =
     let around : Around c.args.asked.now c.args.self.now c.strip-ends.result c.step_behind-next.result = record { steps_are = c.requires.known.stages.steps_are; joins = c.strip-ends.ensures.joins; next_is = c.step_behind-next.ensures.value } in
-    ap is_some c.from_residual.ensures ∙ sym (middle-unmet around (start_run (runs_of c.args.asked.now.guide.now) c.args.start) c.requires.allows (sym c.in_err-first.ensures.value))
+    untold c.from_residual.ensures (middle-unmet around (start_run (runs_of c.args.asked.now.guide.now) c.args.start) c.requires.allows (sym c.in_err-first.ensures.value))
 
-pub returns-in_err-lead-clause-known : goal.returns-in_err-lead-clause-known
-returns-in_err-lead-clause-known c =
+pub returns-in_err-lead : goal.returns-in_err-lead
+returns-in_err-lead c =
     let g = c.args.asked.now.guide.now in
     let around : Around c.args.asked.now c.args.self.now c.strip-ends.result c.step_behind-next.result = record { steps_are = c.requires.known.stages.steps_are; joins = c.strip-ends.ensures.joins; next_is = c.step_behind-next.ensures.value } in
-    ap is_some c.from_residual-in_err-lead.ensures ∙ sym (front-unmet around (start_run (runs_of c.args.asked.now.guide.now) c.args.start) c.requires.allows (back-anew c.clear.ensures c.in_ok-first.ensures.back)
+    untold c.from_residual-in_err-lead.ensures (front-unmet around (start_run (runs_of c.args.asked.now.guide.now) c.args.start) c.requires.allows (back-anew c.clear.ensures c.in_ok-first.ensures.back)
     (ap (λ l. first_step g.model.now g.d g.v (runs_of g) (take c.strip-ends.result.front l) c.in_ok-first.first) (sym c.list-list.ensures.value) ∙ sym c.in_err-lead.ensures.first))
 
-pub returns-in_err-met-clause-known : goal.returns-in_err-met-clause-known
-returns-in_err-met-clause-known c =
+pub returns-in_err-met : goal.returns-in_err-met
+returns-in_err-met c =
     let around : Around c.args.asked.now c.args.self.now c.strip-ends.result c.step_behind-next.result = record { steps_are = c.requires.known.stages.steps_are; joins = c.strip-ends.ensures.joins; next_is = c.step_behind-next.ensures.value } in
     let led = led-along c.strip-ends.result.front c.list-list.ensures.value c.in_ok-lead.ensures.led in
-    ap is_some c.from_residual-in_err-met.ensures ∙ sym (out-unmet around (start_run (runs_of c.args.asked.now.guide.now) c.args.start) (back-anew c.clear.ensures c.in_ok-first.ensures.back) led c.requires.allows (sym c.in_err-met.ensures.value))
+    untold c.from_residual-in_err-met.ensures (out-unmet around (start_run (runs_of c.args.asked.now.guide.now) c.args.start) (back-anew c.clear.ensures c.in_ok-first.ensures.back) led c.requires.allows (sym c.in_err-met.ensures.value))
 
-pub returns-in_err-gone-clause-known : goal.returns-in_err-gone-clause-known
-returns-in_err-gone-clause-known c =
+pub returns-in_err-gone : goal.returns-in_err-gone
+returns-in_err-gone c =
     let g = c.args.asked.now.guide.now in
     let left : List Step = drop c.strip-ends.result.behind (steps_of c.args.self.now) in
     let around : Around c.args.asked.now c.args.self.now c.strip-ends.result c.step_behind-next.result = record { steps_are = c.requires.known.stages.steps_are; joins = c.strip-ends.ensures.joins; next_is = c.step_behind-next.ensures.value } in
     let led = led-along c.strip-ends.result.front c.list-list.ensures.value c.in_ok-lead.ensures.led in
-    ap is_some c.from_residual-in_err-gone.ensures ∙ sym (rest-unmet around (start_run (runs_of c.args.asked.now.guide.now) c.args.start) (back-anew c.clear.ensures c.in_ok-first.ensures.back) led c.in_ok-met.ensures.met c.requires.allows
+    untold c.from_residual-in_err-gone.ensures (rest-unmet around (start_run (runs_of c.args.asked.now.guide.now) c.args.start) (back-anew c.clear.ensures c.in_ok-first.ensures.back) led c.in_ok-met.ensures.met c.requires.allows
     (ap (λ o. whole g.model.now g.d g.v (runs_of g) o left) (sym c.in_err-gone.ensures.value) ∙ whole-none g.model.now g.d g.v (runs_of g) left))
 
-pub returns-in_err-end-clause-known : goal.returns-in_err-end-clause-known
-returns-in_err-end-clause-known c =
+pub returns-in_err-end : goal.returns-in_err-end
+returns-in_err-end c =
     let g = c.args.asked.now.guide.now in
     let around : Around c.args.asked.now c.args.self.now c.strip-ends.result c.step_behind-next.result = record { steps_are = c.requires.known.stages.steps_are; joins = c.strip-ends.ensures.joins; next_is = c.step_behind-next.ensures.value } in
     let led = led-along c.strip-ends.result.front c.list-list.ensures.value c.in_ok-lead.ensures.led in
-    ap is_some c.from_residual-in_err-end.ensures ∙ sym (rest-unmet around (start_run (runs_of c.args.asked.now.guide.now) c.args.start) (back-anew c.clear.ensures c.in_ok-first.ensures.back) led c.in_ok-met.ensures.met c.requires.allows
+    untold c.from_residual-in_err-end.ensures (rest-unmet around (start_run (runs_of c.args.asked.now.guide.now) c.args.start) (back-anew c.clear.ensures c.in_ok-first.ensures.back) led c.in_ok-met.ensures.met c.requires.allows
     (ap (λ o. whole g.model.now g.d g.v (runs_of g) o (drop c.strip-ends.result.behind (steps_of c.args.self.now))) (sym c.in_ok-gone.ensures.value) ∙ sym c.in_err-end.ensures))

@@ -1,4 +1,4 @@
-use Rattle.std.proofs.Common.{◌∙◌, ◌++◌, List, ap, sym, subst}
+use Rattle.std.proofs.Common.{◌∙◌, ◌++◌, List, length, ap, sym, subst, arith}
 use Rattle.std.specs.Prelude.{reverse}
 use Rattle.std.proofs.lemmas.List.{reverse-reverse}
 use Rattle.vr_costfilter.specs.Floors.{first_of, first_step, AreAimed}
@@ -7,6 +7,9 @@ use Rattle.vr_costfilter.specs.Steps.{AreStepsFrom}
 use Rattle.vr_costfilter.specs.declared.trails.Step.{Step}
 use Rattle.vr_costfilter.proofs.FeasibleLemmas.{begin-had}
 use Rattle.vr_costfilter.proofs.steps.KeptSteps.write.Goals as goal
+
+pub back_along-requires : goal.back_along-requires
+back_along-requires c = record { step = c.end_step-end.ensures.range; room = omega (arith, ap length c.clear-2.ensures, c.args.led.now.sound.few) }
 
 pub write_stages-requires-clause-steps : goal.write_stages-requires-clause-steps
 write_stages-requires-clause-steps c =

@@ -37,9 +37,13 @@ bounds-deref-list c = step-inside c.args.self.now.sound c.deref.ensures.0 (c.arg
 pub before-requires-clause-node : goal.before-requires-clause-node
 before-requires-clause-node c = (step-known c.args.self.now.sound c.deref.ensures.0 (c.args.front - 1 - c.loop-k.k) (omega (arith, c.requires.place, c.loop-k-test.true)) no_step).visit
 
--- the visit that is read comes before those that were walked along
+-- the visit that is read of n steps
+abbrev node-at : List Step → (n front k : ℕ) → ℕ
+node-at read n front k = (slice_index_or read (n - 1 - (front - 1 - k)) no_step).node
+
+-- it comes before those that were walked along
 next-node : {model : Model} {d v : ℕ} {runs : Runs} {list : List ℕ} {kept : KeptSteps} {read : List Step} → AreKnownSteps model d v runs list kept → read ≡ kept.trail.steps.items → (front k : ℕ) → k < front → front ≤ length list
-    → drop (front - (k + 1)) (take front list) ≡ (slice_index_or read (length list - 1 - (front - 1 - k)) no_step).node ∷ drop (front - k) (take front list)
+    → drop (front - (k + 1)) (take front list) ≡ node-at read (length list) front k ∷ drop (front - k) (take front list)
 next-node {model} {d} {v} {runs} {list} {kept} {read} sound is front k low le =
     let place : ℕ = front - 1 - k in
     let there : (slice_index_or read (length list - 1 - place) no_step).node ≡ slice_index_or (take front list) place 0 =
@@ -81,15 +85,11 @@ returns-then-step-kept-clause-first c =
 pub returns-in-None-clause-first : goal.returns-in-None-clause-first
 returns-in-None-clause-first c =
     let g = c.args.self.now.guide.now in
-    let list : List ℕ = c.args.self.now.list.now in
-    let front = c.args.front in
-    let k = c.loop-k.k in
-    let nodes : List ℕ = take front list in
-    let node : ℕ = (slice_index_or c.deref.result.now (length list - 1 - (front - 1 - k)) no_step).node in
-    let rest : List ℕ = drop (front - k) nodes in
-    let ahead : List ℕ = take (front - (k + 1)) nodes in
-    let split : nodes ≡ ahead ++ (node ∷ rest) =
-    sym (take-append-drop (front - (k + 1)) nodes) ∙ ap (λ l. ahead ++ l) (next-node c.args.self.now.sound c.deref.ensures.0 front k c.loop-k-test.true c.requires.place) in
+    let nodes : List ℕ = take c.args.front c.args.self.now.list.now in
+    let node : ℕ = node-at c.deref.result.now (length c.args.self.now.list.now) c.args.front c.loop-k.k in
+    let rest : List ℕ = drop (c.args.front - c.loop-k.k) nodes in
+    let ahead : List ℕ = take (c.args.front - (c.loop-k.k + 1)) nodes in
+    let split : nodes ≡ ahead ++ (node ∷ rest) = sym (take-append-drop (c.args.front - (c.loop-k.k + 1)) nodes) ∙ ap (λ l. ahead ++ l) (next-node c.args.self.now.sound c.deref.ensures.0 c.args.front c.loop-k.k c.loop-k-test.true c.requires.place) in
     let gone = went-begin g.model.now g.d g.v (runs_of g) rest c.args.next c.loop-k.first c.args.trail.now.steps.items c.loop-k.trail.steps.items c.loop-k.invariant.back in
     sym (begin-none g.model.now g.d g.v (runs_of g) nodes ahead (node ∷ rest) c.args.next split
     (ap (option_and_then (before g.model.now g.d g.v (runs_of g) node)) gone ∙ sym c.in-None.ensures.value))
@@ -106,17 +106,16 @@ push-requires c =
 pub loop-k-preserved : goal.loop-k-preserved
 loop-k-preserved c =
     let g = c.args.self.now.guide.now in
-    let list : List ℕ = c.args.self.now.list.now in
     let front = c.args.front in
     let k = c.loop-k.k in
-    let nodes : List ℕ = take front list in
-    let node : ℕ = (slice_index_or c.deref.result.now (length list - 1 - (front - 1 - k)) no_step).node in
+    let nodes : List ℕ = take front c.args.self.now.list.now in
+    let node : ℕ = node-at c.deref.result.now (length c.args.self.now.list.now) front k in
     let e = c.in-Some.ensures in
     let step = c.in-Some.step in
     let one = back-one g.model.now g.d g.v (runs_of g) node c.loop-k.first step c.loop-k.trail.steps.items c.push.new.self.items (sym e.value) e.range c.push.ensures.items in
     record {
       back = back-more g.model.now g.d g.v (runs_of g) (node ∷ []) (drop (front - k) nodes) (drop (front - (k + 1)) nodes) c.args.next c.loop-k.first step c.args.trail.now.steps.items c.loop-k.trail.steps.items c.push.new.self.items
-          (next-node c.args.self.now.sound c.deref.ensures.0 front k c.loop-k-test.true c.requires.place) c.loop-k.invariant.back one;
+          (next-node c.args.self.now.sound c.deref.ensures.0 c.args.front c.loop-k.k c.loop-k-test.true c.requires.place) c.loop-k.invariant.back one;
       range = visit-step g.model.now step e.range;
     }
 

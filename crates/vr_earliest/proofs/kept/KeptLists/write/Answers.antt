@@ -1,8 +1,14 @@
-use Rattle.std.proofs.Common.{sym, subst, arith}
+use Rattle.std.proofs.Common.{◌<◌, sym, subst, arith}
+use Rattle.std.specs.Prelude.{All}
+use Rattle.vr_model.specs.declared.records.Model.{Model}
 use Rattle.vr_model.specs.moves.Moves.{with_route}
 use Rattle.vr_earliest.specs.Kept.{HaveWays, HasWays}
 use Rattle.vr_earliest.proofs.KeptLemmas.{kept-set, kept-stays}
+use Rattle.vr_earliest.proofs.WayLemmas.{by-guide}
 use Rattle.vr_earliest.proofs.kept.KeptLists.write.Goals as goal
+
+pub invariant_of-led : goal.invariant_of-led
+invariant_of-led c = record { sound = record { few = c.requires.few; nodes_are = subst (λ (m : Model). All (λ node. node < m.nodes) c.args.list.now) (sym c.of-guide.ensures.model) c.requires.nodes } }
 
 pub returns-then-v-len : goal.returns-then-v-len
 returns-then-v-len c lists h known =
@@ -10,9 +16,7 @@ returns-then-v-len c lists h known =
     let e = c.of-guide.ensures in
     let list = c.args.list.now in
     let new = c.write.new.self in
-    let a = subst (λ model. HasWays model c.of-guide.result.d c.of-guide.result.v list new) e.model c.write.ensures in
-    let b = subst (λ d. HasWays m d c.of-guide.result.v list new) e.dimension a in
-    let is = subst (λ v. HasWays m c.args.d v list new) e.vehicle b in
+    let is = by-guide c.of-guide.result e.model e.dimension e.vehicle (λ model d v. HasWays model d v list new) c.write.ensures in
     let old = subst (HaveWays m c.args.d lists) (sym c.self.view_is) h in
     kept-set m c.args.d lists c.self.inside.lists.items c.args.v list new old known (omega (arith, c.len.ensures, c.if-v-len.true)) is
 

@@ -5,8 +5,8 @@ use Rattle.vr_earliest.proofs.kept.KeptWays.write_rests.Given as goal
 
 abbrev pub invariant-loop-k : goal.invariant-loop-k
 invariant-loop-k l = record {
-  rests : AreRestsTo l.guide.model.now l.guide.d l.guide.v l.list l.k l.self.rests.items;
-  rest : l.rest ≡ rest_of l.guide.model.now l.guide.d l.guide.v (drop (length l.list - l.k) l.list);
-  range : IsRestOf l.guide.model.now l.k l.rest;
+  rests : AreRestsTo l.led.guide.now.model.now l.led.guide.now.d l.led.guide.now.v l.led.list.now l.k l.self.rests.items;
+  rest : l.rest ≡ rest_of l.led.guide.now.model.now l.led.guide.now.d l.led.guide.now.v (drop (length l.led.list.now - l.k) l.led.list.now);
+  range : IsRestOf l.led.guide.now.model.now l.k l.rest;
   ways : l.self.ways ≡ l.fn.self.ways;
 }
