@@ -14,6 +14,7 @@ use Rattle.vr_model.proofs.routes.Lists.{are-lists}
 use Rattle.vr_routes.specs.Judging.{verdict_of}
 use Rattle.vr_routes.specs.declared.judging.Verdict.TheVariants.{Refused, Difference}
 use Rattle.vr_judge.specs.Rules.{keeps_rules}
+use Rattle.vr_judge.specs.Verdicts.{verdict_by}
 use Rattle.vr_judge.proofs.RuleLemmas.{kept_as_valid}
 
 module _ (model : Model) (lists after : List (List ℕ)) (mv : Move) (makes : after ≡ apply model lists mv) where
@@ -22,14 +23,15 @@ module _ (model : Model) (lists after : List (List ℕ)) (mv : Move) (makes : af
   tested_as_valid well_formed valid is_one = kept_as_valid model after
       (subst (λ ls. IsTrue (are_lists model ls)) (sym makes) (moves_keep_lists model well_formed lists mv (are-lists model lists valid) is_one))
 
-  by_test : (b : Bool) → is_valid model after ≡ b → cond b (Difference (cost model after -ℤ cost model lists)) Refused ≡ verdict_of model lists mv
-  by_test b is = ap (λ t. cond t (Difference (cost model after -ℤ cost model lists)) Refused) (sym is)
-      ∙ ap (λ ls. cond (is_valid model ls) (Difference (cost model ls -ℤ cost model lists)) Refused) makes
+  -- the verdict on the change is that on the move
+  pub as_move : verdict_by model lists after ≡ verdict_of model lists mv
+  as_move = ap (λ ls. verdict_by model lists ls) makes
 
+module _ (model : Model) (lists after : List (List ℕ)) where
   -- lists that are not valid are refused
-  pub refused : is_valid model after ≡ false → Refused ≡ verdict_of model lists mv
-  refused is = by_test false is
+  pub refused_by : is_valid model after ≡ false → Refused ≡ verdict_by model lists after
+  refused_by is = sym (ap (λ b. cond b (Difference (cost model after -ℤ cost model lists)) Refused) is)
 
   -- valid lists make a difference
-  pub differs : is_valid model after ≡ true → (difference : ℤ) → difference ≡ cost model after -ℤ cost model lists → Difference difference ≡ verdict_of model lists mv
-  differs is difference exact = ap (λ d. Difference d) exact ∙ by_test true is
+  pub differs_by : is_valid model after ≡ true → (difference : ℤ) → difference ≡ cost model after -ℤ cost model lists → Difference difference ≡ verdict_by model lists after
+  differs_by is difference exact = ap (λ d. Difference d) exact ∙ sym (ap (λ b. cond b (Difference (cost model after -ℤ cost model lists)) Refused) is)

@@ -5,7 +5,6 @@ ghost use Rattle.vr_model.specs.moves.MoveTests.{is_move};
 ghost use Rattle.vr_model.specs.routes.Costs.{cost};
 ghost use Rattle.vr_model.specs.routes.Rules.{is_valid};
 ghost use Rattle.vr_model.specs.tables.Tables.{visits};
-ghost use Rattle.vr_model.specs.tables.WellFormed.{IsWellFormed};
 ghost use Rattle.vr_routes.specs.Changes.{IsChange, IsMadeOn, after};
 ghost use Rattle.vr_routes.specs.Pieces.{changed};
 ghost use Rattle.vr_routes.specs.Judging.{IsLeast, IsNoLess};
@@ -22,6 +21,7 @@ use std::marker::Model;
 use vr_costfilter::{ArcCost, CostPart, FixedCost, GlobalSpan, GroupCost, PlanCost};
 use vr_earliest::{Earlies, Earliest};
 use vr_model::{Model as RoutingModel, Move, NoMemory};
+use vr_plan::Lookups;
 use vr_routes::{Change, Routes};
 
 /// What routes cost, part by part.
@@ -90,23 +90,23 @@ fn keeps_activity(mv: Move) -> bool
 }
 
 impl<'m> Costs<'m> {
-    /// What valid routes of a model cost. The only refusal is want of memory.
-    pub fn open(
+    /// What valid routes of a model cost, over what was looked up of it. The only refusal is want of memory.
+    pub fn over(
         alloc: Global,
-        model: &'m RoutingModel,
+        lookups: &Lookups<'m>,
         routes: &Routes,
     ) -> Result<Costs<'m>, NoMemory>
-        requires well_formed { IsWellFormed model.now }
-        requires of_model { routes.now.visits ≡ visits model.now }
-        requires valid { IsTrue (is_valid model.now routes.now.lists) }
-        ensures model { IfOk result (λ costs. costs.model ≡ model.now) }
+        requires of_model { routes.now.visits ≡ visits lookups.now.closed.model.now }
+        requires valid { IsTrue (is_valid lookups.now.closed.model.now routes.now.lists) }
+        ensures model { IfOk result (λ costs. costs.model ≡ lookups.now.closed.model.now) }
         ensures stands { IfOk result (λ costs. StandsCosts costs routes.now) }
     {
+        let model = lookups.closed.model;
         let arcs = ArcCost::open(alloc, model, routes);
         let fixed = FixedCost::open(model, routes);
         let groups = GroupCost::open(alloc, model, routes);
-        let plans = PlanCost::open(alloc, model, routes);
-        let spans = GlobalSpan::open(alloc, model, routes);
+        let plans = PlanCost::over(alloc, lookups, routes);
+        let spans = GlobalSpan::over(alloc, lookups, routes);
         let earliest = Earliest::open(alloc, model, routes);
         let used = both(fixed, groups);
         let driven = both(arcs, earliest);

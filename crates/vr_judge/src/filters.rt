@@ -4,15 +4,15 @@ ghost use Rattle.std.specs.Prelude.{◌≡◌, ◌+◌, ◌≤◌, ℕ, Bool, fa
 ghost use Rattle.std.specs.List.{list_all};
 ghost use Rattle.vr_model.specs.routes.Rules.{is_valid};
 ghost use Rattle.vr_model.specs.tables.Tables.{visits};
-ghost use Rattle.vr_model.specs.tables.WellFormed.{IsWellFormed};
 ghost use Rattle.vr_judge.specs.Rules.{are_feasible, keeps_rules, total_weight};
 
 use crate::both::both;
 use crate::ranks::ranked_dimensions;
 use std::alloc::Global;
 use vr_filter::{Both, Each, PathFilter};
-use vr_model::{Closed, Model, NoMemory};
+use vr_model::NoMemory;
 use vr_pathfilters::{DimensionFilter, GroupFilter, PairFilter, VehicleFilter};
+use vr_plan::Lookups;
 use vr_routes::Routes;
 
 /// The filters of a model: those that ask least come first.
@@ -21,25 +21,26 @@ pub type Filters<'m> = Both<
     Both<VehicleFilter<'m>, Both<PairFilter<'m>, Each<DimensionFilter<'m>>>>,
 >;
 
-/// The filters of a model, which stand at these routes. The only refusal is want of memory.
+/// The filters of a model, over what was looked up of it, which stand at these routes. The only refusal is want of
+/// memory.
 pub fn filters_of<'m>(
     alloc: Global,
-    model: &'m Model,
+    lookups: &Lookups<'m>,
     routes: &Routes,
 ) -> Result<Filters<'m>, NoMemory>
-    requires well_formed { IsWellFormed model.now }
-    requires of_model { routes.now.visits ≡ visits model.now }
-    requires valid { IsTrue (is_valid model.now routes.now.lists) }
+    requires of_model { routes.now.visits ≡ visits lookups.now.closed.model.now }
+    requires valid { IsTrue (is_valid lookups.now.closed.model.now routes.now.lists) }
     ensures rules { IfOk result (λ filters. (lists : List (List ℕ))
-        → ⟦<Filters<'static> as PathFilter>⟧.holds filters lists ≡ keeps_rules model.now lists) }
+        → ⟦<Filters<'static> as PathFilter>⟧.holds filters lists ≡ keeps_rules lookups.now.closed.model.now lists) }
     ensures weights { IfOk result (λ filters. (before later : List (List ℕ))
-        → ⟦<Filters<'static> as PathFilter>⟧.weight filters before later ≡ total_weight model.now before later) }
+        → ⟦<Filters<'static> as PathFilter>⟧.weight filters before later
+        ≡ total_weight lookups.now.closed.model.now before later) }
     ensures stands { IfOk result (λ filters. ⟦<Filters<'static> as PathFilter>⟧.stands_at filters routes.now) }
 {
-    let groups = GroupFilter::open(alloc, model, routes);
-    let vehicles = VehicleFilter::open(alloc, model, routes);
-    let pairs = PairFilter::open(alloc, model, routes);
-    let dimensions = filters_of_dimensions(alloc, Closed { model }, routes);
+    let groups = GroupFilter::open(alloc, lookups.closed.model, routes);
+    let vehicles = VehicleFilter::over(lookups, routes);
+    let pairs = PairFilter::over(lookups, routes);
+    let dimensions = filters_of_dimensions(alloc, lookups, routes);
     let front = both(groups, vehicles);
     let end = both(pairs, dimensions);
     let (front, end) = both(front, end)?;
@@ -60,25 +61,25 @@ pub fn filters_of<'m>(
 // The filters of all dimensions, those that ask least first.
 fn filters_of_dimensions<'m>(
     alloc: Global,
-    closed: Closed<'m>,
+    lookups: &Lookups<'m>,
     routes: &Routes,
 ) -> Result<Each<DimensionFilter<'m>>, NoMemory>
-    requires of_model { routes.now.visits ≡ visits closed.model.now }
-    requires many { length routes.now.lists ≡ length closed.model.now.vehicles }
-    requires feasible { IsTrue (are_feasible closed.model.now routes.now.lists) }
+    requires of_model { routes.now.visits ≡ visits lookups.now.closed.model.now }
+    requires many { length routes.now.lists ≡ length lookups.now.closed.model.now.vehicles }
+    requires feasible { IsTrue (are_feasible lookups.now.closed.model.now routes.now.lists) }
     ensures holds { IfOk result (λ each. (lists : List (List ℕ))
         → ⟦<Each<DimensionFilter<'static>> as PathFilter>⟧.holds each lists
-        ≡ are_feasible closed.entry.model.now lists) }
+        ≡ are_feasible lookups.now.closed.model.now lists) }
     ensures weight { IfOk result (λ each. (before later : List (List ℕ))
         → ⟦<Each<DimensionFilter<'static>> as PathFilter>⟧.weight each before later
-        ≡ total_weight closed.entry.model.now before later) }
+        ≡ total_weight lookups.now.closed.model.now before later) }
     ensures stands { IfOk result (λ each.
         ⟦<Each<DimensionFilter<'static>> as PathFilter>⟧.stands_at each routes.now) }
 {
-    let order = ranked_dimensions(alloc, closed)?;
+    let order = ranked_dimensions(alloc, lookups.closed)?;
     let mut filters = Vec::with_capacity(alloc, order.len())?;
     for k in 0..order.len() {
-        filters.push(DimensionFilter::open(alloc, closed.model, order[k], routes)?)?;
+        filters.push(DimensionFilter::over(alloc, lookups, order[k], routes)?)?;
     }
     Ok(Each { filters })
 }

@@ -6,6 +6,7 @@ ghost use Rattle.vr_model.specs.moves.MoveTests.{is_move};
 ghost use Rattle.vr_model.specs.routes.Rules.{is_valid};
 ghost use Rattle.vr_model.specs.tables.Tables.{visits};
 ghost use Rattle.vr_model.specs.tables.WellFormed.{IsWellFormed};
+ghost use Rattle.vr_routes.specs.Changes.{IsChange};
 ghost use Rattle.vr_routes.specs.Judging.{HoldSame, IsLeast, moved, verdict_of};
 ghost use Rattle.vr_judge.specs.Costs.{IsToldByNumbers};
 ghost use Rattle.vr_judge.specs.Rules.{total_weight};
@@ -17,7 +18,8 @@ use crate::judging::Judging;
 use std::alloc::Global;
 use std::marker::Model;
 use std::sync::ledger::Ledger;
-use vr_model::{Model as RoutingModel, Move, NoMemory, Steps};
+use vr_model::{Closed, Model as RoutingModel, Move, NoMemory, Steps};
+use vr_plan::Lookups;
 use vr_routes::{Change, Judge, Routes, Verdict};
 
 /// Judges a move by what it changes: filters refuse it (`LocalSearchFilterManager` in OR-Tools), and parts of the cost
@@ -53,13 +55,28 @@ impl<'m> FilterJudge<'m> {
         ensures model { IfOk result (λ judge. judge.model ≡ model.now) }
         ensures holds { IfOk result (λ judge. HoldSame model.now judge.lists routes.now) }
     {
-        let filters = filters_of(alloc, model, routes);
-        let costs = Costs::open(alloc, model, routes);
+        let lookups = Lookups::open(alloc, Closed { model })?;
+        FilterJudge::over(alloc, &lookups, routes)
+    }
+
+    /// The same, over what was looked up of the model.
+    pub fn over(
+        alloc: Global,
+        lookups: &Lookups<'m>,
+        routes: &Routes,
+    ) -> Result<FilterJudge<'m>, NoMemory>
+        requires of_model { routes.now.visits ≡ visits lookups.now.closed.model.now }
+        requires valid { IsTrue (is_valid lookups.now.closed.model.now routes.now.lists) }
+        ensures model { IfOk result (λ judge. judge.model ≡ lookups.now.closed.model.now) }
+        ensures holds { IfOk result (λ judge. HoldSame lookups.now.closed.model.now judge.lists routes.now) }
+    {
+        let filters = filters_of(alloc, lookups, routes);
+        let costs = Costs::over(alloc, lookups, routes);
         let held = routes.copy(alloc);
         let kept = both(costs, held);
         let (filters, kept) = both(filters, kept)?;
         let (costs, held) = kept;
-        let judging = Judging::new(model, routes, held, filters, costs);
+        let judging = Judging::new(lookups.closed.model, routes, held, filters, costs);
         Ok(FilterJudge {
             judging: Box::new(alloc, judging)?,
         })
@@ -87,6 +104,17 @@ impl<'m> Judge for FilterJudge<'m> {
         steps: &mut Steps<L>,
     ) -> Result<Verdict, NoMemory> {
         let verdict = self.judging.judge(routes, mv, steps)?;
+        Ok(verdict)
+    }
+
+    fn judge_change<L: Ledger>(
+        &mut self,
+        routes: &Routes,
+        mv: Move,
+        change: &Change,
+        steps: &mut Steps<L>,
+    ) -> Result<Verdict, NoMemory> {
+        let verdict = self.judging.judge_change(routes, mv, change, steps)?;
         Ok(verdict)
     }
 

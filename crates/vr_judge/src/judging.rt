@@ -1,12 +1,16 @@
 //! Judging a move by a filter of what it changes, and by the parts of the cost.
 
 ghost use Rattle.std.specs.Prelude.{◌≡◌, ◌+◌, ◌≤◌, ℕ, List, IfOk, IfSome, IsTrue, OnOk, OnErr, length};
+ghost use Rattle.vr_filter.specs.Filters.{IsSameRule, IsSameWeight};
 ghost use Rattle.vr_model.specs.moves.Moves.{apply};
 ghost use Rattle.vr_model.specs.moves.MoveTests.{is_move};
 ghost use Rattle.vr_model.specs.routes.Rules.{is_valid};
 ghost use Rattle.vr_model.specs.tables.Tables.{visits};
 ghost use Rattle.vr_model.specs.tables.WellFormed.{IsWellFormed};
 ghost use Rattle.vr_judge.specs.Costs.{IsToldByNumbers, StandsCosts};
+ghost use Rattle.vr_judge.specs.Verdicts.{verdict_by};
+ghost use Rattle.vr_routes.specs.Changes.{IsChange, IsMadeOn};
+ghost use Rattle.vr_routes.specs.Pieces.{changed};
 ghost use Rattle.vr_routes.specs.Judging.{HoldSame, IsLeast, moved, verdict_of};
 ghost use Rattle.vr_judge.specs.Rules.{keeps_rules, total_weight};
 
@@ -73,6 +77,36 @@ impl<'m, F: PathFilter + Drop> Judging<'m, F> {
     }
 }
 
+// Judges a change of lists at which a filter and costs stand: the filter tells whether they are valid after it.
+fn judge_by<F: PathFilter, L: Ledger>(
+    filter: &mut F,
+    costs: &mut Costs<'_>,
+    routes: &Routes,
+    change: &Change,
+    steps: &mut Steps<L>,
+) -> Result<Verdict, NoMemory>
+    requires made { IsMadeOn routes.now change.now }
+    requires filter { F.stands_at filter.old routes.now }
+    requires rule { F.holds filter.old (changed routes.now.lists change.now)
+        ≡ is_valid costs.old.model (changed routes.now.lists change.now) }
+    requires costs { StandsCosts costs.old routes.now }
+    ensures verdict { IfOk result (λ verdict. verdict
+        ≡ verdict_by costs.old.model routes.now.lists (changed routes.now.lists change.now)) }
+    ensures count { steps.new ≤ steps.old
+        + F.weight filter.old routes.now.lists (changed routes.now.lists change.now) }
+    ensures same_rule { IsSameRule (F.holds filter.old) (F.holds filter.new) }
+    ensures same_weight { IsSameWeight (F.weight filter.old) (F.weight filter.new) }
+    ensures filter { F.stands_at filter.new routes.now }
+    ensures model { costs.new.model ≡ costs.old.model }
+    ensures costs { StandsCosts costs.new routes.now }
+{
+    if !filter.passes(routes, change, steps)? {
+        return Ok(Verdict::Refused);
+    }
+    let difference = costs.difference(routes, change)?;
+    Ok(Verdict::Difference(difference))
+}
+
 impl<'m, F: PathFilter + Drop> Judge for Judging<'m, F> {
     ghost model = { λ judging. judging.model };
 
@@ -91,11 +125,25 @@ impl<'m, F: PathFilter + Drop> Judge for Judging<'m, F> {
         steps: &mut Steps<L>,
     ) -> Result<Verdict, NoMemory> {
         Change::write(self.model, routes, mv, &mut self.change);
-        if !self.filter.passes(routes, &self.change, steps)? {
-            return Ok(Verdict::Refused);
-        }
-        let difference = self.costs.difference(routes, &self.change)?;
-        Ok(Verdict::Difference(difference))
+        let verdict = judge_by(
+            &mut self.filter,
+            &mut self.costs,
+            routes,
+            &self.change,
+            steps,
+        )?;
+        Ok(verdict)
+    }
+
+    fn judge_change<L: Ledger>(
+        &mut self,
+        routes: &Routes,
+        _mv: Move,
+        change: &Change,
+        steps: &mut Steps<L>,
+    ) -> Result<Verdict, NoMemory> {
+        let verdict = judge_by(&mut self.filter, &mut self.costs, routes, change, steps)?;
+        Ok(verdict)
     }
 
     #[inline]

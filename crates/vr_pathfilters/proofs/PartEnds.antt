@@ -1,5 +1,5 @@
 -- The list of a part of a change, as what it keeps of the list before at its ends and the nodes between.
-use Rattle.std.proofs.Common.{◌≡◌, ◌∙◌, ◌≤◌, ◌<◌, ◌++◌, ℕ, List, length, take, drop, ap, ap₂, sym, subst, arith}
+use Rattle.std.proofs.Common.{◌≡◌, ◌∙◌, ◌≤◌, ◌<◌, ◌++◌, ℕ, List, length, take, drop, ap, sym, subst, arith}
 use Rattle.std.specs.Prelude.{IsTrue, All}
 use Rattle.std.specs.List.{list_all}
 use Rattle.std.proofs.lemmas.List.Folds.{list_all-append}
@@ -17,8 +17,9 @@ use Rattle.vr_balance.specs.Ends.{AreEnds}
 use Rattle.vr_reach.specs.Spliced.{AreSeams, spliced}
 use Rattle.vr_reach.specs.Lists.{IsTour}
 use Rattle.vr_reach.proofs.Splicing.{long}
+use Rattle.vr_pathfilters.specs.Parts.{IsPartBetween}
 use Rattle.vr_pathfilters.specs.TourLists.{AreTours}
-use Rattle.vr_pathfilters.proofs.PartTours.{tour_of_part}
+use Rattle.vr_pathfilters.proofs.PartTours.{tour_of, tour_of_part}
 
 module _ {lists : List (List ℕ)} {parts : List ListAfter} (are : AreParts lists parts) (k : ℕ) (low : k < length parts) where
   -- a part is of a vehicle that has a list
@@ -29,32 +30,34 @@ module _ {lists : List (List ℕ)} {parts : List ListAfter} (are : AreParts list
   pub part_within : {pieces : List Piece} → pieces ≡ (part_at parts k).pieces → All (IsWithin lists) pieces
   part_within is = subst (All (IsWithin lists)) (sym is) (are.each_within k no_part low)
 
--- nodes between the ends of a list make the list of a part, which is a tour, of a model of 1000 nodes at most
-pub record IsPartBetween (model : Model) (lists : List (List ℕ)) (list : List ℕ) (front behind : ℕ) (pieces : List Piece) (between : List ℕ) : Type 0 where
-  pub whole : spliced list front behind between ≡ joined lists pieces
-  pub tour : IsTour model (spliced list front behind between)
-  pub nodes : All (λ node. node < 1000) between
-  pub few : length between ≤ 1000
-
-pub part_between : {model : Model} {tours : Tours} {parts : List ListAfter} {v front behind : ℕ} {pieces middle : List Piece} {list between : List ℕ}
-    → IsWellFormed model → AreTours model tours → IsMadeOn tours parts → (k : ℕ) → k < length parts → pieces ≡ (part_at parts k).pieces
-    → AreEnds tours.lists v pieces front behind middle → list ≡ route tours.lists v → between ≡ joined tours.lists middle
-    → IsPartBetween model tours.lists list front behind (part_at parts k).pieces between
-part_between {model} {tours} {parts} {v} {front} {behind} {pieces} {middle} {list} {between} well_formed are made k low same ends old is = record {
-  whole = made_whole;
+pub part_between : {model : Model} {tours : Tours} {parts : List ListAfter} {v front behind : ℕ} {pieces middle : List Piece} {between : List ℕ}
+    → IsWellFormed model → AreTours model tours → IsMadeOn tours parts → (k : ℕ) → k < length parts → v ≡ (part_at parts k).vehicle → pieces ≡ (part_at parts k).pieces
+    → AreEnds tours.lists v pieces front behind middle → between ≡ joined tours.lists middle → IsPartBetween model tours.lists (part_at parts k) v front behind between
+part_between {model} {tours} {parts} {v} {front} {behind} {pieces} {middle} {between} well_formed are made k low same same_pieces ends is = record {
+  same = same;
+  vehicle = part_vehicle made.makes.parts_are k low same;
+  long = let before = tour_of model tours are v (part_vehicle made.makes.parts_are k low same) in let few = visits-few model list before.visits before.distinct in omega (arith, few, number);
+  seams = seams;
+  whole = whole;
   tour = tour;
   nodes = λ i d inside. let h = visits-below model between visits_between i d inside in omega (arith, h, number);
   few =
       let few = visits-few model (spliced list front behind between) tour.visits tour.distinct in
-      let n = long list between front behind (subst (λ l. AreSeams (length l) front behind) (sym old) (record { order = ends.order; high = ends.high })) in
+      let n = long list between front behind seams in
       omega (arith, few, n, number);
 }
   where
-    made_whole : spliced list front behind between ≡ joined tours.lists (part_at parts k).pieces
-    made_whole = ap₂ (λ l ns. spliced l front behind ns) old is ∙ (sym ends.joins ∙ ap (joined tours.lists) same)
+    list : List ℕ
+    list = route tours.lists v
+
+    seams : AreSeams (length list) front behind
+    seams = record { order = ends.order; high = ends.high }
+
+    whole : spliced list front behind between ≡ joined tours.lists (part_at parts k).pieces
+    whole = ap (spliced list front behind) is ∙ (sym ends.joins ∙ ap (joined tours.lists) same_pieces)
 
     tour : IsTour model (spliced list front behind between)
-    tour = subst (IsTour model) (sym made_whole) (tour_of_part model tours are parts made k low)
+    tour = subst (IsTour model) (sym whole) (tour_of_part model tours are parts made k low)
 
     number : model.nodes ≤ 1000
     number = well_formed.number_of_nodes.1
@@ -63,3 +66,8 @@ part_between {model} {tours} {parts} {v} {front} {behind} {pieces} {middle} {lis
     visits_between =
         let rest = and_right (list_all (is_visit model) (take front list)) (list_all (is_visit model) (between ++ drop behind list)) (sym (list_all-append (is_visit model) (take front list) (between ++ drop behind list)) ∙ tour.visits) in
         and_left (list_all (is_visit model) between) (list_all (is_visit model) (drop behind list)) (sym (list_all-append (is_visit model) between (drop behind list)) ∙ rest)
+
+-- the same of a row as a slice
+pub part_seen : {model : Model} {lists : List (List ℕ)} {part : ListAfter} {v front behind : ℕ} {between seen : List ℕ}
+    → IsPartBetween model lists part v front behind between → seen ≡ between → IsPartBetween model lists part v front behind seen
+part_seen {model} {lists} {part} {v} {front} {behind} is same = subst (IsPartBetween model lists part v front behind) (sym same) is

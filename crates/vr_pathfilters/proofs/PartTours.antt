@@ -1,15 +1,16 @@
 -- Single lists of tours, before a change and after it, and rules of single lists.
-use Rattle.std.proofs.Common.{◌≡◌, ◌≢◌, ◌⊎◌, inl, inr, ℕ, suc, ◌<◌, Bool, true, false, List, [], ◌∷◌, length, get_or, refl, sym, ap, subst, arith}
+use Rattle.std.proofs.Common.{◌≡◌, ◌≢◌, ◌⊎◌, inl, inr, ℕ, suc, ◌+◌, ◌<◌, Bool, true, false, List, [], ◌∷◌, length, get_or, refl, sym, ap, subst, arith}
 use Rattle.std.specs.Prelude.{IsTrue, ◌==◌, not}
 use Rattle.std.specs.List.{list_all}
+use Rattle.std.proofs.lemmas.Bool.{cases_lt}
 use Rattle.vr_model.specs.deciding.Testing.{and_both, or_cases, list_all_range, range_list_all, eq_of_test}
 use Rattle.vr_model.proofs.tables.Tests.{clash, fails}
 use Rattle.vr_model.specs.tables.Tables.{visits, is_visit}
 use Rattle.vr_model.specs.tables.Numbers.{below}
-use Rattle.vr_model.specs.routes.Routes.{route, holds, is_distinct}
+use Rattle.vr_model.specs.routes.Routes.{route, holds, is_active, is_distinct}
 use Rattle.vr_model.specs.declared.records.Model.{Model}
 use Rattle.vr_model.proofs.tables.Members.{In, of_filter}
-use Rattle.vr_routes.specs.Seats.{IsSeat}
+use Rattle.vr_routes.specs.Seats.{IsOnce, IsSeat}
 use Rattle.vr_routes.specs.Tours.{Tours}
 use Rattle.vr_routes.specs.Pieces.{ListAfter, joined, changed, part_at, no_part}
 use Rattle.vr_routes.specs.Changes.{IsMadeOn, AreParts, after}
@@ -19,7 +20,7 @@ use Rattle.vr_routes.proofs.CommitLemmas.{as_many_lists}
 use Rattle.vr_routes.proofs.PartLemmas.{part_is, part_or_before}
 use Rattle.vr_reach.specs.Lists.{IsTour}
 use Rattle.vr_pathfilters.specs.Lists.{holds_of_each}
-use Rattle.vr_pathfilters.specs.TourLists.{AreTours}
+use Rattle.vr_pathfilters.specs.TourLists.{AreTours, KeepRule}
 use Rattle.vr_pathfilters.proofs.AfterChanges.{tours_after}
 
 in_of_held : (xs : List ℕ) (x : ℕ) → IsTrue (holds xs x) → In xs x
@@ -39,6 +40,11 @@ distinct_by_place (x ∷ xs) apart =
     and_both (not (holds xs x)) (is_distinct xs)
     (ap not (fails (holds xs x) (λ h. let p = place_of_held xs x h in apart 0 (suc p.0) (omega arith) (let low = p.1 in omega (arith, low)) (sym p.2))))
     (distinct_by_place xs (λ i j order low. apart (suc i) (suc j) (omega (arith, order)) (omega (arith, low))))
+
+-- lists that keep a rule are tours
+pub kept_tours : {rule : Model → ℕ → List ℕ → Bool} {model : Model} {tours : Tours} → KeepRule rule model tours
+    → IsOnce tours.lists → ((node : ℕ) → IsTrue (is_active tours.lists node) → IsTrue (holds tours.visits node)) → AreTours model tours
+kept_tours kept once entries = record { visits_are = kept.visits_are; list_of_each = kept.list_of_each; once = once; entries = entries }
 
 module _ (model : Model) (tours : Tours) (are : AreTours model tours) where
   -- each list is of distinct visits
@@ -69,9 +75,21 @@ rule_at rule lists all v low = list_all_range (λ v. rule v (route lists v)) 0 (
 pub rule_of_all : (rule : ℕ → List ℕ → Bool) (lists : List (List ℕ)) → ((v : ℕ) → v < length lists → IsTrue (rule v (route lists v))) → IsTrue (holds_of_each rule lists)
 rule_of_all rule lists each = range_list_all (λ v. rule v (route lists v)) 0 (length lists) (λ v low within. each v (omega (arith, within)))
 
+-- a rule holds of the lists of the parts before place k of a change
+abbrev pub HoldsSoFar : (ℕ → List ℕ → Bool) → List (List ℕ) → List ListAfter → ℕ → Type 0
+HoldsSoFar rule lists parts k = (j : ℕ) → j < k → IsTrue (rule (part_at parts j).vehicle (joined lists (part_at parts j).pieces))
+
+-- and of that of part k too
+pub holds_more : (rule : ℕ → List ℕ → Bool) (lists : List (List ℕ)) (parts : List ListAfter) (k : ℕ) → HoldsSoFar rule lists parts k
+    → IsTrue (rule (part_at parts k).vehicle (joined lists (part_at parts k).pieces)) → HoldsSoFar rule lists parts (k + 1)
+holds_more rule lists parts k before here j low = elim (cases_lt j k) [
+  | inl earlier ↦ before j earlier
+  | inr past ↦ (let e : k ≡ j = omega (arith, low, past) in subst (λ i. IsTrue (rule (part_at parts i).vehicle (joined lists (part_at parts i).pieces))) e here)
+]
+
 module _ (rule : ℕ → List ℕ → Bool) (lists : List (List ℕ)) (parts : List ListAfter) (are : AreParts lists parts) where
   -- the rule holds after a change where it held before and holds of each part
-  pub holds_after : IsTrue (holds_of_each rule lists) → ((k : ℕ) → k < length parts → IsTrue (rule (part_at parts k).vehicle (joined lists (part_at parts k).pieces))) → holds_of_each rule (changed lists parts) ≡ true
+  pub holds_after : IsTrue (holds_of_each rule lists) → HoldsSoFar rule lists parts (length parts) → holds_of_each rule (changed lists parts) ≡ true
   holds_after before each = rule_of_all rule (changed lists parts) (λ v low. let n = as_many_lists lists parts in by v (omega (arith, low, n)) (part_or_before lists parts are v (omega (arith, low, n))))
     where
       by : (v : ℕ) → v < length lists → ((k : ℕ) × (k < length parts) × ((part_at parts k).vehicle ≡ v) × (route (changed lists parts) v ≡ joined lists (part_at parts k).pieces)) ⊎ (route (changed lists parts) v ≡ route lists v)

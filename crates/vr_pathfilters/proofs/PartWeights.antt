@@ -110,3 +110,9 @@ module _ (told : ℕ → List ℕ → List ℕ → ℕ) (lists : List (List ℕ)
     where
       within : (start some all whole : ℕ) {new : ℕ} → new ≤ start + some → some ≤ all → all ≤ whole → new ≤ start + whole
       within start some all whole a b c = omega (arith, a, b, c)
+
+  -- what is counted of the parts before place k, and then of part k, is within that of all lists
+  pub count_with : (k : ℕ) → k < length parts → (start : ℕ) {now new : ℕ} → now ≤ start + sum_by (λ p. told_after told lists parts p.vehicle) (take k parts)
+      → new ≤ now + told (part_at parts k).vehicle (route lists (part_at parts k).vehicle) (joined lists (part_at parts k).pieces)
+      → new ≤ start + told_of_all told lists (changed lists parts)
+  count_with k low start before here = count_within (k + 1) start (count_more k low start before here)

@@ -1,7 +1,9 @@
 -- How many pickups and deliveries stand in a list up to each of its nodes.
 use Rattle.std.specs.Prelude.{◌≡◌, ℕ, ◌+◌, ◌<◌, ◌≤◌, Bool, true, false, cond}
+use Rattle.std.specs.Prelude.{All, IsTrue}
 use Rattle.std.specs.Prelude.{◌==◌, List, length, take, slice_index, slice_index_or, Option, Some, None}
 use Rattle.vr_model.specs.first.Items.{pair_of}
+use Rattle.vr_model.specs.routes.Routes.{is_distinct}
 use Rattle.vr_model.specs.declared.records.Model.{Model}
 use Rattle.vr_model.specs.declared.records.Pair.{Pair}
 use Rattle.vr_model.specs.declared.records.Policy.{Policy}
@@ -25,6 +27,12 @@ IsOfThreeLists many = many ≤ 3000
 -- what a table has of a node
 abbrev pub count_of : List Counts → ℕ → Counts
 count_of table node = slice_index_or table node no_counts
+
+-- distinct nodes of the largest model
+pub record CanBeCounted (list : List ℕ) : Type 0 where
+  pub nodes : All (λ node. node < 1000) list
+  pub few : length list ≤ 1000
+  pub distinct : IsTrue (is_distinct list)
 
 -- a table has, of each node of a list, what stands in the list up to it
 pub record AreCounted (model : Model) (list : List ℕ) (table : List Counts) : Type 0 where

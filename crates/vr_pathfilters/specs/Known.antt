@@ -8,8 +8,6 @@ use Rattle.vr_model.specs.declared.records.Model.{Model}
 use Rattle.vr_reach.specs.Rows.{BothWays}
 use Rattle.vr_reach.specs.KnownRows.{AreRowsIfUsed}
 use Rattle.vr_reach.specs.Lists.{is_feasible_list}
-use Rattle.vr_reach.specs.Stops.{AreStops}
-use Rattle.vr_reach.specs.declared.stops.Stops.{Stops}
 use Rattle.vr_routes.specs.Tours.{Tours}
 use Rattle.vr_routes.specs.Pieces.{ListAfter, joined, changed, part_at}
 use Rattle.vr_loads.specs.Loads.{is_load}
@@ -33,13 +31,12 @@ pub record KnowsLoads (model : Model) (d : ℕ) (lists : List (List ℕ)) (carri
   pub load : IsTrue (is_load model d)
   pub carried_are : AreCarried model d lists carried
 
--- a filter of dimension d with these stops, loads or rows stands at the lists: loads are kept where the dimension is a
+-- a filter of dimension d with these loads or rows stands at the lists: loads are kept where the dimension is a
 -- load, and rows where it is none
-pub record StandsAt (model : Model) (d : ℕ) (stops : Stops) (loads : Option (List Carried)) (known : List BothWays)
+pub record StandsAt (model : Model) (d : ℕ) (loads : Option (List Carried)) (known : List BothWays)
     (tours : Tours) : Type 0 where
   pub well_formed : IsWellFormed model
   pub dimension : d < length model.dimensions
-  pub stops_are : AreStops model d stops
   pub tours_are : AreTours model tours
   pub loads_known : is_some loads ≡ is_load model d
   pub loads_are : WherePresent (KnowsLoads model d tours.lists) loads

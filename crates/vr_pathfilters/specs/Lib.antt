@@ -1,5 +1,6 @@
 pub mod Lists
 pub mod TourLists
+pub mod Parts
 pub mod Vehicles
 pub mod Known
 pub mod ListFilters

@@ -16,21 +16,23 @@ ghost use Rattle.vr_reach.specs.Lists.{is_feasible_list};
 ghost use Rattle.vr_reach.specs.Tries.{list_tries};
 ghost use Rattle.vr_pathfilters.specs.Lists.{holds_of_each};
 ghost use Rattle.vr_pathfilters.specs.RoutesIn.{AreRoutesIn};
+ghost use Rattle.vr_pathfilters.specs.TourLists.{KeepRule};
 ghost use Rattle.vr_pathfilters.specs.Known.{AreKnown, StandsAt, IsReady, AreRowsOfPart, with_part};
 ghost use Rattle.vr_pathfilters.specs.Known.{KnowsLoads, KnowsRows};
 ghost use Rattle.vr_pathfilters.specs.Tries.{tries_in};
 
 use crate::loads::{all_carried, loads_of, put_list};
+use crate::parts::write_between;
 use crate::rows::{Room, RoutesIn, most_stops, rows_unless, write_part};
 use std::alloc::Global;
 use std::marker::Brand;
 use std::mem;
 use std::sync::ledger::{Blank, Ledger};
-use vr_balance::strip;
 use vr_filter::PathFilter;
 use vr_loads::Loads;
 use vr_model::{Closed, Model, NoMemory, Steps};
-use vr_reach::{KnownList, Rows, Splice, Stops, StopsFor, Walk, passes_along};
+use vr_plan::Lookups;
+use vr_reach::{KnownList, Rows, Splice, StopsFor, Walk, passes_along};
 use vr_routes::{Change, Routes, Row};
 
 /// Lets a change pass where the line of each used vehicle in one dimension has a schedule afterwards (the path cumul
@@ -40,10 +42,9 @@ use vr_routes::{Change, Routes, Row};
 /// takes memory only where a set has more than four runs, or where there are breaks.
 #[derive(Drop)]
 pub struct DimensionFilter<'m> {
-    model: &'m Model,
+    lookups: Lookups<'m>,
     d: u32,
     alloc: Global,
-    stops: Stops,
     // where the dimension is a load, what vehicles take along their lists
     loads: Option<Loads>,
     // else the rows of the list of each vehicle
@@ -76,27 +77,44 @@ impl<'m> DimensionFilter<'m> {
         ensures stands { IfOk result (λ filter.
             ⟦<DimensionFilter<'static> as PathFilter>⟧.stands_at filter routes.now) }
     {
+        let lookups = Lookups::open(alloc, Closed { model })?;
+        DimensionFilter::over(alloc, &lookups, d, routes)
+    }
+
+    /// The same, over what was looked up of the model.
+    pub fn over(
+        alloc: Global,
+        lookups: &Lookups<'m>,
+        d: u32,
+        routes: &Routes,
+    ) -> Result<DimensionFilter<'m>, NoMemory>
+        requires dimension { d < length lookups.now.closed.model.now.dimensions }
+        requires routes { KeepRule (λ model. is_feasible_list model d) lookups.now.closed.model.now routes.now }
+        ensures holds { IfOk result (λ filter. ⟦<DimensionFilter<'static> as PathFilter>⟧.holds filter
+            ≡ holds_of_each (is_feasible_list lookups.now.closed.model.now d)) }
+        ensures weight { IfOk result (λ filter. ⟦<DimensionFilter<'static> as PathFilter>⟧.weight filter
+            ≡ weight_in lookups.now.closed.model.now d) }
+        ensures stands { IfOk result (λ filter.
+            ⟦<DimensionFilter<'static> as PathFilter>⟧.stands_at filter routes.now) }
+    {
         routes.know_once();
         routes.know_entries();
-        let closed = Closed { model };
-        let stops = Stops::build(alloc, closed, d)?;
         let at = RoutesIn {
-            closed,
+            closed: lookups.closed,
             d,
-            stops: &stops,
+            stops: &lookups.table(d).stops,
             routes,
         };
         let (loads, known) = kept_of::<Brand>(alloc, &at, Blank::new(1))?;
         let room = if loads.is_some() {
             0
         } else {
-            most_stops(model)
+            most_stops(lookups.closed.model)
         };
         Ok(DimensionFilter {
-            model,
+            lookups: lookups.share()?,
             d,
             alloc,
-            stops,
             loads,
             known,
             room: Room {
@@ -119,29 +137,38 @@ impl<'m> DimensionFilter<'m> {
         steps: &mut Steps<L>,
         tries: &mut Steps<M>,
     ) -> Result<bool, NoMemory>
-        requires stands { StandsAt self.old.model.now self.old.d self.old.stops self.old.loads self.old.known.items
+        requires stands { StandsAt self.old.lookups.closed.model.now self.old.d self.old.loads self.old.known.items
             routes.now }
         requires made { IsMadeOn routes.now change.now }
         ensures answer { IfOk result (λ passed. passed
-            ≡ holds_of_each (is_feasible_list self.old.model.now self.old.d) (changed routes.now.lists change.now)) }
-        ensures stands { StandsAt self.new.model.now self.new.d self.new.stops self.new.loads self.new.known.items
+            ≡ holds_of_each (is_feasible_list self.old.lookups.closed.model.now self.old.d)
+            (changed routes.now.lists change.now)) }
+        ensures stands { StandsAt self.new.lookups.closed.model.now self.new.d self.new.loads self.new.known.items
             routes.now }
-        ensures model { self.new.model.now ≡ self.old.model.now }
+        ensures model { self.new.lookups.closed.model.now ≡ self.old.lookups.closed.model.now }
         ensures dimension { self.new.d ≡ self.old.d }
         ensures unready { self.new.is_prepared ≡ false }
         ensures count { steps.new ≤ steps.old
-            + weight_in self.old.model.now self.old.d routes.now.lists (changed routes.now.lists change.now) }
+            + weight_in self.old.lookups.closed.model.now self.old.d routes.now.lists
+            (changed routes.now.lists change.now) }
         ensures tries { tries.new ≤ tries.old
-            + tries_in self.old.model.now self.old.d routes.now.lists (changed routes.now.lists change.now) }
+            + tries_in self.old.lookups.closed.model.now self.old.d routes.now.lists
+            (changed routes.now.lists change.now) }
     {
         self.is_prepared = false;
         match &self.loads {
-            Some(loads) => Ok(all_carried(self.model, self.d, loads, routes, change)),
+            Some(loads) => Ok(all_carried(
+                self.lookups.closed.model,
+                self.d,
+                loads,
+                routes,
+                change,
+            )),
             None => {
                 let at = RoutesIn {
-                    closed: Closed { model: self.model },
+                    closed: self.lookups.closed,
                     d: self.d,
-                    stops: &self.stops,
+                    stops: &self.lookups.table(self.d).stops,
                     routes,
                 };
                 let passed = all_pass(&at, &self.known, change, &mut self.room, steps, tries)?;
@@ -161,18 +188,20 @@ impl<'m> DimensionFilter<'m> {
         requires name { blank.name ≡ M.name }
         requires parts { blank.parts ≡ M.parts }
         requires some { 0 < blank.parts }
-        requires stands { StandsAt self.old.model.now self.old.d self.old.stops self.old.loads self.old.known.items
+        requires stands { StandsAt self.old.lookups.closed.model.now self.old.d self.old.loads self.old.known.items
             routes.now }
         requires made { IsMadeOn routes.now change.now }
         ensures answer { IfOk result (λ passed. passed
-            ≡ holds_of_each (is_feasible_list self.old.model.now self.old.d) (changed routes.now.lists change.now)) }
-        ensures stands { StandsAt self.new.model.now self.new.d self.new.stops self.new.loads self.new.known.items
+            ≡ holds_of_each (is_feasible_list self.old.lookups.closed.model.now self.old.d)
+            (changed routes.now.lists change.now)) }
+        ensures stands { StandsAt self.new.lookups.closed.model.now self.new.d self.new.loads self.new.known.items
             routes.now }
-        ensures model { self.new.model.now ≡ self.old.model.now }
+        ensures model { self.new.lookups.closed.model.now ≡ self.old.lookups.closed.model.now }
         ensures dimension { self.new.d ≡ self.old.d }
         ensures unready { self.new.is_prepared ≡ false }
         ensures count { steps.new ≤ steps.old
-            + weight_in self.old.model.now self.old.d routes.now.lists (changed routes.now.lists change.now) }
+            + weight_in self.old.lookups.closed.model.now self.old.d routes.now.lists
+            (changed routes.now.lists change.now) }
     {
         let mut tries = Steps::<M>::new(blank);
         let passed = self.passes_within(routes, change, steps, &mut tries)?;
@@ -181,14 +210,14 @@ impl<'m> DimensionFilter<'m> {
 }
 
 impl<'m> PathFilter for DimensionFilter<'m> {
-    ghost holds = { λ f lists. holds_of_each (is_feasible_list f.model.now f.d) lists };
+    ghost holds = { λ f lists. holds_of_each (is_feasible_list f.lookups.closed.model.now f.d) lists };
 
-    ghost stands_at = { λ f tours. StandsAt f.model.now f.d f.stops f.loads f.known.items tours };
+    ghost stands_at = { λ f tours. StandsAt f.lookups.closed.model.now f.d f.loads f.known.items tours };
 
-    ghost ready = { λ f tours parts. IsReady f.model.now f.d f.is_prepared f.loads f.first f.second
+    ghost ready = { λ f tours parts. IsReady f.lookups.closed.model.now f.d f.is_prepared f.loads f.first f.second
         tours.lists parts };
 
-    ghost weight = { λ f before later. weight_in f.model.now f.d before later };
+    ghost weight = { λ f before later. weight_in f.lookups.closed.model.now f.d before later };
 
     fn passes<L: Ledger>(
         &mut self,
@@ -208,9 +237,9 @@ impl<'m> PathFilter for DimensionFilter<'m> {
         }
         let alloc = self.alloc;
         let at = RoutesIn {
-            closed: Closed { model: self.model },
+            closed: self.lookups.closed,
             d: self.d,
-            stops: &self.stops,
+            stops: &self.lookups.table(self.d).stops,
             routes,
         };
         write_part::<Brand>(
@@ -241,7 +270,7 @@ impl<'m> PathFilter for DimensionFilter<'m> {
             Some(loads) => {
                 put_list(
                     loads,
-                    self.model,
+                    self.lookups.closed.model,
                     self.d,
                     routes,
                     change,
@@ -250,7 +279,7 @@ impl<'m> PathFilter for DimensionFilter<'m> {
                 );
                 put_list(
                     loads,
-                    self.model,
+                    self.lookups.closed.model,
                     self.d,
                     routes,
                     change,
@@ -315,7 +344,8 @@ fn all_pass<L: Ledger, M: Ledger>(
     steps: &mut Steps<L>,
     tries: &mut Steps<M>,
 ) -> Result<bool, NoMemory>
-    requires stands { StandsAt at.now.closed.model.now at.now.d at.now.stops.now None known.now at.now.routes.now }
+    requires at { AreRoutesIn at.now }
+    requires stands { StandsAt at.now.closed.model.now at.now.d None known.now at.now.routes.now }
     requires made { IsMadeOn at.now.routes.now change.now }
     ensures answer { IfOk result (λ passed. passed ≡ holds_of_each
         (is_feasible_list at.now.closed.model.now at.now.d) (changed at.now.routes.now.lists change.now)) }
@@ -343,7 +373,8 @@ fn part_passes<L: Ledger, M: Ledger>(
     steps: &mut Steps<L>,
     tries: &mut Steps<M>,
 ) -> Result<bool, NoMemory>
-    requires stands { StandsAt at.now.closed.model.now at.now.d at.now.stops.now None known.now at.now.routes.now }
+    requires at { AreRoutesIn at.now }
+    requires stands { StandsAt at.now.closed.model.now at.now.d None known.now at.now.routes.now }
     requires made { IsMadeOn at.now.routes.now change.now }
     requires part { k < length change.now }
     ensures answer { IfOk result (λ passed. passed
@@ -358,9 +389,8 @@ fn part_passes<L: Ledger, M: Ledger>(
         (route at.now.routes.now.lists (part_at change.now k).vehicle)
         (joined at.now.routes.now.lists (part_at change.now k).pieces) }
 {
-    let v = change.vehicle(k);
-    let ends = strip(at.routes, v, change.pieces(k));
-    at.routes.join_into(ends.middle, &mut room.list);
+    let ends = write_between(at.closed, at.routes, change, k, &mut room.list);
+    let v = ends.v;
     let stops = StopsFor {
         closed: at.closed,
         d: at.d,

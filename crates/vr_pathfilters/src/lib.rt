@@ -14,6 +14,7 @@ mod lists;
 mod loads;
 mod new_lists;
 mod pairs;
+mod parts;
 pub mod policies;
 mod rows;
 mod vehicles;

@@ -5,7 +5,8 @@ ghost use Rattle.std.specs.List.{list_all};
 ghost use Rattle.vr_model.specs.routes.Routes.{route};
 ghost use Rattle.vr_model.specs.routes.Rules.{place_of, serves_pair};
 ghost use Rattle.vr_pathfilters.specs.Replaced.{comes_in_turn, list_of};
-ghost use Rattle.vr_pathfilters.specs.Pairs.{AreMarked, serves_node, serves_unmarked};
+ghost use Rattle.std.proofs.Props.{props};
+ghost use Rattle.vr_pathfilters.specs.Pairs.{AreMarked, IsNewList, serves_node, serves_unmarked};
 
 use crate::policies::NewCounts;
 use std::marker::Model;
@@ -13,10 +14,9 @@ use vr_lists::NodeTables;
 use vr_model::{Pair, Policy};
 use vr_routes::Routes;
 
-/// The list of a vehicle after a change: what it keeps at both ends, with other nodes between. Contracts see the list.
-/// Where a node stands in it is looked up, however long it is.
-#[derive(Drop)]
-pub(crate) struct NewList<'r, 'n> {
+/// What a change makes of the list of a vehicle: other nodes between the ends that it keeps.
+#[derive(Clone, Copy)]
+pub(crate) struct Between<'r, 'n> {
     pub(crate) routes: &'r Routes,
     pub(crate) v: u32,
     // how many nodes are kept at the front
@@ -27,20 +27,28 @@ pub(crate) struct NewList<'r, 'n> {
     pub(crate) middle: &'n [u32],
     // the place of each of them there; the marks of others are of no account
     pub(crate) marks: &'n [u32],
+    /// The nodes are marked, and none stands twice.
+    pub(crate) ghost fits: { IsNewList routes.now.lists v front behind middle.now marks.now } by { Prim.hlevel props },
+}
+
+/// The list of a vehicle after a change: what it keeps at both ends, with other nodes between. Contracts see the list.
+/// Where a node stands in it is looked up, however long it is.
+#[derive(Drop)]
+pub(crate) struct NewList<'r, 'n> {
+    pub(crate) ends: Between<'r, 'n>,
 }
 
 impl<'r, 'n> Model for NewList<'r, 'n> {
     ghost use Rattle.std.specs.Prelude.{ℕ, List};
-    ghost use Rattle.vr_model.specs.routes.Routes.{route};
-    ghost use Rattle.vr_reach.specs.Spliced.{spliced};
-    ghost use Rattle.vr_pathfilters.specs.Replaced.{comes_in_turn, list_of};
+    ghost use Rattle.vr_pathfilters.specs.Between.{list_after};
     ghost use Rattle.vr_pathfilters.specs.Pairs.{IsNewList};
 
     ghost Value = { List ℕ };
 
-    ghost view = { λ s. spliced (route s.routes.now.lists s.v) s.front s.behind s.middle.now };
+    ghost view = { λ s. list_after s.ends };
 
-    ghost invariant = { λ s. IsNewList s.routes.now.lists s.v s.front s.behind s.middle.now s.marks.now };
+    ghost invariant = { λ s. IsNewList s.ends.routes.now.lists s.ends.v s.ends.front s.ends.behind s.ends.middle.now
+        s.ends.marks.now };
 }
 
 /// Marks each node of a list with a place of it.
@@ -79,7 +87,9 @@ impl<'r, 'n> NewList<'r, 'n> {
     fn len(&self) -> u32
         ensures { result ≡ length self.now }
     {
-        self.front + self.middle.len() as u32 + (self.routes.len(self.v) - self.behind)
+        self.ends.front
+            + self.ends.middle.len() as u32
+            + (self.ends.routes.len(self.ends.v) - self.ends.behind)
     }
 
     // The place of a node, the length of the list where it is absent.
@@ -87,23 +97,23 @@ impl<'r, 'n> NewList<'r, 'n> {
     fn place(&self, node: u32) -> u32
         ensures { result ≡ place_of self.now node }
     {
-        let place = mark_of(self.marks, node);
-        if is_at(self.middle, place, node) {
-            return self.front + place;
+        let place = mark_of(self.ends.marks, node);
+        if is_at(self.ends.middle, place, node) {
+            return self.ends.front + place;
         }
-        match self.routes.seat(node) {
+        match self.ends.routes.seat(node) {
             None => self.len(),
             Some(seat) => {
-                if seat.vehicle != self.v {
+                if seat.vehicle != self.ends.v {
                     return self.len();
                 }
-                if seat.place < self.front {
+                if seat.place < self.ends.front {
                     return seat.place;
                 }
-                if seat.place < self.behind {
+                if seat.place < self.ends.behind {
                     return self.len();
                 }
-                self.front + self.middle.len() as u32 + (seat.place - self.behind)
+                self.ends.front + self.ends.middle.len() as u32 + (seat.place - self.ends.behind)
             }
         }
     }
@@ -114,7 +124,7 @@ impl<'r, 'n> NewList<'r, 'n> {
         ensures { result ≡ serves_pair self.now pair }
     {
         // no node stands twice
-        let _ = &self.routes;
+        let _ = &self.ends;
         let pickup = self.place(pair.pickup);
         let delivery = self.place(pair.delivery);
         if pickup < delivery {

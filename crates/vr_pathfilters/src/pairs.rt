@@ -11,27 +11,35 @@ ghost use Rattle.vr_routes.specs.Changes.{IsMadeOn, after};
 ghost use Rattle.vr_routes.specs.Pieces.{ListAfter, changed, joined, part_at};
 ghost use Rattle.vr_routes.specs.Tours.{Tours};
 ghost use Rattle.vr_reach.specs.Lists.{IsTour};
-ghost use Rattle.vr_pathfilters.specs.Between.{list_after, list_before, IsBetween};
+ghost use Rattle.vr_pathfilters.specs.Between.{list_after, list_before};
 ghost use Rattle.vr_pathfilters.specs.Counted.{AreCounted};
 ghost use Rattle.vr_pathfilters.specs.Replaced.{takes_turns_between};
 ghost use Rattle.vr_pathfilters.specs.Lists.{holds_of_each};
 ghost use Rattle.vr_pathfilters.specs.ListFilters.{StandsBy};
+ghost use Rattle.vr_pathfilters.specs.TourLists.{KeepRule};
 ghost use Rattle.vr_pathfilters.specs.Pairs.{AreAllCounted, IsListCounted, KnowsPairs, KnowsTours};
 
 use crate::lists::{ListFilter, ListRule};
-use crate::new_lists::{NewList, mark};
+use crate::new_lists::{Between, NewList, mark};
+use crate::parts::write_between;
 use crate::policies::{NewCounts, Turns};
 use std::alloc::Global;
-use vr_balance::strip;
 use vr_filter::PathFilter;
 use vr_lists::NodeTables;
-use vr_model::{Model, NoMemory, Policy};
+use vr_model::{Closed, Model, NoMemory, Policy};
+use vr_plan::Lookups;
 use vr_routes::{Change, Routes, Row};
 
 /// The rule that a list serves each pair in order and keeps the policy of its vehicle.
 #[derive(Drop)]
 pub struct PairRule<'m> {
-    lookups: NodeTables<'m>,
+    lookups: Lookups<'m>,
+    kept: PairTables,
+}
+
+// What is counted of lists, and what is written over while changes are asked about.
+#[derive(Drop)]
+struct PairTables {
     // room for the nodes that a change puts between the ends of a list, and at a commit for a whole list
     list: Row,
     // room for the place of each node between the ends there
@@ -40,40 +48,16 @@ pub struct PairRule<'m> {
     turns: Turns,
 }
 
-// What a change makes of the list of a vehicle: other nodes between the ends that it keeps.
-#[derive(Clone, Copy)]
-pub(crate) struct Between<'r, 'n> {
-    pub(crate) routes: &'r Routes,
-    pub(crate) v: u32,
-    // how many nodes are kept at the front
-    pub(crate) front: u32,
-    // the place from which on nodes are kept
-    pub(crate) behind: u32,
-    // the nodes between
-    pub(crate) middle: &'n [u32],
-    // the place of each of them there
-    pub(crate) marks: &'n [u32],
-}
-
 // Whether the list of a vehicle serves each pair, with other nodes between the ends that it keeps. It asks the pairs of
 // these nodes, and of those that stood there and do so no more.
 fn serves_between(lookups: &NodeTables<'_>, ends: &Between) -> bool
-    requires ends { IsBetween ends.now }
     requires before { IsTrue (list_all (serves_pair (list_before ends.now)) lookups.now.pairs) }
     ensures { result ≡ list_all (serves_pair (list_after ends.now)) lookups.now.pairs }
 {
     // what holds of the model is known
     let _model = lookups.model();
-    ends.routes.know_once();
     let old = ends.routes.list(ends.v);
-    let new = NewList {
-        routes: ends.routes,
-        v: ends.v,
-        front: ends.front,
-        behind: ends.behind,
-        middle: ends.middle,
-        marks: ends.marks,
-    };
+    let new = NewList { ends: *ends };
     new.serves_each(lookups, ends.middle)
         && new.serves_unmarked(
             lookups,
@@ -86,23 +70,14 @@ fn serves_between(lookups: &NodeTables<'_>, ends: &Between) -> bool
 // Whether the pairs of the list of a vehicle come in turn, with other nodes between the ends that it keeps, where they
 // came in turn before.
 fn takes_turns(lookups: &NodeTables<'_>, turns: &Turns, policy: Policy, ends: &Between) -> bool
-    requires ends { IsBetween ends.now }
     requires listed { AreCounted lookups.now (list_before ends.now) turns.now.listed }
     requires between { AreCounted lookups.now ends.now.middle.now turns.now.between }
     ensures { result ≡ takes_turns_between lookups.now policy (list_before ends.now) ends.now.front ends.now.behind
         ends.now.middle.now }
 {
-    ends.routes.know_once();
     let old = ends.routes.list(ends.v);
     let counted = NewCounts::of(lookups, turns, old, ends.front, ends.behind, ends.middle);
-    let new = NewList {
-        routes: ends.routes,
-        v: ends.v,
-        front: ends.front,
-        behind: ends.behind,
-        middle: ends.middle,
-        marks: ends.marks,
-    };
+    let new = NewList { ends: *ends };
     new.come_in_turn(lookups, policy, &counted, ends.middle)
 }
 
@@ -129,63 +104,91 @@ fn count_list(lookups: &NodeTables<'_>, v: u32, list: &[u32], turns: &mut Turns)
     turns.put(lookups, list);
 }
 
-impl<'m> PairRule<'m> {
-    // Counts the list that part `k` of a change gives its vehicle, where the policy of the vehicle asks for turns.
-    fn count_part(&mut self, routes: &Routes, change: &Change, k: usize)
-        requires knows { KnowsTours self.old.lookups routes.now }
+impl PairTables {
+    // Whether the list that part `k` of a change gives its vehicle keeps the rule, where the list before kept it.
+    fn keeps(
+        &mut self,
+        lookups: &NodeTables<'_>,
+        routes: &Routes,
+        change: &Change,
+        k: usize,
+    ) -> bool
+        requires knows { KnowsPairs lookups.now self.old.turns.listed routes.now }
         requires made { IsMadeOn routes.now change.now }
         requires part { k < length change.now }
-        ensures same_model { self.new.lookups ≡ self.old.lookups }
-        ensures counted { IsListCounted self.old.lookups (part_at change.now k).vehicle
-            (joined routes.now.lists (part_at change.now k).pieces) self.old.turns.listed self.new.turns.listed }
+        requires before { IsTrue (holds_of_each (keeps_pairs lookups.now) routes.now.lists) }
+        ensures answer { result ≡ keeps_pairs lookups.now (part_at change.now k).vehicle
+            (joined routes.now.lists (part_at change.now k).pieces) }
+        ensures listed { self.new.turns.listed ≡ self.old.turns.listed }
     {
-        routes.write_after(change, k, &mut self.list);
-        count_list(
-            &self.lookups,
-            change.vehicle(k),
-            self.list.as_slice(),
-            &mut self.turns,
-        );
-    }
-}
-
-impl<'m> ListRule for PairRule<'m> {
-    ghost rule = { λ r v list. keeps_pairs r.lookups v list };
-
-    ghost knows = { λ r tours. KnowsPairs r.lookups r.turns.listed tours };
-
-    fn keeps(&mut self, routes: &Routes, change: &Change, k: usize) -> bool {
-        let model = self.lookups.model();
-        if model.pairs.is_empty() {
+        let closed = Closed {
+            model: lookups.model(),
+        };
+        if closed.model.pairs.is_empty() {
             return true;
         }
-        let v = change.vehicle(k);
-        let ends = strip(routes, v, change.pieces(k));
-        routes.join_into(ends.middle, &mut self.list);
+        routes.know_once();
+        let ends = write_between(closed, routes, change, k, &mut self.list);
         mark(self.list.as_slice(), &mut self.marks);
         let between = Between {
             routes,
-            v,
+            v: ends.v,
             front: ends.front,
             behind: ends.behind,
             middle: self.list.as_slice(),
             marks: &self.marks,
         };
-        if !serves_between(&self.lookups, &between) {
+        if !serves_between(lookups, &between) {
             return false;
         }
-        let policy = policy_of(&self.lookups, v);
+        let policy = policy_of(lookups, ends.v);
         if !Turns::are_asked(policy) {
             return true;
         }
-        self.turns.put_between(&self.lookups, between.middle);
-        takes_turns(&self.lookups, &self.turns, policy, &between)
+        self.turns.put_between(lookups, between.middle);
+        takes_turns(lookups, &self.turns, policy, &between)
+    }
+
+    // Counts the list that part `k` of a change gives its vehicle, where the policy of the vehicle asks for turns.
+    fn count_part(&mut self, lookups: &NodeTables<'_>, routes: &Routes, change: &Change, k: usize)
+        requires tours { KnowsTours lookups.now routes.now }
+        requires made { IsMadeOn routes.now change.now }
+        requires part { k < length change.now }
+        ensures { IsListCounted lookups.now (part_at change.now k).vehicle
+            (joined routes.now.lists (part_at change.now k).pieces) self.old.turns.listed self.new.turns.listed }
+    {
+        routes.write_after(change, k, &mut self.list);
+        count_list(
+            lookups,
+            change.vehicle(k),
+            self.list.as_slice(),
+            &mut self.turns,
+        );
+    }
+
+    // Counts the lists of all parts of a change.
+    fn commit(&mut self, lookups: &NodeTables<'_>, routes: &Routes, change: &Change)
+        requires knows { KnowsPairs lookups.now self.old.turns.listed routes.now }
+        requires made { IsMadeOn routes.now change.now }
+        ensures { KnowsPairs lookups.now self.new.turns.listed (after routes.now change.now) }
+    {
+        for k in 0..change.parts() {
+            self.count_part(lookups, routes, change, k);
+        }
+    }
+}
+
+impl<'m> ListRule for PairRule<'m> {
+    ghost rule = { λ r v list. keeps_pairs r.lookups.closed.model.now v list };
+
+    ghost knows = { λ r tours. KnowsPairs r.lookups.closed.model.now r.kept.turns.listed tours };
+
+    fn keeps(&mut self, routes: &Routes, change: &Change, k: usize) -> bool {
+        self.kept.keeps(self.lookups.nodes(), routes, change, k)
     }
 
     fn commit(&mut self, routes: &Routes, change: &Change) {
-        for k in 0..change.parts() {
-            self.count_part(routes, change, k);
-        }
+        self.kept.commit(self.lookups.nodes(), routes, change);
     }
 }
 
@@ -223,17 +226,32 @@ impl<'m> PairFilter<'m> {
         ensures weight { IfOk result (λ filter. (before later : List (List ℕ))
             → ⟦<PairFilter<'static> as PathFilter>⟧.weight filter before later ≡ 0) }
     {
+        let lookups = Lookups::open(alloc, Closed { model })?;
+        PairFilter::over(&lookups, routes)
+    }
+
+    /// The same, over what was looked up of the model. It takes no memory; `NoMemory` only where as many share what was
+    /// looked up as can be counted.
+    pub fn over(lookups: &Lookups<'m>, routes: &Routes) -> Result<PairFilter<'m>, NoMemory>
+        requires { KeepRule keeps_pairs lookups.now.closed.model.now routes.now }
+        ensures holds { IfOk result (λ filter. ⟦<PairFilter<'static> as PathFilter>⟧.holds filter
+            ≡ holds_of_each (keeps_pairs lookups.now.closed.model.now)) }
+        ensures stands { IfOk result (λ filter. ⟦<PairFilter<'static> as PathFilter>⟧.stands_at filter routes.now) }
+        ensures weight { IfOk result (λ filter. (before later : List (List ℕ))
+            → ⟦<PairFilter<'static> as PathFilter>⟧.weight filter before later ≡ 0) }
+    {
         routes.know_once();
         routes.know_entries();
-        let lookups = NodeTables::open(alloc, model)?;
         let mut turns = Turns::new();
-        count_all(&lookups, routes, &mut turns);
+        count_all(lookups.nodes(), routes, &mut turns);
         Ok(ListFilter {
             rule: PairRule {
-                lookups,
-                list: Row::new(),
-                marks: [0; 1000],
-                turns,
+                lookups: lookups.share()?,
+                kept: PairTables {
+                    list: Row::new(),
+                    marks: [0; 1000],
+                    turns,
+                },
             },
             is_prepared: false,
         })

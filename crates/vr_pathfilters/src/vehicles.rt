@@ -9,7 +9,7 @@ ghost use Rattle.vr_routes.specs.Changes.{IsMadeOn, after};
 ghost use Rattle.vr_routes.specs.Pieces.{ListAfter, IsWithin, changed, joined, nodes_of, part_at};
 ghost use Rattle.vr_routes.specs.Tours.{Tours};
 ghost use Rattle.vr_pathfilters.specs.Lists.{holds_of_each};
-ghost use Rattle.vr_pathfilters.specs.TourLists.{AreTours};
+ghost use Rattle.vr_pathfilters.specs.TourLists.{AreTours, KeepRule};
 ghost use Rattle.vr_pathfilters.specs.ListFilters.{StandsBy};
 ghost use Rattle.vr_pathfilters.specs.Vehicles.{are_allowed_pieces, is_allowed_list};
 
@@ -18,27 +18,28 @@ use std::alloc::Global;
 use vr_balance::strip;
 use vr_filter::PathFilter;
 use vr_lists::NodeTables;
-use vr_model::{Model, NoMemory};
+use vr_model::{Closed, Model, NoMemory};
+use vr_plan::Lookups;
 use vr_routes::{Change, Piece, Routes};
 
 /// The rule that each visit of a list allows its vehicle.
 #[derive(Drop)]
 pub struct VehicleRule<'m> {
-    lookups: NodeTables<'m>,
+    lookups: Lookups<'m>,
 }
 
 impl<'m> ListRule for VehicleRule<'m> {
-    ghost rule = { λ r v list. is_allowed_list r.lookups v list };
+    ghost rule = { λ r v list. is_allowed_list r.lookups.closed.model.now v list };
 
-    ghost knows = { λ r tours. AreTours r.lookups tours };
+    ghost knows = { λ r tours. AreTours r.lookups.closed.model.now tours };
 
     fn keeps(&mut self, routes: &Routes, change: &Change, k: usize) -> bool {
-        if self.lookups.model().allowed.is_empty() {
+        if self.lookups.closed.model.allowed.is_empty() {
             return true;
         }
         let v = change.vehicle(k);
         let ends = strip(routes, v, change.pieces(k));
-        pieces_allow(&self.lookups, routes, v, ends.middle)
+        pieces_allow(self.lookups.nodes(), routes, v, ends.middle)
     }
 
     fn commit(&mut self, _routes: &Routes, _change: &Change) {}
@@ -104,11 +105,27 @@ impl<'m> VehicleFilter<'m> {
         ensures weight { IfOk result (λ filter. (before later : List (List ℕ))
             → ⟦<VehicleFilter<'static> as PathFilter>⟧.weight filter before later ≡ 0) }
     {
+        let lookups = Lookups::open(alloc, Closed { model })?;
+        VehicleFilter::over(&lookups, routes)
+    }
+
+    /// The same, over what was looked up of the model. It takes no memory; `NoMemory` only where as many share what was
+    /// looked up as can be counted.
+    pub fn over(lookups: &Lookups<'m>, routes: &Routes) -> Result<VehicleFilter<'m>, NoMemory>
+        requires { KeepRule is_allowed_list lookups.now.closed.model.now routes.now }
+        ensures holds { IfOk result (λ filter. ⟦<VehicleFilter<'static> as PathFilter>⟧.holds filter
+            ≡ holds_of_each (is_allowed_list lookups.now.closed.model.now)) }
+        ensures stands { IfOk result (λ filter.
+            ⟦<VehicleFilter<'static> as PathFilter>⟧.stands_at filter routes.now) }
+        ensures weight { IfOk result (λ filter. (before later : List (List ℕ))
+            → ⟦<VehicleFilter<'static> as PathFilter>⟧.weight filter before later ≡ 0) }
+    {
         routes.know_once();
         routes.know_entries();
-        let lookups = NodeTables::open(alloc, model)?;
         Ok(ListFilter {
-            rule: VehicleRule { lookups },
+            rule: VehicleRule {
+                lookups: lookups.share()?,
+            },
             is_prepared: false,
         })
     }

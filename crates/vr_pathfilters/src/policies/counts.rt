@@ -1,8 +1,8 @@
 //! How many pickups and deliveries stand in a list up to each of its nodes.
 
-ghost use Rattle.std.specs.Prelude.{◌≡◌, ◌<◌, ◌≤◌, ℕ, All, IsTrue, false, length, take};
-ghost use Rattle.vr_model.specs.routes.Routes.{holds, is_distinct};
-ghost use Rattle.vr_pathfilters.specs.Counted.{AreCounted, counts, count_of as count_of_node, no_counts};
+ghost use Rattle.std.specs.Prelude.{◌≡◌, ◌<◌, ◌≤◌, ℕ, false, length, take};
+ghost use Rattle.vr_model.specs.routes.Routes.{holds};
+ghost use Rattle.vr_pathfilters.specs.Counted.{AreCounted, CanBeCounted, counts, count_of as count_of_node, no_counts};
 ghost use Rattle.vr_pathfilters.specs.Counted.{with_node as with_one_node};
 
 use vr_lists::NodeTables;
@@ -53,9 +53,7 @@ fn with_node(lookups: &NodeTables<'_>, before: Counts, node: u32) -> Counts
 
 /// Writes, for each node of a list of distinct nodes, what stands in the list up to it.
 pub(crate) fn write_counts(lookups: &NodeTables<'_>, list: &[u32], table: &mut [Counts; 1000])
-    requires nodes { All (λ node. node < 1000) list.now }
-    requires few { length list.now ≤ 1000 }
-    requires distinct { IsTrue (is_distinct list.now) }
+    requires { CanBeCounted list.now }
     ensures counted { AreCounted lookups.now list.now table.new }
     ensures others { (node : ℕ) → holds list.now node ≡ false
         → count_of_node table.new node ≡ count_of_node table.old node }

@@ -1,8 +1,8 @@
 //! Tables of what stands in lists up to each of their nodes.
 
-ghost use Rattle.std.specs.Prelude.{◌≡◌, ◌<◌, ◌≤◌, ℕ, All, IsTrue, false, length};
-ghost use Rattle.vr_model.specs.routes.Routes.{holds, is_distinct};
-ghost use Rattle.vr_pathfilters.specs.Counted.{AreCounted, asks_turns, count_of};
+ghost use Rattle.std.specs.Prelude.{◌≡◌, ℕ, false};
+ghost use Rattle.vr_model.specs.routes.Routes.{holds};
+ghost use Rattle.vr_pathfilters.specs.Counted.{AreCounted, CanBeCounted, asks_turns, count_of};
 
 use super::counts::{Counts, write_counts};
 use vr_lists::NodeTables;
@@ -41,9 +41,7 @@ impl Turns {
 
     /// Counts the nodes of a committed list. What `listed` has of other nodes stays; of `between` nothing is promised.
     pub fn put(&mut self, lookups: &NodeTables<'_>, list: &[u32])
-        requires nodes { All (λ node. node < 1000) list.now }
-        requires few { length list.now ≤ 1000 }
-        requires distinct { IsTrue (is_distinct list.now) }
+        requires { CanBeCounted list.now }
         ensures counted { AreCounted lookups.now list.now self.new.listed }
         ensures others { (node : ℕ) → holds list.now node ≡ false
             → count_of self.new.listed node ≡ count_of self.old.listed node }
@@ -53,9 +51,7 @@ impl Turns {
 
     /// Counts the nodes that a change puts into a list. What is kept of committed lists stays.
     pub fn put_between(&mut self, lookups: &NodeTables<'_>, middle: &[u32])
-        requires nodes { All (λ node. node < 1000) middle.now }
-        requires few { length middle.now ≤ 1000 }
-        requires distinct { IsTrue (is_distinct middle.now) }
+        requires { CanBeCounted middle.now }
         ensures counted { AreCounted lookups.now middle.now self.new.between }
         ensures kept { self.new.listed ≡ self.old.listed }
     {

@@ -24,39 +24,41 @@ module _ (model : Model) (lists : List (List ℕ)) (valid : IsTrue (is_valid mod
   behind_vehicles = and_right (holds_of_each (is_allowed_list model) lists) _ behind_groups
 
 pub open-groups-requires-clause-many : goal.open-groups-requires-clause-many
-open-groups-requires-clause-many c = many c.args.model.now c.args.routes.now.lists c.requires.valid
+open-groups-requires-clause-many c = many c.args.lookups.now.closed.model.now c.args.routes.now.lists c.requires.valid
 
 pub open-groups-requires-clause-rule : goal.open-groups-requires-clause-rule
-open-groups-requires-clause-rule c = and_left (keeps_groups c.args.model.now c.args.routes.now.lists) _ (kept_where_valid c.args.model.now c.args.routes.now.lists c.requires.valid)
+open-groups-requires-clause-rule c = and_left (keeps_groups c.args.lookups.now.closed.model.now c.args.routes.now.lists) _ (kept_where_valid c.args.lookups.now.closed.model.now c.args.routes.now.lists c.requires.valid)
 
-pub open-vehicles-requires-clause-many : goal.open-vehicles-requires-clause-many
-open-vehicles-requires-clause-many c = many c.args.model.now c.args.routes.now.lists c.requires.valid
+pub over-vehicles-requires : goal.over-vehicles-requires
+over-vehicles-requires c = record {
+  visits_are = c.requires.of_model;
+  list_of_each = many c.args.lookups.now.closed.model.now c.args.routes.now.lists c.requires.valid;
+  rule_holds = and_left (holds_of_each (is_allowed_list c.args.lookups.now.closed.model.now) c.args.routes.now.lists) _ (behind_groups c.args.lookups.now.closed.model.now c.args.routes.now.lists c.requires.valid);
+}
 
-pub open-vehicles-requires-clause-rule : goal.open-vehicles-requires-clause-rule
-open-vehicles-requires-clause-rule c = and_left (holds_of_each (is_allowed_list c.args.model.now) c.args.routes.now.lists) _ (behind_groups c.args.model.now c.args.routes.now.lists c.requires.valid)
-
-pub open-pairs-requires-clause-many : goal.open-pairs-requires-clause-many
-open-pairs-requires-clause-many c = many c.args.model.now c.args.routes.now.lists c.requires.valid
-
-pub open-pairs-requires-clause-rule : goal.open-pairs-requires-clause-rule
-open-pairs-requires-clause-rule c = and_left (holds_of_each (keeps_pairs c.args.model.now) c.args.routes.now.lists) _ (behind_vehicles c.args.model.now c.args.routes.now.lists c.requires.valid)
+pub over-pairs-requires : goal.over-pairs-requires
+over-pairs-requires c = record {
+  visits_are = c.requires.of_model;
+  list_of_each = many c.args.lookups.now.closed.model.now c.args.routes.now.lists c.requires.valid;
+  rule_holds = and_left (holds_of_each (keeps_pairs c.args.lookups.now.closed.model.now) c.args.routes.now.lists) _ (behind_vehicles c.args.lookups.now.closed.model.now c.args.routes.now.lists c.requires.valid);
+}
 
 pub filters_of_dimensions-dimensions-requires-clause-many : goal.filters_of_dimensions-dimensions-requires-clause-many
-filters_of_dimensions-dimensions-requires-clause-many c = many c.args.model.now c.args.routes.now.lists c.requires.valid
+filters_of_dimensions-dimensions-requires-clause-many c = many c.args.lookups.now.closed.model.now c.args.routes.now.lists c.requires.valid
 
 pub filters_of_dimensions-dimensions-requires-clause-feasible : goal.filters_of_dimensions-dimensions-requires-clause-feasible
-filters_of_dimensions-dimensions-requires-clause-feasible c = and_right (holds_of_each (keeps_pairs c.args.model.now) c.args.routes.now.lists) _ (behind_vehicles c.args.model.now c.args.routes.now.lists c.requires.valid)
+filters_of_dimensions-dimensions-requires-clause-feasible c = and_right (holds_of_each (keeps_pairs c.args.lookups.now.closed.model.now) c.args.routes.now.lists) _ (behind_vehicles c.args.lookups.now.closed.model.now c.args.routes.now.lists c.requires.valid)
 
 pub returns-clause-rules : goal.returns-clause-rules
 returns-clause-rules c = λ lists.
     let all = c.in_ok-front.ensures in
     let groups = of_value (λ two. c.open-groups.result ≡ Ok two.0) _ _ all.first c.both-front.ensures.first in
-    let vehicles = of_value (λ two. c.open-vehicles.result ≡ Ok two.1) _ _ all.first c.both-front.ensures.second in
-    let pairs = of_value (λ two. c.open-pairs.result ≡ Ok two.0) _ _ all.second c.both-end.ensures.first in
+    let vehicles = of_value (λ two. c.over-vehicles.result ≡ Ok two.1) _ _ all.first c.both-front.ensures.second in
+    let pairs = of_value (λ two. c.over-pairs.result ≡ Ok two.0) _ _ all.second c.both-end.ensures.first in
     let dimensions = of_value (λ two. c.filters_of_dimensions-dimensions.result ≡ Ok two.1) _ _ all.second c.both-end.ensures.second in
     ap₂ (λ a b. a && b) (ap (λ h. h lists) (of_value _ _ _ groups c.open-groups.ensures.holds))
-    (ap₂ (λ a b. a && b) (ap (λ h. h lists) (of_value _ _ _ vehicles c.open-vehicles.ensures.holds))
-    (ap₂ (λ a b. a && b) (ap (λ h. h lists) (of_value _ _ _ pairs c.open-pairs.ensures.holds))
+    (ap₂ (λ a b. a && b) (ap (λ h. h lists) (of_value _ _ _ vehicles c.over-vehicles.ensures.holds))
+    (ap₂ (λ a b. a && b) (ap (λ h. h lists) (of_value _ _ _ pairs c.over-pairs.ensures.holds))
     (of_value _ _ _ dimensions c.filters_of_dimensions-dimensions.ensures.holds lists)))
 
 pub returns-clause-weights : goal.returns-clause-weights
@@ -70,14 +72,14 @@ pub returns-clause-stands : goal.returns-clause-stands
 returns-clause-stands c =
     let all = c.in_ok-front.ensures in
     let groups = of_value (λ two. c.open-groups.result ≡ Ok two.0) _ _ all.first c.both-front.ensures.first in
-    let vehicles = of_value (λ two. c.open-vehicles.result ≡ Ok two.1) _ _ all.first c.both-front.ensures.second in
-    let pairs = of_value (λ two. c.open-pairs.result ≡ Ok two.0) _ _ all.second c.both-end.ensures.first in
+    let vehicles = of_value (λ two. c.over-vehicles.result ≡ Ok two.1) _ _ all.first c.both-front.ensures.second in
+    let pairs = of_value (λ two. c.over-pairs.result ≡ Ok two.0) _ _ all.second c.both-end.ensures.first in
     let dimensions = of_value (λ two. c.filters_of_dimensions-dimensions.result ≡ Ok two.1) _ _ all.second c.both-end.ensures.second in (
       of_value _ _ _ groups c.open-groups.ensures.stands,
       (
-        of_value _ _ _ vehicles c.open-vehicles.ensures.stands,
+        of_value _ _ _ vehicles c.over-vehicles.ensures.stands,
         (
-          of_value _ _ _ pairs c.open-pairs.ensures.stands,
+          of_value _ _ _ pairs c.over-pairs.ensures.stands,
           of_value _ _ _ dimensions c.filters_of_dimensions-dimensions.ensures.stands,
         ),
       ),

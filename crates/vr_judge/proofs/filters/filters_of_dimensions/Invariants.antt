@@ -8,9 +8,9 @@ use Rattle.vr_judge.proofs.filters.filters_of_dimensions.Given as goal
 
 abbrev pub invariant-loop-k : goal.invariant-loop-k
 invariant-loop-k l = AreOf
-    (λ f lists. holds_of_each (is_feasible_list f.model.now f.d) lists)
-    (λ f before later. weight f.model.now f.d before later)
-    (λ f. StandsAt f.model.now f.d f.stops f.loads f.known.items l.routes)
-    (λ d lists. holds_of_each (is_feasible_list l.closed.model.now d) lists)
-    (λ d before later. weight l.closed.model.now d before later)
+    (λ f lists. holds_of_each (is_feasible_list f.lookups.closed.model.now f.d) lists)
+    (λ f before later. weight f.lookups.closed.model.now f.d before later)
+    (λ f. StandsAt f.lookups.closed.model.now f.d f.loads f.known.items l.routes)
+    (λ d lists. holds_of_each (is_feasible_list l.lookups.closed.model.now d) lists)
+    (λ d before later. weight l.lookups.closed.model.now d before later)
     (take l.k l.order.items) l.filters.items

@@ -1,60 +1,25 @@
-use Rattle.std.proofs.Common.{◌≡◌, ◌+◌, ◌<◌, ◌≤◌, ℕ, length, inl, inr, sym, subst, ◌∙◌, arith}
-use Rattle.std.specs.Prelude.{IsTrue}
-use Rattle.std.proofs.lemmas.Bool.{cases_lt}
+use Rattle.std.proofs.Common.{◌<◌, length, sym, ◌∙◌, arith}
 use Rattle.vr_model.specs.schedules.Weights.{list_weight}
-use Rattle.vr_routes.specs.Pieces.{joined, part_at}
 use Rattle.vr_reach.specs.Lists.{is_feasible_list}
 use Rattle.vr_reach.specs.Tries.{list_tries}
-use Rattle.vr_pathfilters.proofs.PartTours.{holds_after, fails_after}
-use Rattle.vr_pathfilters.proofs.PartWeights.{count_more, count_within}
+use Rattle.vr_pathfilters.proofs.PartTours.{holds_after, holds_more, fails_after}
+use Rattle.vr_pathfilters.proofs.PartWeights.{count_more, count_with, count_within}
 use Rattle.vr_pathfilters.proofs.dimensions.all_pass.Goals as goal
 
 pub returns-in_err-passed-clause-count : goal.returns-in_err-passed-clause-count
-returns-in_err-passed-clause-count g c =
-    let f = list_weight c.args.at.now.closed.model.now c.args.at.now.d in
-    let lists = c.args.at.now.routes.now.lists in
-    let parts = c.args.change.now in
-    let are = c.requires.made.makes.parts_are in
-    let k = c.loop-k.k in
-    let low : k < length parts = omega arith in
-    count_within f lists parts are (k + 1) c.args.steps.now (count_more f lists parts are k low c.args.steps.now c.loop-k.invariant.count c.part_passes.ensures.count)
+returns-in_err-passed-clause-count g c = count_with (list_weight c.args.at.now.closed.model.now c.args.at.now.d) c.args.at.now.routes.now.lists c.args.change.now c.requires.made.makes.parts_are c.loop-k.k (omega arith) c.args.steps.now c.loop-k.invariant.count c.part_passes.ensures.count
 
 pub returns-in_err-passed-clause-tries : goal.returns-in_err-passed-clause-tries
-returns-in_err-passed-clause-tries g c =
-    let f = list_tries c.args.at.now.closed.model.now c.args.at.now.d in
-    let lists = c.args.at.now.routes.now.lists in
-    let parts = c.args.change.now in
-    let are = c.requires.made.makes.parts_are in
-    let k = c.loop-k.k in
-    let low : k < length parts = omega arith in
-    count_within f lists parts are (k + 1) c.args.tries.now (count_more f lists parts are k low c.args.tries.now c.loop-k.invariant.tries c.part_passes.ensures.tries)
+returns-in_err-passed-clause-tries g c = count_with (list_tries c.args.at.now.closed.model.now c.args.at.now.d) c.args.at.now.routes.now.lists c.args.change.now c.requires.made.makes.parts_are c.loop-k.k (omega arith) c.args.tries.now c.loop-k.invariant.tries c.part_passes.ensures.tries
 
 pub returns-then-not-passed-clause-answer : goal.returns-then-not-passed-clause-answer
-returns-then-not-passed-clause-answer g c =
-    let m = c.args.at.now.closed.model.now in
-    let lists = c.args.at.now.routes.now.lists in
-    let parts = c.args.change.now in
-    sym (fails_after (is_feasible_list m c.args.at.now.d) lists parts c.requires.made.makes.parts_are c.loop-k.k (omega arith) (sym c.in_ok-passed.ensures.answer ∙ c.if-not-passed.true))
+returns-then-not-passed-clause-answer g c = sym (fails_after (is_feasible_list c.args.at.now.closed.model.now c.args.at.now.d) c.args.at.now.routes.now.lists c.args.change.now c.requires.made.makes.parts_are c.loop-k.k (omega arith) (sym c.in_ok-passed.ensures.answer ∙ c.if-not-passed.true))
 
 pub returns-then-not-passed-clause-count : goal.returns-then-not-passed-clause-count
-returns-then-not-passed-clause-count g c =
-    let f = list_weight c.args.at.now.closed.model.now c.args.at.now.d in
-    let lists = c.args.at.now.routes.now.lists in
-    let parts = c.args.change.now in
-    let are = c.requires.made.makes.parts_are in
-    let k = c.loop-k.k in
-    let low : k < length parts = omega arith in
-    count_within f lists parts are (k + 1) c.args.steps.now (count_more f lists parts are k low c.args.steps.now c.loop-k.invariant.count c.part_passes.ensures.count)
+returns-then-not-passed-clause-count g c = count_with (list_weight c.args.at.now.closed.model.now c.args.at.now.d) c.args.at.now.routes.now.lists c.args.change.now c.requires.made.makes.parts_are c.loop-k.k (omega arith) c.args.steps.now c.loop-k.invariant.count c.part_passes.ensures.count
 
 pub returns-then-not-passed-clause-tries : goal.returns-then-not-passed-clause-tries
-returns-then-not-passed-clause-tries g c =
-    let f = list_tries c.args.at.now.closed.model.now c.args.at.now.d in
-    let lists = c.args.at.now.routes.now.lists in
-    let parts = c.args.change.now in
-    let are = c.requires.made.makes.parts_are in
-    let k = c.loop-k.k in
-    let low : k < length parts = omega arith in
-    count_within f lists parts are (k + 1) c.args.tries.now (count_more f lists parts are k low c.args.tries.now c.loop-k.invariant.tries c.part_passes.ensures.tries)
+returns-then-not-passed-clause-tries g c = count_with (list_tries c.args.at.now.closed.model.now c.args.at.now.d) c.args.at.now.routes.now.lists c.args.change.now c.requires.made.makes.parts_are c.loop-k.k (omega arith) c.args.tries.now c.loop-k.invariant.tries c.part_passes.ensures.tries
 
 pub loop-k-preserved : goal.loop-k-preserved
 loop-k-preserved g c =
@@ -65,21 +30,13 @@ loop-k-preserved g c =
     let k = c.loop-k.k in
     let low : k < length parts = omega arith in
     record {
-      passed = λ j j_low. elim (cases_lt j k) [
-        | inl before ↦ c.loop-k.invariant.passed j before
-        | inr past ↦ (let e : k ≡ j = omega (arith, j_low, past) in
-            subst (λ i. IsTrue (is_feasible_list m c.args.at.now.d (part_at parts i).vehicle (joined lists (part_at parts i).pieces))) e (sym c.in_ok-passed.ensures.answer ∙ c.if-not-passed.false))
-      ];
+      passed = holds_more (is_feasible_list m c.args.at.now.d) lists parts k c.loop-k.invariant.passed (sym c.in_ok-passed.ensures.answer ∙ c.if-not-passed.false);
       count = count_more (list_weight m c.args.at.now.d) lists parts are k low c.args.steps.now c.loop-k.invariant.count c.part_passes.ensures.count;
       tries = count_more (list_tries m c.args.at.now.d) lists parts are k low c.args.tries.now c.loop-k.invariant.tries c.part_passes.ensures.tries;
     }
 
 pub returns-clause-answer : goal.returns-clause-answer
-returns-clause-answer g c =
-    let m = c.args.at.now.closed.model.now in
-    let lists = c.args.at.now.routes.now.lists in
-    let parts = c.args.change.now in
-    sym (holds_after (is_feasible_list m c.args.at.now.d) lists parts c.requires.made.makes.parts_are c.requires.stands.rule (λ j j_low. c.loop-k.invariant.passed j (omega (arith, j_low))))
+returns-clause-answer g c = sym (holds_after (is_feasible_list c.args.at.now.closed.model.now c.args.at.now.d) c.args.at.now.routes.now.lists c.args.change.now c.requires.made.makes.parts_are c.requires.stands.rule (λ j low. c.loop-k.invariant.passed j (omega (arith, low))))
 
 pub returns-clause-count : goal.returns-clause-count
 returns-clause-count g c = count_within (list_weight c.args.at.now.closed.model.now c.args.at.now.d) c.args.at.now.routes.now.lists c.args.change.now c.requires.made.makes.parts_are c.loop-k.k c.args.steps.now c.loop-k.invariant.count

@@ -2,88 +2,71 @@ use Rattle.std.proofs.Common.{◌≡◌, ◌∙◌, ℕ, ◌+◌, ◌<◌, ◌�
 use Rattle.std.specs.Prelude.{IsTrue}
 use Rattle.vr_model.specs.routes.Routes.{route}
 use Rattle.vr_model.specs.schedules.Weights.{list_weight}
+use Rattle.vr_model.specs.declared.records.Model.{Model}
 use Rattle.vr_reach.specs.Lists.{IsTour, is_feasible_list}
 use Rattle.vr_reach.specs.KnownRows.{AreRowsIfUsed}
+use Rattle.vr_reach.specs.Spliced.{AreSeams, spliced}
 use Rattle.vr_reach.specs.Tries.{list_tries}
-use Rattle.vr_pathfilters.proofs.PartEnds.{part_between, part_vehicle, part_within}
+use Rattle.vr_routes.specs.Pieces.{ListAfter, joined}
+use Rattle.vr_pathfilters.specs.Parts.{IsPartBetween}
+use Rattle.vr_pathfilters.proofs.PartEnds.{part_seen}
 use Rattle.vr_pathfilters.proofs.PartTours.{tour_of, rule_at}
 use Rattle.vr_pathfilters.proofs.dimensions.part_passes.Goals as goal
 
--- what is told of a list of a vehicle and of the one that it becomes, where both are known by other names
-told_same : (told : ℕ → List ℕ → List ℕ → ℕ) (lists : List (List ℕ)) {v w : ℕ} {list new after : List ℕ} → v ≡ w → list ≡ route lists v → new ≡ after
-    → told v list new ≡ told w (route lists w) after
-told_same told lists {v} {w} {list} {new} {after} same old is =
-    ap₂ (λ u l. told u l new) same (old ∙ ap (route lists) same) ∙ ap (told w (route lists w)) is
+-- what is counted of the list of a vehicle and of the one that it becomes is what is told of the part
+counted : (told : ℕ → List ℕ → List ℕ → ℕ) (start : ℕ) {model : Model} {lists : List (List ℕ)} {part : ListAfter} {v front behind new : ℕ} {list between seen : List ℕ}
+    → IsPartBetween model lists part v front behind between → list ≡ route lists v → seen ≡ between → new ≤ start + told v list (spliced list front behind seen)
+    → new ≤ start + told part.vehicle (route lists part.vehicle) (joined lists part.pieces)
+counted told start {model} {lists} {part} {v} {front} {behind} {new} {list} {between} {seen} is old same =
+    subst (λ n. new ≤ start + n)
+    (ap₂ (λ l s. told v l (spliced l front behind s)) old same ∙ (ap (told v (route lists v)) is.whole ∙ ap (λ w. told w (route lists w) (joined lists part.pieces)) is.same))
 
 pub passes_along-requires-clause-known : goal.passes_along-requires-clause-known
 passes_along-requires-clause-known g c =
     let m = c.args.at.now.closed.model.now in
-    let v = c.vehicle-v.result in
-    let low : v < length c.args.at.now.routes.now.lists = part_vehicle c.requires.made.makes.parts_are c.args.k c.requires.part c.vehicle-v.ensures in
-    let known : v < length c.args.known.now = omega (arith, low, c.requires.stands.tours_are.list_of_each, (c.requires.stands.rows_are refl).known_of_each) in
+    let v = c.write_between-ends.result.v in
+    let known : v < length c.args.known.now = omega (arith, c.write_between-ends.ensures.vehicle, c.requires.stands.tours_are.list_of_each, (c.requires.stands.rows_are refl).known_of_each) in
     let here = (c.requires.stands.rows_are refl).known_are v c.index-known-v.result known in
     subst (λ l. AreRowsIfUsed m c.args.at.now.d v l c.index-known-v.result) (sym c.list.ensures.value)
     (subst (AreRowsIfUsed m c.args.at.now.d v (route c.args.at.now.routes.now.lists v)) (sym c.index-known-v.is) here)
 
 pub passes_along-requires-clause-passed : goal.passes_along-requires-clause-passed
 passes_along-requires-clause-passed g c =
-    let m = c.args.at.now.closed.model.now in
-    let low : c.vehicle-v.result < length c.args.at.now.routes.now.lists = part_vehicle c.requires.made.makes.parts_are c.args.k c.requires.part c.vehicle-v.ensures in
-    subst (λ l. IsTrue (is_feasible_list m c.args.at.now.d c.vehicle-v.result l)) (sym c.list.ensures.value) (rule_at (is_feasible_list m c.args.at.now.d) c.args.at.now.routes.now.lists c.requires.stands.rule c.vehicle-v.result low)
+    let feasible = is_feasible_list c.args.at.now.closed.model.now c.args.at.now.d in
+    let v = c.write_between-ends.result.v in
+    subst (λ l. IsTrue (feasible v l)) (sym c.list.ensures.value) (rule_at feasible c.args.at.now.routes.now.lists c.requires.stands.rule v c.write_between-ends.ensures.vehicle)
 
 pub passes_along-requires-clause-old_tour : goal.passes_along-requires-clause-old_tour
 passes_along-requires-clause-old_tour g c =
     let m = c.args.at.now.closed.model.now in
-    let low : c.vehicle-v.result < length c.args.at.now.routes.now.lists = part_vehicle c.requires.made.makes.parts_are c.args.k c.requires.part c.vehicle-v.ensures in
-    subst (IsTour m) (sym c.list.ensures.value) (tour_of m c.args.at.now.routes.now c.requires.stands.tours_are c.vehicle-v.result low)
-
-pub strip-ends-requires : goal.strip-ends-requires
-strip-ends-requires g c = record {
-  vehicle = part_vehicle c.requires.made.makes.parts_are c.args.k c.requires.part c.vehicle-v.ensures;
-  within = part_within c.requires.made.makes.parts_are c.args.k c.requires.part c.pieces.ensures.value;
-}
-
-pub join_into-requires : goal.join_into-requires
-join_into-requires g c = record {
-  within = c.strip-ends.ensures.within;
-  room = (part_between c.args.at.now.closed.well_formed c.requires.stands.tours_are c.requires.made c.args.k c.requires.part c.pieces.ensures.value c.strip-ends.ensures refl refl).few;
-}
+    subst (IsTour m) (sym c.list.ensures.value) (tour_of m c.args.at.now.routes.now c.requires.stands.tours_are c.write_between-ends.result.v c.write_between-ends.ensures.vehicle)
 
 pub passes_along-requires-clause-seams : goal.passes_along-requires-clause-seams
-passes_along-requires-clause-seams g c = record {
-  order = c.strip-ends.ensures.order;
-  high = subst (λ l. c.strip-ends.result.behind ≤ length l) (sym c.list.ensures.value) c.strip-ends.ensures.high;
-}
+passes_along-requires-clause-seams g c =
+    let ends = c.write_between-ends in
+    subst (λ l. AreSeams (length l) ends.result.front ends.result.behind) (sym c.list.ensures.value) ends.ensures.seams
 
 pub passes_along-requires-clause-tour : goal.passes_along-requires-clause-tour
 passes_along-requires-clause-tour g c =
-    (part_between c.args.at.now.closed.well_formed c.requires.stands.tours_are c.requires.made c.args.k c.requires.part c.pieces.ensures.value c.strip-ends.ensures c.list.ensures.value (c.as_slice.ensures.value ∙ c.join_into.ensures)).tour
+    let ends = c.write_between-ends in
+    subst (λ l. IsTour c.args.at.now.closed.model.now (spliced l ends.result.front ends.result.behind c.as_slice.result.now)) (sym c.list.ensures.value)
+    (part_seen ends.ensures c.as_slice.ensures.value).tour
 
 pub returns-in_err-passed-clause-count : goal.returns-in_err-passed-clause-count
-returns-in_err-passed-clause-count g c =
-    let between = part_between c.args.at.now.closed.well_formed c.requires.stands.tours_are c.requires.made c.args.k c.requires.part c.pieces.ensures.value c.strip-ends.ensures c.list.ensures.value (c.as_slice.ensures.value ∙ c.join_into.ensures) in
-    subst (λ n. c.passes_along.new.steps ≤ c.args.steps.now + n)
-    (told_same (list_weight c.args.at.now.closed.model.now c.args.at.now.d) c.args.at.now.routes.now.lists c.vehicle-v.ensures c.list.ensures.value between.whole) c.passes_along.ensures.count
+returns-in_err-passed-clause-count g c = counted (list_weight c.args.at.now.closed.model.now c.args.at.now.d) c.args.steps.now c.write_between-ends.ensures c.list.ensures.value c.as_slice.ensures.value c.passes_along.ensures.count
+
+pub returns-in_err-passed-clause-tries : goal.returns-in_err-passed-clause-tries
+returns-in_err-passed-clause-tries g c = counted (list_tries c.args.at.now.closed.model.now c.args.at.now.d) c.args.tries.now c.write_between-ends.ensures c.list.ensures.value c.as_slice.ensures.value c.passes_along.ensures.tries
 
 pub returns-clause-answer : goal.returns-clause-answer
 returns-clause-answer g c =
-    let between = part_between c.args.at.now.closed.well_formed c.requires.stands.tours_are c.requires.made c.args.k c.requires.part c.pieces.ensures.value c.strip-ends.ensures c.list.ensures.value (c.as_slice.ensures.value ∙ c.join_into.ensures) in
-    c.in_ok-passed.ensures.exact ∙ ap₂ (λ w l. is_feasible_list c.args.at.now.closed.model.now c.args.at.now.d w l) c.vehicle-v.ensures between.whole
+    let feasible = is_feasible_list c.args.at.now.closed.model.now c.args.at.now.d in
+    let ends = c.write_between-ends in
+    c.in_ok-passed.ensures.exact ∙ (ap₂ (λ l s. feasible ends.result.v (spliced l ends.result.front ends.result.behind s)) c.list.ensures.value c.as_slice.ensures.value
+    ∙ ap₂ feasible ends.ensures.same ends.ensures.whole)
 
 pub returns-clause-count : goal.returns-clause-count
-returns-clause-count g c =
-    let between = part_between c.args.at.now.closed.well_formed c.requires.stands.tours_are c.requires.made c.args.k c.requires.part c.pieces.ensures.value c.strip-ends.ensures c.list.ensures.value (c.as_slice.ensures.value ∙ c.join_into.ensures) in
-    subst (λ n. c.passes_along.new.steps ≤ c.args.steps.now + n)
-    (told_same (list_weight c.args.at.now.closed.model.now c.args.at.now.d) c.args.at.now.routes.now.lists c.vehicle-v.ensures c.list.ensures.value between.whole) c.passes_along.ensures.count
-
-pub returns-in_err-passed-clause-tries : goal.returns-in_err-passed-clause-tries
-returns-in_err-passed-clause-tries g c =
-    let between = part_between c.args.at.now.closed.well_formed c.requires.stands.tours_are c.requires.made c.args.k c.requires.part c.pieces.ensures.value c.strip-ends.ensures c.list.ensures.value (c.as_slice.ensures.value ∙ c.join_into.ensures) in
-    subst (λ n. c.passes_along.new.tries ≤ c.args.tries.now + n)
-    (told_same (list_tries c.args.at.now.closed.model.now c.args.at.now.d) c.args.at.now.routes.now.lists c.vehicle-v.ensures c.list.ensures.value between.whole) c.passes_along.ensures.tries
+returns-clause-count g c = counted (list_weight c.args.at.now.closed.model.now c.args.at.now.d) c.args.steps.now c.write_between-ends.ensures c.list.ensures.value c.as_slice.ensures.value c.passes_along.ensures.count
 
 pub returns-clause-tries : goal.returns-clause-tries
-returns-clause-tries g c =
-    let between = part_between c.args.at.now.closed.well_formed c.requires.stands.tours_are c.requires.made c.args.k c.requires.part c.pieces.ensures.value c.strip-ends.ensures c.list.ensures.value (c.as_slice.ensures.value ∙ c.join_into.ensures) in
-    subst (λ n. c.passes_along.new.tries ≤ c.args.tries.now + n)
-    (told_same (list_tries c.args.at.now.closed.model.now c.args.at.now.d) c.args.at.now.routes.now.lists c.vehicle-v.ensures c.list.ensures.value between.whole) c.passes_along.ensures.tries
+returns-clause-tries g c = counted (list_tries c.args.at.now.closed.model.now c.args.at.now.d) c.args.tries.now c.write_between-ends.ensures c.list.ensures.value c.as_slice.ensures.value c.passes_along.ensures.tries

@@ -1,20 +1,14 @@
-use Rattle.std.proofs.Common.{◌≡◌, ◌∙◌, sym, ap, ap₂, subst, arith, w64, to_z, of_z}
+use Rattle.std.proofs.Common.{◌≡◌, ◌∙◌, ap, subst, arith, w64, to_z, of_z}
 use Rattle.std.proofs.lemmas.Int.{ints}
-use Rattle.vr_model.specs.tables.Tables.{visits}
 use Rattle.vr_model.specs.declared.records.Model.{Model}
 use Rattle.vr_routes.specs.Judging.{IsNoLess}
 use Rattle.vr_routes.specs.Runs.{with_last}
-use Rattle.vr_routes.specs.Tours.{Tours}
 use Rattle.vr_known.proofs.PassingLemmas.{told_of_each}
-use Rattle.vr_judge.specs.Costs.{StandsCosts}
+use Rattle.vr_judge.proofs.HeldLemmas.{costs_stand_at}
 use Rattle.vr_judge.proofs.judging.JudgingJudge.first_below.Goals as goal
 
 pub first_below-requires-clause-stands : goal.first_below-requires-clause-stands
-first_below-requires-clause-stands g c =
-    let same : c.args.routes.now ≡ c.self.inside.held = ap₂ {C = Tours} (λ vs ls. record { visits = vs; lists = ls })
-    (c.requires.holds.of_model ∙ (ap (λ h. visits h.model) (sym c.self.view_is) ∙ sym c.self.invariant.of_model))
-    (sym c.requires.holds.same ∙ ap (λ h. h.lists) (sym c.self.view_is)) in
-    subst (λ t. StandsCosts c.self.inside.costs t) (sym same) c.self.invariant.costs_stand
+first_below-requires-clause-stands g c = costs_stand_at c.self.invariant c.self.view_is c.requires.holds
 
 pub returns-clause-no_less : goal.returns-clause-no_less
 returns-clause-no_less g c =

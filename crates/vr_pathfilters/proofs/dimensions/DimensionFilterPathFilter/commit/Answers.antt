@@ -10,13 +10,13 @@ pub put_list-requires-in-Some-clause-kept : goal.put_list-requires-in-Some-claus
 put_list-requires-in-Some-clause-kept c =
     let s = c.requires.stands in
     let lists = c.args.routes.now.lists in
-    let kept = subst (WherePresent (KnowsLoads c.args.self.now.model.now c.args.self.now.d lists)) c.in-Some.is s.loads_are in
+    let kept = subst (WherePresent (KnowsLoads c.args.self.now.lookups.closed.model.now c.args.self.now.d lists)) c.in-Some.is s.loads_are in
     let new = c.put_list.ensures.carried lists kept.carried_are in
     new.many ∙ (as_many_with_part lists c.args.change.now 0 lists ∙ s.tours_are.list_of_each)
 
 pub returns-in-Some-clause-stands : goal.returns-in-Some-clause-stands
 returns-in-Some-clause-stands c =
-    let m = c.args.self.now.model.now in
+    let m = c.args.self.now.lookups.closed.model.now in
     let d = c.args.self.now.d in
     let s = c.requires.stands in
     let lists = c.args.routes.now.lists in
@@ -25,7 +25,6 @@ returns-in-Some-clause-stands c =
     record {
       well_formed = s.well_formed;
       dimension = s.dimension;
-      stops_are = s.stops_are;
       tours_are = tours_after m c.args.routes.now s.tours_are parts c.requires.made;
       loads_known = sym kept.load;
       loads_are = record {
@@ -39,7 +38,7 @@ returns-in-Some-clause-stands c =
 
 pub returns-in-None-clause-stands : goal.returns-in-None-clause-stands
 returns-in-None-clause-stands c =
-    let m = c.args.self.now.model.now in
+    let m = c.args.self.now.lookups.closed.model.now in
     let d = c.args.self.now.d in
     let s = c.requires.stands in
     let lists = c.args.routes.now.lists in
@@ -50,7 +49,6 @@ returns-in-None-clause-stands c =
     record {
       well_formed = s.well_formed;
       dimension = s.dimension;
-      stops_are = s.stops_are;
       tours_are = tours_after m c.args.routes.now s.tours_are parts c.requires.made;
       loads_known = s.loads_known;
       loads_are = subst (WherePresent (KnowsLoads m d _)) (sym c.in-None.is) tt;

@@ -17,8 +17,8 @@ returns-then-seat-self c =
 
 pub returns-then-seat-self-2 : goal.returns-then-seat-self-2
 returns-then-seat-self-2 c =
-    let same : c.in-Some.seat.vehicle ≡ c.self.inside.v = (let kept = c.if-seat-self.false in omega (arith, kept)) in
-    let seat = subst (λ w. IsSeat c.self.inside.routes.now.lists c.args.node w c.in-Some.seat.place) same c.in-Some.ensures in
+    let same : c.in-Some.seat.vehicle ≡ c.self.inside.ends.v = (let kept = c.if-seat-self.false in omega (arith, kept)) in
+    let seat = subst (λ w. IsSeat c.self.inside.ends.routes.now.lists c.args.node w c.in-Some.seat.place) same c.in-Some.ensures in
     place_in_front c.self.invariant c.args.node c.in-Some.seat.place seat c.if-seat-self-2.true ∙ ap (λ l. place_of l c.args.node) c.self.view_is
 
 pub returns-then-seat-self-3 : goal.returns-then-seat-self-3
@@ -34,6 +34,6 @@ returns-in-None c =
 
 pub returns-else-seat-self-3 : goal.returns-else-seat-self-3
 returns-else-seat-self-3 c =
-    let same : c.in-Some.seat.vehicle ≡ c.self.inside.v = (let kept = c.if-seat-self.false in omega (arith, kept)) in
-    let seat = subst (λ w. IsSeat c.self.inside.routes.now.lists c.args.node w c.in-Some.seat.place) same c.in-Some.ensures in
+    let same : c.in-Some.seat.vehicle ≡ c.self.inside.ends.v = (let kept = c.if-seat-self.false in omega (arith, kept)) in
+    let seat = subst (λ w. IsSeat c.self.inside.ends.routes.now.lists c.args.node w c.in-Some.seat.place) same c.in-Some.ensures in
     place_behind c.self.invariant c.args.node c.in-Some.seat.place seat c.if-seat-self-3.false ∙ ap (λ l. place_of l c.args.node) c.self.view_is

@@ -1,5 +1,5 @@
-use Rattle.std.proofs.Common.{◌≡◌, ◌∙◌, ◌<◌, ℕ, List, [], ◌∷◌, true, None, length, refl, ap, sym, arith}
-use Rattle.std.specs.Prelude.{◌==◌, find}
+use Rattle.std.proofs.Common.{◌≡◌, ◌∙◌, ◌<◌, ℕ, List, [], ◌∷◌, true, None, length, refl, ap, sym, subst, arith}
+use Rattle.std.specs.Prelude.{◌==◌, find, IsTrue}
 use Rattle.std.specs.List.{list_all}
 use Rattle.std.proofs.lemmas.Bool.{eqb-true}
 use Rattle.vr_model.specs.declared.records.Allowed.{Allowed}
@@ -8,7 +8,7 @@ use Rattle.vr_model.specs.routes.Routes.{route}
 use Rattle.vr_model.specs.routes.Rules.{allows_vehicle, row_allows_vehicle}
 use Rattle.vr_model.proofs.tables.Tests.{list_all-true}
 use Rattle.vr_routes.specs.Pieces.{joined, part_at}
-use Rattle.vr_pathfilters.specs.Vehicles.{is_allowed_list}
+use Rattle.vr_pathfilters.specs.Vehicles.{are_allowed_pieces, is_allowed_list}
 use Rattle.vr_pathfilters.proofs.PartEnds.{part_vehicle, part_within}
 use Rattle.vr_pathfilters.proofs.PartTours.{rule_at}
 use Rattle.vr_pathfilters.proofs.VehicleLemmas.{all-joined, all-spliced}
@@ -21,9 +21,9 @@ allowing_all v (row ∷ rows) list e = absurd (omega (arith, e))
 
 pub returns-then-is_empty-clause-answer : goal.returns-then-is_empty-clause-answer
 returns-then-is_empty-clause-answer c =
-    let model = c.args.self.now.lookups in
+    let model : Model = c.args.self.now.lookups.closed.model.now in
     let part = part_at c.args.change.now c.args.k in
-    let none = ap (λ (m : Model). length m.allowed == 0) (sym c.model.ensures.model) ∙ sym c.is_empty.ensures ∙ c.if-is_empty.true in
+    let none = sym c.is_empty.ensures ∙ c.if-is_empty.true in
     allowing_all part.vehicle model.allowed (joined c.args.routes.now.lists part.pieces) (eqb-true (length model.allowed) 0 none)
 
 pub strip-ends-requires : goal.strip-ends-requires
@@ -34,22 +34,25 @@ strip-ends-requires c = record {
 
 pub pieces_allow-requires : goal.pieces_allow-requires
 pieces_allow-requires c =
+    let lists : List (List ℕ) = c.args.routes.now.lists in
+    let v = c.vehicle-v.result in
     let low : c.vehicle-v.result < length c.args.routes.now.lists = part_vehicle c.requires.made.makes.parts_are c.args.k c.requires.part c.vehicle-v.ensures in
     record {
-      rule = rule_at (is_allowed_list c.args.self.now.lookups) c.args.routes.now.lists c.requires.before c.vehicle-v.result low;
+      rule = subst (λ m. IsTrue (is_allowed_list m v (route lists v))) (sym c.nodes.ensures) (rule_at (is_allowed_list c.args.self.now.lookups.closed.model.now) lists c.requires.before v low);
       within = c.strip-ends.ensures.within;
     }
 
 pub returns-clause-answer : goal.returns-clause-answer
 returns-clause-answer c =
-    let model = c.args.self.now.lookups in
+    let model : Model = c.args.self.now.lookups.closed.model.now in
     let lists : List (List ℕ) = c.args.routes.now.lists in
     let part = part_at c.args.change.now c.args.k in
     let v = c.vehicle-v.result in
     let ends = c.strip-ends in
     let low : v < length lists = part_vehicle c.requires.made.makes.parts_are c.args.k c.requires.part c.vehicle-v.ensures in
     c.pieces_allow.ensures
+    ∙ (ap (λ m. are_allowed_pieces m lists v ends.result.middle.now) c.nodes.ensures
     ∙ (sym (all-joined (allows_vehicle model v) lists ends.result.middle.now)
     ∙ (sym (all-spliced (allows_vehicle model v) (route lists v) (joined lists ends.result.middle.now) ends.result.front ends.result.behind (rule_at (is_allowed_list model) lists c.requires.before v low))
     ∙ (sym (ap (list_all (allows_vehicle model v)) ends.ensures.joins)
-    ∙ (ap (λ w. list_all (allows_vehicle model w) (joined lists c.pieces.result.now)) c.vehicle-v.ensures ∙ ap (λ ps. list_all (allows_vehicle model part.vehicle) (joined lists ps)) c.pieces.ensures.value))))
+    ∙ (ap (λ w. list_all (allows_vehicle model w) (joined lists c.pieces.result.now)) c.vehicle-v.ensures ∙ ap (λ ps. list_all (allows_vehicle model part.vehicle) (joined lists ps)) c.pieces.ensures.value)))))

@@ -8,11 +8,11 @@ use Rattle.vr_usecosts.specs.Groups.{StandsGroups}
 use Rattle.vr_costfilter.specs.PlanCosts.{StandsPlans}
 use Rattle.vr_earliest.specs.Kept.{StandsEarliest}
 use Rattle.vr_judge.specs.Costs.{PaysArcsAndGroups, pays_arcs_and_groups}
-use Rattle.vr_judge.proofs.costs.Costs.open.Goals as goal
+use Rattle.vr_judge.proofs.costs.Costs.over.Goals as goal
 
 pub returns-clause-stands : goal.returns-clause-stands
 returns-clause-stands c =
-    let model : Model = c.args.model.now in
+    let model : Model = c.args.lookups.now.closed.model.now in
     let tours = c.args.routes.now in
     let all = c.in_ok-first.ensures in
     let behind = of_value (λ two. c.both-driven.result ≡ Ok two.0) _ _ all.second c.both.ensures.first in
@@ -21,20 +21,20 @@ returns-clause-stands c =
     let groups = of_value (λ two. c.open-groups.result ≡ Ok two.1) _ _ all.first c.both-used.ensures.second in
     let arcs = of_value (λ two. c.open-arcs.result ≡ Ok two.0) _ _ behind c.both-driven.ensures.first in
     let earliest = of_value (λ two. c.open-earliest.result ≡ Ok two.1) _ _ behind c.both-driven.ensures.second in
-    let plans = of_value (λ two. c.open-plans.result ≡ Ok two.0) _ _ last c.both-scheduled.ensures.first in
-    let spans = of_value (λ two. c.open-spans.result ≡ Ok two.1) _ _ last c.both-scheduled.ensures.second in
+    let plans = of_value (λ two. c.over-plans.result ≡ Ok two.0) _ _ last c.both-scheduled.ensures.first in
+    let spans = of_value (λ two. c.over-spans.result ≡ Ok two.1) _ _ last c.both-scheduled.ensures.second in
     record {
       arcs_model = of_value (λ k. k.model ≡ model) _ _ arcs c.open-arcs.ensures.model;
       fixed_model = of_value (λ k. k.model ≡ model) _ _ fixed c.open-fixed.ensures.model;
       groups_model = of_value (λ k. k.model ≡ model) _ _ groups c.open-groups.ensures.model;
-      plans_model = of_value (λ k. k.model ≡ model) _ _ plans c.open-plans.ensures.model;
-      spans_model = of_value (λ k. k.model ≡ model) _ _ spans c.open-spans.ensures.model;
+      plans_model = of_value (λ k. k.model ≡ model) _ _ plans c.over-plans.ensures.model;
+      spans_model = of_value (λ k. k.model ≡ model) _ _ spans c.over-spans.ensures.model;
       earliest_model = of_value (λ k. k.model ≡ model) _ _ earliest c.open-earliest.ensures.model;
       arcs = of_value (λ k. StandsAlong k tours) _ _ arcs c.open-arcs.ensures.stands;
       fixed = of_value (λ k. StandsFixed k tours) _ _ fixed c.open-fixed.ensures.stands;
       groups = of_value (λ k. StandsGroups k tours) _ _ groups c.open-groups.ensures.stands;
-      plans = of_value (λ k. StandsPlans k tours) _ _ plans c.open-plans.ensures.stands;
-      spans = of_value (λ k. StandsSpans k tours) _ _ spans c.open-spans.ensures.stands;
+      plans = of_value (λ k. StandsPlans k tours) _ _ plans c.over-plans.ensures.stands;
+      spans = of_value (λ k. StandsSpans k tours) _ _ spans c.over-spans.ensures.stands;
       earliest = of_value (λ k. StandsEarliest k tours.lists) _ _ earliest c.open-earliest.ensures.stands;
       arcs_and_groups_is = c.are_idle-arcs_and_groups.ensures.idle ∙ ap pays_arcs_and_groups (of_value (λ k. k.model ≡ model) _ _ fixed c.open-fixed.ensures.model);
       arcs_and_groups = λ idle. subst PaysArcsAndGroups (of_value (λ k. k.model ≡ model) _ _ fixed c.open-fixed.ensures.model) (c.are_idle-arcs_and_groups.ensures.alike idle);

@@ -1,4 +1,4 @@
-use Rattle.vr_pathfilters.proofs.dimensions.DimensionFilter.open.Given as goal
+use Rattle.vr_pathfilters.proofs.dimensions.DimensionFilter.over.Given as goal
 
 abbrev pub ghosts-kept_of : goal.ghosts-kept_of
 ghosts-kept_of a = record { name = a.blank.name; parts = a.blank.parts }
