@@ -9,6 +9,7 @@ use Rattle.vr_model.specs.declared.records.Model.{Model}
 use Rattle.vr_model.specs.declared.records.Pair.{Pair}
 use Rattle.vr_model.specs.declared.neighbours.Move.{Move}
 use Rattle.vr_balance.specs.Sums.{last_of, path_sum}
+use Rattle.vr_parts.specs.Bounds.{IsAddedByChange}
 use Rattle.vr_arccosts.specs.Along.{between_cost, IsAlong}
 use Rattle.vr_arccosts.specs.ArcMoves.{arcs_added}
 use Rattle.vr_arccosts.specs.Chains.{chain_of, chain_sum, first_of}
@@ -23,6 +24,12 @@ pub record IsLine (model : Model) (v : ℕ) (list : List ℕ) (along : Along) : 
   pub nodes : All (λ node. node < model.nodes) list
   pub few : length list ≤ 1000
   pub sums : IsAlong model v list along
+
+-- a chain of nodes of a model, and what a change may add
+pub record IsPut (model : Model) (first last : ℕ) (base : ℤ) : Type 0 where
+  pub first_known : first < model.nodes
+  pub last_known : last < model.nodes
+  pub range : IsAddedByChange base
 
 -- a list of nodes of a model, and two places of it, of which lo comes first
 pub record IsRest (model : Model) (list : List ℕ) (lo hi : ℕ) : Type 0 where

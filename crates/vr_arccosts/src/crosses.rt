@@ -8,7 +8,7 @@ ghost use Rattle.vr_arccosts.specs.Runs.{AddsNoLess};
 
 use crate::committed::Committed;
 use crate::fronts::{Fronts, first_front};
-use crate::gaps::{Asked, Ends, first_gap, node_at};
+use crate::gaps::{Asked, Ends, Put, first_gap, node_at};
 
 /// The run of the front of the list of vehicle `v`, up to place `a`, that changes vehicles with those of vehicle `w`.
 #[derive(Clone, Copy)]
@@ -110,6 +110,11 @@ impl<'a, 'm> CrossRun<'a, 'm> {
             first: node_at(&line, self.a),
             last: fronts.last(),
         };
-        first_gap(&other, ends, base, asked)
+        let put = Put {
+            line: &other,
+            ends,
+            base,
+        };
+        first_gap(&put, asked)
     }
 }

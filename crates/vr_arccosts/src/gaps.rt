@@ -8,7 +8,7 @@ ghost use Rattle.vr_model.specs.tables.WellFormed.{IsWellFormed};
 ghost use Rattle.vr_parts.specs.Bounds.{IsAddedByChange, IsAddedByList};
 ghost use Rattle.vr_balance.specs.Sums.{last_of};
 ghost use Rattle.vr_arccosts.specs.Runs.{at_place, before_place, ends_added, gap_added};
-ghost use Rattle.vr_arccosts.specs.Runs.{pair_added, swap_added, turn_added, IsLine};
+ghost use Rattle.vr_arccosts.specs.Runs.{pair_added, swap_added, turn_added, IsLine, IsPut};
 
 use crate::costs::ArcCosts;
 use crate::lines::Along;
@@ -72,6 +72,15 @@ pub struct Ends {
     pub last: u32,
 }
 
+/// A chain that is put into a gap of a line, and what else the move adds.
+#[derive(Drop)]
+pub struct Put<'p, 'a, 'm> {
+    pub line: &'p Line<'a, 'm>,
+    pub ends: Ends,
+    pub base: i64,
+    pub ghost sound: { IsPut line.now.costs.model.now ends.first ends.last base },
+}
+
 impl<'a, 'm> Line<'a, 'm> {
     // How much more the arcs to and from a chain cost than what stands between the stop before place `front` and the
     // stop at place `behind`.
@@ -131,17 +140,17 @@ fn turned(line: &Line, a: u32, b: u32) -> i64
 /// The first place before which a chain can be put so that, with what else the move adds, the arcs cost less than the
 /// bound more; `end` where there is none.
 #[inline(never)]
-pub fn first_gap(line: &Line, ends: Ends, base: i64, asked: Asked) -> u32
-    requires first { ends.first < line.now.costs.model.now.nodes }
-    requires last { ends.last < line.now.costs.model.now.nodes }
-    requires base { IsAddedByChange base }
-    requires places { asked.end ≤ length line.now.list.now + 1 }
+pub fn first_gap(put: &Put, asked: Asked) -> u32
+    requires places { asked.end ≤ length put.now.line.now.list.now + 1 }
     ensures from { asked.from ≤ result }
     ensures within { result ≤ asked.end }
-    ensures no_less { (t : ℕ) → asked.from ≤ t → t < result → asked.bound
-        ≤ℤ (base +ℤ gap_added line.now.costs.model.now line.now.costs.vehicle line.now.list.now
-        ends.first ends.last t) }
+    ensures no_less { (t : ℕ) → asked.from ≤ t → t < result → asked.bound ≤ℤ (put.now.base
+        +ℤ gap_added put.now.line.now.costs.model.now put.now.line.now.costs.vehicle put.now.line.now.list.now
+        put.now.ends.first put.now.ends.last t) }
 {
+    let line = put.line;
+    let ends = put.ends;
+    let base = put.base;
     for t in asked.from..asked.end {
         if base + line.ends_added(ends, t, t) < asked.bound {
             return t;
@@ -153,79 +162,70 @@ pub fn first_gap(line: &Line, ends: Ends, base: i64, asked: Asked) -> u32
 /// The first number at which a chain of `k` nodes that leaves place `a` can be put, as [`first_gap`]: in front of its
 /// place, or behind it, where each number stands for the place that is `k` places behind it.
 #[inline(always)]
-pub fn first_around(line: &Line, ends: Ends, base: i64, a: u32, k: u32, asked: Asked) -> u32
-    requires first { ends.first < line.now.costs.model.now.nodes }
-    requires last { ends.last < line.now.costs.model.now.nodes }
-    requires base { IsAddedByChange base }
-    requires places { asked.end + k ≤ length line.now.list.now + 1 }
+pub fn first_around(put: &Put, a: u32, k: u32, asked: Asked) -> u32
+    requires places { asked.end + k ≤ length put.now.line.now.list.now + 1 }
     ensures from { asked.from ≤ result }
     ensures within { result ≤ asked.end }
-    ensures in_front { (t : ℕ) → asked.from ≤ t → t < result → t < a → asked.bound
-        ≤ℤ (base +ℤ gap_added line.now.costs.model.now line.now.costs.vehicle line.now.list.now
-        ends.first ends.last t) }
-    ensures behind { (t : ℕ) → asked.from ≤ t → t < result → a < t → asked.bound
-        ≤ℤ (base +ℤ gap_added line.now.costs.model.now line.now.costs.vehicle line.now.list.now
-        ends.first ends.last (t + k)) }
+    ensures in_front { (t : ℕ) → asked.from ≤ t → t < result → t < a → asked.bound ≤ℤ (put.now.base
+        +ℤ gap_added put.now.line.now.costs.model.now put.now.line.now.costs.vehicle put.now.line.now.list.now
+        put.now.ends.first put.now.ends.last t) }
+    ensures behind { (t : ℕ) → asked.from ≤ t → t < result → a < t → asked.bound ≤ℤ (put.now.base
+        +ℤ gap_added put.now.line.now.costs.model.now put.now.line.now.costs.vehicle put.now.line.now.list.now
+        put.now.ends.first put.now.ends.last (t + k)) }
 {
     if asked.from > a {
-        return first_behind(line, ends, base, k, asked.from, asked);
+        return first_behind(put, k, asked.from, asked);
     }
-    let t = first_in_front(line, ends, base, a, asked);
+    let t = first_in_front(put, a, asked);
     if t < a {
         return t;
     }
     if asked.end <= a + 1 {
         return asked.end;
     }
-    first_behind(line, ends, base, k, a + 1, asked)
+    first_behind(put, k, a + 1, asked)
 }
 
 // The first place in front of place `a`, as `first_gap`, where the first number is not behind it: `a` at most.
 #[inline(always)]
-fn first_in_front(line: &Line, ends: Ends, base: i64, a: u32, asked: Asked) -> u32
-    requires first { ends.first < line.now.costs.model.now.nodes }
-    requires last { ends.last < line.now.costs.model.now.nodes }
-    requires base { IsAddedByChange base }
+fn first_in_front(put: &Put, a: u32, asked: Asked) -> u32
     requires order { asked.from ≤ a }
-    requires places { asked.end ≤ length line.now.list.now + 1 }
+    requires places { asked.end ≤ length put.now.line.now.list.now + 1 }
     ensures from { asked.from ≤ result }
     ensures within { result ≤ asked.end }
-    ensures no_less { (t : ℕ) → asked.from ≤ t → t < result → asked.bound
-        ≤ℤ (base +ℤ gap_added line.now.costs.model.now line.now.costs.vehicle line.now.list.now
-        ends.first ends.last t) }
+    ensures no_less { (t : ℕ) → asked.from ≤ t → t < result → asked.bound ≤ℤ (put.now.base
+        +ℤ gap_added put.now.line.now.costs.model.now put.now.line.now.costs.vehicle put.now.line.now.list.now
+        put.now.ends.first put.now.ends.last t) }
 {
     if asked.end <= a {
-        return first_gap(line, ends, base, asked);
+        return first_gap(put, asked);
     }
     let front = Asked {
         from: asked.from,
         end: a,
         bound: asked.bound,
     };
-    first_gap(line, ends, base, front)
+    first_gap(put, front)
 }
 
 // The first number from another first one on, as `first_gap`, where each number stands for the place that is `k`
 // places behind it.
 #[inline(always)]
-fn first_behind(line: &Line, ends: Ends, base: i64, k: u32, from: u32, asked: Asked) -> u32
-    requires first { ends.first < line.now.costs.model.now.nodes }
-    requires last { ends.last < line.now.costs.model.now.nodes }
-    requires base { IsAddedByChange base }
+fn first_behind(put: &Put, k: u32, from: u32, asked: Asked) -> u32
     requires asked { from ≤ asked.end }
-    requires places { asked.end + k ≤ length line.now.list.now + 1 }
+    requires places { asked.end + k ≤ length put.now.line.now.list.now + 1 }
     ensures from { from ≤ result }
     ensures within { result ≤ asked.end }
-    ensures no_less { (t : ℕ) → from ≤ t → t < result → asked.bound
-        ≤ℤ (base +ℤ gap_added line.now.costs.model.now line.now.costs.vehicle line.now.list.now
-        ends.first ends.last (t + k)) }
+    ensures no_less { (t : ℕ) → from ≤ t → t < result → asked.bound ≤ℤ (put.now.base
+        +ℤ gap_added put.now.line.now.costs.model.now put.now.line.now.costs.vehicle put.now.line.now.list.now
+        put.now.ends.first put.now.ends.last (t + k)) }
 {
     let behind = Asked {
         from: from + k,
         end: asked.end + k,
         bound: asked.bound,
     };
-    first_gap(line, ends, base, behind) - k
+    first_gap(put, behind) - k
 }
 
 /// The first place before which the delivery of a pair can be put so that, with the pickup before place `s`, which is
@@ -277,8 +277,12 @@ fn first_apart(line: &Line, pair: Pair, s: u32, base: i64, asked: Asked) -> u32
         first: pair.delivery,
         last: pair.delivery,
     };
-    let with_pickup = base + line.ends_added(pickup, s, s);
-    first_gap(line, delivery, with_pickup, asked)
+    let put = Put {
+        line,
+        ends: delivery,
+        base: base + line.ends_added(pickup, s, s),
+    };
+    first_gap(&put, asked)
 }
 
 // How much more the arcs cost where a pair is put before a place, side by side.

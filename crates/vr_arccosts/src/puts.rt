@@ -10,7 +10,7 @@ ghost use Rattle.vr_arccosts.specs.ArcMoves.{costs_more};
 ghost use Rattle.vr_arccosts.specs.Runs.{AddsNoLess};
 
 use crate::committed::Committed;
-use crate::gaps::{Asked, Ends, first_delivery, first_gap};
+use crate::gaps::{Asked, Ends, Put, first_delivery, first_gap};
 use crate::rests::{Rest, first_in_rest};
 use vr_routes::{PairPlaces, Piece, pair_served};
 
@@ -31,7 +31,12 @@ impl<'a, 'm> Committed<'a, 'm> {
         }
         let line = self.kept.line_of(self.routes, w);
         let ends = Ends { first: u, last: u };
-        first_gap(&line, ends, 0, asked)
+        let put = Put {
+            line: &line,
+            ends,
+            base: 0,
+        };
+        first_gap(&put, asked)
     }
 
     // The run of a pair that is put into a list with its pickup before a place, by the place of its delivery.

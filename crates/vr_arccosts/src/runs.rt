@@ -11,7 +11,7 @@ ghost use Rattle.vr_arccosts.specs.Runs.{AddsNoLess, left_added};
 use crate::ArcCost;
 use crate::committed::Committed;
 use crate::crosses::CrossRun;
-use crate::gaps::{Asked, Ends, first_around, first_gap, first_swap, first_turn};
+use crate::gaps::{Asked, Ends, Put, first_around, first_gap, first_swap, first_turn};
 use vr_model::Move;
 use vr_routes::Routes;
 
@@ -91,7 +91,12 @@ impl<'a, 'm> Committed<'a, 'm> {
         };
         let line = self.kept.line_of(self.routes, v);
         let left = self.left_added(v, a, k);
-        first_around(&line, ends, left, a, k, asked)
+        let put = Put {
+            line: &line,
+            ends,
+            base: left,
+        };
+        first_around(&put, a, k, asked)
     }
 
     // What a chain adds where it leaves its place, without the arcs along it.
@@ -132,7 +137,12 @@ impl<'a, 'm> Committed<'a, 'm> {
             first: node,
             last: node,
         };
-        first_gap(&line, ends, base, asked)
+        let put = Put {
+            line: &line,
+            ends,
+            base,
+        };
+        first_gap(&put, asked)
     }
 
     // The run of a visit that changes places with those of a list, by the place there.

@@ -11,7 +11,7 @@ returns-then-t-a-clause-behind c t low high more = absurd (let under = c.if-t-a.
 pub returns-then-asked-a-2-clause-in_front : goal.returns-then-asked-a-2-clause-in_front
 returns-then-asked-a-2-clause-in_front c t low high less =
     let past = c.if-t-a.false in
-    let base = c.requires.base in
+    let base = c.args.put.now.sound.range in
     let least = c.first_in_front-t.ensures.no_less t low (omega (arith, past, less)) in
     omega (arith, ints, least, base.low, base.high)
 
@@ -21,12 +21,12 @@ returns-then-asked-a-2-clause-behind c t low high more = absurd (let ends = c.if
 pub returns-clause-in_front : goal.returns-clause-in_front
 returns-clause-in_front c t low high less =
     let past = c.if-t-a.false in
-    let base = c.requires.base in
+    let base = c.args.put.now.sound.range in
     let least = c.first_in_front-t.ensures.no_less t low (omega (arith, past, less)) in
     omega (arith, ints, least, base.low, base.high)
 
 pub returns-clause-behind : goal.returns-clause-behind
 returns-clause-behind c t low high more =
-    let base = c.requires.base in
+    let base = c.args.put.now.sound.range in
     let least = c.first_behind-2.ensures.no_less t (omega (arith, more)) high in
     omega (arith, ints, least, base.low, base.high)

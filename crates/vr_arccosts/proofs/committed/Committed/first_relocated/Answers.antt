@@ -1,4 +1,4 @@
-use Rattle.std.proofs.Common.{◌<◌, w64, to_z, of_z, sym, subst, arith}
+use Rattle.std.proofs.Common.{◌<◌, w64, to_z, of_z, rules, sym, subst, arith}
 use Rattle.std.specs.Prelude.{◌+ℤ◌}
 use Rattle.vr_model.specs.declared.records.Model.{Model}
 use Rattle.vr_parts.proofs.PartLemmas.{small}
@@ -8,16 +8,12 @@ use Rattle.vr_arccosts.proofs.LineLemmas.{least-told}
 use Rattle.vr_arccosts.proofs.RunLemmas.{relocate-no-less}
 use Rattle.vr_arccosts.proofs.committed.Committed.first_relocated.Goals as goal
 
-pub first_gap-requires-clause-first : goal.first_gap-requires-clause-first
-first_gap-requires-clause-first c =
+pub invariant_of-put : goal.invariant_of-put
+invariant_of-put c =
     let s = small c.args.self.kept.now.model c.args.self.stands.well_formed c.args.self.routes.now.lists c.args.self.stands.valid in
-    let place = c.if-a-len.false in
-    let many = c.len.ensures.value in
-    subst (λ (m : Model). c.node_at-node.result < m.nodes) (sym c.line_of-line.ensures.model)
-    (subst (λ n. n < c.args.self.kept.now.model.nodes) (sym c.node_at-node.ensures) (s.below c.args.v c.args.a 0 (omega (arith, place, many))))
-
-pub first_gap-requires-clause-last : goal.first_gap-requires-clause-last
-first_gap-requires-clause-last c = first_gap-requires-clause-first c
+    let node = subst (λ (m : Model). c.node_at-node.result < m.nodes) (sym c.line_of-line.ensures.model)
+    (subst (λ n. n < c.args.self.kept.now.model.nodes) (sym c.node_at-node.ensures) (s.below c.args.v c.args.a 0 (omega (arith, c.if-a-len.false, c.len.ensures.value)))) in
+    record { sound = record { first_known = node; last_known = node; range = search rules } }
 
 pub returns-clause-no_less : goal.returns-clause-no_less
 returns-clause-no_less c t low high =

@@ -1,8 +1,11 @@
-use Rattle.std.proofs.Common.{ℕ, List, w64, to_z, of_z, arith}
+use Rattle.std.proofs.Common.{ℕ, List, rules, w64, to_z, of_z, arith}
 use Rattle.std.proofs.lemmas.Int.{ints}
 use Rattle.vr_model.specs.declared.records.Model.{Model}
 use Rattle.vr_arccosts.proofs.RunLemmas.{shift-told}
 use Rattle.vr_arccosts.proofs.committed.Committed.first_shifted.Goals as goal
+
+pub invariant_of-put : goal.invariant_of-put
+invariant_of-put c = record { sound = record { first_known = search rules; last_known = search rules; range = search rules } }
 
 pub returns-clause-no_less : goal.returns-clause-no_less
 returns-clause-no_less c t low high =

@@ -1,4 +1,4 @@
-use Rattle.std.proofs.Common.{◌∙◌, [], List, ℕ}
+use Rattle.std.proofs.Common.{◌∙◌, []}
 use Rattle.std.proofs.lemmas.List.Elements.{All-cons, All-nil}
 use Rattle.vr_model.specs.deciding.Testing.{and_right}
 use Rattle.vr_model.specs.moves.MoveTests.{is_vehicle, is_place}

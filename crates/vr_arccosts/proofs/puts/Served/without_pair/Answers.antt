@@ -1,8 +1,5 @@
-use Rattle.std.proofs.Common.{◌∙◌, ◌<◌, ◌+◌, [], ℕ, List, ap, arith}
-use Rattle.std.specs.Prelude.{slice_range}
+use Rattle.std.proofs.Common.{◌∙◌, ℕ, List, ap, arith}
 use Rattle.std.proofs.lemmas.Int.{ints}
-use Rattle.std.proofs.lemmas.List.Elements.{All-append, All-nil}
-use Rattle.vr_parts.proofs.PartLemmas.{small}
 use Rattle.vr_model.specs.routes.Routes.{route}
 use Rattle.vr_model.specs.declared.records.Model.{Model}
 use Rattle.vr_arccosts.specs.ArcMoves.{costs_more}
