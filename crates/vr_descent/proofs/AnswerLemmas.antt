@@ -7,11 +7,12 @@ use Rattle.vr_model.specs.routes.Rules.{is_valid}
 use Rattle.vr_model.specs.routes.Costs.{cost}
 use Rattle.vr_model.specs.search.ChoosingLaws.{EndsAs}
 use Rattle.vr_model.specs.search.Descents.{improves, descended, descent_from, descent}
-use Rattle.vr_model.specs.search.Outcomes.{SearchState, accepted, begun, ended, tried}
+use Rattle.vr_model.specs.search.Outcomes.{SearchState, Outcome, accepted, begun, ended, tried, with_event}
 use Rattle.vr_model.specs.search.Scans.{Scan}
 use Rattle.vr_model.specs.search.Scans.Scan.{Accepted, Complete, Cut}
 use Rattle.vr_model.specs.declared.records.Model.{Model}
 use Rattle.vr_model.specs.declared.records.End.{End}
+use Rattle.vr_model.specs.declared.search.Event.{Event}
 use Rattle.vr_model.specs.declared.search.Limit.{Limit}
 use Rattle.vr_model.specs.declared.neighbours.Move.{Move}
 use Rattle.vr_model.proofs.searches.ScanEnding.{scan_ends}
@@ -84,6 +85,29 @@ module _ (model : Model) (first : List (List ℕ)) (limit : Limit) where
       one_more : (found solutions : ℕ) → found ≤ solutions → (found == solutions) ≡ false → suc found ≤ solutions
       one_more found solutions low e = Prim.grind arith
 
+  -- an event more changes no list and no number
+  pub sound_told : (event : Event) (rest : Outcome) → IsSoundAnswer model first limit rest → IsSoundAnswer model first limit (with_event event rest)
+  sound_told event rest a =
+      record { best_valid = a.best_valid; last_valid = a.last_valid; no_dearer = a.no_dearer; tries = a.tries; some_solution = a.some_solution; solutions = a.solutions }
+
+  -- a search by at most so many rounds, which keeps something beside where it stands
+  module _ {Kept : Type 0} (from : ℕ → Kept → SearchState → Outcome) where
+    -- by so many rounds more, whatever it keeps
+    abbrev pub SoundBy : ℕ → Type 0
+    SoundBy rounds = (kept : Kept) (next : SearchState) → IsSoundState next → IsSoundAnswer model first limit (from rounds kept next)
+
+    -- its answers are sound where those are that end it, and each round gives such an answer if what is behind it does
+    pub sound_by_rounds : SoundBy zero
+        → ((rounds : ℕ) (kept : Kept) (state : SearchState) → IsSoundState state → (state.found == limit.solutions) ≡ true → IsSoundAnswer model first limit (from (suc rounds) kept state))
+        → ((rounds : ℕ) (kept : Kept) (state : SearchState) → IsSoundState state → (state.found == limit.solutions) ≡ false → SoundBy rounds → IsSoundAnswer model first limit (from (suc rounds) kept state))
+        → (rounds : ℕ) → SoundBy rounds
+    sound_by_rounds none enough more zero kept state sound = none kept state sound
+    sound_by_rounds none enough more (suc rounds) kept state sound = go (state.found == limit.solutions) refl (sound_by_rounds none enough more rounds)
+      where
+        go : (b : Bool) → (state.found == limit.solutions) ≡ b → SoundBy rounds → IsSoundAnswer model first limit (from (suc rounds) kept state)
+        go true e again = enough rounds kept state sound e
+        go false e again = more rounds kept state sound e again
+
 -- the first part of a test
 pub first_of : (a b : Bool) → (a && b) ≡ true → IsTrue a
 first_of true b e = refl
@@ -97,8 +121,7 @@ module _ (model : Model) (first : List (List ℕ)) (limit : Limit) where
       → (s : Scan) → EndsAs (moves model state.lists) (improves model state.lists) (limit.tries - state.used) s
       → IsSoundAnswer model first limit (descended model limit (descent_from model limit scans) state s)
   goes_on scans state sound more again (Accepted n mv) ends =
-      let a = again (accepted model state n mv) (sound_accepted model first limit state n mv sound ends.1 more (first_of _ _ ends.0.acceptable_there)) in
-      record { best_valid = a.best_valid; last_valid = a.last_valid; no_dearer = a.no_dearer; tries = a.tries; some_solution = a.some_solution; solutions = a.solutions }
+      sound_told model first limit _ _ (again (accepted model state n mv) (sound_accepted model first limit state n mv sound ends.1 more (first_of _ _ ends.0.acceptable_there)))
   goes_on scans state sound more again (Complete n) ends = sound_end model first limit (tried state n) _ (sound_tried model first limit state n sound ends.2)
   goes_on scans state sound more again Cut ends =
       sound_end model first limit (tried state (limit.tries - state.used)) _ (sound_tried model first limit state (limit.tries - state.used) sound (omega arith))
@@ -117,5 +140,4 @@ module _ (model : Model) (first : List (List ℕ)) (limit : Limit) where
 pub descent_is_sound : DescentIsSound
 unfolding descent
 descent_is_sound model lists limit valid some =
-    let a = sound_from model lists limit (suc limit.tries) (begun lists) (sound_start model lists limit valid some) in
-    record { best_valid = a.best_valid; last_valid = a.last_valid; no_dearer = a.no_dearer; tries = a.tries; some_solution = a.some_solution; solutions = a.solutions }
+    sound_told model lists limit _ _ (sound_from model lists limit (suc limit.tries) (begun lists) (sound_start model lists limit valid some))

@@ -1,5 +1,5 @@
 -- How a search begins: it tells of the first solution, and what is left is the search from there.
-use Rattle.std.proofs.Common.{◌≡◌, ◌∙◌, List, [], ◌∷◌, ℕ, sym, ap, arith, w64, to_z, of_z}
+use Rattle.std.proofs.Common.{◌≡◌, ◌∙◌, ◌≤◌, List, [], ◌∷◌, ℕ, sym, ap, arith, w64, to_z, of_z}
 use Rattle.std.proofs.lemmas.Int.{ints}
 use Rattle.std.specs.Prelude.{ℤ, IsTrue}
 use Rattle.vr_model.specs.routes.Costs.{cost}
@@ -9,11 +9,13 @@ use Rattle.vr_model.specs.tables.WellFormed.{IsWellFormed}
 use Rattle.vr_model.specs.declared.records.Model.{Model}
 use Rattle.vr_model.specs.declared.search.Event.{Event}
 use Rattle.vr_model.specs.declared.search.Kind.TheVariants as kind
+use Rattle.vr_model.specs.declared.search.Limit.{Limit}
 use Rattle.vr_model.proofs.routes.CostFits.{costs_are_bounded}
+use Rattle.vr_routes.specs.Judging.{HoldSame}
 use Rattle.vr_routes.specs.Tours.{Tours}
 use Rattle.vr_watch.specs.Told.{Told, ToldInPart}
 use Rattle.vr_watch.proofs.ToldLemmas.{told_nothing}
-use Rattle.vr_descent.specs.Incumbents.{IsBest}
+use Rattle.vr_descent.specs.Incumbents.{IsBest, IsUnderWay}
 use Rattle.vr_descent.specs.Searching.{behind, event_of}
 use Rattle.vr_descent.specs.declared.incumbent.Incumbent.{Incumbent}
 use Rattle.vr_descent.specs.declared.progress.Progress.{Progress}
@@ -54,3 +56,18 @@ first_is_best model routes best is valid = record {
   valid = ap (λ b. is_valid model b.routes.lists) is ∙ valid;
   same_visits = ap (λ b. b.routes.visits) is;
 }
+
+-- at its beginning a search is under way
+pub under_way : (model : Model) (limit : Limit) (routes : Tours) (at : Progress) (best : Incumbent) (committed : List (List ℕ)) → at ≡ at_first model routes.lists → best ≡ record { routes = routes; cost = cost model routes.lists }
+    → HoldSame model committed routes → 1 ≤ limit.solutions → IsUnderWay model limit committed routes at best
+under_way model limit routes at best committed at_is best_is holds some =
+    let used = ap (λ p. p.used) at_is in
+    let found = ap (λ p. p.found) at_is in
+    record {
+      holds = holds;
+      costs = ap (λ p. p.cost) at_is;
+      used = omega (arith, used);
+      some = omega (arith, found);
+      found = omega (arith, found, some);
+      best = first_is_best model routes best best_is holds.valid;
+    }

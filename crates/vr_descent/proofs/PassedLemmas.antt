@@ -35,30 +35,27 @@ module _ (acceptable : Move → Bool) (rest : ℕ) where
       ap (λ b. cond b (cond (nat_le (suc place) rest) (Accepted (suc place) p) Cut) (scan_from (suc place) acceptable rest (ps ++ ms))) (none p (inl refl))
       ∙ over (suc place) ps ms (λ m h. none m (inr h)) ∙ ap (λ k. scan_from k acceptable rest ms) e
 
+  -- a scan that is cut behind a move is cut at it, where no try is left
+  cut_one : (place : ℕ) (m : Move) (ms : List Move) → rest ≤ place → scan_from (suc place) acceptable rest ms ≡ Cut → scan_from place acceptable rest (m ∷ ms) ≡ Cut
+  cut_one place m ms far behind = go (acceptable m) behind
+    where
+      here : nat_le (suc place) rest ≡ false
+      here = Prim.grind arith
+
+      go : (b : Bool) → scan_from (suc place) acceptable rest ms ≡ Cut → cond b (cond (nat_le (suc place) rest) (Accepted (suc place) m) Cut) (scan_from (suc place) acceptable rest ms) ≡ Cut
+      go true e = ap (λ c. cond c (Accepted (suc place) m) Cut) here
+      go false e = e
+
   cut_behind : (place : ℕ) (ms : List Move) → rest < place → scan_from place acceptable rest ms ≡ Cut
   cut_behind place [] far = ap (λ b. cond b Cut (Complete place)) (is_far far)
     where
       is_far : rest < place → nat_lt rest place ≡ true
       is_far far = Prim.grind arith
-  cut_behind place (m ∷ ms) far = go (acceptable m) (cut_behind (suc place) ms (omega (arith, far)))
-    where
-      here : nat_le (suc place) rest ≡ false
-      here = Prim.grind arith
-
-      go : (b : Bool) → scan_from (suc place) acceptable rest ms ≡ Cut → cond b (cond (nat_le (suc place) rest) (Accepted (suc place) m) Cut) (scan_from (suc place) acceptable rest ms) ≡ Cut
-      go true e = ap (λ c. cond c (Accepted (suc place) m) Cut) here
-      go false e = e
+  cut_behind place (m ∷ ms) far = cut_one place m ms (omega (arith, far)) (cut_behind (suc place) ms (omega (arith, far)))
 
   -- once as many moves were passed as may be tried, the scan is cut where a move is left
   pub cut_from : (place : ℕ) (m : Move) (ms : List Move) → rest ≤ place → scan_from place acceptable rest (m ∷ ms) ≡ Cut
-  cut_from place m ms far = go (acceptable m) (cut_behind (suc place) ms (omega (arith, far)))
-    where
-      here : nat_le (suc place) rest ≡ false
-      here = Prim.grind arith
-
-      go : (b : Bool) → scan_from (suc place) acceptable rest ms ≡ Cut → cond b (cond (nat_le (suc place) rest) (Accepted (suc place) m) Cut) (scan_from (suc place) acceptable rest ms) ≡ Cut
-      go true e = ap (λ c. cond c (Accepted (suc place) m) Cut) here
-      go false e = e
+  cut_from place m ms far = cut_one place m ms far (cut_behind (suc place) ms (omega (arith, far)))
 
   pub cut_at_end : (place : ℕ) → rest < place → scan_from place acceptable rest [] ≡ Cut
   cut_at_end place far = cut_behind place [] far

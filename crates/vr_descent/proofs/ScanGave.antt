@@ -1,18 +1,22 @@
 -- What a search has after a scan, by the end of the scan.
-use Rattle.std.proofs.Common.{◌≡◌, ◌∙◌, ℕ, ◌+◌, ◌-◌, ◌≤◌, Bool, true, List, sym, ap}
+use Rattle.std.proofs.Common.{◌≡◌, ◌∙◌, ℕ, ◌+◌, ◌-◌, ◌≤◌, Bool, true, List, sym, ap, arith}
 use Rattle.std.specs.Prelude.{ℤ}
+use Rattle.vr_model.specs.routes.Costs.{cost}
 use Rattle.vr_model.specs.search.Scans.Scan.{Accepted as accepted, Complete as complete, Cut as cut}
 use Rattle.vr_model.specs.declared.records.Model.{Model}
 use Rattle.vr_model.specs.declared.neighbours.Move.{Move}
 use Rattle.vr_model.specs.declared.search.Limit.{Limit}
-use Rattle.vr_routes.specs.Judging.{cost_change, moved}
+use Rattle.vr_routes.specs.Judging.{HoldSame, cost_change, moved}
 use Rattle.vr_routes.specs.Tours.{Tours}
+use Rattle.vr_descent.specs.Incumbents.{IsUnderWay, kept}
 use Rattle.vr_descent.specs.Scanned.{scan_end}
 use Rattle.vr_descent.specs.Searching.{after_move, progress_after, routes_after, scan_of}
+use Rattle.vr_descent.specs.declared.incumbent.Incumbent.{Incumbent}
 use Rattle.vr_descent.specs.declared.progress.Progress.{Progress}
 use Rattle.vr_descent.specs.declared.scanning.ScanEnd.{ScanEnd}
 use Rattle.vr_descent.specs.declared.scanning.ScanEnd.TheVariants.{Accepted, Complete, Cut}
 use Rattle.vr_descent.proofs.EndLemmas.{accepted_at, completed, was_cut}
+use Rattle.vr_descent.proofs.IncumbentLemmas.{kept_is_best}
 
 -- a move was accepted at a place, and made
 pub record Moved (model : Model) (takes : List (List ℕ) → Move → ℤ → Bool) (limit : Limit) (routes after : Tours) (at now : Progress) (place : ℕ) (mv : Move) : Type 0 where
@@ -69,4 +73,39 @@ module _ (model : Model) (takes : List (List ℕ) → Move → ℤ → Bool) (li
         scanned = scanned;
         at_is = progress ∙ ap (progress_after model limit routes.lists at) scanned;
         routes_are = tours ∙ ap (routes_after model routes) scanned;
+      }
+
+module _ (model : Model) (limit : Limit) (routes after : Tours) (at now : Progress) (committed judged : List (List ℕ)) where
+  -- a search is under way still where a move was made, and the cheaper routes are kept
+  pub under_way_moved : (takes : List (List ℕ) → Move → ℤ → Bool) (place : ℕ) (mv : Move) (best new : Incumbent) → Moved model takes limit routes after at now place mv → IsUnderWay model limit committed routes at best
+      → HoldSame model judged after → new ≡ kept best after now.cost → ((at.found ≡ limit.solutions) → ⊥) → IsUnderWay model limit judged after now new
+  under_way_moved takes place mv best new gave before holds keeps more =
+      let used_new = ap (λ p. p.used) gave.at_is in
+      let found_new = ap (λ p. p.found) gave.at_is in
+      let within = gave.within in
+      let costs_new : now.cost ≡ cost model after.lists = ap (λ p. p.cost) gave.at_is ∙ sym (ap (λ r. cost model r.lists) gave.routes_are) in
+      record {
+        holds = holds;
+        costs = costs_new;
+        used = omega (arith, used_new, within, before.used);
+        some = omega (arith, found_new);
+        found = omega (arith, found_new, before.found, more);
+        best = kept_is_best model routes.visits best new after now.cost before.best keeps (sym (ap (λ r. r.visits) gave.routes_are)) costs_new holds.valid;
+      }
+
+  -- so it is where none was made, and only the tries are counted
+  pub under_way_still : (used : ℕ) (best : Incumbent) → after ≡ routes → now ≡ record { used = used; found = at.found; cost = at.cost } → IsUnderWay model limit committed routes at best → HoldSame model judged after → used ≤ limit.tries
+      → IsUnderWay model limit judged after now best
+  under_way_still used best routes_are at_is before holds low =
+      let used_new = ap (λ p. p.used) at_is in
+      let found_new = ap (λ p. p.found) at_is in
+      let some = before.some in
+      let found = before.found in
+      record {
+        holds = holds;
+        costs = ap (λ p. p.cost) at_is ∙ (before.costs ∙ sym (ap (λ r. cost model r.lists) routes_are));
+        used = omega (arith, used_new, low);
+        some = omega (arith, found_new, some);
+        found = omega (arith, found_new, found);
+        best = record { costs = before.best.costs; valid = before.best.valid; same_visits = before.best.same_visits ∙ sym (ap (λ r. r.visits) routes_are) };
       }

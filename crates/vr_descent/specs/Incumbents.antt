@@ -1,10 +1,13 @@
 -- The best lists so far.
-use Rattle.std.specs.Prelude.{◌≡◌, ℕ, cond, List, IsTrue, ℤ, int_lt}
+use Rattle.std.specs.Prelude.{◌≡◌, ℕ, ◌≤◌, cond, List, IsTrue, ℤ, int_lt}
 use Rattle.vr_model.specs.routes.Costs.{cost}
 use Rattle.vr_model.specs.routes.Rules.{is_valid}
 use Rattle.vr_model.specs.declared.records.Model.{Model}
+use Rattle.vr_model.specs.declared.search.Limit.{Limit}
+use Rattle.vr_routes.specs.Judging.{HoldSame}
 use Rattle.vr_routes.specs.Tours.{Tours}
 use Rattle.vr_descent.specs.declared.incumbent.Incumbent.{Incumbent}
+use Rattle.vr_descent.specs.declared.progress.Progress.{Progress}
 
 -- the cheaper of two, the first of equally cheap ones
 abbrev pub kept : Incumbent → Tours → ℤ → Incumbent
@@ -15,3 +18,14 @@ pub record IsBest (model : Model) (visits : List ℕ) (best : Incumbent) : Type 
   pub costs : best.cost ≡ cost model best.routes.lists
   pub valid : IsTrue (is_valid model best.routes.lists)
   pub same_visits : best.routes.visits ≡ visits
+
+-- a search within a limit is under way: routes and judge hold the same valid lists; their cost is known, and the tries
+-- and the solutions are counted; and the best routes are valid
+pub record IsUnderWay (model : Model) (limit : Limit) (committed : List (List ℕ)) (routes : Tours) (at : Progress)
+    (incumbent : Incumbent) : Type 0 where
+  pub holds : HoldSame model committed routes
+  pub costs : at.cost ≡ cost model routes.lists
+  pub used : at.used ≤ limit.tries
+  pub some : 1 ≤ at.found
+  pub found : at.found ≤ limit.solutions
+  pub best : IsBest model routes.visits incumbent

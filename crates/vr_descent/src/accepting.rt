@@ -38,6 +38,23 @@ pub trait Accept {
         requires difference { difference ≡ cost_change (model self.now) routes.now.lists mv }
         ensures { result ≡ takes self.now routes.now.lists mv difference };
 
+    /// Whether the move is taken, as `accepts` says. The caller hands in the change that the move makes, so that it
+    /// need not be written again. Takes no memory.
+    #[inline]
+    fn accepts_change(&self, routes: &Routes, mv: Move, change: &Change, difference: i64) -> bool
+        requires well_formed { IsWellFormed (model self.now) }
+        requires of_model { routes.now.visits ≡ visits (model self.now) }
+        requires stands { stands_at self.now routes.now.lists }
+        requires valid { IsTrue (is_valid (model self.now) routes.now.lists) }
+        requires mv { IsTrue (is_move (model self.now) routes.now.lists mv) }
+        requires after { IsTrue (is_valid (model self.now) (apply (model self.now) routes.now.lists mv)) }
+        requires difference { difference ≡ cost_change (model self.now) routes.now.lists mv }
+        requires change { IsChange (model self.now) routes.now.lists mv change.now }
+        ensures { result ≡ takes self.now routes.now.lists mv difference }
+    {
+        self.accepts(routes, mv, difference)
+    }
+
     /// Whether the move may be taken where it makes a difference of `least` or more, as far as its numbers tell
     /// (vehicles, places, nodes): false only where it is not. A search asks this first, before it makes the change of
     /// the move. Takes no memory.

@@ -273,10 +273,10 @@ fn try_move<J: Judge, A: Accept, L: Ledger>(
     if !accept.may_accept(routes, mv, change, least) {
         return Ok(None);
     }
-    match judge.judge(routes, mv, steps)? {
+    match judge.judge_change(routes, mv, change, steps)? {
         Verdict::Refused => Ok(None),
         Verdict::Difference(difference) => {
-            if accept.accepts(routes, mv, difference) {
+            if accept.accepts_change(routes, mv, change, difference) {
                 Ok(Some(difference))
             } else {
                 Ok(None)

@@ -1,15 +1,23 @@
 -- Changes of an augmented cost.
 use Rattle.std.proofs.Common.{◌≡◌, ◌∙◌, ◌≤◌, ℕ, zero, suc, false, List, refl, sym, ap, ap₂, subst, arith}
-use Rattle.std.specs.Prelude.{ℤ, pos, negsuc, neg_ℤ, ◌+ℤ◌, ◌-ℤ◌, ◌*ℤ◌, ◌≤ℤ◌, int_lt, unsigned_abs}
+use Rattle.std.specs.Prelude.{ℤ, pos, negsuc, neg_ℤ, ◌+ℤ◌, ◌-ℤ◌, ◌*ℤ◌, ◌≤ℤ◌, int_lt, unsigned_abs, IsTrue}
 use Rattle.std.proofs.lemmas.Int.{ints}
 use Rattle.std.proofs.Math.IntN.{zero-*ℤ, suc_ℤ-*ℤ, pred_ℤ-*ℤ, *ℤ-zero}
 use Rattle.vr_model.specs.moves.Moves.{apply}
+use Rattle.vr_model.specs.moves.MoveTests.{is_move}
 use Rattle.vr_model.specs.routes.Costs.{cost}
+use Rattle.vr_model.specs.routes.Routes.{are_lists}
+use Rattle.vr_model.specs.routes.Rules.{is_valid}
 use Rattle.vr_model.specs.search.GuidedSearches.{Penalties, augmented, penalised}
+use Rattle.vr_model.specs.tables.WellFormed.{IsWellFormed}
 use Rattle.vr_model.specs.declared.records.Model.{Model}
 use Rattle.vr_model.specs.declared.search.Lambda.{Lambda}
 use Rattle.vr_model.specs.declared.neighbours.Move.{Move}
+use Rattle.vr_model.proofs.moves.KeptLists.{moves_keep_lists}
+use Rattle.vr_model.proofs.routes.Lists.{are-lists}
+use Rattle.vr_routes.specs.Changes.{IsChange}
 use Rattle.vr_routes.specs.Judging.{cost_change}
+use Rattle.vr_routes.specs.Pieces.{ListAfter, changed}
 use Rattle.vr_guided.specs.Guides.{is_gain, makes_less, penalised_change}
 
 spread : (q a b : ℤ) → q *ℤ (a -ℤ b) ≡ (q *ℤ a) -ℤ (q *ℤ b)
@@ -96,3 +104,14 @@ at_least n (negsuc m) h = omega (arith, ints, h)
 pub at_most : (n : ℕ) (z : ℤ) → unsigned_abs z ≤ n → z ≤ℤ pos n
 at_most n (pos m) h = omega (arith, ints, h)
 at_most n (negsuc m) h = omega (arith, ints, h)
+
+-- a move is taken where the weighed changes are a gain, with its difference as it is read
+pub taken_where : (model : Model) (lambda : Lambda) (penalties : Penalties) (lists : List (List ℕ)) (mv : Move) (difference read : ℤ) → read ≡ difference → difference ≡ cost_change model lists mv
+    → is_gain lambda read (penalised_change model penalties lists mv) ≡ makes_less model lambda penalties lists mv difference
+taken_where model lambda penalties lists mv difference read same is =
+    ap (λ d. is_gain lambda d (penalised_change model penalties lists mv)) same ∙ makes_less_where model lambda penalties lists mv difference (penalised_change model penalties lists mv) is refl
+
+-- after a change that a move makes the lists are those of the model
+pub lists_after : (model : Model) → IsWellFormed model → (lists : List (List ℕ)) (mv : Move) {parts : List ListAfter} → IsTrue (is_valid model lists) → IsTrue (is_move model lists mv) → IsChange model lists mv parts → IsTrue (are_lists model (changed lists parts))
+lists_after model well lists mv valid one change =
+    subst (λ ls. IsTrue (are_lists model ls)) (sym change.lists_are) (moves_keep_lists model well lists mv (are-lists model lists valid) one)

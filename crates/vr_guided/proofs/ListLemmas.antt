@@ -5,6 +5,7 @@ use Rattle.vr_model.specs.tables.WellFormed.{IsWellFormed}
 use Rattle.vr_model.specs.routes.Routes.{route}
 use Rattle.vr_model.specs.routes.Rules.{is_valid}
 use Rattle.vr_model.specs.declared.records.Model.{Model}
+use Rattle.vr_guided.specs.Lists.{AreFewNodes}
 use Rattle.vr_model.proofs.routes.Lists.{are-lists, are_lists-count, route-below, route-few}
 
 module _ (model : Model) (lists : List (List ℕ)) (valid : IsTrue (is_valid model lists)) where
@@ -29,3 +30,6 @@ module _ (model : Model) (lists : List (List ℕ)) (valid : IsTrue (is_valid mod
       let most = well.number_of_nodes.1 in
       let same = ap length is in
       omega (arith, few, most, same)
+
+  pub few_nodes : IsWellFormed model → (v : ℕ) {list : List ℕ} → list ≡ route lists v → AreFewNodes model list
+  few_nodes well v is = record { below = list_below v is; short = list_short well v is }

@@ -6,7 +6,7 @@ use Rattle.std.proofs.lemmas.Bool.{cases_lt}
 use Rattle.std.proofs.lemmas.Int.{ints}
 use Rattle.std.proofs.lemmas.List.{get_or_past}
 use Rattle.std.proofs.lemmas.List.Folds.{list_any_at}
-use Rattle.vr_model.specs.deciding.Testing.{and_both, and_left, and_right, eq_of_test, or_left, or_right, test_of_eq}
+use Rattle.vr_model.specs.deciding.Testing.{and_left, and_right, eq_of_test, or_left, or_right, test_of_eq}
 use Rattle.vr_model.specs.tables.Numbers.{below, total_by}
 use Rattle.vr_model.specs.tables.Tables.{arc_cost, is_terminal, is_visit, no_vehicle, vehicle_at}
 use Rattle.vr_model.specs.tables.WellFormed.{IsWellFormed}

@@ -19,7 +19,7 @@ use Rattle.vr_routes.specs.Tours.{Tours}
 use Rattle.vr_descent.specs.Searching.{behind, event_of, scan_of, standing}
 use Rattle.vr_descent.specs.declared.progress.Progress.{Progress}
 use Rattle.vr_descent.proofs.GoingOn.{Goes, goes_as}
-use Rattle.vr_descent.proofs.ScanGave.{Moved, RanOut, TriedAll}
+use Rattle.vr_descent.proofs.ScanGave.{Moved, RanOut, TriedAll, under_way_still}
 use Rattle.vr_guided.specs.Counts.{AtMost, counted}
 use Rattle.vr_guided.specs.Guides.{makes_less}
 use Rattle.vr_guided.specs.Standing.{Stands, from_here, outcome_of}
@@ -73,16 +73,8 @@ module _ (model : Model) (limit : Limit) (routes tours : Tours) (state : State) 
   pub stands_still : (committed judged : List (List ℕ)) → Stands model limit committed routes state → HoldSame model judged tours → state.at.used ≤ used → used ≤ limit.tries → Stands model limit judged tours (record state { at = now })
   stands_still committed judged stands holds more low =
       let used_new = ap (λ p. p.used) at_is in
-      let found_new = ap (λ p. p.found) at_is in
-      let some = stands.some in
-      let found = stands.found in
       record {
-        holds = holds;
-        costs = ap (λ p. p.cost) at_is ∙ (stands.costs ∙ sym (ap (λ r. cost model r.lists) routes_are));
-        used = omega (arith, used_new, low);
-        some = omega (arith, found_new, some);
-        found = omega (arith, found_new, found);
-        best = record { costs = stands.best.costs; valid = stands.best.valid; same_visits = stands.best.same_visits ∙ sym (ap (λ r. r.visits) routes_are) };
+        going = under_way_still model limit routes tours state.at now committed judged used state.best routes_are at_is stands.going holds low;
         few = few_more (counted state.penalties) state.at.used now.used (omega (arith, used_new, more)) stands.few;
         covers = stands.covers;
         route_sums = stands.route_sums;
@@ -98,4 +90,4 @@ module _ (model : Model) (limit : Limit) (routes tours : Tours) (state : State) 
 
 -- no arc was penalised more often than there may be tries
 pub few_stand : (model : Model) (limit : Limit) (committed : List (List ℕ)) (routes : Tours) (state : State) → Stands model limit committed routes state → limit.tries ≤ 1000000000 → AtMost 1000000000 (counted state.penalties)
-few_stand model limit committed routes state stands most = let low = stands.used in few_more (counted state.penalties) state.at.used 1000000000 (omega (arith, low, most)) stands.few
+few_stand model limit committed routes state stands most = let low = stands.going.used in few_more (counted state.penalties) state.at.used 1000000000 (omega (arith, low, most)) stands.few

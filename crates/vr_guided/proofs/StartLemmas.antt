@@ -1,5 +1,5 @@
 -- How guided local search begins: what is left behind its first event is the search from there.
-use Rattle.std.proofs.Common.{◌≡◌, ◌∙◌, ℕ, ◌≤◌, List, sym, ap, subst, arith}
+use Rattle.std.proofs.Common.{◌≡◌, ◌∙◌, ℕ, ◌≤◌, List, sym, ap, subst}
 use Rattle.vr_model.specs.search.GuidedSearches.{no_penalties}
 use Rattle.vr_model.specs.search.Outcomes.{Outcome}
 use Rattle.vr_model.specs.declared.records.Model.{Model}
@@ -7,7 +7,7 @@ use Rattle.vr_model.specs.declared.search.Lambda.{Lambda}
 use Rattle.vr_model.specs.declared.search.Limit.{Limit}
 use Rattle.vr_routes.specs.Judging.{HoldSame}
 use Rattle.vr_routes.specs.Tours.{Tours}
-use Rattle.vr_descent.proofs.Beginnings.{at_first, first_is_best}
+use Rattle.vr_descent.proofs.Beginnings.{at_first, under_way}
 use Rattle.vr_guided.specs.Counts.{AtMost}
 use Rattle.vr_guided.specs.Standing.{IsBegun, Stands, from_here, from_state}
 use Rattle.vr_guided.specs.declared.searching.State.{State}
@@ -23,14 +23,8 @@ module _ (model : Model) (limit : Limit) (routes : Tours) (state : State) (begin
   pub begun_stands : (committed : List (List ℕ)) → HoldSame model committed routes → 1 ≤ limit.solutions → Stands model limit committed routes state
   begun_stands committed holds some =
       let used = ap (λ p. p.used) begins.at_is in
-      let found = ap (λ p. p.found) begins.at_is in
       record {
-        holds = holds;
-        costs = ap (λ p. p.cost) begins.at_is;
-        used = omega (arith, used);
-        some = omega (arith, found);
-        found = omega (arith, found, some);
-        best = first_is_best model routes state.best begins.best_is holds.valid;
+        going = under_way model limit routes state.at state.best committed begins.at_is begins.best_is holds some;
         few = subst (λ p. AtMost state.at.used p) (sym begins.none) (subst (λ k. AtMost k no_penalties) (sym used) none_at_first);
         covers = begins.covers;
         route_sums = begins.route_sums;

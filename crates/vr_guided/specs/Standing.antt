@@ -1,6 +1,5 @@
 -- Where guided search in code stands.
 use Rattle.std.specs.Prelude.{◌≡◌, ℕ, suc, ◌-◌, ◌≤◌, List, length, pos, ◌≤ℤ◌}
-use Rattle.vr_model.specs.routes.Costs.{cost}
 use Rattle.vr_model.specs.search.Outcomes.{Outcome}
 use Rattle.vr_model.specs.search.GuidedSearches.{Penalties, guided_from, no_penalties}
 use Rattle.vr_model.specs.declared.records.Model.{Model}
@@ -8,11 +7,10 @@ use Rattle.vr_model.specs.declared.records.End.{End}
 use Rattle.vr_model.specs.declared.search.Event.{Event}
 use Rattle.vr_model.specs.declared.search.Limit.{Limit}
 use Rattle.vr_model.specs.declared.search.Lambda.{Lambda}
-use Rattle.vr_descent.specs.Incumbents.{IsBest}
+use Rattle.vr_descent.specs.Incumbents.{IsUnderWay}
 use Rattle.vr_descent.specs.Searching.{standing}
 use Rattle.vr_descent.specs.declared.progress.Progress.{Progress}
 use Rattle.vr_routes.specs.Tours.{Tours}
-use Rattle.vr_routes.specs.Judging.{HoldSame}
 use Rattle.vr_guided.specs.Counts.{AtMost, counted}
 use Rattle.vr_guided.specs.declared.searching.State.{State}
 
@@ -33,16 +31,11 @@ pub record IsBegun (model : Model) (routes : Tours) (at : Progress) (state : Sta
   pub covers : state.penalties.nodes ≡ model.nodes
   pub route_sums : length state.route_sums ≡ length model.vehicles
 
--- routes and judge hold the same valid lists; their cost, the tries and the solutions are counted; the best routes are
--- valid; no arc was penalised more often than a move was tried; each arc has a count; and each vehicle has sums
+-- the search is under way; no arc was penalised more often than a move was tried; each arc has a count; and each
+-- vehicle has sums
 pub record Stands (model : Model) (limit : Limit) (committed : List (List ℕ)) (routes : Tours) (state : State) :
     Type 0 where
-  pub holds : HoldSame model committed routes
-  pub costs : state.at.cost ≡ cost model routes.lists
-  pub used : state.at.used ≤ limit.tries
-  pub some : 1 ≤ state.at.found
-  pub found : state.at.found ≤ limit.solutions
-  pub best : IsBest model routes.visits state.best
+  pub going : IsUnderWay model limit committed routes state.at state.best
   pub few : AtMost state.at.used (counted state.penalties)
   pub covers : state.penalties.nodes ≡ model.nodes
   pub route_sums : length state.route_sums ≡ length model.vehicles

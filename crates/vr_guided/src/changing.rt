@@ -7,14 +7,12 @@ ghost use Rattle.vr_guided.specs.Counts.{counted};
 ghost use Rattle.vr_guided.specs.Nexts.{IsNext};
 ghost use Rattle.vr_guided.specs.Parts.{IsPart, IsWithin-prop};
 ghost use Rattle.vr_guided.specs.RouteSums.{AreAllRouteSums};
-ghost use Rattle.vr_guided.specs.Guides.{penalised_change};
 ghost use Rattle.vr_guided.specs.Savings.{named_weight};
 ghost use Rattle.vr_guided.specs.Walks.{route_weight};
-ghost use Rattle.vr_model.specs.moves.MoveTests.{is_move};
 ghost use Rattle.vr_model.specs.search.GuidedSearches.{penalised};
 ghost use Rattle.vr_model.specs.routes.Routes.{are_lists, route};
 ghost use Rattle.vr_model.specs.routes.Rules.{is_valid};
-ghost use Rattle.vr_model.specs.tables.Tables.{visits};
+ghost use Rattle.vr_model.specs.tables.WellFormed.{IsIn};
 ghost use Rattle.vr_routes.specs.Changes.{AreParts};
 ghost use Rattle.vr_routes.specs.Pieces.{changed, joined};
 ghost use Rattle.vr_balance.specs.Sums.{last_of};
@@ -24,7 +22,6 @@ use crate::stretches::Stretches;
 use crate::two_vehicles::TwoVehicles;
 use crate::weights::{VehicleWeights, Weights};
 use vr_balance::strip;
-use vr_model::Move;
 use vr_routes::{Change, Piece, Routes};
 
 // The node before a place of a list, `start` before the first.
@@ -122,23 +119,6 @@ impl<'m, 'p, 's, 'r, 'c> WeighedChange<'m, 'p, 's, 'r, 'c> {
 }
 
 impl<'m, 'p, 's, 'r> WeighedRoutes<'m, 'p, 's, 'r> {
-    /// What a move makes of the penalised arc costs, by the arcs that change. Takes no memory.
-    pub fn penalised_change(&self, mv: Move) -> i128
-        requires of_model { self.now.routes.now.visits ≡ visits self.now.on.closed.model.now }
-        requires mv { IsTrue (is_move self.now.on.closed.model.now self.now.routes.now.lists mv) }
-        ensures bound { unsigned_abs result ≤ 2 ^ 100 }
-        ensures value { result ≡ penalised_change self.now.on.closed.model.now (counted self.now.on.penalties.now)
-            self.now.routes.now.lists mv }
-    {
-        let mut change = Change::blank();
-        Change::write(self.on.closed.model, self.routes, mv, &mut change);
-        let weighed = WeighedChange {
-            of: *self,
-            change: &change,
-        };
-        weighed.difference()
-    }
-
     /// What new lists of these vehicles take of the penalised arc costs at most: what the arcs of their lists add now.
     /// Takes no memory.
     #[inline]
@@ -206,8 +186,7 @@ impl<'m, 'p, 's, 'r> WeighedRoutes<'m, 'p, 's, 'r> {
     // What other pieces make of the penalised arc costs of a vehicle.
     fn change_of_part(&self, v: u32, pieces: &[Piece]) -> i128
         requires { IsPart self.now.on.closed.model.now self.now.routes.now.lists v pieces.now }
-        ensures low { negsuc (2 ^ 90) ≤ℤ result }
-        ensures high { result ≤ℤ pos (2 ^ 90) }
+        ensures range { IsIn (negsuc (2 ^ 90)) (pos (2 ^ 90)) result }
         ensures value { result ≡ route_weight self.now.on.closed.model.now (counted self.now.on.penalties.now) v
             (joined self.now.routes.now.lists pieces.now)
             -ℤ route_weight self.now.on.closed.model.now (counted self.now.on.penalties.now) v

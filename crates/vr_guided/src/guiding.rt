@@ -4,8 +4,11 @@ ghost use Rattle.std.specs.Prelude.{◌≡◌, ◌≤◌, ◌*◌, ◌^◌, ◌*
 ghost use Rattle.vr_guided.specs.Bounding.{IsLambda};
 ghost use Rattle.vr_guided.specs.Counts.{counted};
 ghost use Rattle.vr_guided.specs.RouteSums.{AreAllRouteSums};
-ghost use Rattle.vr_guided.specs.Guides.{is_gain, makes_less};
+ghost use Rattle.vr_guided.specs.Guides.{is_gain, makes_less, penalised_change};
+ghost use Rattle.vr_model.specs.moves.MoveTests.{is_move};
+ghost use Rattle.vr_model.specs.routes.Rules.{is_valid};
 ghost use Rattle.vr_model.specs.tables.WellFormed.{IsIn};
+ghost use Rattle.vr_routes.specs.Changes.{IsChange};
 
 use crate::changing::{WeighedChange, WeighedRoutes};
 use crate::route_sums::AllRouteSums;
@@ -33,12 +36,14 @@ impl<'m, 'p, 's> Accept for Guiding<'m, 'p, 's> {
     ghost takes = { λ s. makes_less s.weights.closed.model.now s.lambda (counted s.weights.penalties.now) };
 
     fn accepts(&self, routes: &Routes, mv: Move, difference: i64) -> bool {
-        let weighed = WeighedRoutes {
-            on: self.weights,
-            routes,
-            route_sums: self.route_sums,
-        };
-        self.gains(difference, weighed.penalised_change(mv))
+        let mut change = Change::blank();
+        Change::write(self.weights.closed.model, routes, mv, &mut change);
+        self.gains_by(routes, mv, &change, difference)
+    }
+
+    #[inline]
+    fn accepts_change(&self, routes: &Routes, mv: Move, change: &Change, difference: i64) -> bool {
+        self.gains_by(routes, mv, change, difference)
     }
 
     #[inline(always)]
@@ -89,7 +94,7 @@ impl<'m, 'p, 's> Accept for Guiding<'m, 'p, 's> {
         if self.is_no_gain(least, saved) {
             return false;
         }
-        self.gains(least, weighed.difference())
+        self.gains_by(routes, _mv, change, least)
     }
 }
 
@@ -131,6 +136,28 @@ impl<'m, 'p, 's> Guiding<'m, 'p, 's> {
             return difference >= 0;
         }
         !self.gains(difference, -saved)
+    }
+
+    // Whether a move makes the augmented cost less where it makes this difference in cost, told by its change.
+    #[inline]
+    fn gains_by(&self, routes: &Routes, _mv: Move, change: &Change, difference: i64) -> bool
+        requires stands { AreAllRouteSums self.now.weights.closed.model.now (counted self.now.weights.penalties.now)
+            routes.now.lists self.now.route_sums.now }
+        requires valid { IsTrue (is_valid self.now.weights.closed.model.now routes.now.lists) }
+        requires mv { IsTrue (is_move self.now.weights.closed.model.now routes.now.lists _mv) }
+        requires change { IsChange self.now.weights.closed.model.now routes.now.lists _mv change.now }
+        ensures { result ≡ is_gain self.now.lambda difference (penalised_change self.now.weights.closed.model.now
+            (counted self.now.weights.penalties.now) routes.now.lists _mv) }
+    {
+        let weighed = WeighedChange {
+            of: WeighedRoutes {
+                on: self.weights,
+                routes,
+                route_sums: self.route_sums,
+            },
+            change,
+        };
+        self.gains(difference, weighed.difference())
     }
 
     // Whether this difference in cost, with this change of the penalised arc costs, makes the augmented cost less.

@@ -75,15 +75,7 @@ impl AllRouteSums {
             self.new }
     {
         for v in 0..weights.closed.model.vehicles.len() as u32 {
-            let arcs = VehicleWeights {
-                on: weights,
-                vehicle: v,
-            };
-            let list = ListWeights {
-                arcs,
-                nodes: routes.list(v),
-            };
-            self.vehicles[v as usize].write(&list);
+            self.write_of(weights, routes, v);
         }
     }
 

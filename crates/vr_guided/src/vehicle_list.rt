@@ -1,6 +1,7 @@
 //! The list of a vehicle.
 
-ghost use Rattle.std.specs.Prelude.{◌<◌, ◌≤◌, All, length};
+ghost use Rattle.std.specs.Prelude.{◌<◌, length};
+ghost use Rattle.vr_guided.specs.Lists.{AreFewNodes};
 
 use vr_model::Closed;
 
@@ -12,8 +13,6 @@ pub struct VehicleList<'m, 'r> {
     pub nodes: &'r [u32],
     /// The model has the vehicle.
     pub ghost there: { vehicle < length closed.model.now.vehicles },
-    /// The model has the nodes.
-    pub ghost below: { All (λ node. node < closed.model.now.nodes) nodes.now },
-    /// They are few.
-    pub ghost short: { length nodes.now ≤ 1000 },
+    /// The model has the nodes, and they are few.
+    pub ghost few: { AreFewNodes closed.model.now nodes.now },
 }

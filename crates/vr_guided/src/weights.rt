@@ -1,7 +1,8 @@
 //! What arcs add with their penalties.
 
-ghost use Rattle.std.specs.Prelude.{◌≡◌, ◌<◌, ◌≤◌, ◌≤ℤ◌, ◌*ℤ◌, ◌^◌, All, length, pos, true};
+ghost use Rattle.std.specs.Prelude.{◌≡◌, ◌<◌, ◌≤◌, ◌≤ℤ◌, ◌*ℤ◌, ◌^◌, length, pos, true};
 ghost use Rattle.vr_guided.specs.Counts.{AtMost, counted};
+ghost use Rattle.vr_guided.specs.Lists.{AreFewNodes};
 ghost use Rattle.vr_guided.specs.Sums.{weight_by};
 ghost use Rattle.vr_guided.specs.Walks.{unused_weight, weight};
 ghost use Rattle.vr_model.specs.tables.Tables.{vehicle_at};
@@ -35,10 +36,8 @@ pub struct VehicleWeights<'m, 'p> {
 pub struct ListWeights<'m, 'p, 'r> {
     pub arcs: VehicleWeights<'m, 'p>,
     pub nodes: &'r [u32],
-    /// The model has the nodes.
-    pub ghost below: { All (λ node. node < arcs.on.closed.model.now.nodes) nodes.now },
-    /// They are few.
-    pub ghost short: { length nodes.now ≤ 1000 },
+    /// The model has the nodes, and they are few.
+    pub ghost few: { AreFewNodes arcs.on.closed.model.now nodes.now },
 }
 
 impl<'m, 'p> VehicleWeights<'m, 'p> {

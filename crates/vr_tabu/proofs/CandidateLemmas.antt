@@ -6,6 +6,7 @@ use Rattle.std.specs.List.{list_all}
 use Rattle.vr_model.specs.deciding.Testing.{and_both, and_left, and_right, le_of_test}
 use Rattle.vr_model.specs.first.Choosing.{better}
 use Rattle.vr_model.specs.moves.Moves.{apply}
+use Rattle.vr_model.specs.routes.CostLaws.{HasBoundedCost}
 use Rattle.vr_model.specs.routes.Costs.{cost}
 use Rattle.vr_model.specs.routes.Rules.{is_valid}
 use Rattle.vr_model.specs.tables.Numbers.{below as below_all, is_lex_less}
@@ -18,11 +19,14 @@ use Rattle.vr_model.proofs.tables.Members.{In, of_below, of_filter}
 use Rattle.vr_model.proofs.tables.Tests.{clash}
 use Rattle.vr_routes.specs.Judging.{IsLeast, IsNoLess, cost_change, verdict_of}
 use Rattle.vr_routes.specs.declared.judging.Verdict.TheVariants.{Refused, Difference}
+use Rattle.vr_routes.specs.Tours.{Tours}
 use Rattle.vr_tabu.specs.Changed.{changed_visits, is_changed}
 use Rattle.vr_tabu.specs.Rounds.{IsCeiling, IsKnown, IsNoBetter, IsPassed, aspiration, better_with, bound_of, is_no_less, move_of}
+use Rattle.vr_tabu.specs.Standing.{IsKnownState}
 use Rattle.vr_tabu.specs.Tabus.{AreAllTabu}
 use Rattle.vr_tabu.specs.TabuSearches.{TabuList, is_candidate, is_tabu, is_tabu_visit}
 use Rattle.vr_tabu.specs.declared.rounds.Candidate.{Candidate}
+use Rattle.vr_tabu.specs.declared.searching.State.{State}
 
 -- lists of one number compare as these
 pub lex_one : (a b : ℤ) → is_lex_less (a ∷ []) (b ∷ []) ≡ int_lt a b
@@ -195,3 +199,8 @@ module _ (model : Model) (tabus : TabuList) (best lists : List (List ℕ)) where
 
   pub no_ceiling : IsCeiling model tabus best lists None
   no_ceiling mv h = absurd (clash false h refl)
+
+-- the cost of the lists and that of the best ones so far are bounded
+pub both_bounded : (model : Model) (routes : Tours) (state : State) → IsKnownState model routes state → HasBoundedCost model routes.lists × HasBoundedCost model state.best.routes.lists
+both_bounded model routes state known =
+    (costs_are_bounded model known.well_formed routes.lists known.valid, costs_are_bounded model known.well_formed state.best.routes.lists known.best.valid)

@@ -1,18 +1,15 @@
 -- A round, move by move.
-use Rattle.std.proofs.Common.{◌≡◌, ◌∙◌, ℕ, suc, ◌+◌, ◌<◌, ◌≤◌, Bool, true, false, cond, List, [], ◌∷◌, ◌++◌, length, length-append, Option, Some, None, refl, sym, ap, ap₂, arith, inl, inr}
-use Rattle.std.specs.Prelude.{ℤ, All, IsTrue, IfSome, ◌&&◌, nat_lt, fold, filter}
+use Rattle.std.proofs.Common.{◌≡◌, ◌∙◌, ℕ, suc, ◌+◌, ◌<◌, ◌≤◌, Bool, true, false, cond, List, [], ◌∷◌, ◌++◌, length, length-append, Option, Some, None, refl, sym, ap, ap₂, arith}
+use Rattle.std.specs.Prelude.{ℤ, All, IfSome, nat_lt, fold, filter}
 use Rattle.std.specs.List.{list_all}
 use Rattle.std.proofs.lemmas.List.Elements.{All-head, All-tail}
 use Rattle.vr_model.specs.deciding.Testing.{and_left, and_right}
-use Rattle.vr_model.specs.moves.Moves.{apply, moves, moves_in, moves_over, all_neighbourhoods}
+use Rattle.vr_model.specs.moves.Moves.{apply, moves}
 use Rattle.vr_model.specs.moves.MoveTests.{is_move}
 use Rattle.vr_model.specs.routes.Costs.{cost}
 use Rattle.vr_model.specs.first.Choosing.{better}
 use Rattle.vr_model.specs.declared.records.Model.{Model}
 use Rattle.vr_model.specs.declared.neighbours.Move.{Move}
-use Rattle.vr_model.specs.declared.neighbours.Neighbourhood.{Neighbourhood}
-use Rattle.vr_model.proofs.moves.MoveMembers.{in_all, moves_as_tested}
-use Rattle.vr_model.proofs.tables.Members.{In, from_each, to_contains, to_each}
 use Rattle.vr_descent.proofs.PassedLemmas.{all_right}
 use Rattle.vr_known.specs.Passing.{Passes, capped}
 use Rattle.vr_tabu.specs.Rounds.{IsCeiling, IsKnown, IsPassed, better_with, bound_of, end_with, move_of, round_end, tries_of}
@@ -21,20 +18,6 @@ use Rattle.vr_tabu.specs.TabuSearches.Round.{Cut}
 use Rattle.vr_tabu.specs.declared.rounds.Candidate.{Candidate}
 use Rattle.vr_tabu.specs.declared.rounds.RoundEnd.TheVariants as code
 use Rattle.vr_tabu.proofs.CandidateLemmas.{dearer}
-
--- ---- the moves of a list are moves
-
-pub one_move : (model : Model) (some : List Neighbourhood) (lists : List (List ℕ)) (mv : Move) → In (moves_over model some lists) mv → IsTrue (is_move model lists mv)
-unfolding moves_over
-one_move model some lists mv h = (moves_as_tested model lists mv).0 (to_contains _ mv
-    (from_each (moves_in model lists) some mv h λ neighbourhood known found. to_each (moves_in model lists) all_neighbourhoods neighbourhood mv (in_all neighbourhood) found))
-
-every : {A : Type 0} (test : A → Bool) (xs : List A) → ((x : A) → In xs x → test x ≡ true) → list_all test xs ≡ true
-every test [] h = refl
-every test (x ∷ xs) h = ap (λ b. b && list_all test xs) (h x (inl refl)) ∙ every test xs (λ y g. h y (inr g))
-
-pub all_moves : (model : Model) (lists : List (List ℕ)) → list_all (is_move model lists) (moves model lists) ≡ true
-all_moves model lists = every (is_move model lists) (moves model lists) (λ mv h. one_move model model.search.neighbourhoods lists mv h)
 
 -- ---- the best of the moves that are left and the best so far
 

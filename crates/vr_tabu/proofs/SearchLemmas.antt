@@ -17,12 +17,12 @@ use Rattle.vr_model.proofs.routes.Lists.{are-lists, are_lists-count}
 use Rattle.vr_model.proofs.tables.Members.{In, of_contains, of_filter}
 use Rattle.vr_model.specs.deciding.Testing.{and_left}
 use Rattle.vr_tabu.specs.Standing.{events_of, from_here}
+use Rattle.vr_descent.proofs.ScanLemmas.{one_move}
 use Rattle.vr_descent.specs.Incumbents.{kept}
 use Rattle.vr_descent.specs.Searching.{behind, standing}
 use Rattle.vr_tabu.specs.TabuSearches.{TabuList, Round, is_candidate, least_candidate, next_round, none_tabu, round_of, round_with, tabu_from, tabu_on, tabu_search}
 use Rattle.vr_tabu.specs.TabuSearches.Round.{Best, Stuck, Cut}
 use Rattle.vr_tabu.specs.declared.searching.Bounds.{Bounds}
-use Rattle.vr_tabu.proofs.RoundLemmas.{one_move}
 
 -- valid lists of a model are as many as others
 pub as_many : (model : Model) (xs ys : List (List ℕ)) → IsTrue (is_valid model xs) → IsTrue (is_valid model ys) → length xs ≡ length ys

@@ -7,7 +7,7 @@ use Rattle.vr_model.specs.declared.records.End.{End}
 use Rattle.vr_model.specs.declared.search.Event.{Event}
 use Rattle.vr_routes.specs.Judging.{HoldSame}
 use Rattle.vr_routes.specs.Tours.{Tours}
-use Rattle.vr_descent.proofs.Beginnings.{at_first, first_is_best}
+use Rattle.vr_descent.proofs.Beginnings.{at_first, under_way}
 use Rattle.vr_descent.specs.Searching.{behind}
 use Rattle.vr_tabu.specs.Standing.{IsBegun, Stands, from_here, from_state}
 use Rattle.vr_tabu.specs.TabuSearches.{none_tabu}
@@ -23,16 +23,10 @@ module _ (model : Model) (bounds : Bounds) (lists : List (List ℕ)) where
 module _ (model : Model) (bounds : Bounds) (routes : Tours) (state : State) (begins : IsBegun model routes (at_first model routes.lists) state) where
   pub begun_stands : (committed : List (List ℕ)) → HoldSame model committed routes → 1 ≤ bounds.limit.solutions → Stands model bounds committed routes state
   begun_stands committed holds some =
-      let used = ap (λ p. p.used) begins.at_is in
       let found = ap (λ p. p.found) begins.at_is in
       let round = ap (λ t. t.round) begins.none in
       record {
-        holds = holds;
-        costs = ap (λ p. p.cost) begins.at_is;
-        used = omega (arith, used);
-        some = omega (arith, found);
-        found = omega (arith, found, some);
-        best = first_is_best model routes state.best begins.best_is holds.valid;
+        going = under_way model bounds.limit routes state.at state.best committed begins.at_is begins.best_is holds some;
         round = omega (arith, found, round);
         covers = begins.covers;
       }

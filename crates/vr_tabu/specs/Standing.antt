@@ -9,11 +9,10 @@ use Rattle.vr_model.specs.declared.records.Model.{Model}
 use Rattle.vr_model.specs.declared.records.End.{End}
 use Rattle.vr_model.specs.declared.search.Event.{Event}
 use Rattle.vr_model.specs.declared.search.Kind.TheVariants as kind
-use Rattle.vr_descent.specs.Incumbents.{IsBest}
+use Rattle.vr_descent.specs.Incumbents.{IsBest, IsUnderWay}
 use Rattle.vr_descent.specs.Searching.{standing}
 use Rattle.vr_descent.specs.declared.progress.Progress.{Progress}
 use Rattle.vr_routes.specs.Tours.{Tours}
-use Rattle.vr_routes.specs.Judging.{HoldSame}
 use Rattle.vr_tabu.specs.TabuSearches.{TabuList, Round, none_tabu, round_of, tabu_from}
 use Rattle.vr_tabu.specs.TabuSearches.Round.{Best, Stuck, Cut}
 use Rattle.vr_tabu.specs.Tabus.{tabus_of}
@@ -41,16 +40,10 @@ pub record IsKnownState (model : Model) (routes : Tours) (state : State) : Type 
   pub costs : state.at.cost ≡ cost model routes.lists
   pub best : IsBest model routes.visits state.best
 
--- routes and judge hold the same valid lists; their cost, the tries, the solutions and the rounds are counted; the best
--- routes are valid; and it is known of each node how long it is tabu
+-- the search is under way, the rounds are counted, and it is known of each node how long it is tabu
 pub record Stands (model : Model) (bounds : Bounds) (committed : List (List ℕ)) (routes : Tours) (state : State) :
     Type 0 where
-  pub holds : HoldSame model committed routes
-  pub costs : state.at.cost ≡ cost model routes.lists
-  pub used : state.at.used ≤ bounds.limit.tries
-  pub some : 1 ≤ state.at.found
-  pub found : state.at.found ≤ bounds.limit.solutions
-  pub best : IsBest model routes.visits state.best
+  pub going : IsUnderWay model bounds.limit committed routes state.at state.best
   pub round : suc state.tabus.round ≤ state.at.found
   pub covers : length state.tabus.until.items ≡ model.nodes
 

@@ -247,7 +247,7 @@ impl<'a> Round<'a> {
         if is_no_less(self.bound(best), least) {
             return Ok(best);
         }
-        match judge.judge(self.routes, mv, steps)? {
+        match judge.judge_change(self.routes, mv, change, steps)? {
             Verdict::Refused => Ok(best),
             Verdict::Difference(difference) => {
                 if is_no_less(self.bound(best), difference) {
@@ -307,20 +307,20 @@ impl<'a> Round<'a> {
             (tabus_of self.now.state.now.tabus) self.now.routes.now.lists
             (apply self.now.model.now self.now.routes.now.lists mv)) }
     {
-        if difference < self.aspiration() {
+        if difference < aspiration(self.model, self.routes, self.state) {
             return false;
         }
         self.is_tabu(mv, change, after)
     }
+}
 
-    // Moves that make a lesser difference lead to lists that cost less than any before.
-    #[inline]
-    fn aspiration(&self) -> i64
-        ensures { result ≡ aspiration self.now.model.now self.now.state.now.best.routes.lists
-            self.now.routes.now.lists }
-    {
-        self.state.best.cost - self.state.at.cost
-    }
+// Moves that make a lesser difference lead to lists that cost less than any before.
+#[inline]
+fn aspiration(_model: &Model, _routes: &Routes, state: &State) -> i64
+    requires known { IsKnownState _model.now _routes.now state.now }
+    ensures { result ≡ aspiration _model.now state.now.best.routes.lists _routes.now.lists }
+{
+    state.best.cost - state.at.cost
 }
 
 // Whether a difference is not below a bound, where there is one.
@@ -343,7 +343,7 @@ fn ceiling_of(model: &Model, routes: &Routes, state: &State) -> Option<i64>
     if !state.tabus.are_all_tabu(model) {
         return None;
     }
-    Some(state.best.cost - state.at.cost)
+    Some(aspiration(model, routes, state))
 }
 
 // The end of a round of so many moves.

@@ -17,4 +17,4 @@ returns-in-Refused-clause-answer g c =
     let lists = c.args.routes.now.lists in
     let same = c.least_difference-least.ensures.model ∙ (c.is_ruled_out.ensures.model ∙ c.requires.judge_model) in
     refused c.args.closed.model.now (g.A.Accept.takes c.args.accept.now) lists c.args.mv
-    (sym c.in-Refused.is ∙ (c.in_ok-judge.ensures.verdict ∙ ap (λ m. verdict_of m lists c.args.mv) same))
+    (sym c.in-Refused.is ∙ (c.in_ok-judge_change.ensures.verdict ∙ ap (λ m. verdict_of m lists c.args.mv) same))

@@ -1,7 +1,6 @@
 use Rattle.std.proofs.Common.{◌≡◌, ◌∙◌, ◌+◌, Bool, true, false, [], ◌∷◌, refl, sym, ap, subst, arith, rules}
 use Rattle.std.specs.Prelude.{◌≤ℤ◌, ◌==◌, ◌||◌, not}
 use Rattle.std.proofs.lemmas.Int.{ints}
-use Rattle.vr_model.specs.routes.Costs.{cost}
 use Rattle.vr_model.specs.search.GuidedSearches.{has_costly_arc, is_at_end, raised}
 use Rattle.vr_model.specs.search.Outcomes.{event_at, tried}
 use Rattle.vr_model.specs.declared.records.End.TheVariants.{Optimum, Tries, Solutions}
@@ -13,9 +12,9 @@ use Rattle.vr_watch.proofs.ToldLemmas.{told_nothing}
 use Rattle.vr_descent.specs.Searching.{scan_of, standing}
 use Rattle.vr_descent.proofs.DescentLemmas.{same_count}
 use Rattle.vr_descent.proofs.GoingOn.{Goes, breaks_off, goes_as, goes_more, goes_to_end}
-use Rattle.vr_descent.proofs.IncumbentLemmas.{kept_is_best, kept_lists, kept_no_dearer}
+use Rattle.vr_descent.proofs.IncumbentLemmas.{kept_lists, kept_no_dearer}
 use Rattle.vr_descent.proofs.RefusedLemmas.{nothing_refused}
-use Rattle.vr_descent.proofs.ScanGave.{Moved, RanOut, TriedAll, has_moved, has_run_out, has_tried_all}
+use Rattle.vr_descent.proofs.ScanGave.{Moved, RanOut, TriedAll, has_moved, has_run_out, has_tried_all, under_way_moved}
 use Rattle.vr_guided.specs.Counts.{AtMost, counted}
 use Rattle.vr_guided.specs.Guides.{makes_less}
 use Rattle.vr_guided.specs.RouteSums.{AreAllRouteSums}
@@ -73,12 +72,7 @@ scans-init g c =
     record {
       model = c.requires.judge_model;
       stands = record {
-        holds = c.requires.stands.holds;
-        costs = c.requires.stands.costs;
-        used = c.requires.stands.used;
-        some = c.requires.stands.some;
-        found = c.requires.stands.found;
-        best = c.requires.stands.best;
+        going = c.requires.stands.going;
         few = c.requires.stands.few;
         covers = c.requires.stands.covers;
         route_sums = c.write.ensures.many;
@@ -99,11 +93,11 @@ advance-requires g c =
       judge_model = c.scans.invariant.model;
       accept_model = search rules;
       accept_stands = c.scans.invariant.route_sums;
-      holds = c.scans.invariant.stands.holds;
-      cost = c.scans.invariant.stands.costs;
+      holds = c.scans.invariant.stands.going.holds;
+      cost = c.scans.invariant.stands.going.costs;
       tries = c.requires.limits.tries;
-      used = c.scans.invariant.stands.used;
-      found = (let low = c.scans.invariant.stands.found in let most = c.requires.limits.solutions in omega (arith, low, most));
+      used = c.scans.invariant.stands.going.used;
+      found = (let low = c.scans.invariant.stands.going.found in let most = c.requires.limits.solutions in omega (arith, low, most));
       known = c.scans.invariant.known;
       stays = λ h. guided_stays c.args.closed.model.now c.args.closed.well_formed (c.scans.invariant.learns h) c.args.bounds.lambda (counted c.scans.state.penalties);
     }
@@ -123,11 +117,11 @@ returns-in_err-ended-clause-looked_at_most g c =
 
 pub offer-requires-clause-visits : goal.offer-requires-clause-visits
 offer-requires-clause-visits g c =
-    c.scans.invariant.stands.best.same_visits ∙ sym (ap (λ r. r.visits) (moved g (goal.at.offer-requires-clause-visits g c).In-Accepted).routes_are)
+    c.scans.invariant.stands.going.best.same_visits ∙ sym (ap (λ r. r.visits) (moved g (goal.at.offer-requires-clause-visits g c).In-Accepted).routes_are)
 
 pub offer-requires-clause-many : goal.offer-requires-clause-many
 offer-requires-clause-many g c =
-    as_many c.args.closed.model.now c.scans.state.best.routes.lists c.advance.new.routes.lists c.scans.invariant.stands.best.valid c.in_ok-ended.ensures.holds.valid
+    as_many c.args.closed.model.now c.scans.state.best.routes.lists c.advance.new.routes.lists c.scans.invariant.stands.going.best.valid c.in_ok-ended.ensures.holds.valid
 
 pub scans-smaller-in-Accepted : goal.scans-smaller-in-Accepted
 scans-smaller-in-Accepted g c =
@@ -135,28 +129,20 @@ scans-smaller-in-Accepted g c =
     let used_new = ap (λ p. p.used) made.at_is in
     let one = made.from_one in
     let within = made.within in
-    omega (arith, used_new, one, within, c.scans.invariant.stands.used)
+    omega (arith, used_new, one, within, c.scans.invariant.stands.going.used)
 
 pub scans-preserved-in-Accepted : goal.scans-preserved-in-Accepted
 scans-preserved-in-Accepted g c =
     let at = goal.at.scans-preserved-in-Accepted g c in
     let made = moved g at.In-Accepted in
-    let within = made.within in
     let used_new = ap (λ p. p.used) made.at_is in
-    let found_new = ap (λ p. p.found) made.at_is in
-    let costs_new : c.advance.new.self.cost ≡ cost c.args.closed.model.now c.advance.new.routes.lists = ap (λ p. p.cost) made.at_is ∙ sym (ap (λ r. cost c.args.closed.model.now r.lists) made.routes_are) in
-    let best_old = c.scans.invariant.stands.best in
+    let on = under_way_moved c.args.closed.model.now c.args.bounds.limit c.scans.routes c.advance.new.routes c.scans.state.at c.advance.new.self _ _ _ _ _ c.scans.state.best c.offer.new.self made c.scans.invariant.stands.going c.in_ok-ended.ensures.holds c.offer.ensures c.scans-test.true in
     let followed : AreAllRouteSums c.args.closed.model.now (counted c.scans.state.penalties) c.advance.new.routes.lists c.follow.new.self
     = c.follow.ensures c.scans.routes.lists c.scans.invariant.route_sums (ap (λ r. r.lists) made.routes_are) in
     record {
       model = c.in_ok-ended.ensures.judge_model;
       stands = record {
-        holds = c.in_ok-ended.ensures.holds;
-        costs = costs_new;
-        used = omega (arith, used_new, within, c.scans.invariant.stands.used);
-        some = omega (arith, found_new);
-        found = omega (arith, found_new, c.scans.invariant.stands.found, c.scans-test.true);
-        best = kept_is_best c.args.closed.model.now c.scans.routes.visits c.scans.state.best c.offer.new.self c.advance.new.routes c.advance.new.self.cost best_old c.offer.ensures (sym (ap (λ r. r.visits) made.routes_are)) costs_new c.in_ok-ended.ensures.holds.valid;
+        going = on;
         few = few_more (counted c.scans.state.penalties) c.scans.state.at.used c.advance.new.self.used (omega (arith, used_new)) c.scans.invariant.stands.few;
         covers = c.scans.invariant.stands.covers;
         route_sums = followed.many;
@@ -166,7 +152,7 @@ scans-preserved-in-Accepted g c =
       looked = omega (arith, c.in_ok-ended.ensures.looked, c.scans.invariant.looked);
       no_dearer = subst (λ b. b.cost ≤ℤ c.args.state.now.best.cost) (sym c.offer.ensures) (kept_no_dearer c.scans.state.best c.advance.new.routes c.advance.new.self.cost c.args.state.now.best.cost c.scans.invariant.no_dearer);
       goes = goes_moved c.args.closed.model.now c.args.bounds.limit c.args.bounds.lambda (counted c.scans.state.penalties) c.scans.state.best.routes.lists c.scans.routes c.advance.new.routes c.scans.state.at c.advance.new.self (λ w. (goal.Watch-dyn g (w.vtable, w.value)).after w.value) (from_state c.args.closed.model.now c.args.bounds.limit c.args.bounds.lambda c.args.routes.now.lists c.args.state.now) _ _ (left g at.In_ok-ended) c.in-Accepted.place c.in-Accepted.mv c.offer.new.self.routes.lists made
-          (ap (λ b. b.routes.lists) c.offer.ensures ∙ kept_lists c.args.closed.model.now c.scans.state.best c.advance.new.routes c.advance.new.self.cost best_old.costs costs_new);
+          (ap (λ b. b.routes.lists) c.offer.ensures ∙ kept_lists c.args.closed.model.now c.scans.state.best c.advance.new.routes c.advance.new.self.cost c.scans.invariant.stands.going.best.costs on.costs);
       known = c.in_ok-ended.ensures.known;
       learns = λ h. c.scans.invariant.learns (c.in_ok-ended.ensures.learns h);
     }
@@ -192,7 +178,7 @@ invariant_of-raised g c =
     let raised_new : counted c.raise.new.self ≡ (raised c.args.closed.model.now (counted c.scans.state.penalties) c.scans.routes.lists) = c.raise.ensures.raised ∙ ap (λ r. raised c.args.closed.model.now (counted c.scans.state.penalties) r.lists) done.routes_are in
     record {
       covers = c.raise.ensures.nodes ∙ c.scans.invariant.stands.covers;
-      few = few_more (counted c.raise.new.self) (c.scans.state.at.used + c.in-Complete.length) 1000000000 (omega (arith, low, c.scans.invariant.stands.used, c.requires.limits.tries)) (subst (λ p. AtMost (c.scans.state.at.used + c.in-Complete.length) p) (sym raised_new) (few_raised c.args.closed.model.now (counted c.scans.state.penalties) c.scans.routes.lists c.scans.state.at.used c.in-Complete.length (some_moves c.args.closed.model.now c.args.bounds.limit c.args.bounds.lambda (counted c.scans.state.penalties) c.scans.routes.lists c.scans.state.best.routes.lists c.scans.state.at.used c.scans.state.at.found c.in-Complete.length ends) c.scans.invariant.stands.few));
+      few = few_more (counted c.raise.new.self) (c.scans.state.at.used + c.in-Complete.length) 1000000000 (omega (arith, low, c.scans.invariant.stands.going.used, c.requires.limits.tries)) (subst (λ p. AtMost (c.scans.state.at.used + c.in-Complete.length) p) (sym raised_new) (few_raised c.args.closed.model.now (counted c.scans.state.penalties) c.scans.routes.lists c.scans.state.at.used c.in-Complete.length (some_moves c.args.closed.model.now c.args.bounds.limit c.args.bounds.lambda (counted c.scans.state.penalties) c.scans.routes.lists c.scans.state.best.routes.lists c.scans.state.at.used c.scans.state.at.found c.in-Complete.length ends) c.scans.invariant.stands.few));
     }
 
 pub scans-smaller : goal.scans-smaller
@@ -203,7 +189,7 @@ scans-smaller g c =
     let ends = stuck g at.After-is_stuck false c.if-is_stuck.false in
     let used_new = ap (λ p. p.used) done.at_is in
     let one = (some_moves c.args.closed.model.now c.args.bounds.limit c.args.bounds.lambda (counted c.scans.state.penalties) c.scans.routes.lists c.scans.state.best.routes.lists c.scans.state.at.used c.scans.state.at.found c.in-Complete.length ends) in
-    omega (arith, used_new, one, low, c.scans.invariant.stands.used)
+    omega (arith, used_new, one, low, c.scans.invariant.stands.going.used)
 
 pub returns-in_err-note_all-in-Complete-clause-judge_model : goal.returns-in_err-note_all-in-Complete-clause-judge_model
 returns-in_err-note_all-in-Complete-clause-judge_model g c =
@@ -219,21 +205,21 @@ returns-in_err-note_all-in-Complete-clause-told_in_part g c =
     let done = tried_all g at.After-is_stuck in
     let ends = stuck g at.After-is_stuck false c.if-is_stuck.false in
     on_err c.from_residual-in_err-note_all-in-Complete.result (breaks_off (λ w. (goal.Watch-dyn g (w.vtable, w.value)).after w.value) (from_state c.args.closed.model.now c.args.bounds.limit c.args.bounds.lambda c.args.routes.now.lists c.args.state.now) (from_here c.args.closed.model.now c.args.bounds.limit c.args.bounds.lambda (raised c.args.closed.model.now (counted c.scans.state.penalties) c.scans.routes.lists) c.scans.routes.lists c.scans.state.best.routes.lists (c.scans.state.at.used + c.in-Complete.length) c.scans.state.at.found) ((event_at c.args.closed.model.now (tried (standing c.scans.routes.lists c.scans.state.best.routes.lists c.scans.state.at.used c.scans.state.at.found) c.in-Complete.length) kind.Round) ∷ []) _ _ _ (goes_to_round c.args.closed.model.now c.args.bounds.limit c.args.bounds.lambda (counted c.scans.state.penalties) c.scans.state.best.routes.lists c.scans.routes c.advance.new.routes c.scans.state.at c.advance.new.self (λ w. (goal.Watch-dyn g (w.vtable, w.value)).after w.value) (from_state c.args.closed.model.now c.args.bounds.limit c.args.bounds.lambda c.args.routes.now.lists c.args.state.now) _ _ (left g at.In_ok-ended) c.in-Complete.length done ends)
-    (subst (λ event. ToldInPart (λ w. (goal.Watch-dyn g (w.vtable, w.value)).after w.value) c.advance.new.watch.items c.note_all.new.watch.items (event ∷ [])) (round_event c.args.closed.model.now c.args.bounds.limit c.args.bounds.lambda (counted c.scans.state.penalties) c.scans.state.best.routes.lists c.scans.routes c.advance.new.routes c.scans.state.at c.advance.new.self c.in-Complete.length c.event.result done c.scans.invariant.stands.costs c.event.ensures) c.in_err-note_all-in-Complete.ensures.told_in_part))
+    (subst (λ event. ToldInPart (λ w. (goal.Watch-dyn g (w.vtable, w.value)).after w.value) c.advance.new.watch.items c.note_all.new.watch.items (event ∷ [])) (round_event c.args.closed.model.now c.args.bounds.limit c.args.bounds.lambda (counted c.scans.state.penalties) c.scans.state.best.routes.lists c.scans.routes c.advance.new.routes c.scans.state.at c.advance.new.self c.in-Complete.length c.event.result done c.scans.invariant.stands.going.costs c.event.ensures) c.in_err-note_all-in-Complete.ensures.told_in_part))
 
 pub returns-in_err-note_all-in-Complete-clause-asked_at_most : goal.returns-in_err-note_all-in-Complete-clause-asked_at_most
 returns-in_err-note_all-in-Complete-clause-asked_at_most g c =
     let done = tried_all g (goal.at.returns-in_err-note_all-in-Complete-clause-asked_at_most g c).After-is_stuck in
     let low = done.within in
     let used_new = ap (λ p. p.used) done.at_is in
-    on_err c.from_residual-in_err-note_all-in-Complete.result (omega (arith, c.in_ok-ended.ensures.asked, c.scans.invariant.asked, used_new, low, c.scans.invariant.stands.used))
+    on_err c.from_residual-in_err-note_all-in-Complete.result (omega (arith, c.in_ok-ended.ensures.asked, c.scans.invariant.asked, used_new, low, c.scans.invariant.stands.going.used))
 
 pub returns-in_err-note_all-in-Complete-clause-looked_at_most : goal.returns-in_err-note_all-in-Complete-clause-looked_at_most
 returns-in_err-note_all-in-Complete-clause-looked_at_most g c =
     let done = tried_all g (goal.at.returns-in_err-note_all-in-Complete-clause-looked_at_most g c).After-is_stuck in
     let low = done.within in
     let used_new = ap (λ p. p.used) done.at_is in
-    on_err c.from_residual-in_err-note_all-in-Complete.result (omega (arith, c.in_ok-ended.ensures.looked, c.scans.invariant.looked, used_new, low, c.scans.invariant.stands.used))
+    on_err c.from_residual-in_err-note_all-in-Complete.result (omega (arith, c.in_ok-ended.ensures.looked, c.scans.invariant.looked, used_new, low, c.scans.invariant.stands.going.used))
 
 pub scans-preserved : goal.scans-preserved
 scans-preserved g c =
@@ -243,18 +229,13 @@ scans-preserved g c =
     let ends = stuck g at.After-is_stuck false c.if-is_stuck.false in
     let raised_new : counted c.raise.new.self ≡ (raised c.args.closed.model.now (counted c.scans.state.penalties) c.scans.routes.lists) = c.raise.ensures.raised ∙ ap (λ r. raised c.args.closed.model.now (counted c.scans.state.penalties) r.lists) done.routes_are in
     let used_new = ap (λ p. p.used) done.at_is in
-    let still = stands_still c.args.closed.model.now c.args.bounds.limit c.scans.routes c.advance.new.routes c.scans.state c.advance.new.self (c.scans.state.at.used + c.in-Complete.length) done.routes_are done.at_is _ _ c.scans.invariant.stands c.in_ok-ended.ensures.holds (omega arith) (omega (arith, low, c.scans.invariant.stands.used)) in
+    let still = stands_still c.args.closed.model.now c.args.bounds.limit c.scans.routes c.advance.new.routes c.scans.state c.advance.new.self (c.scans.state.at.used + c.in-Complete.length) done.routes_are done.at_is _ _ c.scans.invariant.stands c.in_ok-ended.ensures.holds (omega arith) (omega (arith, low, c.scans.invariant.stands.going.used)) in
     let there = ap (λ r. from_here c.args.closed.model.now c.args.bounds.limit c.args.bounds.lambda (raised c.args.closed.model.now (counted c.scans.state.penalties) c.scans.routes.lists) r.lists c.scans.state.best.routes.lists (c.scans.state.at.used + c.in-Complete.length) c.scans.state.at.found) (sym done.routes_are)
     ∙ (ap (λ p. from_here c.args.closed.model.now c.args.bounds.limit c.args.bounds.lambda (raised c.args.closed.model.now (counted c.scans.state.penalties) c.scans.routes.lists) c.advance.new.routes.lists c.scans.state.best.routes.lists p.used p.found) (sym done.at_is) ∙ ap (λ q. from_here c.args.closed.model.now c.args.bounds.limit c.args.bounds.lambda q c.advance.new.routes.lists c.scans.state.best.routes.lists c.advance.new.self.used c.advance.new.self.found) (sym raised_new)) in
     record {
       model = c.in_ok-ended.ensures.judge_model;
       stands = record {
-        holds = still.holds;
-        costs = still.costs;
-        used = still.used;
-        some = still.some;
-        found = still.found;
-        best = still.best;
+        going = still.going;
         few = subst (λ k. AtMost k (counted c.raise.new.self)) (sym used_new) (subst (λ p. AtMost (c.scans.state.at.used + c.in-Complete.length) p) (sym raised_new) (few_raised c.args.closed.model.now (counted c.scans.state.penalties) c.scans.routes.lists c.scans.state.at.used c.in-Complete.length (some_moves c.args.closed.model.now c.args.bounds.limit c.args.bounds.lambda (counted c.scans.state.penalties) c.scans.routes.lists c.scans.state.best.routes.lists c.scans.state.at.used c.scans.state.at.found c.in-Complete.length ends) c.scans.invariant.stands.few));
         covers = c.raise.ensures.nodes ∙ c.scans.invariant.stands.covers;
         route_sums = c.write-in-Complete.ensures.many;
@@ -264,7 +245,7 @@ scans-preserved g c =
       looked = omega (arith, c.in_ok-ended.ensures.looked, c.scans.invariant.looked);
       no_dearer = c.scans.invariant.no_dearer;
       goes = goes_as (λ w. (goal.Watch-dyn g (w.vtable, w.value)).after w.value) (from_state c.args.closed.model.now c.args.bounds.limit c.args.bounds.lambda c.args.routes.now.lists c.args.state.now) _ _ _ _ there (goes_more (λ w. (goal.Watch-dyn g (w.vtable, w.value)).after w.value) (from_state c.args.closed.model.now c.args.bounds.limit c.args.bounds.lambda c.args.routes.now.lists c.args.state.now) (from_here c.args.closed.model.now c.args.bounds.limit c.args.bounds.lambda (raised c.args.closed.model.now (counted c.scans.state.penalties) c.scans.routes.lists) c.scans.routes.lists c.scans.state.best.routes.lists (c.scans.state.at.used + c.in-Complete.length) c.scans.state.at.found) ((event_at c.args.closed.model.now (tried (standing c.scans.routes.lists c.scans.state.best.routes.lists c.scans.state.at.used c.scans.state.at.found) c.in-Complete.length) kind.Round) ∷ []) _ _ _ (goes_to_round c.args.closed.model.now c.args.bounds.limit c.args.bounds.lambda (counted c.scans.state.penalties) c.scans.state.best.routes.lists c.scans.routes c.advance.new.routes c.scans.state.at c.advance.new.self (λ w. (goal.Watch-dyn g (w.vtable, w.value)).after w.value) (from_state c.args.closed.model.now c.args.bounds.limit c.args.bounds.lambda c.args.routes.now.lists c.args.state.now) _ _ (left g at.In_ok-ended) c.in-Complete.length done ends)
-          (subst (λ event. Told (λ w. (goal.Watch-dyn g (w.vtable, w.value)).after w.value) c.advance.new.watch.items c.note_all.new.watch.items (event ∷ [])) (round_event c.args.closed.model.now c.args.bounds.limit c.args.bounds.lambda (counted c.scans.state.penalties) c.scans.state.best.routes.lists c.scans.routes c.advance.new.routes c.scans.state.at c.advance.new.self c.in-Complete.length c.event.result done c.scans.invariant.stands.costs c.event.ensures) c.in_ok-note_all-in-Complete.ensures.told));
+          (subst (λ event. Told (λ w. (goal.Watch-dyn g (w.vtable, w.value)).after w.value) c.advance.new.watch.items c.note_all.new.watch.items (event ∷ [])) (round_event c.args.closed.model.now c.args.bounds.limit c.args.bounds.lambda (counted c.scans.state.penalties) c.scans.state.best.routes.lists c.scans.routes c.advance.new.routes c.scans.state.at c.advance.new.self c.in-Complete.length c.event.result done c.scans.invariant.stands.going.costs c.event.ensures) c.in_ok-note_all-in-Complete.ensures.told));
       known = still_refused c.args.closed.model.now c.args.closed.well_formed c.args.bounds.lambda (counted c.scans.state.penalties) (counted c.raise.new.self) c.advance.new.routes.lists c.in_ok-ended.ensures.holds.valid
           c.advance.new.known c.raise.new.known c.raise.ensures.fewer c.raise.ensures.spares c.raise.ensures.settled c.in_ok-ended.ensures.known;
       learns = λ h. c.scans.invariant.learns (c.in_ok-ended.ensures.learns (c.raise.ensures.learns h));
@@ -293,7 +274,7 @@ pub returns-then-is_stuck-clause-stands : goal.returns-then-is_stuck-clause-stan
 returns-then-is_stuck-clause-stands g c =
     let done = tried_all g (goal.at.returns-then-is_stuck-clause-stands g c).After-is_stuck in
     let low = done.within in
-    stands_still c.args.closed.model.now c.args.bounds.limit c.scans.routes c.advance.new.routes c.scans.state c.advance.new.self (c.scans.state.at.used + c.in-Complete.length) done.routes_are done.at_is _ _ c.scans.invariant.stands c.in_ok-ended.ensures.holds (omega arith) (omega (arith, low, c.scans.invariant.stands.used))
+    stands_still c.args.closed.model.now c.args.bounds.limit c.scans.routes c.advance.new.routes c.scans.state c.advance.new.self (c.scans.state.at.used + c.in-Complete.length) done.routes_are done.at_is _ _ c.scans.invariant.stands c.in_ok-ended.ensures.holds (omega arith) (omega (arith, low, c.scans.invariant.stands.going.used))
 
 pub returns-then-is_stuck-clause-no_dearer : goal.returns-then-is_stuck-clause-no_dearer
 returns-then-is_stuck-clause-no_dearer g c =
@@ -311,12 +292,12 @@ pub returns-in-Cut-clause-outcome : goal.returns-in-Cut-clause-outcome
 returns-in-Cut-clause-outcome g c =
     let at = goal.at.returns-in-Cut-clause-outcome g c in
     let done = ran_out g at.In-Cut in
-    ends_still c.args.closed.model.now c.args.bounds.limit c.scans.routes c.advance.new.routes c.scans.state c.advance.new.self c.args.bounds.limit.tries done.routes_are done.at_is (λ w. (goal.Watch-dyn g (w.vtable, w.value)).after w.value) (from_state c.args.closed.model.now c.args.bounds.limit c.args.bounds.lambda c.args.routes.now.lists c.args.state.now) Tries _ _ (goes_to_cut c.args.closed.model.now c.args.bounds.limit c.args.bounds.lambda (counted c.scans.state.penalties) c.scans.state.best.routes.lists c.scans.routes c.advance.new.routes c.scans.state.at c.advance.new.self (λ w. (goal.Watch-dyn g (w.vtable, w.value)).after w.value) (from_state c.args.closed.model.now c.args.bounds.limit c.args.bounds.lambda c.args.routes.now.lists c.args.state.now) _ _ (left g at.In_ok-ended) (ran_out g at.In-Cut) c.scans.invariant.stands.used)
+    ends_still c.args.closed.model.now c.args.bounds.limit c.scans.routes c.advance.new.routes c.scans.state c.advance.new.self c.args.bounds.limit.tries done.routes_are done.at_is (λ w. (goal.Watch-dyn g (w.vtable, w.value)).after w.value) (from_state c.args.closed.model.now c.args.bounds.limit c.args.bounds.lambda c.args.routes.now.lists c.args.state.now) Tries _ _ (goes_to_cut c.args.closed.model.now c.args.bounds.limit c.args.bounds.lambda (counted c.scans.state.penalties) c.scans.state.best.routes.lists c.scans.routes c.advance.new.routes c.scans.state.at c.advance.new.self (λ w. (goal.Watch-dyn g (w.vtable, w.value)).after w.value) (from_state c.args.closed.model.now c.args.bounds.limit c.args.bounds.lambda c.args.routes.now.lists c.args.state.now) _ _ (left g at.In_ok-ended) (ran_out g at.In-Cut) c.scans.invariant.stands.going.used)
 
 pub returns-in-Cut-clause-told : goal.returns-in-Cut-clause-told
 returns-in-Cut-clause-told g c =
     let at = goal.at.returns-in-Cut-clause-told g c in
-    goes_to_end (λ w. (goal.Watch-dyn g (w.vtable, w.value)).after w.value) (from_state c.args.closed.model.now c.args.bounds.limit c.args.bounds.lambda c.args.routes.now.lists c.args.state.now) (standing c.scans.routes.lists c.scans.state.best.routes.lists c.args.bounds.limit.tries c.scans.state.at.found) Tries _ _ (goes_to_cut c.args.closed.model.now c.args.bounds.limit c.args.bounds.lambda (counted c.scans.state.penalties) c.scans.state.best.routes.lists c.scans.routes c.advance.new.routes c.scans.state.at c.advance.new.self (λ w. (goal.Watch-dyn g (w.vtable, w.value)).after w.value) (from_state c.args.closed.model.now c.args.bounds.limit c.args.bounds.lambda c.args.routes.now.lists c.args.state.now) _ _ (left g at.In_ok-ended) (ran_out g at.In-Cut) c.scans.invariant.stands.used)
+    goes_to_end (λ w. (goal.Watch-dyn g (w.vtable, w.value)).after w.value) (from_state c.args.closed.model.now c.args.bounds.limit c.args.bounds.lambda c.args.routes.now.lists c.args.state.now) (standing c.scans.routes.lists c.scans.state.best.routes.lists c.args.bounds.limit.tries c.scans.state.at.found) Tries _ _ (goes_to_cut c.args.closed.model.now c.args.bounds.limit c.args.bounds.lambda (counted c.scans.state.penalties) c.scans.state.best.routes.lists c.scans.routes c.advance.new.routes c.scans.state.at c.advance.new.self (λ w. (goal.Watch-dyn g (w.vtable, w.value)).after w.value) (from_state c.args.closed.model.now c.args.bounds.limit c.args.bounds.lambda c.args.routes.now.lists c.args.state.now) _ _ (left g at.In_ok-ended) (ran_out g at.In-Cut) c.scans.invariant.stands.going.used)
 
 pub returns-in-Cut-clause-asked : goal.returns-in-Cut-clause-asked
 returns-in-Cut-clause-asked g c =
@@ -329,7 +310,7 @@ returns-in-Cut-clause-looked g c =
 pub returns-in-Cut-clause-stands : goal.returns-in-Cut-clause-stands
 returns-in-Cut-clause-stands g c =
     let done = ran_out g (goal.at.returns-in-Cut-clause-stands g c).In-Cut in
-    stands_still c.args.closed.model.now c.args.bounds.limit c.scans.routes c.advance.new.routes c.scans.state c.advance.new.self c.args.bounds.limit.tries done.routes_are done.at_is _ _ c.scans.invariant.stands c.in_ok-ended.ensures.holds c.scans.invariant.stands.used (omega arith)
+    stands_still c.args.closed.model.now c.args.bounds.limit c.scans.routes c.advance.new.routes c.scans.state c.advance.new.self c.args.bounds.limit.tries done.routes_are done.at_is _ _ c.scans.invariant.stands c.in_ok-ended.ensures.holds c.scans.invariant.stands.going.used (omega arith)
 
 pub returns-in-Cut-clause-no_dearer : goal.returns-in-Cut-clause-no_dearer
 returns-in-Cut-clause-no_dearer g c =
@@ -375,4 +356,4 @@ returns-clause-judge_model g c =
 
 pub returns-clause-holds : goal.returns-clause-holds
 returns-clause-holds g c =
-    c.scans.invariant.stands.holds
+    c.scans.invariant.stands.going.holds

@@ -94,28 +94,28 @@ returns-clause-looked g c =
 
 pub returns-clause-no_more_tries : goal.returns-clause-no_more_tries
 returns-clause-no_more_tries g c =
-    let low = c.in_ok-end.ensures.stands.used in omega (arith, ap (λ r. r.tries) c.report.ensures, low)
+    let low = c.in_ok-end.ensures.stands.going.used in omega (arith, ap (λ r. r.tries) c.report.ensures, low)
 
 pub returns-clause-some_solution : goal.returns-clause-some_solution
 returns-clause-some_solution g c =
-    let low = c.in_ok-end.ensures.stands.some in omega (arith, ap (λ r. r.solutions) c.report.ensures, low)
+    let low = c.in_ok-end.ensures.stands.going.some in omega (arith, ap (λ r. r.solutions) c.report.ensures, low)
 
 pub returns-clause-no_more_solutions : goal.returns-clause-no_more_solutions
 returns-clause-no_more_solutions g c =
-    let low = c.in_ok-end.ensures.stands.found in omega (arith, ap (λ r. r.solutions) c.report.ensures, low)
+    let low = c.in_ok-end.ensures.stands.going.found in omega (arith, ap (λ r. r.solutions) c.report.ensures, low)
 
 pub returns-clause-best_is_valid : goal.returns-clause-best_is_valid
 returns-clause-best_is_valid g c =
-    c.in_ok-end.ensures.stands.best.valid
+    c.in_ok-end.ensures.stands.going.best.valid
 
 pub returns-clause-same_visits : goal.returns-clause-same_visits
 returns-clause-same_visits g c =
-    c.in_ok-end.ensures.stands.best.same_visits ∙ (c.in_ok-end.ensures.stands.holds.of_model ∙ sym c.requires.holds.of_model)
+    c.in_ok-end.ensures.stands.going.best.same_visits ∙ (c.in_ok-end.ensures.stands.going.holds.of_model ∙ sym c.requires.holds.of_model)
 
 pub returns-clause-no_dearer : goal.returns-clause-no_dearer
 returns-clause-no_dearer g c =
     let first_cost = ap (λ b. b.cost) (begins g (goal.at.returns-clause-no_dearer g c).In_ok-state).best_is in
-    let kept = c.in_ok-end.ensures.stands.best.costs in
+    let kept = c.in_ok-end.ensures.stands.going.best.costs in
     let less = c.in_ok-end.ensures.no_dearer in
     omega (arith, ints, kept, less, first_cost)
 
@@ -125,4 +125,4 @@ returns-clause-judge_model g c =
 
 pub returns-clause-holds : goal.returns-clause-holds
 returns-clause-holds g c =
-    c.in_ok-end.ensures.stands.holds
+    c.in_ok-end.ensures.stands.going.holds

@@ -27,7 +27,7 @@ returns-then-parts-eq1-clause-value c =
     let p = counted c.args.self.of.on.penalties.now in
     let lists = c.args.self.of.routes.now.lists in
     let first = c.change_of_part-first.ensures in
-    let same : to_z w128 (of_z w128 c.change_of_part-first.result) ≡ c.change_of_part-first.result = omega (arith, ints, first.low, first.high) in
+    let same : to_z w128 (of_z w128 c.change_of_part-first.result) ≡ c.change_of_part-first.result = omega (arith, ints, first.range.at_least, first.range.at_most) in
     let here : c.change_of_part-first.result ≡ part_change m p lists (part_at c.args.self.change.now 0) = first.value
     ∙ ap₂ (λ v ps. route_weight m p v (joined lists ps) -ℤ route_weight m p v (route lists v)) c.vehicle.ensures c.pieces.ensures.value in
     same ∙ (here ∙ sym (alone m p c.args.self.parts c.parts-parts.ensures.value c.if-parts-eq1.true))
@@ -40,7 +40,7 @@ returns-clause-value c =
     let first = c.change_of_part-first.ensures in
     let second = c.change_of_part.ensures in
     let same : to_z w128 (of_z w128 (to_z w128 (of_z w128 c.change_of_part-first.result) +ℤ to_z w128 (of_z w128 c.change_of_part.result))) ≡ c.change_of_part-first.result +ℤ c.change_of_part.result
-    = omega (arith, ints, first.low, first.high, second.low, second.high) in
+    = omega (arith, ints, first.range.at_least, first.range.at_most, second.range.at_least, second.range.at_most) in
     let here : c.change_of_part-first.result ≡ part_change m p lists (part_at c.args.self.change.now 0) = first.value
     ∙ ap₂ (λ v ps. route_weight m p v (joined lists ps) -ℤ route_weight m p v (route lists v)) c.vehicle.ensures c.pieces.ensures.value in
     let there : c.change_of_part.result ≡ part_change m p lists (part_at c.args.self.change.now 1) = second.value

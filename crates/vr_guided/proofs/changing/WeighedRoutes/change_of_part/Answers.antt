@@ -29,19 +29,15 @@ new_stretch-new-requires-clause-pieces c =
           (all_right (λ node. node < c.args.self.now.on.closed.model.now.nodes) (take c.strip-ends.result.front list) (middle ++ drop c.strip-ends.result.behind list) (subst (λ xs. All (λ node. node < c.args.self.now.on.closed.model.now.nodes) xs) ends.joins c.requires.nodes));
     }
 
-pub returns-clause-low : goal.returns-clause-low
-returns-clause-low c =
+pub returns-clause-range : goal.returns-clause-range
+returns-clause-range c =
     let n = c.new_stretch-new.ensures in
     let o = c.old_stretch-old.ensures in
     let same = as_read c.new_stretch-new.result.total c.old_stretch-old.result c.unused.result c.unused-2.result n.low n.high o.low o.high c.unused.ensures.low c.unused.ensures.high c.unused-2.ensures.low c.unused-2.ensures.high in
-    omega (arith, ints, same, n.low, n.high, o.low, o.high, c.unused.ensures.low, c.unused.ensures.high, c.unused-2.ensures.low, c.unused-2.ensures.high)
-
-pub returns-clause-high : goal.returns-clause-high
-returns-clause-high c =
-    let n = c.new_stretch-new.ensures in
-    let o = c.old_stretch-old.ensures in
-    let same = as_read c.new_stretch-new.result.total c.old_stretch-old.result c.unused.result c.unused-2.result n.low n.high o.low o.high c.unused.ensures.low c.unused.ensures.high c.unused-2.ensures.low c.unused-2.ensures.high in
-    omega (arith, ints, same, n.low, n.high, o.low, o.high, c.unused.ensures.low, c.unused.ensures.high, c.unused-2.ensures.low, c.unused-2.ensures.high)
+    record {
+      at_least = omega (arith, ints, same, n.low, n.high, o.low, o.high, c.unused.ensures.low, c.unused.ensures.high, c.unused-2.ensures.low, c.unused-2.ensures.high);
+      at_most = omega (arith, ints, same, n.low, n.high, o.low, o.high, c.unused.ensures.low, c.unused.ensures.high, c.unused-2.ensures.low, c.unused-2.ensures.high);
+    }
 
 pub returns-clause-value : goal.returns-clause-value
 returns-clause-value c =

@@ -1,15 +1,12 @@
-use Rattle.std.proofs.Common.{◌≡◌, ◌∙◌, ◌^◌, ap, ap₂, sym, subst, arith, false, w64, to_z, of_z}
+use Rattle.std.proofs.Common.{◌≡◌, ◌∙◌, ap, sym, subst, arith, false, w64, to_z, of_z}
 use Rattle.std.specs.Int.{w128}
-use Rattle.std.specs.Prelude.{ℤ, pos, ◌+ℤ◌, ◌-ℤ◌, ◌≤ℤ◌, IsTrue}
+use Rattle.std.specs.Prelude.{ℤ, pos, ◌+ℤ◌, ◌-ℤ◌, ◌≤ℤ◌}
 use Rattle.std.proofs.lemmas.Int.{ints}
 use Rattle.vr_model.specs.moves.Moves.{apply}
-use Rattle.vr_model.specs.routes.Routes.{are_lists}
 use Rattle.vr_model.specs.search.GuidedSearches.{penalised}
-use Rattle.vr_model.proofs.moves.KeptLists.{moves_keep_lists}
-use Rattle.vr_model.proofs.routes.Lists.{are-lists}
 use Rattle.vr_guided.specs.Counts.{counted}
 use Rattle.vr_guided.specs.Guides.{is_gain, penalised_change}
-use Rattle.vr_guided.proofs.GuideLemmas.{at_least, at_most, none_saved, passed_over}
+use Rattle.vr_guided.proofs.GuideLemmas.{lists_after, none_saved, passed_over}
 use Rattle.vr_guided.proofs.guiding.GuidingAccept.may_accept.Goals as goal
 
 -- what is taken at most, told of the change
@@ -17,14 +14,10 @@ told : (before after saved : ℤ) → (before -ℤ after) ≤ℤ saved → pos 0
 told before after saved most = omega (arith, ints, most)
 
 pub invariant_of-weighed-2 : goal.invariant_of-weighed-2
-invariant_of-weighed-2 c =
-    let weights = c.args.self.now.weights in
-    let model = weights.closed.model.now in
-    let lists = c.args.routes.now.lists in
-    record {
-      parts = c.requires.change.parts_are;
-      after = subst (λ ls. IsTrue (are_lists model ls)) (sym c.requires.change.lists_are) (moves_keep_lists model weights.closed.well_formed lists c.args._mv (are-lists model lists c.requires.valid) c.requires.mv);
-    }
+invariant_of-weighed-2 c = record {
+  parts = c.requires.change.parts_are;
+  after = lists_after c.args.self.now.weights.closed.model.now c.args.self.now.weights.closed.well_formed c.args.routes.now.lists c.args._mv c.requires.valid c.requires.mv c.requires.change;
+}
 
 pub returns-then-is_no_gain : goal.returns-then-is_no_gain
 returns-then-is_no_gain c = record {
@@ -32,8 +25,7 @@ returns-then-is_no_gain c = record {
       let at = c.args.self.now in
       let p = counted at.weights.penalties.now in
       let lists = c.args.routes.now.lists in
-      let range = c.ranges.least in
-      let same : to_z w64 (of_z w64 c.args.least) ≡ c.args.least = omega (arith, ints, range) in
+      let same : to_z w64 (of_z w64 c.args.least) ≡ c.args.least = omega (arith, ints, c.ranges.least) in
       let saved = c.saved_at_most-saved.result in
       let from = c.saved_at_most-saved.ensures.low in
       let to = c.saved_at_most-saved.ensures.high in
@@ -49,15 +41,9 @@ pub returns : goal.returns
 returns c = record {
   passed = λ refused valid low. (
       let at = c.args.self.now in
+      let model = at.weights.closed.model.now in
       let p = counted at.weights.penalties.now in
-      let lists = c.args.routes.now.lists in
-      let range = c.ranges.least in
-      let same : to_z w64 (of_z w64 c.args.least) ≡ c.args.least = omega (arith, ints, range) in
-      let change = c.difference.ensures in
-      let from = at_least (2 ^ 100) c.difference.result change.bound in
-      let to = at_most (2 ^ 100) c.difference.result change.bound in
-      let as_read : to_z w128 (of_z w128 c.difference.result) ≡ c.difference.result = omega (arith, ints, from, to) in
-      let value = change.value ∙ ap (λ ls. penalised at.weights.closed.model.now p ls -ℤ penalised at.weights.closed.model.now p lists) c.requires.change.lists_are in
-      let none = sym (c.gains.ensures ∙ ap₂ (is_gain at.lambda) same (as_read ∙ value)) ∙ refused in
-      passed_over at.weights.closed.model.now at.lambda p lists c.args._mv c.args.least at.sound.q_in_range.at_least none low);
+      let same : to_z w64 (of_z w64 c.args.least) ≡ c.args.least = omega (arith, ints, c.ranges.least) in
+      let none = sym (c.gains_by.ensures ∙ ap (λ d. is_gain at.lambda d (penalised_change model p c.args.routes.now.lists c.args._mv)) same) ∙ refused in
+      passed_over model at.lambda p c.args.routes.now.lists c.args._mv c.args.least at.sound.q_in_range.at_least none low);
 }

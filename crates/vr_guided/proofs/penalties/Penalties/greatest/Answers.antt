@@ -5,7 +5,7 @@ use Rattle.vr_model.specs.routes.Routes.{UsedArc, arcs_of, route}
 use Rattle.vr_guided.specs.Counts.{counted}
 use Rattle.vr_guided.specs.Worths.{greatest, worth_of, worthless}
 use Rattle.vr_guided.proofs.ArcLemmas.{each_onward}
-use Rattle.vr_guided.proofs.ListLemmas.{has_list, list_below, list_short, vehicles_left}
+use Rattle.vr_guided.proofs.ListLemmas.{few_nodes, has_list, vehicles_left}
 use Rattle.vr_guided.proofs.WorthLemmas.{greatest_more}
 use Rattle.vr_guided.proofs.penalties.Penalties.greatest.Goals as goal
 
@@ -19,8 +19,7 @@ list-requires c = record { vehicle = has_list c.args.closed.model.now c.args.rou
 pub invariant_of-list : goal.invariant_of-list
 invariant_of-list c = record {
   there = omega (arith, c.loop-vehicle-test.true, c.len-vehicle-end.ensures);
-  below = list_below c.args.closed.model.now c.args.routes.now.lists c.requires.valid c.loop-vehicle.vehicle c.list.ensures.value;
-  short = list_short c.args.closed.model.now c.args.routes.now.lists c.requires.valid c.args.closed.well_formed c.loop-vehicle.vehicle c.list.ensures.value;
+  few = few_nodes c.args.closed.model.now c.args.routes.now.lists c.requires.valid c.args.closed.well_formed c.loop-vehicle.vehicle c.list.ensures.value;
 }
 
 pub loop-vehicle-preserved : goal.loop-vehicle-preserved

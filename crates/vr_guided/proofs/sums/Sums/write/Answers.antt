@@ -38,7 +38,7 @@ loop-node-preserved c =
     record {
       sums = subst (λ xs. AreArcSums f c.args.list.now.arcs.vehicle start xs c.add.new.self) (sym more) (sums-push f c.args.list.now.arcs.vehicle start (take k list) node c.loop-node.self c.add.new.self _ inv.sums weight c.add.ensures);
       at = sym (last_behind start node (take k list)) ∙ ap (last_of start) (sym more);
-      below = c.args.list.now.below k 0 low;
+      below = c.args.list.now.few.below k 0 low;
     }
 
 pub returns : goal.returns

@@ -8,9 +8,10 @@ use Rattle.vr_tabu.specs.Rounds.{tries_of}
 use Rattle.vr_tabu.specs.Tabus.{tabus_of}
 use Rattle.vr_model.proofs.tables.Refusals.{on_err}
 use Rattle.vr_descent.proofs.PassedLemmas.{at_or_behind, looks_few}
-use Rattle.vr_tabu.proofs.RoundLemmas.{IsLeft, all_moves, all_tried, at_most, best_of, cut_off, exact, one_more, one_tried, pass_over, tries_end}
+use Rattle.vr_descent.proofs.ScanLemmas.{all_moves}
+use Rattle.vr_tabu.proofs.RoundLemmas.{IsLeft, all_tried, at_most, best_of, cut_off, exact, one_more, one_tried, pass_over, tries_end}
 use Rattle.vr_tabu.proofs.rounds.Round.run_over.Given.{Over}
-use Rattle.vr_tabu.proofs.rounds.Round.run_over.Goals.{In-Some, In_default}
+use Rattle.vr_tabu.proofs.rounds.Round.run_over.Goals.{After-end_of, In-Some, In_default}
 use Rattle.vr_tabu.proofs.rounds.Round.run_over.Goals as goal
 
 fits : (rest : ℕ) → rest ≤ 1000000000 → rest < 2 ^ 64
@@ -27,6 +28,30 @@ at_end : (g : Over) (c : In_default g) → IsLeft c.args.self.now.model.now (tab
 at_end g c =
     let i = c.loop-mv.invariant in
     pass_over c.args.self.now.model.now (tabus_of c.args.self.now.state.now.tabus) c.args.self.now.state.now.best.routes.lists c.args.self.now.routes.now.lists c.loop-mv.best c.args.self.now.ceiling c.loop-mv.list c.in_default.ensures.takes.behind c.loop-mv.length c.next_open.new.length i.known c.args.self.now.bounded c.in_default.ensures.takes.passes i.counted i.moves i.left
+
+-- where none is left all moves are tries
+all_tries : (g : Over) (c : After-end_of g) → tries_of c.args.rest c.end_of.result ≡ c.next_open.new.length
+all_tries g c = ap (tries_of c.args.rest) c.end_of.ensures ∙ tries_end c.args.rest c.next_open.new.length c.loop-mv.best
+
+-- counts of few moves are exact
+counted : (g : Over) (c : In-Some g) → c.next_open.new.length ≤ 1000000000 → c.next_open.new.length ≡ (before g c).at
+counted g c under = let counts = (before g c).counts in counts ∙ exact (before g c).at (omega (arith, counts, under))
+
+counted_at_end : (g : Over) (c : In_default g) → c.next_open.new.length ≤ 1000000000 → c.next_open.new.length ≡ (at_end g c).at
+counted_at_end g c under = let counts = (at_end g c).counts in counts ∙ exact (at_end g c).at (omega (arith, counts, under))
+
+-- the judge is asked what moves make at least no more often than there are tries
+looks : (g : Over) (c : In-Some g) → (g.J.Judge.looked c.next_open.new.judge + c.loop-mv.length ≤ g.J.Judge.looked c.loop-mv.judge + (c.next_open.new.length + 1)) × (g.J.Judge.looked c.next_open.new.judge + c.loop-mv.length ≤ g.J.Judge.looked c.loop-mv.judge + c.args.rest)
+looks g c =
+    looks_few c.args.rest (g.J.Judge.looked c.loop-mv.judge) (g.J.Judge.looked c.next_open.new.judge) c.loop-mv.length (c.next_open.new.length + 1) (fits c.args.rest c.requires.rest) c.loop-mv.invariant.within c.in-Some.ensures.looked
+
+looks_at_end : (g : Over) (c : In_default g) → (g.J.Judge.looked c.next_open.new.judge + c.loop-mv.length ≤ g.J.Judge.looked c.loop-mv.judge + (c.next_open.new.length + 0)) × (g.J.Judge.looked c.next_open.new.judge + c.loop-mv.length ≤ g.J.Judge.looked c.loop-mv.judge + c.args.rest)
+looks_at_end g c =
+    looks_few c.args.rest (g.J.Judge.looked c.loop-mv.judge) (g.J.Judge.looked c.next_open.new.judge) c.loop-mv.length (c.next_open.new.length + 0) (fits c.args.rest c.requires.rest) c.loop-mv.invariant.within c.in_default.ensures.looked
+
+-- tries are counted on
+further : (g : Over) (c : In-Some g) → c.loop-mv.length ≤ c.next_open.new.length
+further g c = at_or_behind c.args.rest c.loop-mv.length c.next_open.new.length _ c.in-Some.ensures.takes.passes.counts (fits c.args.rest c.requires.rest) c.loop-mv.invariant.within
 
 pub loop-mv-init : goal.loop-mv-init
 loop-mv-init g c =
@@ -62,19 +87,18 @@ loop-mv-preserved g c =
     let i = c.loop-mv.invariant in
     let e = c.in_ok-best.ensures in
     let t = c.in-Some.ensures.takes in
-    let is = before g (goal.at.loop-mv-preserved g c).In-Some in
-    let counts = is.counts in
+    let here = (goal.at.loop-mv-preserved g c).In-Some in
+    let is = before g here in
     let from = is.from in
     let under = c.if-length-rest.false in
-    let few = c.requires.rest in
-    let at : c.next_open.new.length ≡ is.at = counts ∙ exact is.at (omega (arith, counts, under, few)) in
-    let looks = (looks_few c.args.rest (g.J.Judge.looked c.loop-mv.judge) (g.J.Judge.looked c.next_open.new.judge) c.loop-mv.length (c.next_open.new.length + 1) (fits c.args.rest few) i.within c.in-Some.ensures.looked).0 in
+    let at = counted g here (omega (arith, under, c.requires.rest)) in
+    let looked = (looks g here).0 in
     let same = c.in-Some.ensures.asked in
     record {
       model = e.model ∙ (c.in-Some.ensures.model ∙ i.model);
       committed = e.committed ∙ (c.in-Some.ensures.committed ∙ i.committed);
       asked = omega (arith, e.asked, same, i.asked, from, at);
-      looked = omega (arith, e.looked, looks, i.looked, from, at);
+      looked = omega (arith, e.looked, looked, i.looked, from, at);
       within = omega (arith, under);
       counted = one_more c.next_open.new.length (length c.next_open.new.list) (length (moves c.args.self.now.model.now c.args.self.now.routes.now.lists)) (ap (λ n. n + suc (length c.next_open.new.list)) at ∙ (ap (λ ms. is.at + length ms) (sym t.first) ∙ is.sum));
       moves = and_right (is_move c.args.self.now.model.now c.args.self.now.routes.now.lists c.in-Some.mv) (list_all (is_move c.args.self.now.model.now c.args.self.now.routes.now.lists) c.next_open.new.list) (ap (list_all (is_move c.args.self.now.model.now c.args.self.now.routes.now.lists)) (sym t.first) ∙ is.moves);
@@ -93,112 +117,57 @@ returns-then-length-rest-2-clause-ends g c =
 pub returns-clause-ends : goal.returns-clause-ends
 returns-clause-ends g c =
     let t = c.in_default.ensures.takes in
-    let is = at_end g (goal.at.returns-clause-ends g c).In_default in
-    let counts = is.counts in
+    let here = (goal.at.returns-clause-ends g c).In_default in
+    let is = at_end g here in
     let under = c.if-length-rest-2.false in
-    let few = c.requires.rest in
-    let at : c.next_open.new.length ≡ is.at = counts ∙ exact is.at (omega (arith, counts, under, few)) in
+    let at = counted_at_end g here (omega (arith, under, c.requires.rest)) in
     c.end_of.ensures ∙ all_tried c.args.self.now.model.now (tabus_of c.args.self.now.state.now.tabus) c.args.self.now.state.now.best.routes.lists c.args.self.now.routes.now.lists c.next_open.new.length c.args.rest c.loop-mv.best t.behind t.first.0 (ap (λ n. n + length t.behind) at ∙ is.sum) (omega (arith, under)) c.loop-mv.invariant.known is.left
+
+-- ---- how often the judge was asked
 
 pub returns-clause-asked : goal.returns-clause-asked
 returns-clause-asked g c =
-    let i = c.loop-mv.invariant in
-    let is = at_end g (goal.at.returns-clause-asked g c).In_default in
-    let counts = is.counts in
-    let from = is.from in
-    let under = c.if-length-rest-2.false in
-    let few = c.requires.rest in
-    let at : c.next_open.new.length ≡ is.at = counts ∙ exact is.at (omega (arith, counts, under, few)) in
-    let tries : tries_of c.args.rest c.end_of.result ≡ c.next_open.new.length = ap (tries_of c.args.rest) c.end_of.ensures ∙ tries_end c.args.rest c.next_open.new.length c.loop-mv.best in
-    let same = c.in_default.ensures.asked in
-    omega (arith, i.asked, same, from, at, tries)
-
--- ---- how often the judge was asked what moves make at least
-
-pub returns-then-length-rest-clause-looked : goal.returns-then-length-rest-clause-looked
-returns-then-length-rest-clause-looked g c =
-    let i = c.loop-mv.invariant in
-    let within = i.within in
-    let few = c.requires.rest in
-    let looks = (looks_few c.args.rest (g.J.Judge.looked c.loop-mv.judge) (g.J.Judge.looked c.next_open.new.judge) c.loop-mv.length (c.next_open.new.length + 1) (fits c.args.rest few) within c.in-Some.ensures.looked).1 in
-    omega (arith, i.looked, within, looks)
-
-pub returns-in_err-best-clause-looked_at_most : goal.returns-in_err-best-clause-looked_at_most
-returns-in_err-best-clause-looked_at_most g c =
-    let i = c.loop-mv.invariant in
-    let within = i.within in
-    let few = c.requires.rest in
-    let looks = (looks_few c.args.rest (g.J.Judge.looked c.loop-mv.judge) (g.J.Judge.looked c.next_open.new.judge) c.loop-mv.length (c.next_open.new.length + 1) (fits c.args.rest few) within c.in-Some.ensures.looked).0 in
-    let tried = c.try_move.ensures.looked in
-    let more = at_or_behind c.args.rest c.loop-mv.length c.next_open.new.length _ c.in-Some.ensures.takes.passes.counts (fits c.args.rest few) within in
-    on_err c.from_residual.result (omega (arith, i.looked, within, looks, tried, more, c.if-length-rest.false))
-
-pub returns-then-length-rest-2-clause-looked : goal.returns-then-length-rest-2-clause-looked
-returns-then-length-rest-2-clause-looked g c =
-    let i = c.loop-mv.invariant in
-    let within = i.within in
-    let few = c.requires.rest in
-    let looks = (looks_few c.args.rest (g.J.Judge.looked c.loop-mv.judge) (g.J.Judge.looked c.next_open.new.judge) c.loop-mv.length (c.next_open.new.length + 0) (fits c.args.rest few) within c.in_default.ensures.looked).1 in
-    omega (arith, i.looked, within, looks)
+    let here = (goal.at.returns-clause-asked g c).In_default in
+    let from = (at_end g here).from in
+    let at = counted_at_end g here (omega (arith, c.if-length-rest-2.false, c.requires.rest)) in
+    let tries = all_tries g (goal.at.returns-clause-asked g c).After-end_of in
+    omega (arith, c.loop-mv.invariant.asked, c.in_default.ensures.asked, from, at, tries)
 
 pub returns-clause-looked : goal.returns-clause-looked
 returns-clause-looked g c =
-    let i = c.loop-mv.invariant in
-    let within = i.within in
-    let few = c.requires.rest in
-    let looks = (looks_few c.args.rest (g.J.Judge.looked c.loop-mv.judge) (g.J.Judge.looked c.next_open.new.judge) c.loop-mv.length (c.next_open.new.length + 0) (fits c.args.rest few) within c.in_default.ensures.looked).0 in
-    let more = at_or_behind c.args.rest c.loop-mv.length c.next_open.new.length _ c.in_default.ensures.takes.passes.counts (fits c.args.rest few) within in
-    let tries : tries_of c.args.rest c.end_of.result ≡ c.next_open.new.length = ap (tries_of c.args.rest) c.end_of.ensures ∙ tries_end c.args.rest c.next_open.new.length c.loop-mv.best in
-    omega (arith, i.looked, looks, more, tries)
-
--- ---- how often it judged
+    let here = (goal.at.returns-clause-looked g c).In_default in
+    let from = (at_end g here).from in
+    let at = counted_at_end g here (omega (arith, c.if-length-rest-2.false, c.requires.rest)) in
+    let looked = (looks_at_end g here).0 in
+    let tries = all_tries g (goal.at.returns-clause-looked g c).After-end_of in
+    omega (arith, c.loop-mv.invariant.looked, looked, from, at, tries)
 
 pub returns-then-length-rest-clause-asked : goal.returns-then-length-rest-clause-asked
 returns-then-length-rest-clause-asked g c =
-    let i = c.loop-mv.invariant in
-    let within = i.within in
-    let same = c.in-Some.ensures.asked in
-    omega (arith, i.asked, within, same)
+    omega (arith, c.loop-mv.invariant.asked, c.loop-mv.invariant.within, c.in-Some.ensures.asked)
+
+pub returns-then-length-rest-clause-looked : goal.returns-then-length-rest-clause-looked
+returns-then-length-rest-clause-looked g c =
+    let looked = (looks g (goal.at.returns-then-length-rest-clause-looked g c).In-Some).1 in
+    omega (arith, c.loop-mv.invariant.looked, c.loop-mv.invariant.within, looked)
 
 pub returns-in_err-best-clause-asked_at_most : goal.returns-in_err-best-clause-asked_at_most
 returns-in_err-best-clause-asked_at_most g c =
-    let i = c.loop-mv.invariant in
-    let within = i.within in
-    let few = c.requires.rest in
-    let same = c.in-Some.ensures.asked in
-    let tried = c.try_move.ensures.asked in
-    let more = at_or_behind c.args.rest c.loop-mv.length c.next_open.new.length _ c.in-Some.ensures.takes.passes.counts (fits c.args.rest few) within in
-    on_err c.from_residual.result (omega (arith, i.asked, within, same, tried, more, c.if-length-rest.false))
+    let more = further g (goal.at.returns-in_err-best-clause-asked_at_most g c).In-Some in
+    on_err c.from_residual.result (omega (arith, c.loop-mv.invariant.asked, c.in-Some.ensures.asked, c.try_move.ensures.asked, more, c.if-length-rest.false))
+
+pub returns-in_err-best-clause-looked_at_most : goal.returns-in_err-best-clause-looked_at_most
+returns-in_err-best-clause-looked_at_most g c =
+    let here = (goal.at.returns-in_err-best-clause-looked_at_most g c).In-Some in
+    let more = further g here in
+    let looked = (looks g here).0 in
+    on_err c.from_residual.result (omega (arith, c.loop-mv.invariant.looked, looked, c.try_move.ensures.looked, more, c.if-length-rest.false))
 
 pub returns-then-length-rest-2-clause-asked : goal.returns-then-length-rest-2-clause-asked
 returns-then-length-rest-2-clause-asked g c =
-    let i = c.loop-mv.invariant in
-    let within = i.within in
-    let same = c.in_default.ensures.asked in
-    omega (arith, i.asked, within, same)
+    omega (arith, c.loop-mv.invariant.asked, c.loop-mv.invariant.within, c.in_default.ensures.asked)
 
--- ---- what stays of the judge
-
-pub returns-then-length-rest-clause-model : goal.returns-then-length-rest-clause-model
-returns-then-length-rest-clause-model g c = c.in-Some.ensures.model ∙ c.loop-mv.invariant.model
-
-pub returns-then-length-rest-clause-committed : goal.returns-then-length-rest-clause-committed
-returns-then-length-rest-clause-committed g c = c.in-Some.ensures.committed ∙ c.loop-mv.invariant.committed
-
-pub returns-in_err-best-clause-model : goal.returns-in_err-best-clause-model
-returns-in_err-best-clause-model g c = c.try_move.ensures.model ∙ (c.in-Some.ensures.model ∙ c.loop-mv.invariant.model)
-
-pub returns-in_err-best-clause-committed : goal.returns-in_err-best-clause-committed
-returns-in_err-best-clause-committed g c = c.try_move.ensures.committed ∙ (c.in-Some.ensures.committed ∙ c.loop-mv.invariant.committed)
-
-pub returns-then-length-rest-2-clause-model : goal.returns-then-length-rest-2-clause-model
-returns-then-length-rest-2-clause-model g c = c.in_default.ensures.model ∙ c.loop-mv.invariant.model
-
-pub returns-then-length-rest-2-clause-committed : goal.returns-then-length-rest-2-clause-committed
-returns-then-length-rest-2-clause-committed g c = c.in_default.ensures.committed ∙ c.loop-mv.invariant.committed
-
-pub returns-clause-model : goal.returns-clause-model
-returns-clause-model g c = c.in_default.ensures.model ∙ c.loop-mv.invariant.model
-
-pub returns-clause-committed : goal.returns-clause-committed
-returns-clause-committed g c = c.in_default.ensures.committed ∙ c.loop-mv.invariant.committed
+pub returns-then-length-rest-2-clause-looked : goal.returns-then-length-rest-2-clause-looked
+returns-then-length-rest-2-clause-looked g c =
+    let looked = (looks_at_end g (goal.at.returns-then-length-rest-2-clause-looked g c).In_default).1 in
+    omega (arith, c.loop-mv.invariant.looked, c.loop-mv.invariant.within, looked)

@@ -15,7 +15,7 @@ use Rattle.vr_tabu.proofs.rounds.Round.weigh.Goals as goal
 
 -- the judge tells of the difference that the move makes, which is read as it is
 judged : (g : Over) (c : In-Difference g) → Difference c.in-Difference.difference ≡ verdict_of c.args.self.now.model.now c.args.self.now.routes.now.lists c.args.mv
-judged g c = sym c.in-Difference.is ∙ (c.in_ok-judge.ensures.verdict ∙ ap (λ m. verdict_of m c.args.self.now.routes.now.lists c.args.mv) (c.least_difference-least.ensures.model ∙ c.requires.judge.model_is))
+judged g c = sym c.in-Difference.is ∙ (c.in_ok-judge_change.ensures.verdict ∙ ap (λ m. verdict_of m c.args.self.now.routes.now.lists c.args.mv) (c.least_difference-least.ensures.model ∙ c.requires.judge.model_is))
 
 same : (g : Over) (c : In-Difference g) → to_z w64 (of_z w64 c.in-Difference.difference) ≡ c.in-Difference.difference
 same g c = fits_change c.args.self.now.model.now (tabus_of c.args.self.now.state.now.tabus) c.args.self.now.state.now.best.routes.lists c.args.self.now.routes.now.lists c.args.mv c.in-Difference.difference c.args.self.now.known.well_formed c.args.self.now.known.valid (judged g c)
@@ -39,7 +39,7 @@ returns-then-is_no_less-clause-best g c =
 pub returns-in-Refused-clause-best : goal.returns-in-Refused-clause-best
 returns-in-Refused-clause-best g c =
     refused c.args.self.now.model.now (tabus_of c.args.self.now.state.now.tabus) c.args.self.now.state.now.best.routes.lists c.args.self.now.routes.now.lists c.args.best c.args.mv
-    (sym c.in-Refused.is ∙ (c.in_ok-judge.ensures.verdict ∙ ap (λ m. verdict_of m c.args.self.now.routes.now.lists c.args.mv) (c.least_difference-least.ensures.model ∙ c.requires.judge.model_is)))
+    (sym c.in-Refused.is ∙ (c.in_ok-judge_change.ensures.verdict ∙ ap (λ m. verdict_of m c.args.self.now.routes.now.lists c.args.mv) (c.least_difference-least.ensures.model ∙ c.requires.judge.model_is)))
 
 pub returns-then-is_no_less-2-clause-best : goal.returns-then-is_no_less-2-clause-best
 returns-then-is_no_less-2-clause-best g c =

@@ -63,7 +63,7 @@ returns-in_ok-take-in-Best-clause-outcome g c =
     let best_new : new.best ≡ kept state.best c.take.new.routes (cost model c.take.new.routes.lists) = taken.best ∙ ap (λ b. kept b c.take.new.routes (cost model c.take.new.routes.lists)) c.forbid.ensures.best in
     let kept_new : new.best.routes.lists ≡ cheaper model state.best.routes.lists (apply model lists mv)
     = ap (λ b. b.routes.lists) best_new
-    ∙ (kept_lists model state.best c.take.new.routes (cost model c.take.new.routes.lists) c.requires.stands.best.costs refl ∙ ap (cheaper model state.best.routes.lists) lists_new) in
+    ∙ (kept_lists model state.best c.take.new.routes (cost model c.take.new.routes.lists) c.requires.stands.going.best.costs refl ∙ ap (cheaper model state.best.routes.lists) lists_new) in
     let at_new = taken.at ∙ ap (after_move model lists mv c.in-Best.length) c.forbid.ensures.at in
     after_best model c.args.bounds lists state (apart c.args.self.now.at.found c.args.bounds.limit.solutions c.requires.more) c.in-Best.length mv (best g (goal.at.returns-in_ok-take-in-Best-clause-outcome g c).In-Best) new c.take.new.routes.lists tabus_new lists_new kept_new at_new
 
@@ -73,4 +73,4 @@ returns-in-Stuck-clause-outcome g c =
 
 pub returns-in-Cut-clause-outcome : goal.returns-in-Cut-clause-outcome
 returns-in-Cut-clause-outcome g c =
-    after_cut c.args.closed.model.now c.args.bounds c.args.routes.now.lists c.args.self.now (apart c.args.self.now.at.found c.args.bounds.limit.solutions c.requires.more) (of_cut c.args.closed.model.now c.args.routes.now.lists (next_of c.args.closed.model.now c.args.bounds c.args.routes.now.lists c.args.self.now) (sym c.in-Cut.is ∙ c.in_ok-ended.ensures.ends)) c.requires.stands.used
+    after_cut c.args.closed.model.now c.args.bounds c.args.routes.now.lists c.args.self.now (apart c.args.self.now.at.found c.args.bounds.limit.solutions c.requires.more) (of_cut c.args.closed.model.now c.args.routes.now.lists (next_of c.args.closed.model.now c.args.bounds c.args.routes.now.lists c.args.self.now) (sym c.in-Cut.is ∙ c.in_ok-ended.ensures.ends)) c.requires.stands.going.used
