@@ -16,13 +16,14 @@ use crate::input::read_owned;
 use crate::numbered::summarised;
 use crate::search::solve_unwatched;
 use crate::status::Status;
+use crate::total::total_over;
 use serde_json::Value;
 use std::alloc::Global;
 use vr_gen::generate;
 use vr_json::ReadFail;
 use vr_model::{Closed, NoMemory};
+use vr_plan::Lookups;
 use vr_routes::Routes;
-use vr_rules::total;
 
 /// The answer that tells of the whole search of the model of a number. It is the one that its model would have if it
 /// were read, in short: it does not rest on a law that this model is read and solved.
@@ -46,14 +47,24 @@ fn summary_of_tree(alloc: Global, number: u64, tree: Value) -> Result<Answer, No
     }
 }
 
-// The answer that tells of the search of a model.
+// The answer that tells of the search of a model, which is looked up once for all that ask it.
 fn summary_of_model(alloc: Global, number: u64, closed: Closed<'_>) -> Result<Answer, NoMemory>
     ensures reply { IfOk result (AnswersReply (replies.summary_of_model number (Ok closed.entry.model.now))) }
     ensures status { IfOk result (λ a. IsOfSolving a.status) }
 {
-    match first_routes(alloc, closed)? {
+    let lookups = Lookups::open(alloc, closed)?;
+    summary_over(alloc, number, &lookups)
+}
+
+// The same, over what was looked up.
+fn summary_over(alloc: Global, number: u64, lookups: &Lookups<'_>) -> Result<Answer, NoMemory>
+    ensures reply { let model = lookups.now.closed.model.now in
+        IfOk result (AnswersReply (replies.summary_of_model number (Ok model))) }
+    ensures status { IfOk result (λ a. IsOfSolving a.status) }
+{
+    match first_routes(alloc, lookups)? {
         None => none_found(alloc),
-        Some(first) => summary_of_first(alloc, number, closed, first),
+        Some(first) => summary_of_first(alloc, number, lookups, first),
     }
 }
 
@@ -61,17 +72,17 @@ fn summary_of_model(alloc: Global, number: u64, closed: Closed<'_>) -> Result<An
 fn summary_of_first(
     alloc: Global,
     number: u64,
-    closed: Closed<'_>,
+    lookups: &Lookups<'_>,
     first: Routes,
 ) -> Result<Answer, NoMemory>
-    requires first { first_lists closed.model.now ≡ Some first.lists }
-    requires of_model { first.visits ≡ visits closed.model.now }
-    ensures reply { let found = found_from asked.Solve closed.entry.model.now first.lists in
-        IfOk result (AnswersReply (replies.summary_of_found number closed.entry.model.now (Some found))) }
+    requires first { first_lists lookups.now.closed.model.now ≡ Some first.lists }
+    requires of_model { first.visits ≡ visits lookups.now.closed.model.now }
+    ensures reply { let found = found_from asked.Solve lookups.now.closed.model.now first.lists in
+        IfOk result (AnswersReply (replies.summary_of_found number lookups.now.closed.model.now (Some found))) }
     ensures status { IfOk result (λ a. a.status ≡ Status.Done) }
 {
-    let first_cost = total(alloc, closed.model, &first)?;
-    let best = solve_unwatched(alloc, closed, first, first_cost)?;
-    let answer = summarised(alloc, number, closed.model, first_cost, &best)?;
+    let first_cost = total_over(alloc, lookups, &first)?;
+    let best = solve_unwatched(alloc, lookups, first, first_cost)?;
+    let answer = summarised(alloc, number, lookups, first_cost, &best)?;
     Ok(answer)
 }

@@ -6,17 +6,20 @@ ghost use Rattle.vr_model.specs.tables.Tables.{visits};
 ghost use Rattle.vr_rules.specs.Placing.{lists_in};
 
 use std::alloc::Global;
-use vr_model::{Closed, First, NoMemory};
+use vr_model::{First, NoMemory};
+use vr_plan::Lookups;
 use vr_routes::Routes;
 
-/// The first solution of a model, by the construction that the model names; none exactly where that gives none.
-pub fn first_routes(alloc: Global, closed: Closed<'_>) -> Result<Option<Routes>, NoMemory>
-    ensures lists { IfOk result (λ first. lists_in first ≡ first_lists closed.entry.model.now) }
-    ensures visits { IfOk result (λ first. IfSome first (λ routes. routes.visits ≡ visits closed.entry.model.now)) }
+/// The first solution of a model, by the construction that the model names, over what was looked up of it; none exactly
+/// where that gives none.
+pub fn first_routes(alloc: Global, lookups: &Lookups<'_>) -> Result<Option<Routes>, NoMemory>
+    ensures lists { IfOk result (λ first. lists_in first ≡ first_lists lookups.now.closed.model.now) }
+    ensures visits { let model = lookups.now.closed.model.now in
+        IfOk result (λ first. IfSome first (λ routes. routes.visits ≡ visits model)) }
 {
-    match closed.model.search.first {
-        First::PathCheapestArc => vr_first_arc::first(alloc, closed.model),
-        First::ParallelCheapestInsertion => vr_first_insert::first(alloc, closed.model),
-        First::Savings => vr_first_savings::first(alloc, closed.model),
+    match lookups.closed.model.search.first {
+        First::PathCheapestArc => vr_first_arc::first_over(alloc, lookups),
+        First::ParallelCheapestInsertion => vr_first_insert::first_over(alloc, lookups),
+        First::Savings => vr_first_savings::first_over(alloc, lookups),
     }
 }

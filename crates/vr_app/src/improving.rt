@@ -6,7 +6,6 @@ ghost use Rattle.vr_model.specs.routes.Rules.{is_valid};
 ghost use Rattle.vr_model.specs.search.Descents.{descent};
 ghost use Rattle.vr_model.specs.search.GuidedSearches.{guided};
 ghost use Rattle.vr_model.specs.tables.Tables.{visits};
-ghost use Rattle.vr_model.specs.tables.WellFormed.{IsWellFormed};
 ghost use Rattle.vr_routes.specs.Judging.{HoldSame};
 ghost use Rattle.vr_watch.specs.Told.{Told};
 ghost use Rattle.vr_lns.specs.PathLns.{path_lns};
@@ -19,8 +18,9 @@ use std::alloc::Global;
 use std::sync::ledger::Ledger;
 use vr_descent::descend;
 use vr_guided::guide;
-use vr_lns::{Rebuild, lns};
-use vr_model::{Closed, Improve, Lambda, Limit, Model, NoMemory, Steps};
+use vr_lns::{Rebuild, lns_over};
+use vr_model::{Closed, Improve, Lambda, Limit, NoMemory, Steps};
+use vr_plan::Lookups;
 use vr_routes::{Judge, Routes};
 use vr_tabu::tabu;
 use vr_watch::Watch;
@@ -185,27 +185,27 @@ fn tabu_from<J: Judge, L: Ledger>(
 // Path neighbourhoods from the first solution.
 fn rebuild_from<R: Rebuild>(
     alloc: Global,
-    closed: Closed<'_>,
+    lookups: &Lookups<'_>,
     rebuild: &mut R,
     first: FirstSolution,
     watch: &mut Watchers,
 ) -> Result<Best, NoMemory>
-    requires of_model { first.routes.visits ≡ visits closed.model.now }
-    requires valid { IsTrue (is_valid closed.model.now first.routes.lists) }
+    requires of_model { first.routes.visits ≡ visits lookups.now.closed.model.now }
+    requires valid { IsTrue (is_valid lookups.now.closed.model.now first.routes.lists) }
     ensures ends { IfOk result (EndsAs first.routes.visits
-        (path_lns closed.entry.model.now first.routes.lists
-        (improved.limit_of closed.entry.model.now) closed.entry.model.now.search.cut)) }
+        (path_lns lookups.now.closed.model.now first.routes.lists
+        (improved.limit_of lookups.now.closed.model.now) lookups.now.closed.model.now.search.cut)) }
     ensures told { OnOk result (Told (λ w later. after w later) watch.old.items watch.new.items
-        (path_lns closed.entry.model.now first.routes.lists
-        (improved.limit_of closed.entry.model.now) closed.entry.model.now.search.cut).events) }
+        (path_lns lookups.now.closed.model.now first.routes.lists
+        (improved.limit_of lookups.now.closed.model.now) lookups.now.closed.model.now.search.cut).events) }
 {
-    let limit = limit_of(closed);
-    let cut = cut_of(closed);
+    let limit = limit_of(lookups.closed);
+    let cut = cut_of(lookups.closed);
     let FirstSolution {
         mut routes,
         cost: _,
     } = first;
-    let report = lns(alloc, closed.model, rebuild, &mut routes, limit, cut, watch)?;
+    let report = lns_over(alloc, lookups, rebuild, &mut routes, limit, cut, watch)?;
     Ok(Best { routes, report })
 }
 
@@ -216,28 +216,28 @@ fn rebuild_from<R: Rebuild>(
 /// `NoMemory` where there was no memory, also where a watcher finds none.
 pub fn improve<J: Judge, R: Rebuild, L: Ledger>(
     alloc: Global,
-    model: &Model,
+    lookups: &Lookups<'_>,
     judge: &mut J,
     rebuild: &mut R,
     first: FirstSolution,
     watch: &mut Watchers,
     steps: &mut Steps<L>,
 ) -> Result<Best, NoMemory>
-    requires well_formed { IsWellFormed model.now }
-    requires judge_model { J.model judge.old ≡ model.now }
-    requires holds { HoldSame model.now (J.committed judge.old) first.routes }
-    requires first_cost { first.cost ≡ cost model.now first.routes.lists }
-    ensures ends { let outcome = improved.improved model.now.search.improve model.now first.routes.lists in
-        IfOk result (EndsAs first.routes.visits outcome) }
-    ensures told { let outcome = improved.improved model.now.search.improve model.now first.routes.lists in
+    requires judge_model { J.model judge.old ≡ lookups.now.closed.model.now }
+    requires holds { HoldSame lookups.now.closed.model.now (J.committed judge.old) first.routes }
+    requires first_cost { first.cost ≡ cost lookups.now.closed.model.now first.routes.lists }
+    ensures ends { let model = lookups.now.closed.model.now in
+        IfOk result (EndsAs first.routes.visits (improved.improved model.search.improve model first.routes.lists)) }
+    ensures told { let model = lookups.now.closed.model.now in
+        let outcome = improved.improved model.search.improve model first.routes.lists in
         OnOk result (Told (λ w later. after w later) watch.old.items watch.new.items outcome.events) }
 {
-    let closed = Closed { model };
-    match model.search.improve {
+    let closed = lookups.closed;
+    match closed.model.search.improve {
         Improve::None => Ok(untried(first.routes)),
         Improve::GreedyDescent => descend_from(closed, judge, first, watch, steps),
         Improve::GuidedLocalSearch => guide_from(alloc, closed, judge, first, watch, steps),
-        Improve::PathLns => rebuild_from(alloc, closed, rebuild, first, watch),
+        Improve::PathLns => rebuild_from(alloc, lookups, rebuild, first, watch),
         Improve::TabuSearch => tabu_from(alloc, closed, judge, first, watch, steps),
     }
 }

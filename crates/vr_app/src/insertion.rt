@@ -4,9 +4,9 @@ ghost use Rattle.vr_first_insert.specs.Keeping.{IsOpened};
 
 use std::alloc::Global;
 use vr_first_insert::{Rebuilder, rebuild};
-use vr_lists::NodeTables;
 use vr_lns::Rebuild;
 use vr_model::{Model, NoMemory};
+use vr_plan::Lookups;
 use vr_routes::Routes;
 
 /// Parallel cheapest insertion of all items that stand in no list.
@@ -36,20 +36,19 @@ impl Rebuild for Insertion {
         rebuild(self.alloc, model, routes)
     }
 
-    fn know(&mut self, model: &Model, lookups: &NodeTables<'_>) -> Result<(), NoMemory> {
-        self.rebuilder = Some(Rebuilder::open(self.alloc, model, lookups)?);
+    fn know(&mut self, lookups: &Lookups<'_>) -> Result<(), NoMemory> {
+        self.rebuilder = Some(Rebuilder::open(self.alloc, lookups)?);
         Ok(())
     }
 
     fn rebuild_known(
         &mut self,
-        model: &Model,
-        lookups: &NodeTables<'_>,
+        lookups: &Lookups<'_>,
         routes: &mut Routes,
     ) -> Result<(), NoMemory> {
         match &mut self.rebuilder {
             Some(rebuilder) => {
-                rebuilder.rebuild(model, lookups, routes)?;
+                rebuilder.rebuild(lookups, routes)?;
                 Ok(())
             }
             None => unreachable!(),

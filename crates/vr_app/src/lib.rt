@@ -41,6 +41,7 @@ mod solving;
 mod spans;
 mod status;
 mod texts;
+mod total;
 mod words;
 
 pub use best::Best;

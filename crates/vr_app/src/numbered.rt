@@ -2,7 +2,6 @@
 
 ghost use Rattle.std.specs.Prelude.{◌≡◌, Some, IfOk, IsTrue};
 ghost use Rattle.vr_model.specs.routes.Rules.{is_valid};
-ghost use Rattle.vr_model.specs.tables.WellFormed.{IsWellFormed};
 ghost use Rattle.vr_app.specs.Answers.{AnswersReply};
 ghost use Rattle.vr_app.specs.Bests.{IsBestOf};
 ghost use Rattle.vr_app.specs.Found.{Found};
@@ -13,11 +12,12 @@ use crate::answer::{Answer, line};
 use crate::best::Best;
 use crate::status::Status;
 use crate::texts::{Summary, summary_tree};
+use crate::total::total_over;
 use std::alloc::Global;
 use vr_gen::generate;
-use vr_model::{Closed, Model, NoMemory};
+use vr_model::NoMemory;
+use vr_plan::Lookups;
 use vr_routes::Routes;
-use vr_rules::total;
 
 /// The answer that is the model of a number. `NoMemory` where there was no memory.
 pub fn generated(alloc: Global, number: u64) -> Result<Answer, NoMemory>
@@ -34,17 +34,16 @@ pub fn generated(alloc: Global, number: u64) -> Result<Answer, NoMemory>
 pub fn summarised(
     alloc: Global,
     number: u64,
-    model: &Model,
+    lookups: &Lookups<'_>,
     first_cost: i64,
     best: &Best,
 ) -> Result<Answer, NoMemory>
-    requires well_formed { IsWellFormed model.now }
-    requires valid { IsTrue (is_valid model.now best.now.routes.lists) }
-    ensures reply { (found : Found) → IsBestOf model.now found first_cost best.now
-        → IfOk result (AnswersReply (replies.summary_of_found number model.now (Some found))) }
+    requires valid { IsTrue (is_valid lookups.now.closed.model.now best.now.routes.lists) }
+    ensures reply { (found : Found) → IsBestOf lookups.now.closed.model.now found first_cost best.now
+        → IfOk result (AnswersReply (replies.summary_of_found number lookups.now.closed.model.now (Some found))) }
     ensures status { IfOk result (λ a. a.status ≡ Status.Done) }
 {
-    let summary = summary_of(alloc, number, Closed { model }, first_cost, best)?;
+    let summary = summary_of(alloc, number, lookups, first_cost, best)?;
     let tree = summary_tree(alloc, &summary)?;
     line(alloc, Status::Done, &tree)
 }
@@ -53,15 +52,15 @@ pub fn summarised(
 fn summary_of(
     alloc: Global,
     number: u64,
-    closed: Closed<'_>,
+    lookups: &Lookups<'_>,
     first_cost: i64,
     best: &Best,
 ) -> Result<Summary, NoMemory>
-    requires valid { IsTrue (is_valid closed.model.now best.now.routes.lists) }
-    ensures { (found : Found) → IsBestOf closed.entry.model.now found first_cost best.now
-        → IfOk result (λ summary. summary ≡ texts.summary_of number closed.entry.model.now found) }
+    requires valid { IsTrue (is_valid lookups.now.closed.model.now best.now.routes.lists) }
+    ensures { (found : Found) → IsBestOf lookups.now.closed.model.now found first_cost best.now
+        → IfOk result (λ summary. summary ≡ texts.summary_of number lookups.now.closed.model.now found) }
 {
-    let cost = total(alloc, closed.model, &best.routes)?;
+    let cost = total_over(alloc, lookups, &best.routes)?;
     Ok(Summary {
         number,
         cost,

@@ -18,37 +18,37 @@ use std::alloc::Global;
 use std::marker::Brand;
 use std::sync::ledger::{Blank, Ledger};
 use vr_judge::FilterJudge;
-use vr_model::{Closed, NoMemory, Steps};
+use vr_model::{NoMemory, Steps};
+use vr_plan::Lookups;
 use vr_routes::Routes;
 
 /// What the search that the model names makes of its first solution, by a judge of filters that stands at it. The
 /// watchers are told of each event. The only refusal is want of memory.
 pub fn improve_judged<L: Ledger>(
     alloc: Global,
-    closed: Closed<'_>,
+    lookups: &Lookups<'_>,
     judge: &mut FilterJudge<'_>,
     first: FirstSolution,
     watch: &mut Watchers,
     blank: Blank,
 ) -> Result<Best, NoMemory>
-    requires judge_model { judge.old.model ≡ closed.model.now }
-    requires holds { HoldSame closed.model.now judge.old.lists first.routes }
-    requires first_cost { first.cost ≡ cost closed.model.now first.routes.lists }
+    requires judge_model { judge.old.model ≡ lookups.now.closed.model.now }
+    requires holds { HoldSame lookups.now.closed.model.now judge.old.lists first.routes }
+    requires first_cost { first.cost ≡ cost lookups.now.closed.model.now first.routes.lists }
     requires name { blank.name ≡ L.name }
     requires parts { blank.parts ≡ L.parts }
     requires some { 0 < blank.parts }
-    ensures ends { let outcome = how.improved closed.entry.model.now.search.improve closed.entry.model.now
-        first.routes.lists in
-        IfOk result (EndsAs first.routes.visits outcome) }
-    ensures told { let outcome = how.improved closed.entry.model.now.search.improve closed.entry.model.now
-        first.routes.lists in
+    ensures ends { let model = lookups.now.closed.model.now in
+        IfOk result (EndsAs first.routes.visits (how.improved model.search.improve model first.routes.lists)) }
+    ensures told { let model = lookups.now.closed.model.now in
+        let outcome = how.improved model.search.improve model first.routes.lists in
         OnOk result (Told (λ w later. after w later) watch.old.items watch.new.items outcome.events) }
 {
     let mut rebuild = Insertion::new(alloc);
     let mut steps = Steps::<L>::new(blank);
     improve(
         alloc,
-        closed.model,
+        lookups,
         judge,
         &mut rebuild,
         first,
@@ -61,27 +61,26 @@ pub fn improve_judged<L: Ledger>(
 /// event. The only refusal is want of memory.
 pub(crate) fn solve(
     alloc: Global,
-    closed: Closed<'_>,
+    lookups: &Lookups<'_>,
     first: Routes,
     first_cost: i64,
     watch: &mut Watchers,
 ) -> Result<Best, NoMemory>
-    requires of_model { first.visits ≡ visits closed.model.now }
-    requires valid { IsTrue (is_valid closed.model.now first.lists) }
-    requires first_cost { first_cost ≡ cost closed.model.now first.lists }
-    ensures ends { let outcome = how.improved closed.entry.model.now.search.improve closed.entry.model.now first.lists
-        in
-        IfOk result (EndsAs first.visits outcome) }
-    ensures told { let outcome = how.improved closed.entry.model.now.search.improve closed.entry.model.now first.lists
-        in
+    requires of_model { first.visits ≡ visits lookups.now.closed.model.now }
+    requires valid { IsTrue (is_valid lookups.now.closed.model.now first.lists) }
+    requires first_cost { first_cost ≡ cost lookups.now.closed.model.now first.lists }
+    ensures ends { let model = lookups.now.closed.model.now in
+        IfOk result (EndsAs first.visits (how.improved model.search.improve model first.lists)) }
+    ensures told { let model = lookups.now.closed.model.now in
+        let outcome = how.improved model.search.improve model first.lists in
         OnOk result (Told (λ w later. after w later) watch.old.items watch.new.items outcome.events) }
 {
-    let mut judge = FilterJudge::open(alloc, closed.model, &first)?;
+    let mut judge = FilterJudge::over(alloc, lookups, &first)?;
     let first = FirstSolution {
         routes: first,
         cost: first_cost,
     };
-    let best = improve_judged::<Brand>(alloc, closed, &mut judge, first, watch, Blank::new(1));
+    let best = improve_judged::<Brand>(alloc, lookups, &mut judge, first, watch, Blank::new(1));
     judge.close();
     best
 }
@@ -89,19 +88,18 @@ pub(crate) fn solve(
 /// The same, where no event is told.
 pub(crate) fn solve_unwatched(
     alloc: Global,
-    closed: Closed<'_>,
+    lookups: &Lookups<'_>,
     first: Routes,
     first_cost: i64,
 ) -> Result<Best, NoMemory>
-    requires of_model { first.visits ≡ visits closed.model.now }
-    requires valid { IsTrue (is_valid closed.model.now first.lists) }
-    requires first_cost { first_cost ≡ cost closed.model.now first.lists }
-    ensures ends { let outcome = how.improved closed.entry.model.now.search.improve closed.entry.model.now first.lists
-        in
-        IfOk result (EndsAs first.visits outcome) }
+    requires of_model { first.visits ≡ visits lookups.now.closed.model.now }
+    requires valid { IsTrue (is_valid lookups.now.closed.model.now first.lists) }
+    requires first_cost { first_cost ≡ cost lookups.now.closed.model.now first.lists }
+    ensures ends { let model = lookups.now.closed.model.now in
+        IfOk result (EndsAs first.visits (how.improved model.search.improve model first.lists)) }
 {
     let mut none = Vec::new(alloc);
-    solve(alloc, closed, first, first_cost, &mut none)
+    solve(alloc, lookups, first, first_cost, &mut none)
 }
 
 /// What the search of a mode makes of the first solution of a model, which costs so much. With `Log` the watchers are
@@ -109,21 +107,21 @@ pub(crate) fn solve_unwatched(
 pub(crate) fn search(
     alloc: Global,
     mode: Mode,
-    closed: Closed<'_>,
+    lookups: &Lookups<'_>,
     first: Routes,
     first_cost: i64,
     watch: &mut Watchers,
 ) -> Result<Best, NoMemory>
-    requires of_model { first.visits ≡ visits closed.model.now }
-    requires valid { IsTrue (is_valid closed.model.now first.lists) }
-    requires first_cost { first_cost ≡ cost closed.model.now first.lists }
-    ensures ends { IfOk result (EndsAs first.visits (found.searched mode closed.entry.model.now first.lists)) }
+    requires of_model { first.visits ≡ visits lookups.now.closed.model.now }
+    requires valid { IsTrue (is_valid lookups.now.closed.model.now first.lists) }
+    requires first_cost { first_cost ≡ cost lookups.now.closed.model.now first.lists }
+    ensures ends { IfOk result (EndsAs first.visits (found.searched mode lookups.now.closed.model.now first.lists)) }
     ensures told { mode ≡ Mode.Log → OnOk result (Told (λ w later. after w later) watch.old.items watch.new.items
-        (found.searched mode closed.entry.model.now first.lists).events) }
+        (found.searched mode lookups.now.closed.model.now first.lists).events) }
 {
     match mode {
         Mode::First => Ok(untried(first)),
-        Mode::Solve => solve_unwatched(alloc, closed, first, first_cost),
-        Mode::Log => solve(alloc, closed, first, first_cost, watch),
+        Mode::Solve => solve_unwatched(alloc, lookups, first, first_cost),
+        Mode::Log => solve(alloc, lookups, first, first_cost, watch),
     }
 }

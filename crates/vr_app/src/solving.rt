@@ -20,58 +20,80 @@ use crate::input::{parse_owned, read_owned};
 use crate::logs::done;
 use crate::search::search;
 use crate::status::Status;
+use crate::total::total_over;
 use crate::words::{Mode, Task};
 use serde_json::Value;
 use std::alloc::Global;
 use vr_json::ReadFail;
 use vr_model::{Closed, NoMemory, Seq};
-use vr_print::solution_line;
+use vr_plan::Lookups;
+use vr_print::solution_line_over;
 use vr_routes::Routes;
-use vr_rules::total;
 
 // The line of what a mode finds for a model with this first solution. With `Log` the watchers are told of each event.
 fn line_from(
     alloc: Global,
     mode: Mode,
-    closed: Closed<'_>,
+    lookups: &Lookups<'_>,
     first: Routes,
     watch: &mut Watchers,
 ) -> Result<Seq<u8>, NoMemory>
-    requires first { first_lists closed.model.now ≡ Some first.lists }
-    requires of_model { first.visits ≡ visits closed.model.now }
-    ensures line { IfOk result (λ line. line
-        ≡ line_of_found closed.entry.model.now (found_from mode closed.entry.model.now first.lists)) }
+    requires first { first_lists lookups.now.closed.model.now ≡ Some first.lists }
+    requires of_model { first.visits ≡ visits lookups.now.closed.model.now }
+    ensures line { IfOk result (λ line. line ≡ line_of_found lookups.now.closed.model.now
+        (found_from mode lookups.now.closed.model.now first.lists)) }
     ensures told { mode ≡ Mode.Log → OnOk result (Told (λ w later. after w later) watch.old.items watch.new.items
-        (found_from mode closed.entry.model.now first.lists).outcome.events) }
+        (found_from mode lookups.now.closed.model.now first.lists).outcome.events) }
 {
-    let first_cost = total(alloc, closed.model, &first)?;
-    let found = search(alloc, mode, closed, first, first_cost, watch)?;
-    let line = solution_line(alloc, closed.model, &found.routes, first_cost, found.report)?;
+    let first_cost = total_over(alloc, lookups, &first)?;
+    let found = search(alloc, mode, lookups, first, first_cost, watch)?;
+    let line = solution_line_over(alloc, lookups, &found.routes, first_cost, found.report)?;
     Ok(line)
 }
 
-// The line of what a mode finds for a model, none where the construction gives no first solution.
+// The line of what a mode finds for a model, over what was looked up of it; none where the construction gives no first
+// solution.
 fn line_found(
     alloc: Global,
     mode: Mode,
-    closed: Closed<'_>,
+    lookups: &Lookups<'_>,
     watch: &mut Watchers,
 ) -> Result<Option<Seq<u8>>, NoMemory>
-    ensures line { IfOk result (λ line. line
-        ≡ option_map (line_of_found closed.entry.model.now) (wanted mode closed.entry.model.now)) }
+    ensures line { IfOk result (λ line. line ≡ option_map (line_of_found lookups.now.closed.model.now)
+        (wanted mode lookups.now.closed.model.now)) }
     ensures told { mode ≡ Mode.Log → OnOk result (Told (λ w later. after w later) watch.old.items watch.new.items
-        (events_of (wanted mode closed.entry.model.now))) }
+        (events_of (wanted mode lookups.now.closed.model.now))) }
 {
-    match first_routes(alloc, closed)? {
+    match first_routes(alloc, lookups)? {
         None => Ok(None),
         Some(first) => {
-            let line = line_from(alloc, mode, closed, first, watch)?;
+            let line = line_from(alloc, mode, lookups, first, watch)?;
             Ok(Some(line))
         }
     }
 }
 
-// The answer of a mode to a model.
+// The answer of a mode to a model, over what was looked up of it.
+fn answer_over(
+    alloc: Global,
+    mode: Mode,
+    lookups: &Lookups<'_>,
+    watch: &mut Watchers,
+) -> Result<Answer, NoMemory>
+    ensures reply { let reports = joined (λ w later. after w later) watch.old.items in
+        IfOk result (AnswersReply (replies.reply_to_model mode reports (Ok lookups.now.closed.model.now))) }
+    ensures status { IfOk result (λ a. IsOfSolving a.status) }
+{
+    match line_found(alloc, mode, lookups, watch)? {
+        Some(line) => {
+            let answer = done(mode, line, watch)?;
+            Ok(answer)
+        }
+        None => none_found(alloc),
+    }
+}
+
+// The answer of a mode to a model, which is looked up once for all that ask it.
 fn answer_model(
     alloc: Global,
     mode: Mode,
@@ -82,13 +104,8 @@ fn answer_model(
         IfOk result (AnswersReply (replies.reply_to_model mode reports (Ok closed.entry.model.now))) }
     ensures status { IfOk result (λ a. IsOfSolving a.status) }
 {
-    match line_found(alloc, mode, closed, watch)? {
-        Some(line) => {
-            let answer = done(mode, line, watch)?;
-            Ok(answer)
-        }
-        None => none_found(alloc),
-    }
+    let lookups = Lookups::open(alloc, closed)?;
+    answer_over(alloc, mode, &lookups, watch)
 }
 
 // The answer of a mode to a value.

@@ -8,33 +8,33 @@ use Rattle.vr_app.specs.declared.words.Mode.TheVariants as mode
 use Rattle.vr_app.proofs.SolutionLemmas.{first_lists-valid, improved-sound}
 use Rattle.vr_app.proofs.demo.summary_of_first.Goals as goal
 
-pub total-requires-clause-valid : goal.total-requires-clause-valid
-total-requires-clause-valid c = first_lists-valid c.args.closed.model.now c.args.first.lists c.requires.first
+pub total_over-requires : goal.total_over-requires
+total_over-requires c = first_lists-valid c.args.lookups.now.closed.model.now c.args.first.lists c.requires.first
 
 pub solve_unwatched-requires-clause-valid : goal.solve_unwatched-requires-clause-valid
-solve_unwatched-requires-clause-valid c = first_lists-valid c.args.closed.model.now c.args.first.lists c.requires.first
+solve_unwatched-requires-clause-valid c = first_lists-valid c.args.lookups.now.closed.model.now c.args.first.lists c.requires.first
 
 pub solve_unwatched-requires-clause-first_cost : goal.solve_unwatched-requires-clause-first_cost
 solve_unwatched-requires-clause-first_cost c =
-    let model = c.args.closed.model.now in
+    let model = c.args.lookups.now.closed.model.now in
     let lists = c.args.first.lists in
-    let bounds = costs_are_bounded model c.args.closed.well_formed lists (first_lists-valid model lists c.requires.first) in
-    omega (arith, ints, c.in_ok-first_cost.ensures.value, bounds.least, bounds.greatest)
+    let bounds = costs_are_bounded model c.args.lookups.now.closed.well_formed lists (first_lists-valid model lists c.requires.first) in
+    omega (arith, ints, c.in_ok-first_cost.ensures, bounds.least, bounds.greatest)
 
-pub summarised-requires-clause-valid : goal.summarised-requires-clause-valid
-summarised-requires-clause-valid c =
-    let model = c.args.closed.model.now in
-    let sound = improved-sound model.search.improve model c.args.first.lists c.args.closed.well_formed (first_lists-valid model c.args.first.lists c.requires.first) in
-    ap (is_valid model) c.in_ok-best.ensures.ends.best_is ∙ sound.valid
+pub summarised-requires : goal.summarised-requires
+summarised-requires c =
+    let model = c.args.lookups.now.closed.model.now in
+    let sound = improved-sound model.search.improve model c.args.first.lists c.args.lookups.now.closed.well_formed (first_lists-valid model c.args.first.lists c.requires.first) in
+    record { valid = ap (is_valid model) c.in_ok-best.ensures.ends.best_is ∙ sound.valid }
 
 pub returns-clause-reply : goal.returns-clause-reply
 returns-clause-reply c =
-    let model = c.args.closed.model.now in
+    let model = c.args.lookups.now.closed.model.now in
     let first = c.args.first.lists in
     let ends = c.in_ok-best.ensures.ends in
-    let bounds = costs_are_bounded model c.args.closed.well_formed first (first_lists-valid model first c.requires.first) in
+    let bounds = costs_are_bounded model c.args.lookups.now.closed.well_formed first (first_lists-valid model first c.requires.first) in
     let first_cost : to_z w64 (of_z w64 c.in_ok-first_cost.first_cost) ≡ cost model first =
-    omega (arith, ints, c.in_ok-first_cost.ensures.value, bounds.least, bounds.greatest) in
+    omega (arith, ints, c.in_ok-first_cost.ensures, bounds.least, bounds.greatest) in
     c.in_ok-answer.ensures.reply (found_from mode.Solve model first) (record {
       ends = record { best_is = ends.best_is; report_is = ends.report_is; visits_are = ends.visits_are ∙ c.requires.of_model };
       first_cost_is = first_cost;

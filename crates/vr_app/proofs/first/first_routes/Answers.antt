@@ -9,20 +9,20 @@ use Rattle.vr_app.proofs.first.first_routes.Goals as goal
 pub returns-in-PathCheapestArc-clause-lists : goal.returns-in-PathCheapestArc-clause-lists
 unfolding first_lists build
 returns-in-PathCheapestArc-clause-lists c =
-    let m = c.args.closed.model.now in
-    let P : First → Type 0 = λ strategy. IfOk c.first.result (λ first. lists_in first ≡ cond (is_valid m (build_by strategy m)) (Some (build_by strategy m)) None) in
-    subst P (sym c.in-PathCheapestArc.is) c.first.ensures.first
+    let m = c.args.lookups.now.closed.model.now in
+    let P : First → Type 0 = λ strategy. IfOk c.first_over.result (λ first. lists_in first ≡ cond (is_valid m (build_by strategy m)) (Some (build_by strategy m)) None) in
+    subst P (sym c.in-PathCheapestArc.is) c.first_over.ensures.first
 
 pub returns-in-ParallelCheapestInsertion-clause-lists : goal.returns-in-ParallelCheapestInsertion-clause-lists
 unfolding first_lists build
 returns-in-ParallelCheapestInsertion-clause-lists c =
-    let m = c.args.closed.model.now in
-    let P : First → Type 0 = λ strategy. IfOk c.first-in-ParallelCheapestInsertion.result (λ first. lists_in first ≡ cond (is_valid m (build_by strategy m)) (Some (build_by strategy m)) None) in
-    subst P (sym c.in-ParallelCheapestInsertion.is) c.first-in-ParallelCheapestInsertion.ensures.first
+    let m = c.args.lookups.now.closed.model.now in
+    let P : First → Type 0 = λ strategy. IfOk c.first_over-in-ParallelCheapestInsertion.result (λ first. lists_in first ≡ cond (is_valid m (build_by strategy m)) (Some (build_by strategy m)) None) in
+    subst P (sym c.in-ParallelCheapestInsertion.is) c.first_over-in-ParallelCheapestInsertion.ensures.first
 
 pub returns-in-Savings-clause-lists : goal.returns-in-Savings-clause-lists
 unfolding first_lists build
 returns-in-Savings-clause-lists c =
-    let m = c.args.closed.model.now in
-    let P : First → Type 0 = λ strategy. IfOk c.first-in-Savings.result (λ first. lists_in first ≡ cond (is_valid m (build_by strategy m)) (Some (build_by strategy m)) None) in
-    subst P (sym c.in-Savings.is) c.first-in-Savings.ensures.first
+    let m = c.args.lookups.now.closed.model.now in
+    let P : First → Type 0 = λ strategy. IfOk c.first_over-in-Savings.result (λ first. lists_in first ≡ cond (is_valid m (build_by strategy m)) (Some (build_by strategy m)) None) in
+    subst P (sym c.in-Savings.is) c.first_over-in-Savings.ensures.first

@@ -9,36 +9,36 @@ use Rattle.vr_app.specs.Found.{line_of_found, searched}
 use Rattle.vr_app.proofs.SolutionLemmas.{first_lists-valid, searched-sound}
 use Rattle.vr_app.proofs.solving.line_from.Goals as goal
 
-pub total-requires-clause-valid : goal.total-requires-clause-valid
-total-requires-clause-valid g c = first_lists-valid c.args.closed.model.now c.args.first.lists c.requires.first
+pub total_over-requires : goal.total_over-requires
+total_over-requires g c = first_lists-valid c.args.lookups.now.closed.model.now c.args.first.lists c.requires.first
 
 pub search-requires-clause-valid : goal.search-requires-clause-valid
-search-requires-clause-valid g c = first_lists-valid c.args.closed.model.now c.args.first.lists c.requires.first
+search-requires-clause-valid g c = first_lists-valid c.args.lookups.now.closed.model.now c.args.first.lists c.requires.first
 
 pub search-requires-clause-first_cost : goal.search-requires-clause-first_cost
 search-requires-clause-first_cost g c =
-    let model = c.args.closed.model.now in
+    let model = c.args.lookups.now.closed.model.now in
     let lists = c.args.first.lists in
-    let bounds = costs_are_bounded model c.args.closed.well_formed lists (first_lists-valid model lists c.requires.first) in
-    omega (arith, ints, c.in_ok-first_cost.ensures.value, bounds.least, bounds.greatest)
+    let bounds = costs_are_bounded model c.args.lookups.now.closed.well_formed lists (first_lists-valid model lists c.requires.first) in
+    omega (arith, ints, c.in_ok-first_cost.ensures, bounds.least, bounds.greatest)
 
-pub solution_line-requires-clause-valid : goal.solution_line-requires-clause-valid
-solution_line-requires-clause-valid g c =
-    let model = c.args.closed.model.now in
-    let sound = searched-sound c.args.mode model c.args.first.lists c.args.closed.well_formed (first_lists-valid model c.args.first.lists c.requires.first) in
-    ap (is_valid model) c.in_ok-found.ensures.ends.best_is ∙ sound.valid
+pub solution_line_over-requires : goal.solution_line_over-requires
+solution_line_over-requires g c =
+    let model = c.args.lookups.now.closed.model.now in
+    let sound = searched-sound c.args.mode model c.args.first.lists c.args.lookups.now.closed.well_formed (first_lists-valid model c.args.first.lists c.requires.first) in
+    record { valid = ap (is_valid model) c.in_ok-found.ensures.ends.best_is ∙ sound.valid }
 
 pub returns-clause-line : goal.returns-clause-line
 unfolding line_of_found
 returns-clause-line g c =
-    let model = c.args.closed.model.now in
+    let model = c.args.lookups.now.closed.model.now in
     let first = c.args.first.lists in
     let end = searched c.args.mode model first in
     let found = c.in_ok-found.found in
     let ends = c.in_ok-found.ensures.ends in
-    let bounds = costs_are_bounded model c.args.closed.well_formed first (first_lists-valid model first c.requires.first) in
+    let bounds = costs_are_bounded model c.args.lookups.now.closed.well_formed first (first_lists-valid model first c.requires.first) in
     let sum : to_z w64 (of_z w64 c.in_ok-first_cost.first_cost) ≡ cost model first =
-    omega (arith, ints, c.in_ok-first_cost.ensures.value, bounds.least, bounds.greatest) in
+    omega (arith, ints, c.in_ok-first_cost.ensures, bounds.least, bounds.greatest) in
     c.in_ok-line.ensures.text
     ∙ ap (λ lists. line_of (solution_tree model lists (to_z w64 (of_z w64 c.in_ok-first_cost.first_cost)) found.report)) ends.best_is
     ∙ ap (λ z. line_of (solution_tree model end.best z found.report)) sum

@@ -2,12 +2,12 @@ use Rattle.std.proofs.Common.{◌∙◌, [], sym}
 use Rattle.vr_app.specs.Found.{answer}
 use Rattle.vr_app.specs.Reports.{joined}
 use Rattle.vr_app.proofs.ReplyLemmas.{done-replies, told-joined}
-use Rattle.vr_app.proofs.solving.answer_model.Goals as goal
+use Rattle.vr_app.proofs.solving.answer_over.Goals as goal
 
 pub returns-in_ok-answer-in-Some-clause-reply : goal.returns-in_ok-answer-in-Some-clause-reply
 returns-in_ok-answer-in-Some-clause-reply g c =
     let asked = c.args.mode in
-    let model = c.args.closed.model.now in
+    let model = c.args.lookups.now.closed.model.now in
     let old = joined (λ w. (goal.Watch-dyn g (w.vtable, w.value)).after w.value) c.args.watch.now.items in
     let now = joined (λ w. (goal.Watch-dyn g (w.vtable, w.value)).after w.value) c.line_found.new.watch.items [] in
     done-replies asked old model c.in-Some.line now c.in_ok-answer-in-Some.answer (answer asked model)
