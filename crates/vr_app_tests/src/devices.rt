@@ -1,28 +1,28 @@
 //! Devices that fail at each call in turn, and input that is cut at each place.
 
-use crate::replies::{FIRST, THREE_NODES, assert_row, words_of};
+use crate::replies::{FIRST, THREE_NODES};
+use crate::rows::{Row, assert_row, ended};
 use std::alloc::Global;
 use std::process::Abort;
 use std::test::Fail;
-use vr_app::run;
 use vr_io::{MemSink, MemSource};
 
 // The call of the source and that of the sink that fail, and the status and what is written.
-type Row<'a> = (u64, u64, u8, &'a str);
+type Failing<'a> = (u64, u64, u8, &'a str);
 
 // Asserts what is answered to words and a source. The sink takes seven bytes a call.
-fn assert_source(
+fn assert_taken(
     rt: &impl Abort,
     alloc: Global,
-    words: &[String],
+    words: &str,
     source: &mut MemSource,
-    row: Row<'_>,
+    failing: Failing<'_>,
 ) -> Result<(), Fail> {
-    let (source_fails, sink_fails, status, written) = row;
+    let (source_fails, sink_fails, status, written) = failing;
     let fails = Vec::from_slice(alloc, &[sink_fails])?;
     let mut sink = MemSink::new(alloc, 7, fails).expect(rt, "memory");
-    let ended = run(alloc, words, source, &mut sink, Vec::new(alloc));
-    assert_eq!(rt; ended, status, "{source_fails} {sink_fails}");
+    let found = ended(alloc, words, None, source, &mut sink)?;
+    assert_eq!(rt; found, status, "{source_fails} {sink_fails}");
     assert!(rt;
         sink.bytes() == written.as_bytes(),
         "{source_fails} {sink_fails}"
@@ -30,24 +30,18 @@ fn assert_source(
     Ok(())
 }
 
-// Asserts what is answered to words. The source gives the model of three nodes, ten bytes a call.
-fn assert_words(
+// Asserts the same. The source gives the model of three nodes, ten bytes a call.
+fn assert_failing(
     rt: &impl Abort,
     alloc: Global,
-    words: &[String],
-    row: Row<'_>,
+    words: &str,
+    failing: Failing<'_>,
 ) -> Result<(), Fail> {
-    let (source_fails, _, _, _) = row;
+    let (source_fails, _, _, _) = failing;
     let bytes = Vec::from_slice(alloc, THREE_NODES.as_bytes())?;
     let fails = Vec::from_slice(alloc, &[source_fails])?;
     let mut source = MemSource::new(bytes, 10, fails);
-    assert_source(rt, alloc, words, &mut source, row)
-}
-
-// Asserts a row of one word.
-fn assert_failing(rt: &impl Abort, alloc: Global, word: &str, row: Row<'_>) -> Result<(), Fail> {
-    let words = words_of(alloc, word)?;
-    assert_words(rt, alloc, &words, row)
+    assert_taken(rt, alloc, words, &mut source, failing)
 }
 
 // The call behind those that are needed fails nobody.
@@ -77,8 +71,13 @@ fn each_read_may_fail(rt: HostRuntime) -> Result<(), Fail> {
 #[test]
 fn cut_input_is_no_json(rt: HostRuntime) -> Result<(), Fail> {
     for end in 0..THREE_NODES.len() {
-        let text = THREE_NODES.get(..end).ok_or("a text")?;
-        let row = ("first", text, 4, "{\"status\":\"NOT_JSON\"}\n");
+        let row = Row {
+            words: "first",
+            input: THREE_NODES.get(..end).ok_or("a text")?,
+            stops: None,
+            status: 4,
+            text: "{\"status\":\"NOT_JSON\"}\n",
+        };
         assert_row(&rt, rt.alloc(), row)?;
     }
     Ok(())

@@ -14,53 +14,60 @@ use vr_app::{FirstSolution, first_routes, improve_judged, read_owned};
 use vr_gen::generate;
 use vr_judge::FilterJudge;
 use vr_model::{Closed, NoMemory};
+use vr_plan::Lookups;
 use vr_routes::Routes;
 use vr_rules::total;
 
 // Searches from a first solution: by the judge of filters, and by no other.
 fn search_by(
     alloc: Global,
-    closed: Closed<'_>,
+    lookups: &Lookups<'_>,
     judge: &mut FilterJudge<'_>,
     first: FirstSolution,
 ) -> Result<(), NoMemory>
-    requires judge_model { judge.old.model ≡ closed.model.now }
-    requires holds { HoldSame closed.model.now judge.old.lists first.routes }
-    requires first_cost { first.cost ≡ cost closed.model.now first.routes.lists }
+    requires judge_model { judge.old.model ≡ lookups.now.closed.model.now }
+    requires holds { HoldSame lookups.now.closed.model.now judge.old.lists first.routes }
+    requires first_cost { first.cost ≡ cost lookups.now.closed.model.now first.routes.lists }
 {
     let mut none = Vec::new(alloc);
-    improve_judged::<Brand>(alloc, closed, judge, first, &mut none, Blank::new(1))?;
+    improve_judged::<Brand>(alloc, lookups, judge, first, &mut none, Blank::new(1))?;
     Ok(())
 }
 
 // Searches from routes, by a judge of filters that is opened for it.
-fn search_from(alloc: Global, closed: Closed<'_>, routes: Routes) -> Result<(), NoMemory>
-    requires of_model { routes.visits ≡ visits closed.model.now }
-    requires valid { IsTrue (is_valid closed.model.now routes.lists) }
+fn search_from(alloc: Global, lookups: &Lookups<'_>, routes: Routes) -> Result<(), NoMemory>
+    requires of_model { routes.visits ≡ visits lookups.now.closed.model.now }
+    requires valid { IsTrue (is_valid lookups.now.closed.model.now routes.lists) }
 {
-    let cost = total(alloc, closed.model, &routes)?;
-    let mut judge = FilterJudge::open(alloc, closed.model, &routes)?;
-    let searched = search_by(alloc, closed, &mut judge, FirstSolution { routes, cost });
+    let cost = total(alloc, lookups.closed.model, &routes)?;
+    let mut judge = FilterJudge::over(alloc, lookups, &routes)?;
+    let searched = search_by(alloc, lookups, &mut judge, FirstSolution { routes, cost });
     judge.close();
     searched
 }
 
 // Whether a model has a first solution; then it is searched from there.
-fn is_searched(alloc: Global, closed: Closed<'_>) -> Result<bool, NoMemory> {
-    match first_routes(alloc, closed)? {
+fn is_searched(alloc: Global, lookups: &Lookups<'_>) -> Result<bool, NoMemory> {
+    match first_routes(alloc, lookups)? {
         Some(first) => {
-            search_from(alloc, closed, first)?;
+            search_from(alloc, lookups, first)?;
             Ok(true)
         }
         None => Ok(false),
     }
 }
 
+// The same, where it is looked up for that.
+fn is_model_searched(alloc: Global, closed: Closed<'_>) -> Result<bool, NoMemory> {
+    let lookups = Lookups::open(alloc, closed)?;
+    is_searched(alloc, &lookups)
+}
+
 // The same of the model of a number.
 fn is_numbered_searched(alloc: Global, number: u64) -> Result<bool, NoMemory> {
     let tree = generate(alloc, number)?;
     match read_owned(alloc, tree) {
-        Ok(model) => is_searched(alloc, Closed { model: &model }),
+        Ok(model) => is_model_searched(alloc, Closed { model: &model }),
         Err(_) => Ok(false),
     }
 }

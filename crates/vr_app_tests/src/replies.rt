@@ -1,11 +1,11 @@
 //! A row for each reply: with ample memory it is given. Its bytes are in the contract, and those of many models in the
-//! cases of the built program.
+//! cases of the built program. And what ends a run that is watched.
 
+use crate::rows::{Row, assert_row, assert_source};
 use std::alloc::Global;
 use std::process::Abort;
 use std::test::Fail;
-use vr_app::run;
-use vr_io::{PureSink, PureSource};
+use vr_io::PureSource;
 
 pub(crate) const THREE_NODES: &str =
     "{\"format\":1,\"nodes\":3,\"matrices\":[[[0,5,9],[5,0,4],[9,4,0]]],\"vehicles\":[{\"start\":0,\"end\":0}]}";
@@ -51,97 +51,77 @@ const IMPORTED: &str = "{\"dimensions\":[{\"capacity\":10,\"evaluators\":[{\"val
     \"fix_start\":true,\"name\":\"load\",\"slack_max\":0}],\"format\":1,\
     \"matrices\":[[[0,5,1],[5,0,4],[1,4,0]]],\"nodes\":3,\"vehicles\":[{\"end\":0,\"start\":0}]}\n";
 
-// Words, an input, and the status and the beginning of the text that are wanted.
-type Row<'a> = (&'a str, &'a str, u8, &'a str);
+// The search tells of two events: the first solution, and a move that drops node 2.
+const DROPPED: &str = "{\"format\":1,\"nodes\":3,\"matrices\":[[[0,5,9],[5,0,4],[9,4,0]]],\
+    \"vehicles\":[{\"start\":0,\"end\":0}],\"groups\":[{\"nodes\":[2],\"penalty\":3}]}";
 
-/// Words that are parted by spaces.
-pub(crate) fn words_of(alloc: Global, line: &str) -> Result<Vec<String>, Fail> {
-    let mut words = Vec::new(alloc);
-    for word in line.split(' ') {
-        words.push(String::from_str(alloc, word)?)?;
-    }
-    Ok(words)
-}
+const DROPPED_LINE: &str = "{\"cost\":13,\"dropped\":[2],\"first_cost\":18,\
+    \"parts\":{\"arcs\":10,\"fixed\":0,\"global\":0,\"penalty\":3,\"soft\":0,\"span\":0},\
+    \"routes\":[{\"dimensions\":[],\"nodes\":[0,1,0],\"vehicle\":0}],\
+    \"solutions\":2,\"status\":\"ROUTING_SUCCESS\",\"stop\":\"optimum\",\"tries\":10}\n";
 
-// Asserts what is answered to words and a source. The sink has room for 100000 bytes.
-fn assert_source(
-    rt: &impl Abort,
-    alloc: Global,
-    words: &[String],
-    source: &mut PureSource,
-    row: Row<'_>,
-) -> Result<(), Fail> {
-    let (line, input, status, text) = row;
-    let mut sink = PureSink::new(Vec::from_elem(alloc, 0, 100000)?);
-    let ended = run(alloc, words, source, &mut sink, Vec::new(alloc));
-    assert_eq!(rt; ended, status, "{line}, {input}");
-    assert!(rt;
-        sink.bytes().starts_with(text.as_bytes()),
-        "{line}, {input}"
-    );
-    Ok(())
-}
-
-// Asserts what is answered to words.
-fn assert_words(
-    rt: &impl Abort,
-    alloc: Global,
-    words: &[String],
-    row: Row<'_>,
-) -> Result<(), Fail> {
-    let (_, input, _, _) = row;
-    let mut source = PureSource::new(Vec::from_slice(alloc, input.as_bytes())?);
-    assert_source(rt, alloc, words, &mut source, row)
-}
-
-/// Asserts a row.
-pub(crate) fn assert_row(rt: &impl Abort, alloc: Global, row: Row<'_>) -> Result<(), Fail> {
-    let (line, _, _, _) = row;
-    let words = words_of(alloc, line)?;
-    assert_words(rt, alloc, &words, row)
-}
+#[rattlefmt::skip]
+static ROWS: [Row<'static>; 17] = [
+    Row { words: "first", input: THREE_NODES, stops: None, status: 0, text: FIRST },
+    Row { words: "solve", input: THREE_NODES, stops: None, status: 0, text: "{\"cost\":18," },
+    Row { words: "solve --log", input: THREE_NODES, stops: None, status: 0, text: "{\"cost\":18," },
+    Row { words: "check", input: CHECKED, stops: None, status: 0, text: "{\"cost\":0,\"status\":\"MEETS\"}\n" },
+    Row { words: "spans", input: CHECKED, stops: None, status: 0, text: "{\"spans\":[],\"status\":\"SPANS\"}\n" },
+    Row { words: "spans", input: WAITING, stops: None, status: 0, text: SPANS },
+    Row { words: "import 1", input: FILE, stops: None, status: 0, text: IMPORTED },
+    Row { words: "generate 7", input: "", stops: None, status: 0, text: "{\"dimensions\":" },
+    Row { words: "demo 7", input: "", stops: None, status: 0, text: "{\"cost\":" },
+    Row { words: "last", input: "", stops: None, status: 1, text: "{\"status\":\"USAGE\"}\n" },
+    Row { words: "import", input: FILE, stops: None, status: 1, text: "{\"status\":\"USAGE\"}\n" },
+    Row { words: "import 101", input: FILE, stops: None, status: 1, text: "{\"status\":\"USAGE\"}\n" },
+    Row { words: "first", input: "[", stops: None, status: 4, text: "{\"status\":\"NOT_JSON\"}\n" },
+    Row { words: "first", input: "[]", stops: None, status: 5, text: "{\"code\":11,\"path\":\"\"," },
+    Row { words: "import 1", input: "TYPE : TSP", stops: None, status: 5, text: "{\"code\":42,\"path\":\"/1\"," },
+    Row { words: "first", input: NONE, stops: None, status: 6, text: "{\"status\":\"ROUTING_FAIL\"}\n" },
+    Row { words: "check", input: "{\"model\":{}}", stops: None, status: 5,
+        text: "{\"code\":10,\"path\":\"/model/format\"," },
+];
 
 #[test]
 fn each_reply_is_given(rt: HostRuntime) -> Result<(), Fail> {
-    for row in [
-        ("first", THREE_NODES, 0, FIRST),
-        ("solve", THREE_NODES, 0, "{\"cost\":18,"),
-        ("solve --log", THREE_NODES, 0, "{\"cost\":18,"),
-        ("check", CHECKED, 0, "{\"cost\":0,\"status\":\"MEETS\"}\n"),
-        ("spans", CHECKED, 0, "{\"spans\":[],\"status\":\"SPANS\"}\n"),
-        ("spans", WAITING, 0, SPANS),
-        ("import 1", FILE, 0, IMPORTED),
-        ("generate 7", "", 0, "{\"dimensions\":"),
-        ("demo 7", "", 0, "{\"cost\":"),
-        ("last", "", 1, "{\"status\":\"USAGE\"}\n"),
-        ("import", FILE, 1, "{\"status\":\"USAGE\"}\n"),
-        ("import 101", FILE, 1, "{\"status\":\"USAGE\"}\n"),
-        ("first", "[", 4, "{\"status\":\"NOT_JSON\"}\n"),
-        ("first", "[]", 5, "{\"code\":11,\"path\":\"\","),
-        ("import 1", "TYPE : TSP", 5, "{\"code\":42,\"path\":\"/1\","),
-        ("first", NONE, 6, "{\"status\":\"ROUTING_FAIL\"}\n"),
-        (
-            "check",
-            "{\"model\":{}}",
-            5,
-            "{\"code\":10,\"path\":\"/model/format\",",
-        ),
-    ] {
+    for row in ROWS {
         assert_row(&rt, rt.alloc(), row)?;
     }
     Ok(())
 }
 
 // Asserts what is said of one byte more than is read: 64 MiB of spaces, and another.
-fn assert_too_long(rt: &impl Abort, alloc: Global, line: &str) -> Result<(), Fail> {
-    let words = words_of(alloc, line)?;
+fn assert_too_long(rt: &impl Abort, alloc: Global, words: &str) -> Result<(), Fail> {
     let mut source = PureSource::new(Vec::from_elem(alloc, b' ', 67108865)?);
-    let row = (line, "64 MiB and 1", 8, "{\"status\":\"TOO_LONG\"}\n");
-    assert_source(rt, alloc, &words, &mut source, row)
+    let row = Row {
+        words,
+        input: "64 MiB and 1",
+        stops: None,
+        status: 8,
+        text: "{\"status\":\"TOO_LONG\"}\n",
+    };
+    assert_source(rt, alloc, &mut source, row)
 }
 
 #[test]
 fn a_long_input_is_told(rt: HostRuntime) -> Result<(), Fail> {
     assert_too_long(&rt, rt.alloc(), "first")?;
     assert_too_long(&rt, rt.alloc(), "import 1")
+}
+
+// Without `--log` no event is noted.
+#[rattlefmt::skip]
+static WATCHED: [Row<'static>; 4] = [
+    Row { words: "solve", input: DROPPED, stops: Some(0), status: 0, text: DROPPED_LINE },
+    Row { words: "solve --log", input: DROPPED, stops: Some(0), status: 7, text: "" },
+    Row { words: "solve --log", input: DROPPED, stops: Some(1), status: 7, text: "" },
+    Row { words: "solve --log", input: DROPPED, stops: Some(2), status: 0, text: DROPPED_LINE },
+];
+
+#[test]
+fn a_watcher_that_refuses_ends_the_run(rt: HostRuntime) -> Result<(), Fail> {
+    for row in WATCHED {
+        assert_row(&rt, rt.alloc(), row)?;
+    }
+    Ok(())
 }

@@ -2,17 +2,15 @@
 
 ghost use Rattle.std.specs.Prelude.{◌≡◌, ◌<◌, IsTrue};
 ghost use Rattle.vr_model.specs.moves.MoveTests.{is_move};
-ghost use Rattle.vr_model.specs.routes.Rules.{is_valid};
-ghost use Rattle.vr_model.specs.tables.Tables.{visits};
 ghost use Rattle.vr_model.specs.tables.WellFormed.{IsWellFormed};
 ghost use Rattle.vr_routes.specs.Judging.{HoldSame};
 
+use crate::solved::Solved;
 use crate::stop::Stop;
-use std::alloc::Global;
 use std::marker::Brand;
 use std::sync::ledger::{Blank, Ledger};
 use vr_judge::FilterJudge;
-use vr_model::{Closed, Move, NoMemory, Steps};
+use vr_model::{Move, NoMemory, Steps};
 use vr_routes::{Change, Judge, Routes, Verdict};
 
 // What a judge says of a move.
@@ -33,19 +31,12 @@ fn verdict<J: Judge, L: Ledger>(
     judge.judge(routes, mv, &mut steps)
 }
 
-// The word for what the judge of a model says of a move of routes.
-fn word_of(
-    alloc: Global,
-    closed: Closed<'_>,
-    routes: &Routes,
-    mv: Move,
-) -> Result<&'static str, Stop>
-    requires of_model { routes.now.visits ≡ visits closed.model.now }
-    requires valid { IsTrue (is_valid closed.model.now routes.now.lists) }
-    requires mv { IsTrue (is_move closed.model.now routes.now.lists mv) }
+// The word for what the judge of a model says of a move of its first solution.
+fn word_of(of: Solved<'_>, mv: Move) -> Result<&'static str, Stop>
+    requires { IsTrue (is_move of.closed.model.now of.routes.now.lists mv) }
 {
-    let mut judge = FilterJudge::open(alloc, closed.model, routes)?;
-    let said = verdict::<FilterJudge<'_>, Brand>(&mut judge, routes, mv, Blank::new(1));
+    let mut judge = FilterJudge::open(of.alloc, of.closed.model, of.routes)?;
+    let said = verdict::<FilterJudge<'_>, Brand>(&mut judge, of.routes, mv, Blank::new(1));
     judge.close();
     match said {
         Ok(Verdict::Difference(_)) => Ok("passes"),
@@ -56,26 +47,17 @@ fn word_of(
 
 /// Prints what the judge says of the move that turns two visits of the first list, from this place on, or that memory
 /// was wanting where it was asked. Before that, want of memory ends the run.
-pub(crate) fn print_verdict(
-    rt: &HostRuntime,
-    alloc: Global,
-    closed: Closed<'_>,
-    routes: &Routes,
-    place: u32,
-) -> Result<(), Stop>
-    requires of_model { routes.now.visits ≡ visits closed.model.now }
-    requires valid { IsTrue (is_valid closed.model.now routes.now.lists) }
-{
+pub(crate) fn print_verdict(rt: &HostRuntime, of: Solved<'_>, place: u32) -> Result<(), Stop> {
     let mv = Move::TwoOpt {
         v: 0,
         a: place,
         b: place.saturating_add(1),
     };
     let mut change = Change::blank();
-    if !Change::of_into(closed.model, routes, mv, &mut change) {
+    if !Change::of_into(of.closed.model, of.routes, mv, &mut change) {
         return Err(Stop::NoRoute);
     }
-    let word = word_of(alloc, closed, routes, mv)?;
+    let word = word_of(of, mv)?;
     println!(rt; "{word}")?;
     Ok(())
 }

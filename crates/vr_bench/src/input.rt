@@ -8,6 +8,7 @@ use crate::asked::print_verdict;
 use crate::judged::time_judge;
 use crate::listed::time_moves;
 use crate::schedules::time_schedules;
+use crate::solved::Solved;
 use crate::stop::Stop;
 use serde_json::Value;
 use std::alloc::Global;
@@ -62,7 +63,14 @@ fn work_on_model(
     number: u32,
 ) -> Result<(), Stop> {
     match first(alloc, closed)? {
-        Some(routes) => work_on_routes(rt, alloc, closed, &routes, what, number),
+        Some(routes) => {
+            let of = Solved {
+                alloc,
+                closed,
+                routes: &routes,
+            };
+            work_on_solution(rt, of, what, number)
+        }
         None => Err(Stop::NoRoute),
     }
 }
@@ -77,23 +85,13 @@ fn first(alloc: Global, closed: Closed<'_>) -> Result<Option<Routes>, NoMemory>
     Ok(routes)
 }
 
-// Does a work on routes of a model.
-fn work_on_routes(
-    rt: &HostRuntime,
-    alloc: Global,
-    closed: Closed<'_>,
-    routes: &Routes,
-    what: &str,
-    number: u32,
-) -> Result<(), Stop>
-    requires of_model { routes.now.visits ≡ visits closed.model.now }
-    requires valid { IsTrue (is_valid closed.model.now routes.now.lists) }
-{
+// Does a work on the first solution of a model.
+fn work_on_solution(rt: &HostRuntime, of: Solved<'_>, what: &str, number: u32) -> Result<(), Stop> {
     match what {
-        "moves" => time_moves(rt, closed, routes, number),
-        "judge" => time_judge(rt, alloc, closed, routes, number),
-        "schedule" => time_schedules(rt, alloc, closed, routes, number),
-        "ask" => print_verdict(rt, alloc, closed, routes, number),
+        "moves" => time_moves(rt, of, number),
+        "judge" => time_judge(rt, of, number),
+        "schedule" => time_schedules(rt, of, number),
+        "ask" => print_verdict(rt, of, number),
         _ => Err(Stop::NoSuchWork),
     }
 }

@@ -2,20 +2,18 @@
 
 ghost use Rattle.std.specs.Prelude.{◌≡◌, ◌<◌, All, IsTrue};
 ghost use Rattle.vr_model.specs.moves.MoveTests.{is_move};
-ghost use Rattle.vr_model.specs.routes.Rules.{is_valid};
-ghost use Rattle.vr_model.specs.tables.Tables.{visits};
 ghost use Rattle.vr_model.specs.tables.WellFormed.{IsWellFormed};
 ghost use Rattle.vr_routes.specs.Judging.{HoldSame};
 
 use crate::listed::first_moves;
 use crate::report::{TIMES, Timed, report};
+use crate::solved::Solved;
 use crate::stop::Stop;
-use std::alloc::Global;
 use std::marker::Brand;
 use std::sync::ledger::{Blank, Ledger};
 use std::time::Instant;
 use vr_judge::FilterJudge;
-use vr_model::{Closed, Move, NoMemory, Steps};
+use vr_model::{Move, NoMemory, Steps};
 use vr_routes::{Judge, Routes, Verdict};
 
 // What a verdict adds to the sum that is printed.
@@ -102,24 +100,15 @@ fn report_judge<J: Judge, L: Ledger>(
     Ok(())
 }
 
-// Opens the judge at valid routes, and prints the times of judging moves of theirs.
-fn time_judging(
-    rt: &HostRuntime,
-    alloc: Global,
-    closed: Closed<'_>,
-    routes: &Routes,
-    moves: &[Move],
-    rounds: u32,
-) -> Result<(), Stop>
-    requires of_model { routes.now.visits ≡ visits closed.model.now }
-    requires valid { IsTrue (is_valid closed.model.now routes.now.lists) }
-    requires moves { All (λ mv. IsTrue (is_move closed.model.now routes.now.lists mv)) moves.now }
+// Opens the judge at the first solution, and prints the times of judging moves of it.
+fn time_judging(rt: &HostRuntime, of: Solved<'_>, moves: &[Move], rounds: u32) -> Result<(), Stop>
+    requires { All (λ mv. IsTrue (is_move of.closed.model.now of.routes.now.lists mv)) moves.now }
 {
-    let mut judge = FilterJudge::open(alloc, closed.model, routes)?;
+    let mut judge = FilterJudge::open(of.alloc, of.closed.model, of.routes)?;
     let done = report_judge::<FilterJudge<'_>, Brand>(
         rt,
         &mut judge,
-        routes,
+        of.routes,
         moves,
         rounds,
         Blank::new(1),
@@ -130,19 +119,10 @@ fn time_judging(
 
 /// Prints the times of judging a move, of the first moves of the model's neighbourhoods; nothing where there are none.
 /// What is timed is `Judge::judge` alone: the moves are listed before.
-pub(crate) fn time_judge(
-    rt: &HostRuntime,
-    alloc: Global,
-    closed: Closed<'_>,
-    routes: &Routes,
-    rounds: u32,
-) -> Result<(), Stop>
-    requires of_model { routes.now.visits ≡ visits closed.model.now }
-    requires valid { IsTrue (is_valid closed.model.now routes.now.lists) }
-{
-    let moves = first_moves(alloc, closed, routes)?;
+pub(crate) fn time_judge(rt: &HostRuntime, of: Solved<'_>, rounds: u32) -> Result<(), Stop> {
+    let moves = first_moves(of.alloc, of.closed, of.routes)?;
     if moves.is_empty() {
         return Ok(());
     }
-    time_judging(rt, alloc, closed, routes, &moves, rounds)
+    time_judging(rt, of, &moves, rounds)
 }

@@ -5,6 +5,7 @@ ghost use Rattle.vr_model.specs.moves.MoveTests.{is_move};
 ghost use Rattle.vr_model.specs.tables.Tables.{visits};
 
 use crate::report::{TIMES, Timed, report};
+use crate::solved::Solved;
 use crate::stop::Stop;
 use std::alloc::Global;
 use std::time::Instant;
@@ -85,17 +86,10 @@ fn time_rounds(
 }
 
 /// Prints the times of listing a move and making its change.
-pub(crate) fn time_moves(
-    rt: &HostRuntime,
-    closed: Closed<'_>,
-    routes: &Routes,
-    rounds: u32,
-) -> Result<(), Stop>
-    requires of_model { routes.now.visits ≡ visits closed.model.now }
-{
+pub(crate) fn time_moves(rt: &HostRuntime, of: Solved<'_>, rounds: u32) -> Result<(), Stop> {
     let mut change = Change::blank();
     for _ in 0..TIMES {
-        let timed = time_rounds(rt, closed, routes, rounds, &mut change)?;
+        let timed = time_rounds(rt, of.closed, of.routes, rounds, &mut change)?;
         report(rt, "moves", timed)?;
     }
     Ok(())

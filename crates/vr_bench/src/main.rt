@@ -19,6 +19,7 @@ mod judged;
 mod listed;
 mod report;
 mod schedules;
+mod solved;
 mod stop;
 
 use crate::crossing::{time_crossings, time_meets};

@@ -2,10 +2,10 @@
 
 ghost use Rattle.std.specs.Prelude.{IfOk, IsTrue};
 ghost use Rattle.vr_model.specs.routes.Routes.{are_lists};
-ghost use Rattle.vr_model.specs.routes.Rules.{is_valid};
 ghost use Rattle.vr_steps.specs.Lines.{IsSoundLine};
 
 use crate::report::{TIMES, Timed, report};
+use crate::solved::Solved;
 use crate::stop::Stop;
 use std::alloc::Global;
 use std::time::Instant;
@@ -64,15 +64,7 @@ fn report_line(rt: &HostRuntime, alloc: Global, line: &Line, rounds: u32) -> Res
 }
 
 /// Prints the times of the earliest schedule of the list of vehicle 0, in the first dimension.
-pub(crate) fn time_schedules(
-    rt: &HostRuntime,
-    alloc: Global,
-    closed: Closed<'_>,
-    routes: &Routes,
-    rounds: u32,
-) -> Result<(), Stop>
-    requires valid { IsTrue (is_valid closed.model.now routes.now.lists) }
-{
-    let line = first_line(alloc, closed, routes)?;
-    report_line(rt, alloc, &line, rounds)
+pub(crate) fn time_schedules(rt: &HostRuntime, of: Solved<'_>, rounds: u32) -> Result<(), Stop> {
+    let line = first_line(of.alloc, of.closed, of.routes)?;
+    report_line(rt, of.alloc, &line, rounds)
 }

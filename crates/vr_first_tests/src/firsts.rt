@@ -10,8 +10,8 @@ use crate::rows::{PAIRED, row};
 use std::alloc::Global;
 use std::test::Fail;
 use vr_first_insert::Rebuilder;
-use vr_lists::NodeTables;
 use vr_model::{Closed, NoMemory};
+use vr_plan::Lookups;
 use vr_routes::Routes;
 use vr_rules::open;
 use vr_samples::{read_model_text, routes_of};
@@ -81,20 +81,18 @@ fn rebuilds(
 fn gives(
     alloc: Global,
     rebuilder: &mut Rebuilder,
-    closed: Closed<'_>,
-    lookups: &NodeTables<'_>,
+    lookups: &Lookups<'_>,
     routes: &Routes,
     after: &[u32],
 ) -> Result<bool, NoMemory>
-    requires lookups { lookups.now ≡ closed.model.now }
-    requires rebuilder { IsRebuilder closed.model.now rebuilder.old }
-    requires of_model { routes.now.visits ≡ visits closed.model.now }
-    requires lists { IsTrue (are_lists closed.model.now routes.now.lists) }
-    requires open_lists { IsTrue (is_open closed.model.now routes.now.lists) }
-    ensures { OnOk result (IsRebuilder closed.entry.model.now rebuilder.new) }
+    requires rebuilder { IsRebuilder lookups.now.closed.model.now rebuilder.old }
+    requires of_model { routes.now.visits ≡ visits lookups.now.closed.model.now }
+    requires lists { IsTrue (are_lists lookups.now.closed.model.now routes.now.lists) }
+    requires open_lists { IsTrue (is_open lookups.now.closed.model.now routes.now.lists) }
+    ensures { OnOk result (IsRebuilder lookups.now.closed.model.now rebuilder.new) }
 {
     let mut rebuilt = routes.copy(alloc)?;
-    rebuilder.rebuild(closed.model, lookups, &mut rebuilt)?;
+    rebuilder.rebuild(lookups, &mut rebuilt)?;
     Ok(are(Some(rebuilt), after))
 }
 
@@ -102,23 +100,21 @@ fn gives(
 fn gives_in_turn(
     alloc: Global,
     rebuilder: &mut Rebuilder,
-    closed: Closed<'_>,
-    lookups: &NodeTables<'_>,
+    lookups: &Lookups<'_>,
     first: &Routes,
     second: &Routes,
 ) -> Result<bool, NoMemory>
-    requires lookups { lookups.now ≡ closed.model.now }
-    requires rebuilder { IsRebuilder closed.model.now rebuilder.old }
-    requires of_model { first.now.visits ≡ visits closed.model.now }
-    requires lists { IsTrue (are_lists closed.model.now first.now.lists) }
-    requires open_lists { IsTrue (is_open closed.model.now first.now.lists) }
-    requires other_of_model { second.now.visits ≡ visits closed.model.now }
-    requires other_lists { IsTrue (are_lists closed.model.now second.now.lists) }
-    requires other_open_lists { IsTrue (is_open closed.model.now second.now.lists) }
+    requires rebuilder { IsRebuilder lookups.now.closed.model.now rebuilder.old }
+    requires of_model { first.now.visits ≡ visits lookups.now.closed.model.now }
+    requires lists { IsTrue (are_lists lookups.now.closed.model.now first.now.lists) }
+    requires open_lists { IsTrue (is_open lookups.now.closed.model.now first.now.lists) }
+    requires other_of_model { second.now.visits ≡ visits lookups.now.closed.model.now }
+    requires other_lists { IsTrue (are_lists lookups.now.closed.model.now second.now.lists) }
+    requires other_open_lists { IsTrue (is_open lookups.now.closed.model.now second.now.lists) }
 {
-    let one = gives(alloc, rebuilder, closed, lookups, first, &[2, 1])?;
-    let other = gives(alloc, rebuilder, closed, lookups, second, &[1, 2])?;
-    let again = gives(alloc, rebuilder, closed, lookups, first, &[2, 1])?;
+    let one = gives(alloc, rebuilder, lookups, first, &[2, 1])?;
+    let other = gives(alloc, rebuilder, lookups, second, &[1, 2])?;
+    let again = gives(alloc, rebuilder, lookups, first, &[2, 1])?;
     Ok(one && other && again)
 }
 
@@ -136,9 +132,9 @@ fn opened_in_turn(
     requires other_lists { IsTrue (are_lists closed.model.now second.now.lists) }
     requires other_open_lists { IsTrue (is_open closed.model.now second.now.lists) }
 {
-    let lookups = NodeTables::open(alloc, closed.model)?;
-    let mut rebuilder = Rebuilder::open(alloc, closed.model, &lookups)?;
-    gives_in_turn(alloc, &mut rebuilder, closed, &lookups, first, second)
+    let lookups = Lookups::open(alloc, closed)?;
+    let mut rebuilder = Rebuilder::open(alloc, &lookups)?;
+    gives_in_turn(alloc, &mut rebuilder, &lookups, first, second)
 }
 
 // The same of the lists with one node each.

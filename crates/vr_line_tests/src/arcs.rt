@@ -50,10 +50,18 @@ fn one_break() -> Breaks
     Breaks { rows }
 }
 
-// The levels behind the arc, to a stop that allows `all`.
-fn ahead<L: Ledger>(
+// Which way the arc is crossed.
+#[derive(Clone, Copy)]
+enum Way {
+    Ahead,
+    Back,
+}
+
+// The levels at the other end of the arc, where the stop allows `all`.
+fn crossed<L: Ledger>(
     alloc: Global,
-    from: &Levels,
+    way: Way,
+    levels: &Levels,
     all: &Spans,
     breaks: &Breaks,
     blank: Blank,
@@ -61,65 +69,57 @@ fn ahead<L: Ledger>(
     requires name { blank.name ≡ L.name }
     requires parts { blank.parts ≡ L.parts }
     requires some { 0 < blank.parts }
-    requires from { AreLevels breaks.now from.now }
+    requires levels { AreLevels breaks.now levels.now }
     requires all { IsCumuls all.now }
     requires breaks { All IsBreak breaks.now }
     requires one { length breaks.now ≡ 1 }
 {
     let mut steps = Steps::<L>::new(blank);
-    cross(alloc, from, long_arc(), all, breaks, &mut steps)
+    match way {
+        Way::Ahead => cross(alloc, levels, long_arc(), all, breaks, &mut steps),
+        Way::Back => cross_back(alloc, levels, long_arc(), all, breaks, &mut steps),
+    }
 }
 
-// The levels before the arc, from a stop that allows `all`.
-fn behind<L: Ledger>(
+// What is known at one end of the arc, and what that makes at the other.
+#[derive(Clone, Copy)]
+struct Crossing {
+    way: Way,
+    here: [Extent; 2],
+    there: [Extent; 2],
+}
+
+// From a start at 0.
+const AHEAD: Crossing = Crossing {
+    way: Way::Ahead,
+    here: [(1, Some(0), Some(0)), NOTHING],
+    there: [(1, Some(10), Some(30)), (1, Some(15), Some(30))],
+};
+
+// To an end that allows all.
+const BACK: Crossing = Crossing {
+    way: Way::Back,
+    here: [(1, Some(0), Some(6)), (1, Some(0), Some(100))],
+    there: [(1, Some(0), Some(4)), (1, Some(0), Some(90))],
+};
+
+// What is reached from levels.
+fn assert_crossed(
+    rt: &impl Abort,
     alloc: Global,
-    to: &Levels,
+    crossing: Crossing,
+    levels: &Levels,
     all: &Spans,
     breaks: &Breaks,
-    blank: Blank,
-) -> Result<Levels, NoMemory>
-    requires name { blank.name ≡ L.name }
-    requires parts { blank.parts ≡ L.parts }
-    requires some { 0 < blank.parts }
-    requires to { AreLevels breaks.now to.now }
+)
+    requires levels { AreLevels breaks.now levels.now }
     requires all { IsCumuls all.now }
     requires breaks { All IsBreak breaks.now }
     requires one { length breaks.now ≡ 1 }
 {
-    let mut steps = Steps::<L>::new(blank);
-    cross_back(alloc, to, long_arc(), all, breaks, &mut steps)
-}
-
-const AT_ZERO: [Extent; 2] = [(1, Some(0), Some(0)), NOTHING];
-
-const BEHIND_ZERO: [Extent; 2] = [(1, Some(10), Some(30)), (1, Some(15), Some(30))];
-
-const AT_END: [Extent; 2] = [(1, Some(0), Some(6)), (1, Some(0), Some(100))];
-
-const BEFORE_END: [Extent; 2] = [(1, Some(0), Some(4)), (1, Some(0), Some(90))];
-
-// What is reached from a start at 0.
-fn assert_ahead(rt: &impl Abort, alloc: Global, from: &Levels, all: &Spans, breaks: &Breaks)
-    requires from { AreLevels breaks.now from.now }
-    requires all { IsCumuls all.now }
-    requires breaks { All IsBreak breaks.now }
-    requires one { length breaks.now ≡ 1 }
-{
-    assert!(rt; gives(from.copy(alloc), &AT_ZERO));
-    let reached = ahead::<Brand>(alloc, from, all, breaks, Blank::new(1));
-    assert!(rt; gives(reached, &BEHIND_ZERO));
-}
-
-// What reaches an end that allows all.
-fn assert_behind(rt: &impl Abort, alloc: Global, to: &Levels, all: &Spans, breaks: &Breaks)
-    requires to { AreLevels breaks.now to.now }
-    requires all { IsCumuls all.now }
-    requires breaks { All IsBreak breaks.now }
-    requires one { length breaks.now ≡ 1 }
-{
-    assert!(rt; gives(to.copy(alloc), &AT_END));
-    let reaching = behind::<Brand>(alloc, to, all, breaks, Blank::new(1));
-    assert!(rt; gives(reaching, &BEFORE_END));
+    assert!(rt; gives(levels.copy(alloc), &crossing.here));
+    let there = crossed::<Brand>(alloc, crossing.way, levels, all, breaks, Blank::new(1));
+    assert!(rt; gives(there, &crossing.there));
 }
 
 // The levels of a start at 0.
@@ -140,11 +140,11 @@ fn a_break_is_taken_on_the_way(rt: HostRuntime) -> Result<(), Fail> {
     let breaks = one_break();
     let all = cumuls(alloc, &[Run { lo: 0, hi: 100 }])?;
     match start(alloc, &breaks) {
-        Ok(from) => assert_ahead(&rt, alloc, &from, &all, &breaks),
+        Ok(from) => assert_crossed(&rt, alloc, AHEAD, &from, &all, &breaks),
         Err(_) => assert!(rt; false),
     }
     match end_levels(alloc, &all, &breaks) {
-        Ok(to) => assert_behind(&rt, alloc, &to, &all, &breaks),
+        Ok(to) => assert_crossed(&rt, alloc, BACK, &to, &all, &breaks),
         Err(_) => assert!(rt; false),
     }
     Ok(())

@@ -40,3 +40,13 @@ pub fn line_in(alloc: Global, model: &Model, d: u32) -> Option<Line>
         Err(_) => None,
     }
 }
+
+/// The line in a dimension with these fields; none where there is no model of them.
+pub fn line_of(alloc: Global, fields: &str) -> Option<Line>
+    ensures { IfSome result IsSoundLine }
+{
+    match model_of(alloc, fields) {
+        Some(model) => line_in(alloc, &model, 0),
+        None => None,
+    }
+}

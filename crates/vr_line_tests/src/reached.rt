@@ -8,13 +8,14 @@ ghost use Rattle.vr_steps.specs.Levels.{IsCumuls};
 ghost use Rattle.vr_steps.specs.Lines.{IsSoundLine};
 
 use crate::levels::{Extent, NOTHING, have};
-use crate::lines::{line_in, model_of};
+use crate::lines::line_of;
 use std::alloc::Global;
 use std::marker::Brand;
 use std::sync::ledger::{Blank, Ledger};
 use std::test::Fail;
 use vr_model::{NoMemory, Steps};
 use vr_reach::{Rows, Walk};
+use vr_samples::all_hold;
 use vr_spans::Spans;
 use vr_steps::{Breaks, Hop, Line};
 
@@ -112,11 +113,7 @@ fn holds_of(alloc: Global, line: &Line, row: &Row) -> bool
 }
 
 fn holds(alloc: Global, row: &Row) -> bool {
-    let line = match model_of(alloc, row.1) {
-        Some(model) => line_in(alloc, &model, 0),
-        None => None,
-    };
-    match line {
+    match line_of(alloc, row.1) {
         Some(line) => holds_of(alloc, &line, row),
         None => false,
     }
@@ -124,10 +121,5 @@ fn holds(alloc: Global, row: &Row) -> bool {
 
 #[test]
 fn walks_find_what_rows_hold(rt: HostRuntime) -> Result<(), Fail> {
-    for row in &ROWS {
-        if !holds(rt.alloc(), row) {
-            return Err(Fail::new(row.0));
-        }
-    }
-    Ok(())
+    all_hold(&ROWS, &|row: &Row| (row.0, holds(rt.alloc(), row)))
 }

@@ -3,9 +3,10 @@
 ghost use Rattle.std.specs.Prelude.{◌≡◌, []};
 ghost use Rattle.vr_steps.specs.Lines.{IsSoundLine};
 
-use crate::lines::{line_in, model_of};
+use crate::lines::line_of;
 use std::alloc::Global;
 use std::test::Fail;
+use vr_samples::all_hold;
 use vr_span::span;
 use vr_steps::Line;
 
@@ -59,11 +60,7 @@ fn holds_of(alloc: Global, line: &Line, row: &Row) -> bool
 }
 
 fn holds(alloc: Global, row: &Row) -> bool {
-    let line = match model_of(alloc, row.fields) {
-        Some(model) => line_in(alloc, &model, 0),
-        None => None,
-    };
-    match line {
+    match line_of(alloc, row.fields) {
         Some(line) => holds_of(alloc, &line, row),
         None => false,
     }
@@ -71,10 +68,5 @@ fn holds(alloc: Global, row: &Row) -> bool {
 
 #[test]
 fn spans_are_least(rt: HostRuntime) -> Result<(), Fail> {
-    for row in &ROWS {
-        if !holds(rt.alloc(), row) {
-            return Err(Fail::new(row.name));
-        }
-    }
-    Ok(())
+    all_hold(&ROWS, &|row: &Row| (row.name, holds(rt.alloc(), row)))
 }

@@ -1,8 +1,11 @@
-//! What tests ask about: models of texts, and routes of lists. The program does not stand on it.
+//! What tests ask about: models of texts, and routes of lists; and how they go through tables of rows. The program does
+//! not stand on it.
 #![tactic(auto)]
 
 mod models;
 mod routes;
+mod rows;
 
 pub use models::read_model_text;
 pub use routes::{routes_of, valid_routes};
+pub use rows::all_hold;

@@ -6,12 +6,12 @@ ghost use Rattle.vr_model.specs.tables.Tables.{visits};
 
 use crate::models::{ON_TIME, ONE_WAY, TWO_FARES};
 use crate::rows::{Asks, Row, assert_rows};
-use crate::searches::{Wanted, has_list};
+use crate::searches::{Wanted, ends_so};
 use std::alloc::Global;
 use vr_first_insert::rebuild;
-use vr_lists::NodeTables;
 use vr_lns::{Rebuild, lns};
 use vr_model::{Closed, End, Limit, Model, NoMemory, Report};
+use vr_plan::Lookups;
 use vr_routes::Routes;
 use vr_watch::Watch;
 
@@ -21,7 +21,6 @@ pub(crate) struct Cuts {
     cut: u32,
     tries: u64,
     wanted: Wanted,
-    end: End,
     /// How often it rebuilds.
     made: u64,
 }
@@ -44,17 +43,16 @@ impl Rebuild for Inserting {
         Ok(after)
     }
 
-    fn know(&mut self, _model: &Model, _lookups: &NodeTables<'_>) -> Result<(), NoMemory> {
+    fn know(&mut self, _lookups: &Lookups<'_>) -> Result<(), NoMemory> {
         Ok(())
     }
 
     fn rebuild_known(
         &mut self,
-        model: &Model,
-        _lookups: &NodeTables<'_>,
+        lookups: &Lookups<'_>,
         routes: &mut Routes,
     ) -> Result<(), NoMemory> {
-        let after = self.rebuild(model, routes)?;
+        let after = self.rebuild(lookups.closed.model, routes)?;
         routes.assign(&after);
         Ok(())
     }
@@ -90,16 +88,6 @@ fn report_of(
     Ok(report)
 }
 
-/// Whether two searches end for the same cause.
-pub(crate) fn is_same_end(one: End, other: End) -> bool {
-    match (one, other) {
-        (End::Optimum, End::Optimum) => true,
-        (End::Tries, End::Tries) => true,
-        (End::Solutions, End::Solutions) => true,
-        _ => false,
-    }
-}
-
 /// Whether the search by cuts from valid routes finds what is wanted.
 pub(crate) fn finds(
     alloc: Global,
@@ -117,41 +105,35 @@ pub(crate) fn finds(
     };
     let cut = cuts.cut.clamp(1, 100);
     let report = report_of(alloc, closed, &mut inserting, routes, limit, cut)?;
-    Ok(
-        report.tries == cuts.wanted.tries
-            && report.solutions == cuts.wanted.solutions
-            && is_same_end(report.end, cuts.end)
-            && inserting.count == cuts.made
-            && has_list(routes, cuts.wanted.list),
-    )
+    Ok(inserting.count == cuts.made && ends_so(routes, &report, &cuts.wanted))
 }
 
 // The costly direction of two visits.
 const TURNED: &[&[u32]] = &[&[1, 2]];
 
 // Both visits are taken out and put back in the other order, and no cut of that costs less.
-static TURNS: Cuts = Cuts {
+const TURNS: Cuts = Cuts {
     cut: 10,
     tries: 1000,
     wanted: Wanted {
         tries: 3,
         solutions: 2,
+        end: End::Optimum,
         list: &[2, 1],
     },
-    end: End::Optimum,
     made: 3,
 };
 
 // The same with one try.
-static TURNS_ONCE: Cuts = Cuts {
+const TURNS_ONCE: Cuts = Cuts {
     cut: 10,
     tries: 1,
     wanted: Wanted {
         tries: 1,
         solutions: 2,
+        end: End::Tries,
         list: &[2, 1],
     },
-    end: End::Tries,
     made: 1,
 };
 
@@ -159,15 +141,15 @@ static TURNS_ONCE: Cuts = Cuts {
 const DEAR: &[&[u32]] = &[&[], &[1, 2]];
 
 // A cut of one visit takes the other node of its pair out too, so that both go to the other vehicle.
-static MOVES: Cuts = Cuts {
+const MOVES: Cuts = Cuts {
     cut: 1,
     tries: 1000,
     wanted: Wanted {
         tries: 3,
         solutions: 2,
+        end: End::Optimum,
         list: &[1, 2],
     },
-    end: End::Optimum,
     made: 3,
 };
 
@@ -175,44 +157,27 @@ static MOVES: Cuts = Cuts {
 const PUNCTUAL: &[&[u32]] = &[&[3, 1, 2]];
 
 // Where all are taken out, one comes back alone: that is open and costs less, but is not valid.
-static STAYS: Cuts = Cuts {
+const STAYS: Cuts = Cuts {
     cut: 10,
     tries: 1000,
     wanted: Wanted {
         tries: 3,
         solutions: 1,
+        end: End::Optimum,
         list: &[3, 1, 2],
     },
-    end: End::Optimum,
     made: 3,
 };
 
-// A search by cuts.
-fn of_cuts(
-    name: &'static str,
-    text: &'static str,
-    lists: &'static [&'static [u32]],
-    cuts: &'static Cuts,
-) -> Row {
-    Row {
-        name,
-        text,
-        lists,
-        asks: Asks::Cuts(cuts),
-    }
-}
-
-// What searches by cuts find.
-fn rows() -> [Row; 4] {
-    [
-        of_cuts("both visits are cut", ONE_WAY, TURNED, &TURNS),
-        of_cuts("one cut is tried", ONE_WAY, TURNED, &TURNS_ONCE),
-        of_cuts("half a pair is cut", TWO_FARES, DEAR, &MOVES),
-        of_cuts("a visit does not come back", ON_TIME, PUNCTUAL, &STAYS),
-    ]
-}
+#[rattlefmt::skip]
+static ROWS: [Row; 4] = [
+    Row { name: "both visits are cut", text: ONE_WAY, lists: TURNED, asks: Asks::Cuts(&TURNS) },
+    Row { name: "one cut is tried", text: ONE_WAY, lists: TURNED, asks: Asks::Cuts(&TURNS_ONCE) },
+    Row { name: "half a pair is cut", text: TWO_FARES, lists: DEAR, asks: Asks::Cuts(&MOVES) },
+    Row { name: "a visit does not come back", text: ON_TIME, lists: PUNCTUAL, asks: Asks::Cuts(&STAYS) },
+];
 
 #[test]
 fn searches_by_cuts_find(rt: HostRuntime) {
-    assert_rows(&rt, rt.alloc(), &rows());
+    assert_rows(&rt, rt.alloc(), &ROWS);
 }

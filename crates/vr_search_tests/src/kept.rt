@@ -119,80 +119,36 @@ pub(crate) fn tells(
 // Four of the visits before late windows.
 const LATE_LISTS: &[&[u32]] = &[&[1, 2, 3, 4, 5], &[6], &[]];
 
-const ROWS: &[Row] = &[
-    Row {
-        name: "a stretch is turned, and then the front, where each span costs something",
-        text: LATE,
-        lists: LATE_LISTS,
-        asks: Asks::Kept(
-            Paid::Alone,
-            Move::TwoOpt { v: 0, a: 1, b: 3 },
-            Move::TwoOpt { v: 0, a: 0, b: 1 },
-        ),
-    },
-    Row {
-        name: "a visit leaves, and then the front is turned, where global spans cost something",
-        text: LATE,
-        lists: LATE_LISTS,
-        asks: Asks::Kept(
-            Paid::Together,
-            Move::MakeInactive { v: 0, a: 4 },
-            Move::TwoOpt { v: 0, a: 0, b: 1 },
-        ),
-    },
-    Row {
-        name: "a stretch is turned, and then the front, of a tight vehicle, where each span costs something",
-        text: LATE_TIGHT,
-        lists: LATE_LISTS,
-        asks: Asks::Kept(
-            Paid::Alone,
-            Move::TwoOpt { v: 0, a: 1, b: 3 },
-            Move::TwoOpt { v: 0, a: 0, b: 1 },
-        ),
-    },
-    Row {
-        name: "a visit of a tight vehicle leaves, and then the front is turned, where global spans cost something",
-        text: LATE_TIGHT,
-        lists: LATE_LISTS,
-        asks: Asks::Kept(
-            Paid::Together,
-            Move::MakeInactive { v: 0, a: 4 },
-            Move::TwoOpt { v: 0, a: 0, b: 1 },
-        ),
-    },
-    Row {
-        name: "the front of a tight vehicle is turned, and then its end, where soft bounds cost something",
-        text: LATE_TIGHT,
-        lists: LATE_LISTS,
-        asks: Asks::Kept(
-            Paid::Alone,
-            Move::TwoOpt { v: 0, a: 0, b: 1 },
-            Move::TwoOpt { v: 0, a: 3, b: 4 },
-        ),
-    },
-    Row {
-        name: "the front of a tight vehicle is turned, and then its end, where soft bounds cost nothing",
-        text: LATE_TIGHT_FREE,
-        lists: LATE_LISTS,
-        asks: Asks::Kept(
-            Paid::Alone,
-            Move::TwoOpt { v: 0, a: 0, b: 1 },
-            Move::TwoOpt { v: 0, a: 3, b: 4 },
-        ),
-    },
-    Row {
-        name: "a stretch of a tight vehicle is turned, and then a visit leaves, where soft bounds cost nothing",
-        text: LATE_TIGHT_FREE,
-        lists: LATE_LISTS,
-        asks: Asks::Kept(
-            Paid::Together,
-            Move::TwoOpt { v: 0, a: 1, b: 3 },
-            Move::MakeInactive { v: 0, a: 2 },
-        ),
-    },
+// Moves of the first list: its front is turned, a stretch behind it, its end; and two visits leave.
+const FRONT: Move = Move::TwoOpt { v: 0, a: 0, b: 1 };
+
+const STRETCH: Move = Move::TwoOpt { v: 0, a: 1, b: 3 };
+
+const END: Move = Move::TwoOpt { v: 0, a: 3, b: 4 };
+
+const LAST_LEAVES: Move = Move::MakeInactive { v: 0, a: 4 };
+
+const MIDDLE_LEAVES: Move = Move::MakeInactive { v: 0, a: 2 };
+
+#[rattlefmt::skip]
+static ROWS: [Row; 7] = [
+    Row { name: "a stretch is turned, and then the front, where each span costs something",
+        text: LATE, lists: LATE_LISTS, asks: Asks::Kept(Paid::Alone, STRETCH, FRONT) },
+    Row { name: "a visit leaves, and then the front is turned, where global spans cost something",
+        text: LATE, lists: LATE_LISTS, asks: Asks::Kept(Paid::Together, LAST_LEAVES, FRONT) },
+    Row { name: "a stretch is turned, and then the front, of a tight vehicle, where each span costs something",
+        text: LATE_TIGHT, lists: LATE_LISTS, asks: Asks::Kept(Paid::Alone, STRETCH, FRONT) },
+    Row { name: "a visit of a tight vehicle leaves, and then the front is turned, where global spans cost something",
+        text: LATE_TIGHT, lists: LATE_LISTS, asks: Asks::Kept(Paid::Together, LAST_LEAVES, FRONT) },
+    Row { name: "the front of a tight vehicle is turned, and then its end, where soft bounds cost something",
+        text: LATE_TIGHT, lists: LATE_LISTS, asks: Asks::Kept(Paid::Alone, FRONT, END) },
+    Row { name: "the front of a tight vehicle is turned, and then its end, where soft bounds cost nothing",
+        text: LATE_TIGHT_FREE, lists: LATE_LISTS, asks: Asks::Kept(Paid::Alone, FRONT, END) },
+    Row { name: "a stretch of a tight vehicle is turned, and then a visit leaves, where soft bounds cost nothing",
+        text: LATE_TIGHT_FREE, lists: LATE_LISTS, asks: Asks::Kept(Paid::Together, STRETCH, MIDDLE_LEAVES) },
 ];
 
 #[test]
 fn kept_cumuls_tell(rt: HostRuntime) {
-    assert_rows(&rt, rt.alloc(), ROWS);
+    assert_rows(&rt, rt.alloc(), &ROWS);
 }

@@ -7,6 +7,8 @@
 #![tactic(auto)]
 
 #[cfg(test)]
+mod asked;
+#[cfg(test)]
 mod cuts;
 #[cfg(test)]
 mod filters;
@@ -24,5 +26,3 @@ mod rows;
 mod searches;
 #[cfg(test)]
 mod stopped;
-#[cfg(test)]
-mod tabus;

@@ -120,23 +120,20 @@ pub(crate) fn adds(
 // The second vehicle loses its only visit.
 const EMPTIED: Move = Move::MakeInactive { v: 1, a: 0 };
 
-fn row(name: &'static str, part: Part, wanted: i64) -> Row {
-    Row {
-        name,
-        text: PAID,
-        lists: &[&[1], &[2]],
-        asks: Asks::Part(part, EMPTIED, wanted),
-    }
-}
+// Two vehicles with a visit each.
+const ONE_EACH: &[&[u32]] = &[&[1], &[2]];
+
+#[rattlefmt::skip]
+static ROWS: [Row; 5] = [
+    Row { name: "arcs", text: PAID, lists: ONE_EACH, asks: Asks::Part(Part::Arcs, EMPTIED, -18) },
+    Row { name: "fixed costs", text: PAID, lists: ONE_EACH, asks: Asks::Part(Part::Fixed, EMPTIED, -11) },
+    Row { name: "penalties of groups", text: PAID, lists: ONE_EACH, asks: Asks::Part(Part::Groups, EMPTIED, 3) },
+    Row { name: "soft upper bounds and spans", text: PAID, lists: ONE_EACH,
+        asks: Asks::Part(Part::Plans, EMPTIED, -51) },
+    Row { name: "global spans", text: PAID, lists: ONE_EACH, asks: Asks::Part(Part::Spans, EMPTIED, -80) },
+];
 
 #[test]
 fn parts_of_the_cost_answer(rt: HostRuntime) {
-    let rows = [
-        row("arcs", Part::Arcs, -18),
-        row("fixed costs", Part::Fixed, -11),
-        row("penalties of groups", Part::Groups, 3),
-        row("soft upper bounds and spans", Part::Plans, -51),
-        row("global spans", Part::Spans, -80),
-    ];
-    assert_rows(&rt, rt.alloc(), &rows);
+    assert_rows(&rt, rt.alloc(), &ROWS);
 }

@@ -1,19 +1,17 @@
 //! What a row asks, and who owns the model and the routes of which it asks.
 
-ghost use Rattle.std.specs.Prelude.{◌≡◌, IfOk, IsTrue, length, true};
+ghost use Rattle.std.specs.Prelude.{◌≡◌, IfOk, IsTrue, true};
 ghost use Rattle.vr_model.specs.moves.MoveTests.{is_move};
 ghost use Rattle.vr_model.specs.routes.Rules.{is_valid};
 ghost use Rattle.vr_model.specs.tables.Tables.{visits};
 ghost use Rattle.vr_routes.specs.Changes.{IsChange, IsMadeOn};
 ghost use Rattle.vr_routes.specs.Pieces.{changed};
 
+use crate::asked::{self, By, Question};
 use crate::cuts::{self, Cuts};
 use crate::filters::{self, Filter};
-use crate::judges::{self, Said};
+use crate::kept;
 use crate::parts::{self, Part};
-use crate::searches::{self, Search, Wanted};
-use crate::tabus::{self, Tabus};
-use crate::{kept, stopped};
 use std::alloc::Global;
 use std::process::Abort;
 use vr_costfilter::Paid;
@@ -21,13 +19,6 @@ use vr_model::{Closed, Move, NoMemory};
 use vr_routes::{Change, Routes};
 use vr_rules::valid;
 use vr_samples::{read_model_text, valid_routes};
-
-/// Who judges moves.
-#[derive(Clone, Copy)]
-pub(crate) enum By {
-    Rebuilding,
-    Filters,
-}
 
 /// What a row asks of valid routes.
 #[derive(Clone, Copy)]
@@ -38,16 +29,10 @@ pub(crate) enum Asks {
     Part(Part, Move, i64),
     /// Whether what is kept of schedules tells of two moves, the second one after the first.
     Kept(Paid, Move, Move),
-    /// What a judge says of moves; some of them are made.
-    Judge(By, &'static [Said]),
-    /// What a search finds.
-    Search(By, Search, &'static Wanted),
+    /// What a judge answers.
+    Judge(By, Question),
     /// What the search by cuts finds.
     Cuts(&'static Cuts),
-    /// What tabu search finds.
-    Tabu(By, &'static Tabus),
-    /// That a watcher which refuses ends the descent.
-    Stopper,
 }
 
 /// A question about valid lists of the model of a text.
@@ -90,20 +75,14 @@ fn of_routes(
     asks: Asks,
 ) -> Result<bool, NoMemory>
     requires of_model { routes.old.visits ≡ visits closed.model.now }
-    requires many { length routes.old.lists ≡ length closed.model.now.vehicles }
     requires valid { IsTrue (is_valid closed.model.now routes.old.lists) }
 {
     match asks {
         Asks::Filter(filter, moves) => filters::passes(alloc, closed, routes, filter, moves),
         Asks::Part(part, mv, added) => parts::adds(alloc, closed, routes, part, mv, added),
         Asks::Kept(paid, first, second) => kept::tells(alloc, closed, routes, paid, first, second),
-        Asks::Judge(by, said) => judges::says(alloc, closed, routes, by, said),
-        Asks::Search(by, search, wanted) => searches::finds(
-            alloc, closed, routes, by, search, wanted,
-        ),
+        Asks::Judge(by, question) => asked::answers(alloc, closed, routes, by, question),
         Asks::Cuts(cuts) => cuts::finds(alloc, closed, routes, cuts),
-        Asks::Tabu(by, tabus) => tabus::finds(alloc, closed, routes, by, tabus),
-        Asks::Stopper => stopped::ends_between_watchers(alloc, closed, routes),
     }
 }
 

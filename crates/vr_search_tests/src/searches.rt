@@ -1,270 +1,114 @@
 //! Whole searches by both judges, which must find the same, and how often they ask a judge: no more often than they try
 //! moves, and less often where what a move makes at least rules it out; and at most three times a try what moves make
-//! at least.
+//! at least. Of tabu search also which moves it makes, passes over and ends at.
 
-ghost use Rattle.std.specs.Prelude.{◌≡◌, ◌+◌, ◌*◌, ◌<◌, ◌≤◌, IfOk, IsTrue, OnErr, OnOk};
-ghost use Rattle.vr_model.specs.moves.Moves.{apply};
-ghost use Rattle.vr_model.specs.moves.MoveTests.{is_move};
-ghost use Rattle.vr_model.specs.routes.Costs.{cost};
-ghost use Rattle.vr_model.specs.routes.Rules.{is_valid};
-ghost use Rattle.vr_model.specs.tables.Tables.{visits};
-ghost use Rattle.vr_routes.specs.Changes.{IsChange};
-ghost use Rattle.vr_routes.specs.Judging.{HoldSame, moved, verdict_of};
+ghost use Rattle.std.specs.Prelude.{◌≡◌, ◌+◌, ◌*◌, ◌≤◌, IfOk};
+ghost use Rattle.vr_routes.specs.Judging.{HoldSame};
 
-use crate::models::{DAY, PAID_SQUARE, SPAN_SQUARE, SQUARE};
-use crate::rows::{Asks, By, Row, assert_rows};
+use crate::asked::{By, Counting, Question};
+use crate::models::{DAY, DETOUR, PAID_SQUARE, SHORTCUT, SPAN_SQUARE, SQUARE, THREE};
+use crate::rows::{Asks, Row, assert_rows};
 use std::alloc::Global;
-use std::marker::Brand;
-use std::sync::ledger::{Blank, Ledger};
+use std::sync::ledger::Ledger;
 use vr_descent::descend;
 use vr_guided::guide;
-use vr_judge::FilterJudge;
-use vr_model::{Closed, Lambda, Limit, Move, NoMemory, Report, Steps};
-use vr_plain::PlainJudge;
-use vr_routes::{Change, Judge, Routes, Verdict};
+use vr_model::{Closed, End, Lambda, Limit, NoMemory, Report, Steps};
+use vr_routes::{Judge, Routes};
 use vr_rules::total;
+use vr_tabu::tabu;
 use vr_watch::Watch;
 
-/// Which search asks.
+// Which search asks.
 #[derive(Clone, Copy)]
-pub(crate) enum Search {
+enum Search {
     Descent,
     Guided,
+    // By this tenure; and the list of the first vehicle in the routes of the least cost.
+    Tabu(u32, &'static [u32]),
 }
 
-/// What a search finds.
+/// How a search ends.
 #[derive(Clone, Copy)]
 pub(crate) struct Wanted {
     pub(crate) tries: u64,
     pub(crate) solutions: u64,
+    pub(crate) end: End,
     /// The last list of the first vehicle.
     pub(crate) list: &'static [u32],
 }
 
-// A judge that counts the moves that it judges, and how often it is asked what moves make at least.
-struct Counting<J: Judge> {
-    judge: J,
-    count: u64,
-    looks: u64,
+/// A search, how far it may go, and how it ends.
+#[derive(Clone, Copy)]
+pub(crate) struct Sought {
+    search: Search,
+    limit: Limit,
+    wanted: Wanted,
 }
 
-impl<J: Judge> Judge for Counting<J> {
-    ghost model = { λ counting. J.model counting.judge };
+/// As far as a search may go here.
+pub(crate) const FAR: Limit = Limit {
+    tries: 1000,
+    solutions: 100,
+};
 
-    ghost committed = { λ counting. J.committed counting.judge };
-
-    ghost asked = { λ counting. counting.count };
-
-    ghost looked = { λ counting. counting.looks };
-
-    ghost weight = { λ counting mv. J.weight counting.judge mv };
-
-    fn judge<L: Ledger>(
-        &mut self,
-        routes: &Routes,
-        mv: Move,
-        steps: &mut Steps<L>,
-    ) -> Result<Verdict, NoMemory> {
-        self.count = self.count.saturating_add(1);
-        let verdict = self.judge.judge(routes, mv, steps)?;
-        Ok(verdict)
-    }
-
-    fn least_difference(&mut self, routes: &Routes, mv: Move, change: &Change) -> i64 {
-        self.looks = self.looks.saturating_add(1);
-        self.judge.least_difference(routes, mv, change)
-    }
-
-    fn least_by_numbers(&mut self, routes: &Routes, mv: Move) -> Option<i64> {
-        self.looks = self.looks.saturating_add(1);
-        self.judge.least_by_numbers(routes, mv)
-    }
-
-    fn first_below(
-        &mut self,
-        routes: &Routes,
-        mv: Move,
-        from: u32,
-        end: u32,
-        bound: i64,
-    ) -> Option<u32> {
-        self.looks = self.looks.saturating_add(1);
-        self.judge.first_below(routes, mv, from, end, bound)
-    }
-
-    fn commit(&mut self, routes: &mut Routes, mv: Move) -> Result<(), NoMemory> {
-        self.judge.commit(routes, mv)?;
-        Ok(())
-    }
+// How a search went, and whether the best routes that it hands out, if it does, have the list that is wanted.
+#[derive(Clone, Copy)]
+struct Found {
+    report: Report,
+    has_best: bool,
 }
 
-impl<J: Judge> Counting<J> {
-    // The judge that was counted.
-    fn into_judge(self) -> J {
-        let Counting {
-            judge,
-            count: _,
-            looks: _,
-        } = self;
-        judge
-    }
-}
-
-// How a search by a judge went.
-fn report_of<J: Judge, L: Ledger>(
+// What a search by a judge finds.
+fn found_by<J: Judge, L: Ledger>(
     alloc: Global,
     closed: Closed<'_>,
     judge: &mut J,
     routes: &mut Routes,
-    first_cost: i64,
     search: Search,
-    blank: Blank,
-) -> Result<Report, NoMemory>
+    limit: Limit,
+    steps: &mut Steps<L>,
+) -> Result<Found, NoMemory>
     requires judge_model { J.model judge.old ≡ closed.model.now }
     requires holds { HoldSame closed.model.now (J.committed judge.old) routes.old }
-    requires first_cost { first_cost ≡ cost closed.model.now routes.old.lists }
-    requires name { blank.name ≡ L.name }
-    requires parts { blank.parts ≡ L.parts }
-    requires some { 0 < blank.parts }
-    ensures asked { IfOk result (λ report. J.asked judge.new ≤ J.asked judge.old + report.tries) }
-    ensures looked { IfOk result (λ report. J.looked judge.new ≤ J.looked judge.old + 3 * report.tries) }
+    ensures asked { IfOk result (λ found. J.asked judge.new ≤ J.asked judge.old + found.report.tries) }
+    ensures looked { IfOk result (λ found. J.looked judge.new ≤ J.looked judge.old + 3 * found.report.tries) }
 {
     let limit = Limit {
-        tries: 1000,
-        solutions: 100,
+        tries: limit.tries.min(1000),
+        solutions: limit.solutions.clamp(1, 100),
     };
+    let model = closed.model;
+    let cost = total(alloc, model, routes)?;
     let mut none: Vec<Box<dyn Watch>> = Vec::new(alloc);
-    let mut steps = Steps::<L>::new(blank);
     match search {
         Search::Descent => {
-            let report = descend(
-                closed.model,
-                judge,
-                routes,
-                first_cost,
-                limit,
-                &mut none,
-                &mut steps,
-            )?;
-            Ok(report)
+            let report = descend(model, judge, routes, cost, limit, &mut none, steps)?;
+            Ok(Found {
+                report,
+                has_best: true,
+            })
         }
         Search::Guided => {
             let lambda = Lambda { p: 1, q: 10 };
             let guided = guide(
-                alloc,
-                closed.model,
-                judge,
-                routes,
-                first_cost,
-                limit,
-                lambda,
-                &mut none,
-                &mut steps,
+                alloc, model, judge, routes, cost, limit, lambda, &mut none, steps,
             )?;
-            Ok(guided.report)
+            Ok(Found {
+                report: guided.report,
+                has_best: true,
+            })
+        }
+        Search::Tabu(tenure, best) => {
+            let tenure = tenure.clamp(1, 100);
+            let answer = tabu(
+                alloc, model, judge, routes, cost, limit, tenure, &mut none, steps,
+            )?;
+            Ok(Found {
+                report: answer.report,
+                has_best: has_list(&answer.best, best),
+            })
         }
     }
-}
-
-// How a search went, how often the judge was asked about moves, and how often what moves make at least.
-#[derive(Clone, Copy)]
-struct Count {
-    asked: u64,
-    looked: u64,
-    report: Report,
-}
-
-// The same by a judge that counts.
-fn count_of<J: Judge, L: Ledger>(
-    alloc: Global,
-    closed: Closed<'_>,
-    counting: &mut Counting<J>,
-    routes: &mut Routes,
-    first_cost: i64,
-    search: Search,
-    blank: Blank,
-) -> Result<Count, NoMemory>
-    requires judge_model { J.model counting.old.judge ≡ closed.model.now }
-    requires holds { HoldSame closed.model.now (J.committed counting.old.judge) routes.old }
-    requires first_cost { first_cost ≡ cost closed.model.now routes.old.lists }
-    requires none_judged { counting.old.count ≡ 0 }
-    requires no_looks { counting.old.looks ≡ 0 }
-    requires name { blank.name ≡ L.name }
-    requires parts { blank.parts ≡ L.parts }
-    requires some { 0 < blank.parts }
-    ensures asked { IfOk result (λ count. count.asked ≤ count.report.tries) }
-    ensures looked { IfOk result (λ count. count.looked ≤ 3 * count.report.tries) }
-{
-    let report = report_of::<Counting<J>, L>(
-        alloc, closed, counting, routes, first_cost, search, blank,
-    )?;
-    Ok(Count {
-        asked: counting.count,
-        looked: counting.looks,
-        report,
-    })
-}
-
-// The same by the judge that rebuilds, which rules nothing out.
-fn plain_count(
-    alloc: Global,
-    closed: Closed<'_>,
-    routes: &mut Routes,
-    first_cost: i64,
-    search: Search,
-) -> Result<Count, NoMemory>
-    requires of_model { routes.old.visits ≡ visits closed.model.now }
-    requires valid { IsTrue (is_valid closed.model.now routes.old.lists) }
-    requires first_cost { first_cost ≡ cost closed.model.now routes.old.lists }
-{
-    let judge = PlainJudge::open(alloc, closed.model, routes)?;
-    let mut counting = Counting {
-        judge,
-        count: 0,
-        looks: 0,
-    };
-    let count = count_of::<PlainJudge<'_>, Brand>(
-        alloc,
-        closed,
-        &mut counting,
-        routes,
-        first_cost,
-        search,
-        Blank::new(1),
-    );
-    counting.into_judge();
-    count
-}
-
-// The same by the judge of filters.
-fn filter_count(
-    alloc: Global,
-    closed: Closed<'_>,
-    routes: &mut Routes,
-    first_cost: i64,
-    search: Search,
-) -> Result<Count, NoMemory>
-    requires of_model { routes.old.visits ≡ visits closed.model.now }
-    requires valid { IsTrue (is_valid closed.model.now routes.old.lists) }
-    requires first_cost { first_cost ≡ cost closed.model.now routes.old.lists }
-{
-    let judge = FilterJudge::open(alloc, closed.model, routes)?;
-    let mut counting = Counting {
-        judge,
-        count: 0,
-        looks: 0,
-    };
-    let count = count_of::<FilterJudge<'_>, Brand>(
-        alloc,
-        closed,
-        &mut counting,
-        routes,
-        first_cost,
-        search,
-        Blank::new(1),
-    );
-    counting.into_judge().close();
-    count
 }
 
 // Whether a judge is asked so often in so many tries: by rebuilding of no more moves, since some are known to be
@@ -286,30 +130,52 @@ pub(crate) fn has_list(routes: &Routes, list: &[u32]) -> bool {
     routes.vehicles() > 0 && routes.list(0) == list
 }
 
-/// Whether a search by a judge from valid routes finds what is wanted, and asks the judge as often as it should.
-pub(crate) fn finds(
+// Whether two searches end for the same cause.
+fn is_same_end(one: End, other: End) -> bool {
+    match (one, other) {
+        (End::Optimum, End::Optimum) => true,
+        (End::Tries, End::Tries) => true,
+        (End::Solutions, End::Solutions) => true,
+        _ => false,
+    }
+}
+
+/// Whether a search that left these routes ended as it should.
+pub(crate) fn ends_so(routes: &Routes, report: &Report, wanted: &Wanted) -> bool {
+    report.tries == wanted.tries
+        && report.solutions == wanted.solutions
+        && is_same_end(report.end, wanted.end)
+        && has_list(routes, wanted.list)
+}
+
+/// Whether a search by a judge from the routes that it holds finds what is wanted, and asks as often as it should.
+pub(crate) fn finds<J: Judge, L: Ledger>(
     alloc: Global,
     closed: Closed<'_>,
-    routes: &mut Routes,
+    counting: &mut Counting<J>,
     by: By,
-    search: Search,
-    wanted: &Wanted,
+    routes: &mut Routes,
+    sought: &Sought,
+    steps: &mut Steps<L>,
 ) -> Result<bool, NoMemory>
-    requires of_model { routes.old.visits ≡ visits closed.model.now }
-    requires valid { IsTrue (is_valid closed.model.now routes.old.lists) }
+    requires judge_model { J.model counting.old.judge ≡ closed.model.now }
+    requires holds { HoldSame closed.model.now (J.committed counting.old.judge) routes.old }
 {
-    let first_cost = total(alloc, closed.model, routes)?;
-    let count = match by {
-        By::Rebuilding => plain_count(alloc, closed, routes, first_cost, search)?,
-        By::Filters => filter_count(alloc, closed, routes, first_cost, search)?,
-    };
-    let tries = count.report.tries;
+    let found = found_by(
+        alloc,
+        closed,
+        counting,
+        routes,
+        sought.search,
+        sought.limit,
+        steps,
+    )?;
+    let tries = found.report.tries;
     Ok(
-        is_asked_enough(by, count.asked, tries)
-            && is_looked_enough(count.looked, tries)
-            && tries == wanted.tries
-            && count.report.solutions == wanted.solutions
-            && has_list(routes, wanted.list),
+        is_asked_enough(by, counting.count, tries)
+            && is_looked_enough(counting.looks, tries)
+            && found.has_best
+            && ends_so(routes, &found.report, &sought.wanted),
     )
 }
 
@@ -317,72 +183,162 @@ pub(crate) fn finds(
 const CROSSING: &[&[u32]] = &[&[1, 2, 3]];
 
 // A descent uncrosses it.
-const UNCROSSED: Wanted = Wanted {
-    tries: 18,
-    solutions: 2,
-    list: &[2, 1, 3],
+static UNCROSSED: Sought = Sought {
+    search: Search::Descent,
+    limit: FAR,
+    wanted: Wanted {
+        tries: 18,
+        solutions: 2,
+        end: End::Optimum,
+        list: &[2, 1, 3],
+    },
 };
 
 // Guided search goes on until its tries run out.
-const TURNED_AGAIN: Wanted = Wanted {
-    tries: 1000,
-    solutions: 67,
-    list: &[1, 2, 3],
+static TURNED_AGAIN: Sought = Sought {
+    search: Search::Guided,
+    limit: FAR,
+    wanted: Wanted {
+        tries: 1000,
+        solutions: 67,
+        end: End::Tries,
+        list: &[1, 2, 3],
+    },
 };
 
 // Lists of two vehicles.
 const PLANNED: &[&[u32]] = &[&[6, 3, 7], &[4, 5, 1, 2]];
 
-const PLANNED_BETTER: Wanted = Wanted {
-    tries: 332,
-    solutions: 6,
-    list: &[3, 6, 1, 2],
+static PLANNED_BETTER: Sought = Sought {
+    search: Search::Descent,
+    limit: FAR,
+    wanted: Wanted {
+        tries: 332,
+        solutions: 6,
+        end: End::Optimum,
+        list: &[3, 6, 1, 2],
+    },
 };
 
-const PLANNED_AGAIN: Wanted = Wanted {
-    tries: 1000,
-    solutions: 8,
-    list: &[3, 6, 1, 2],
+static PLANNED_AGAIN: Sought = Sought {
+    search: Search::Guided,
+    limit: FAR,
+    wanted: Wanted {
+        tries: 1000,
+        solutions: 8,
+        end: End::Tries,
+        list: &[3, 6, 1, 2],
+    },
 };
 
-// A search by a judge from lists that cross a square.
-fn of_square(
-    name: &'static str,
-    text: &'static str,
-    by: By,
-    search: Search,
-    wanted: &'static Wanted,
-) -> Row {
-    Row {
-        name,
-        text,
-        lists: CROSSING,
-        asks: Asks::Search(by, search, wanted),
-    }
-}
+// Lists that tabu search begins with: two visits, and three.
+const BOTH: &[&[u32]] = &[&[1, 2]];
 
-// A search by a judge from the lists of two vehicles.
-fn of_day(name: &'static str, by: By, search: Search, wanted: &'static Wanted) -> Row {
-    Row {
-        name,
-        text: DAY,
-        lists: PLANNED,
-        asks: Asks::Search(by, search, wanted),
-    }
+const ALL: &[&[u32]] = &[&[1, 2, 3]];
+
+// The list is turned, which costs as much. Each move back changes only visits that are tabu then.
+static TURNED: Sought = Sought {
+    search: Search::Tabu(10, &[1, 2]),
+    limit: FAR,
+    wanted: Wanted {
+        tries: 12,
+        solutions: 2,
+        end: End::Optimum,
+        list: &[2, 1],
+    },
+};
+
+// Costs of 26, 18 and 14. In the first round two moves lead to 18, and the first of them is made; the second one's
+// move changes tabu visits alone, but costs less than any before.
+static LED_ON: Sought = Sought {
+    search: Search::Tabu(1, &[3, 1, 2]),
+    limit: FAR,
+    wanted: Wanted {
+        tries: 9,
+        solutions: 3,
+        end: End::Optimum,
+        list: &[3, 1, 2],
+    },
+};
+
+// Costs of 12, 14, 11 and 22: the best lists are not the last ones.
+static UPHILL: Sought = Sought {
+    search: Search::Tabu(1, &[3, 1, 2]),
+    limit: FAR,
+    wanted: Wanted {
+        tries: 12,
+        solutions: 4,
+        end: End::Optimum,
+        list: &[1, 3, 2],
+    },
+};
+
+// Where visits are tabu for one round longer, the third round has no move that may be made.
+static LONGER_TABU: Sought = Sought {
+    search: Search::Tabu(2, &[3, 1, 2]),
+    limit: FAR,
+    wanted: Wanted {
+        tries: 9,
+        solutions: 3,
+        end: End::Optimum,
+        list: &[3, 1, 2],
+    },
+};
+
+// The third round has three moves, and two tries are left.
+static CUT_SHORT: Sought = Sought {
+    search: Search::Tabu(1, &[3, 1, 2]),
+    limit: Limit {
+        tries: 8,
+        solutions: 100,
+    },
+    wanted: Wanted {
+        tries: 8,
+        solutions: 3,
+        end: End::Tries,
+        list: &[3, 1, 2],
+    },
+};
+
+// The second solution costs more than the first.
+static ENOUGH: Sought = Sought {
+    search: Search::Tabu(1, &[1, 2, 3]),
+    limit: Limit {
+        tries: 1000,
+        solutions: 2,
+    },
+    wanted: Wanted {
+        tries: 3,
+        solutions: 2,
+        end: End::Solutions,
+        list: &[3, 2, 1],
+    },
+};
+
+// What a row asks of a search.
+fn asks_of(by: By, search: &'static Sought) -> Asks {
+    Asks::Judge(by, Question::Search(search))
 }
 
 // What searches by a judge find.
-fn rows(by: By) -> [Row; 7] {
-    let down = Search::Descent;
-    let on = Search::Guided;
+#[rattlefmt::skip]
+fn rows(by: By) -> [Row; 13] {
+    let uncrossed = asks_of(by, &UNCROSSED);
+    let again = asks_of(by, &TURNED_AGAIN);
     [
-        of_square("arcs alone, descent", SQUARE, by, down, &UNCROSSED),
-        of_square("arcs alone, guided", SQUARE, by, on, &TURNED_AGAIN),
-        of_square("a fixed cost, descent", PAID_SQUARE, by, down, &UNCROSSED),
-        of_square("a fixed cost, guided", PAID_SQUARE, by, on, &TURNED_AGAIN),
-        of_square("spans alone, descent", SPAN_SQUARE, by, down, &UNCROSSED),
-        of_day("a day, descent", by, down, &PLANNED_BETTER),
-        of_day("a day, guided", by, on, &PLANNED_AGAIN),
+        Row { name: "arcs alone, descent", text: SQUARE, lists: CROSSING, asks: uncrossed },
+        Row { name: "arcs alone, guided", text: SQUARE, lists: CROSSING, asks: again },
+        Row { name: "a fixed cost, descent", text: PAID_SQUARE, lists: CROSSING, asks: uncrossed },
+        Row { name: "a fixed cost, guided", text: PAID_SQUARE, lists: CROSSING, asks: again },
+        Row { name: "spans alone, descent", text: SPAN_SQUARE, lists: CROSSING, asks: uncrossed },
+        Row { name: "a day, descent", text: DAY, lists: PLANNED, asks: asks_of(by, &PLANNED_BETTER) },
+        Row { name: "a day, guided", text: DAY, lists: PLANNED, asks: asks_of(by, &PLANNED_AGAIN) },
+        Row { name: "all moves back are tabu", text: THREE, lists: BOTH, asks: asks_of(by, &TURNED) },
+        Row { name: "a tie, and a tabu move that costs least", text: SHORTCUT, lists: ALL, asks: asks_of(by, &LED_ON) },
+        Row { name: "tabu search, by moves that cost more", text: DETOUR, lists: ALL, asks: asks_of(by, &UPHILL) },
+        Row { name: "tabu for two rounds", text: DETOUR, lists: ALL, asks: asks_of(by, &LONGER_TABU) },
+        Row { name: "tabu search of more moves than tries", text: DETOUR, lists: ALL, asks: asks_of(by, &CUT_SHORT) },
+        Row { name: "tabu search of enough solutions", text: DETOUR, lists: ALL, asks: asks_of(by, &ENOUGH) },
     ]
 }
 

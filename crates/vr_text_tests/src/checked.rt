@@ -6,7 +6,7 @@ use std::test::Fail;
 use vr_check::{Finding, check};
 use vr_model::{Closed, NoMemory};
 use vr_printed::{Printed, printed_lists, read_printed};
-use vr_samples::read_model_text;
+use vr_samples::{all_hold, read_model_text};
 
 // Three nodes.
 const THREE: &str =
@@ -110,10 +110,5 @@ fn holds(alloc: Global, row: &Row) -> bool {
 
 #[test]
 fn solutions_are_checked(rt: HostRuntime) -> Result<(), Fail> {
-    for row in &ROWS {
-        if !holds(rt.alloc(), row) {
-            return Err(Fail::new(row.0));
-        }
-    }
-    Ok(())
+    all_hold(&ROWS, &|row: &Row| (row.0, holds(rt.alloc(), row)))
 }

@@ -8,7 +8,7 @@ use vr_gen::generate;
 use vr_json::{Path, ReadFail};
 use vr_model::{Model, ScheduleRule};
 use vr_read::read_model;
-use vr_samples::read_model_text;
+use vr_samples::{all_hold, read_model_text};
 
 // Every table that a short text can have: five nodes, of which 1 to 4 are visits.
 const FULL: &str =
@@ -130,10 +130,5 @@ fn holds(alloc: Global, row: &Row) -> bool {
 
 #[test]
 fn formats_are_read(rt: HostRuntime) -> Result<(), Fail> {
-    for row in &ROWS {
-        if !holds(rt.alloc(), row) {
-            return Err(Fail::new(row.0));
-        }
-    }
-    Ok(())
+    all_hold(&ROWS, &|row: &Row| (row.0, holds(rt.alloc(), row)))
 }

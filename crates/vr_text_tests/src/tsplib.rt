@@ -1,9 +1,10 @@
 //! Files of TSPLIB become trees, or are refused with the code and the line of their first flaw.
 
+use crate::values::is_refused;
 use serde_json::Value;
 use std::alloc::Global;
 use std::test::Fail;
-use vr_json::ReadFail;
+use vr_samples::all_hold;
 use vr_tsplib::{import, nearest_root};
 
 // Three nodes in the plane.
@@ -99,14 +100,6 @@ fn is_text(alloc: Global, tree: &Value, text: &str) -> bool {
     }
 }
 
-// Whether an import is refused with this code at this path.
-fn is_refused(fail: &ReadFail, code: u8, path: &str) -> bool {
-    match fail {
-        ReadFail::Refused(fault) => fault.code == code && fault.path.as_str() == path,
-        ReadFail::NoMemory => false,
-    }
-}
-
 // Whether the import of a row's file gives what the row says.
 fn is_answered(alloc: Global, row: &Row) -> bool {
     match (import(alloc, row.1.as_bytes(), 1), row.2) {
@@ -118,12 +111,7 @@ fn is_answered(alloc: Global, row: &Row) -> bool {
 
 #[test]
 fn files_are_imported(rt: HostRuntime) -> Result<(), Fail> {
-    for row in &ROWS {
-        if !is_answered(rt.alloc(), row) {
-            return Err(Fail::new(row.0));
-        }
-    }
-    Ok(())
+    all_hold(&ROWS, &|row: &Row| (row.0, is_answered(rt.alloc(), row)))
 }
 
 // A square, the last numbers with a root that is rounded down and the first with one that is rounded up, and the

@@ -8,6 +8,7 @@ use vr_json::{
     to_line, whole, word,
 };
 use vr_model::{NoMemory, Seq};
+use vr_samples::all_hold;
 
 // A whole number of 0 to 9, as the entry of an array.
 #[derive(Drop)]
@@ -143,12 +144,7 @@ fn holds(alloc: Global, row: &Row) -> bool {
 
 #[test]
 fn values_are_read(rt: HostRuntime) -> Result<(), Fail> {
-    for row in &ROWS {
-        if !holds(rt.alloc(), row) {
-            return Err(Fail::new(row.0));
-        }
-    }
-    Ok(())
+    all_hold(&ROWS, &|row: &Row| (row.0, holds(rt.alloc(), row)))
 }
 
 // The line of a tree in which a field was put twice.

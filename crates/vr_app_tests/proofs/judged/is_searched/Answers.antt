@@ -5,4 +5,4 @@ use Rattle.vr_app_tests.proofs.judged.is_searched.Goals as goal
 
 pub search_from-requires-clause-valid : goal.search_from-requires-clause-valid
 search_from-requires-clause-valid c =
-    first_lists-valid c.args.closed.model.now _ (sym c.in_ok-first.ensures.lists ∙ ap lists_in c.in-Some.is)
+    first_lists-valid c.args.lookups.now.closed.model.now _ (sym c.in_ok-first.ensures.lists ∙ ap lists_in c.in-Some.is)

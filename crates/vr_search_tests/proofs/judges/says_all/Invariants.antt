@@ -2,9 +2,6 @@ use Rattle.std.proofs.Common.{◌≡◌}
 use Rattle.vr_routes.specs.Judging.{HoldSame}
 use Rattle.vr_search_tests.proofs.judges.says_all.Given as goal
 
-abbrev pub ghosts-judge_move : goal.ghosts-judge_move
-ghosts-judge_move g a = record { name = a.blank.name; parts = a.blank.parts }
-
 -- the judge holds the lists so far
 abbrev pub invariant-loop-mv : goal.invariant-loop-mv
 invariant-loop-mv g l = record {

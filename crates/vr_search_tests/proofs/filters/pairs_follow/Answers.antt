@@ -1,5 +1,0 @@
-use Rattle.vr_search_tests.proofs.ValidRules.{valid_serves}
-use Rattle.vr_search_tests.proofs.filters.pairs_follow.Goals as goal
-
-pub open-requires-clause-rule : goal.open-requires-clause-rule
-open-requires-clause-rule c = valid_serves c.args.closed.model.now c.args.routes.now.lists c.requires.valid

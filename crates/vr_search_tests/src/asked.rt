@@ -1,0 +1,203 @@
+//! What both judges are asked: each is opened at the routes of a row and answers the same questions, and how often it
+//! is asked is counted.
+
+ghost use Rattle.std.specs.Prelude.{◌≡◌, ◌+◌, ◌*◌, ◌<◌, ◌≤◌, IfOk, IsTrue, OnErr, OnOk};
+ghost use Rattle.vr_model.specs.moves.Moves.{apply};
+ghost use Rattle.vr_model.specs.moves.MoveTests.{is_move};
+ghost use Rattle.vr_model.specs.routes.Rules.{is_valid};
+ghost use Rattle.vr_model.specs.tables.Tables.{visits};
+ghost use Rattle.vr_routes.specs.Changes.{IsChange};
+ghost use Rattle.vr_routes.specs.Judging.{HoldSame, moved, verdict_of};
+
+use crate::judges::{self, Said};
+use crate::searches::{self, Sought};
+use crate::stopped;
+use std::alloc::Global;
+use std::marker::Brand;
+use std::sync::ledger::{Blank, Ledger};
+use vr_judge::FilterJudge;
+use vr_model::{Closed, Move, NoMemory, Steps};
+use vr_plain::PlainJudge;
+use vr_routes::{Change, Judge, Routes, Verdict};
+
+/// Who judges moves.
+#[derive(Clone, Copy)]
+pub(crate) enum By {
+    Rebuilding,
+    Filters,
+}
+
+/// What a judge is asked.
+#[derive(Clone, Copy)]
+pub(crate) enum Question {
+    /// What it says of moves; some of them are made.
+    Moves(&'static [Said]),
+    /// What a search finds, and how often it asks.
+    Search(&'static Sought),
+    /// That a watcher which refuses ends the descent.
+    Stopper,
+}
+
+/// A judge that counts the moves that it judges, and how often it is asked what moves make at least.
+pub(crate) struct Counting<J: Judge> {
+    judge: J,
+    pub(crate) count: u64,
+    pub(crate) looks: u64,
+}
+
+impl<J: Judge> Judge for Counting<J> {
+    ghost model = { λ counting. J.model counting.judge };
+
+    ghost committed = { λ counting. J.committed counting.judge };
+
+    ghost asked = { λ counting. counting.count };
+
+    ghost looked = { λ counting. counting.looks };
+
+    ghost weight = { λ counting mv. J.weight counting.judge mv };
+
+    fn judge<L: Ledger>(
+        &mut self,
+        routes: &Routes,
+        mv: Move,
+        steps: &mut Steps<L>,
+    ) -> Result<Verdict, NoMemory> {
+        self.count = self.count.saturating_add(1);
+        let verdict = self.judge.judge(routes, mv, steps)?;
+        Ok(verdict)
+    }
+
+    fn judge_change<L: Ledger>(
+        &mut self,
+        routes: &Routes,
+        mv: Move,
+        change: &Change,
+        steps: &mut Steps<L>,
+    ) -> Result<Verdict, NoMemory> {
+        self.count = self.count.saturating_add(1);
+        let verdict = self.judge.judge_change(routes, mv, change, steps)?;
+        Ok(verdict)
+    }
+
+    fn least_difference(&mut self, routes: &Routes, mv: Move, change: &Change) -> i64 {
+        self.looks = self.looks.saturating_add(1);
+        self.judge.least_difference(routes, mv, change)
+    }
+
+    fn least_by_numbers(&mut self, routes: &Routes, mv: Move) -> Option<i64> {
+        self.looks = self.looks.saturating_add(1);
+        self.judge.least_by_numbers(routes, mv)
+    }
+
+    fn first_below(
+        &mut self,
+        routes: &Routes,
+        mv: Move,
+        from: u32,
+        end: u32,
+        bound: i64,
+    ) -> Option<u32> {
+        self.looks = self.looks.saturating_add(1);
+        self.judge.first_below(routes, mv, from, end, bound)
+    }
+
+    fn commit(&mut self, routes: &mut Routes, mv: Move) -> Result<(), NoMemory> {
+        self.judge.commit(routes, mv)?;
+        Ok(())
+    }
+}
+
+impl<J: Judge> Counting<J> {
+    // The judge that was counted.
+    fn into_judge(self) -> J {
+        let Counting {
+            judge,
+            count: _,
+            looks: _,
+        } = self;
+        judge
+    }
+}
+
+// Whether a judge that holds routes answers a question as it says.
+fn is_answered<J: Judge, L: Ledger>(
+    alloc: Global,
+    closed: Closed<'_>,
+    counting: &mut Counting<J>,
+    by: By,
+    routes: &mut Routes,
+    question: Question,
+    blank: Blank,
+) -> Result<bool, NoMemory>
+    requires judge_model { J.model counting.old.judge ≡ closed.model.now }
+    requires holds { HoldSame closed.model.now (J.committed counting.old.judge) routes.old }
+    requires name { blank.name ≡ L.name }
+    requires parts { blank.parts ≡ L.parts }
+    requires some { 0 < blank.parts }
+{
+    let mut steps = Steps::<L>::new(blank);
+    match question {
+        Question::Moves(moves) => judges::says_all(closed, counting, routes, moves, &mut steps),
+        Question::Search(sought) => searches::finds(
+            alloc, closed, counting, by, routes, sought, &mut steps,
+        ),
+        Question::Stopper => stopped::ends_between_watchers(
+            alloc, closed, counting, routes, &mut steps,
+        ),
+    }
+}
+
+// Whether a judge that was opened at routes does so; it is handed back.
+fn answer_of<J: Judge>(
+    alloc: Global,
+    closed: Closed<'_>,
+    judge: J,
+    by: By,
+    routes: &mut Routes,
+    question: Question,
+) -> (Result<bool, NoMemory>, J)
+    requires judge_model { J.model judge ≡ closed.model.now }
+    requires holds { HoldSame closed.model.now (J.committed judge) routes.old }
+{
+    let mut counting = Counting {
+        judge,
+        count: 0,
+        looks: 0,
+    };
+    let answered = is_answered::<J, Brand>(
+        alloc,
+        closed,
+        &mut counting,
+        by,
+        routes,
+        question,
+        Blank::new(1),
+    );
+    (answered, counting.into_judge())
+}
+
+/// Whether a judge that is opened at valid routes answers a question as it says.
+pub(crate) fn answers(
+    alloc: Global,
+    closed: Closed<'_>,
+    routes: &mut Routes,
+    by: By,
+    question: Question,
+) -> Result<bool, NoMemory>
+    requires of_model { routes.old.visits ≡ visits closed.model.now }
+    requires valid { IsTrue (is_valid closed.model.now routes.old.lists) }
+{
+    match by {
+        By::Rebuilding => {
+            let judge = PlainJudge::open(alloc, closed.model, routes)?;
+            let (answered, _) = answer_of(alloc, closed, judge, by, routes, question);
+            answered
+        }
+        By::Filters => {
+            let judge = FilterJudge::open(alloc, closed.model, routes)?;
+            let (answered, judge) = answer_of(alloc, closed, judge, by, routes, question);
+            judge.close();
+            answered
+        }
+    }
+}
