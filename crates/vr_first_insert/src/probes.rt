@@ -109,6 +109,7 @@ impl Probes {
     /// stands.
     ///
     /// `NoMemory` as of `is_feasible_between`.
+    #[inline]
     pub(crate) fn go_on(
         &mut self,
         lookups: &Lookups<'_>,
