@@ -155,6 +155,15 @@ fn write_each<T: Copy>(values: &mut [T], places: &[u32], value: T)
     }
 }
 
+// A place for a number of each node.
+fn no_numbers(alloc: Global, model: &RoutingModel) -> Result<Vec<u32>, NoMemory>
+    ensures { IfOk result (λ numbers. length numbers.items ≡ model.now.nodes) }
+{
+    let mut numbers = Vec::new(alloc);
+    numbers.resize(model.nodes as usize, 0)?;
+    Ok(numbers)
+}
+
 // Writes over the numbers of the groups of all nodes, from the last group to the first.
 fn write_groups(closed: Closed<'_>, numbers: &mut [u32])
     requires long { length numbers.old ≡ closed.model.now.nodes }
@@ -170,6 +179,15 @@ fn write_groups(closed: Closed<'_>, numbers: &mut [u32])
             g as u32,
         );
     }
+}
+
+// For each node of a model the number of its row of allowed vehicles.
+fn row_numbers(alloc: Global, closed: Closed<'_>) -> Result<Seq<u32>, NoMemory>
+    ensures { IfOk result (AreNumbersBy (row_number_of closed.entry.model.now) closed.entry.model.now.nodes) }
+{
+    let mut numbers = no_numbers(alloc, closed.model)?;
+    write_rows(closed, &mut numbers);
+    Ok(Seq::from(numbers))
 }
 
 // Writes over the numbers of the rows of all nodes, from the last row to the first.
@@ -200,35 +218,23 @@ fn write_pairs(closed: Closed<'_>, numbers: &mut [u32])
     }
 }
 
+// For each node of a model the number of its pair.
+fn pair_numbers(alloc: Global, closed: Closed<'_>) -> Result<Seq<u32>, NoMemory>
+    ensures { IfOk result (AreNumbersBy (pair_number closed.entry.model.now) closed.entry.model.now.nodes) }
+{
+    let mut numbers = no_numbers(alloc, closed.model)?;
+    write_pairs(closed, &mut numbers);
+    Ok(Seq::from(numbers))
+}
+
 /// For each node of a model the number of its group, that of all groups where it is in none. It goes once over the
 /// nodes and the groups. The only refusal is want of memory.
 pub fn group_numbers(alloc: Global, model: &RoutingModel) -> Result<Seq<u32>, NoMemory>
     requires { IsWellFormed model.now }
     ensures { IfOk result (AreNumbers model.now) }
 {
-    let mut numbers = Vec::new(alloc);
-    numbers.resize(model.nodes as usize, 0)?;
+    let mut numbers = no_numbers(alloc, model)?;
     write_groups(Closed { model }, &mut numbers);
-    Ok(Seq::from(numbers))
-}
-
-// For each node of a model the number of its pair.
-fn pair_numbers(alloc: Global, closed: Closed<'_>) -> Result<Seq<u32>, NoMemory>
-    ensures { IfOk result (AreNumbersBy (pair_number closed.entry.model.now) closed.entry.model.now.nodes) }
-{
-    let mut numbers = Vec::new(alloc);
-    numbers.resize(closed.model.nodes as usize, 0)?;
-    write_pairs(closed, &mut numbers);
-    Ok(Seq::from(numbers))
-}
-
-// For each node of a model the number of its row of allowed vehicles.
-fn row_numbers(alloc: Global, closed: Closed<'_>) -> Result<Seq<u32>, NoMemory>
-    ensures { IfOk result (AreNumbersBy (row_number_of closed.entry.model.now) closed.entry.model.now.nodes) }
-{
-    let mut numbers = Vec::new(alloc);
-    numbers.resize(closed.model.nodes as usize, 0)?;
-    write_rows(closed, &mut numbers);
     Ok(Seq::from(numbers))
 }
 

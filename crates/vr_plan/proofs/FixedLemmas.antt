@@ -8,10 +8,11 @@ use Rattle.vr_spans.specs.declared.runs.Run.{Run}
 use Rattle.vr_model.specs.tables.Numbers.{number_at, is_same_number, within, horizon}
 use Rattle.vr_model.specs.deciding.Testing.{and_left, and_right, and_both, tests_of_eq, eq_of_tests}
 use Rattle.vr_model.specs.schedules.Lines.{Line as Defined}
-use Rattle.vr_model.specs.schedules.Schedules.{Plan, IsSchedule, allows, cumul}
+use Rattle.vr_model.specs.schedules.Schedules.{Plan, IsSchedule, allows, both_sides, cumul}
 use Rattle.vr_steps.specs.declared.lines.Line.{Line}
 use Rattle.vr_steps.specs.Levels.{HasNumbers}
 use Rattle.vr_steps.specs.Lines.{IsLineOf}
+use Rattle.vr_steps.proofs.ReachLemmas.{other_stops}
 use Rattle.vr_plan.specs.Settled.{IsOnly}
 use Rattle.vr_plan.specs.Narrow.{AreOnly, fixed_allowed, fixed}
 
@@ -68,18 +69,7 @@ fixed_line defined made narrow cumuls of long only hops breaks = record {
 module _ (line : Defined) (cumuls : List ℤ) (long : length cumuls ≡ length line.allowed) (plan : Plan) where
   -- a schedule with these cumuls is one of the narrower line
   pub to_fixed : IsSchedule line plan → plan.cumuls ≡ cumuls → IsSchedule (fixed line cumuls) plan
-  to_fixed s e = record {
-    cumul_of_each_stop = s.cumul_of_each_stop ∙ sym (length_fixed line.allowed cumuls);
-    slack_of_each_arc = s.slack_of_each_arc;
-    start_of_each_break = s.start_of_each_break;
-    cumuls_allowed = λ k lt. let n = length_fixed line.allowed cumuls in there k (omega (arith, lt, n));
-    slacks_left = s.slacks_left;
-    slacks_bounded = s.slacks_bounded;
-    breaks_in_range = s.breaks_in_range;
-    breaks_in_order = s.breaks_in_order;
-    breaks_placed = s.breaks_placed;
-    slacks_carry_breaks = s.slacks_carry_breaks;
-  }
+  to_fixed s e = other_stops both_sides line (fixed_allowed line.allowed cumuls) plan s (s.cumul_of_each_stop ∙ sym (length_fixed line.allowed cumuls)) (λ k lt. let n = length_fixed line.allowed cumuls in there k (omega (arith, lt, n)))
     where
       there : (k : ℕ) → k < length line.allowed → IsTrue (allows (fixed line cumuls) k (cumul plan k))
       there k lt =
@@ -91,18 +81,8 @@ module _ (line : Defined) (cumuls : List ℤ) (long : length cumuls ≡ length l
   -- and the other way round
   pub of_fixed : IsSchedule (fixed line cumuls) plan → IsSchedule line plan × (plan.cumuls ≡ cumuls)
   of_fixed s = (
-    record {
-      cumul_of_each_stop = number;
-      slack_of_each_arc = s.slack_of_each_arc;
-      start_of_each_break = s.start_of_each_break;
-      cumuls_allowed = λ k lt. and_both (within (pos 0) horizon (cumul plan k)) _ (and_left (within (pos 0) horizon (cumul plan k)) _ (here k lt)) (and_left (get_or line.allowed k (λ _. false) (cumul plan k)) _ (parts k lt));
-      slacks_left = s.slacks_left;
-      slacks_bounded = s.slacks_bounded;
-      breaks_in_range = s.breaks_in_range;
-      breaks_in_order = s.breaks_in_order;
-      breaks_placed = s.breaks_placed;
-      slacks_carry_breaks = s.slacks_carry_breaks;
-    },
+    other_stops both_sides (fixed line cumuls) line.allowed plan s number
+        (λ k lt. and_both (within (pos 0) horizon (cumul plan k)) _ (and_left (within (pos 0) horizon (cumul plan k)) _ (here k lt)) (and_left (get_or line.allowed k (λ _. false) (cumul plan k)) _ (parts k lt))),
     ext_get_or (pos 0) plan.cumuls cumuls (number ∙ sym long) (λ k lt. sym (eq_of_tests (number_at cumuls k) (cumul plan k) (and_right (get_or line.allowed k (λ _. false) (cumul plan k)) _ (parts k (omega (arith, lt, number)))))),
   )
     where

@@ -9,12 +9,11 @@ ghost use Rattle.vr_steps.specs.Lines.{IsSoundLine};
 ghost use Rattle.vr_plan.specs.Plans.{AreChosenCumuls, AreChosenCumulsUnder};
 ghost use Rattle.vr_plan.specs.Settled.{Goes};
 
-use crate::cumuls::{Room, settle};
+use crate::cumuls::{Scratch, settle};
 use crate::ends::tight_line;
 use crate::sound::SoundLine;
 use std::alloc::Global;
-use std::marker::{Brand, Model};
-use std::sync::ledger::Blank;
+use std::marker::Model;
 use vr_model::{NoMemory, ScheduleRule, Seq};
 use vr_reach::Sweep;
 use vr_steps::Line;
@@ -27,7 +26,7 @@ use vr_steps::Line;
 pub struct Chooser {
     // what is reached at each stop, from one end of a line or the other
     sweep: Sweep,
-    room: Room,
+    scratch: Scratch,
     cumuls: Seq<i64>,
 }
 
@@ -46,7 +45,7 @@ impl Chooser {
     {
         Chooser {
             sweep: Sweep::new(alloc),
-            room: Room::new(alloc),
+            scratch: Scratch::new(alloc),
             cumuls: Seq::new(alloc),
         }
     }
@@ -99,13 +98,7 @@ impl Chooser {
         let line = sound.line;
         self.sweep.backward(alloc, line)?;
         self.cumuls.truncate(0);
-        let goes = settle::<Brand>(
-            sound,
-            &self.sweep,
-            &mut self.room,
-            &mut self.cumuls,
-            Blank::new(1),
-        )?;
+        let goes = settle(sound, &self.sweep, &mut self.scratch, &mut self.cumuls)?;
         Ok(goes)
     }
 

@@ -10,24 +10,23 @@ ghost use Rattle.vr_plan.specs.Settled.{IsOnly, IsSettled, HaveChosenCumuls, IsU
 use crate::sound::SoundLine;
 use std::alloc::Global;
 use std::mem;
-use std::sync::ledger::{Blank, Ledger};
-use vr_model::{NoMemory, Seq, Steps};
+use vr_model::{NoMemory, Seq};
 use vr_reach::{Sweep, least_shared};
 use vr_spans::{Run, Spans};
-use vr_steps::{Levels, cross_into, start_levels_into};
+use vr_steps::{Levels, Way, cross_uncounted, start_levels_into};
 
 // Sets that are written over while cumuls are settled.
 #[derive(Drop)]
-pub(crate) struct Room {
+pub(crate) struct Scratch {
     only: Spans,
     here: Levels,
     next: Levels,
 }
 
-impl Room {
+impl Scratch {
     // Empty sets. They take no memory.
-    pub(crate) fn new(alloc: Global) -> Room {
-        Room {
+    pub(crate) fn new(alloc: Global) -> Scratch {
+        Scratch {
             only: Spans::new(alloc),
             here: Levels::new(alloc),
             next: Levels::new(alloc),
@@ -37,22 +36,18 @@ impl Room {
 
 // The cumuls of the chosen schedule of a line, by what its end is reached from; `None` exactly where the line has no
 // schedule.
-pub(crate) fn settled_cumuls<L: Ledger>(
+pub(crate) fn settled_cumuls(
     alloc: Global,
     sound: SoundLine<'_>,
     behind: &Sweep,
-    blank: Blank,
 ) -> Result<Option<Seq<i64>>, NoMemory>
-    requires name { blank.name ≡ L.name }
-    requires parts { blank.parts ≡ L.parts }
-    requires some { 0 < blank.parts }
     requires behind { AreBackward sound.line.now behind.now }
     ensures some { IfOk result (λ found. IfSome found (HaveChosenCumuls sound.entry.line.now)) }
     ensures none { IfOk result (λ found. IsNone found → IsUnfeasible sound.entry.line.now) }
 {
-    let mut room = Room::new(alloc);
+    let mut scratch = Scratch::new(alloc);
     let mut cumuls = Seq::new(alloc);
-    let goes = settle::<L>(sound, behind, &mut room, &mut cumuls, blank)?;
+    let goes = settle(sound, behind, &mut scratch, &mut cumuls)?;
     Ok(goes.then_some(cumuls))
 }
 
@@ -84,36 +79,31 @@ fn begin(
 
 // Settles the cumul of each stop, one after another: the least that schedules with the cumuls before it have there.
 // Answers whether there is a schedule.
-pub(crate) fn settle<L: Ledger>(
+pub(crate) fn settle(
     sound: SoundLine<'_>,
     behind: &Sweep,
-    room: &mut Room,
+    scratch: &mut Scratch,
     cumuls: &mut Seq<i64>,
-    blank: Blank,
 ) -> Result<bool, NoMemory>
-    requires name { blank.name ≡ L.name }
-    requires parts { blank.parts ≡ L.parts }
-    requires some { 0 < blank.parts }
     requires behind { AreBackward sound.line.now behind.now }
     requires none { cumuls.old ≡ [] }
     ensures settled { IfOk result (Goes (HaveChosenCumuls sound.entry.line.now cumuls.new)) }
     ensures stops { IfOk result (λ goes. goes ≡ false → IsUnfeasible sound.entry.line.now) }
 {
     let line = sound.line;
-    let mut steps = Steps::<L>::new(blank);
-    let Room { only, here, next } = room;
+    let Scratch { only, here, next } = scratch;
     if !begin(sound, behind, only, here, cumuls)? {
         return Ok(false);
     }
     for k in 0..line.hops.len() {
         let hop = *line.hops.get(k);
         let allowed = line.allowed.get(k + 1);
-        cross_into(here, hop, allowed, &line.breaks, &mut steps, next)?;
+        cross_uncounted(Way::On, here, hop, allowed, &line.breaks, next)?;
         let Some(least) = least_shared(next, behind.levels(k + 1)) else {
             return Ok(false);
         };
         keep(allowed, least, only)?;
-        cross_into(here, hop, only, &line.breaks, &mut steps, next)?;
+        cross_uncounted(Way::On, here, hop, only, &line.breaks, next)?;
         mem::swap(here, next);
         cumuls.push(least)?;
     }

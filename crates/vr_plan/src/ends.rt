@@ -46,8 +46,8 @@ fn latest_start(
     let line = sound.line;
     let allowed = line.allowed.get(0);
     let starts = start_levels(alloc, allowed, &line.breaks)?;
-    let mut room = Spans::new(alloc);
-    let start = greatest_shared(&starts, behind, &mut room)?;
+    let mut scratch = Spans::new(alloc);
+    let start = greatest_shared(&starts, behind, &mut scratch)?;
     Ok(start)
 }
 

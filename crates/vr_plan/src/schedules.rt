@@ -15,8 +15,6 @@ use crate::sound::SoundLine;
 use crate::starts::chosen_starts;
 use crate::{Chooser, Plan};
 use std::alloc::Global;
-use std::marker::Brand;
-use std::sync::ledger::Blank;
 use vr_model::{NoMemory, ScheduleRule, Seq};
 use vr_reach::{Rows, Sweep};
 use vr_steps::{Levels, Line};
@@ -82,9 +80,8 @@ fn earliest(alloc: Global, sound: SoundLine<'_>) -> Result<Option<Plan>, NoMemor
         length plan.cumuls ≡ length sound.entry.line.now.allowed)) }
     ensures range { IfOk result (λ found. IfSome found (λ plan. All (IsIn (pos 0) horizon) plan.cumuls)) }
 {
-    let line = sound.line;
     let mut behind = Sweep::new(alloc);
-    behind.backward(alloc, line)?;
+    behind.backward(alloc, sound.line)?;
     schedule_behind(alloc, sound, &behind)
 }
 
@@ -134,7 +131,7 @@ fn schedule_behind(
     ensures range { IfOk result (λ found. IfSome found (λ plan. All (IsIn (pos 0) horizon) plan.cumuls)) }
 {
     let line = sound.line;
-    let Some(cumuls) = settled_cumuls::<Brand>(alloc, sound, behind, Blank::new(1))? else {
+    let Some(cumuls) = settled_cumuls(alloc, sound, behind)? else {
         return Ok(None);
     };
     let Some(breaks) = chosen_starts(alloc, sound, cumuls.as_slice())? else {

@@ -148,12 +148,10 @@ shared_first model d v [] new rows kept a shares n empty some = subst (λ i. Are
 shared_first model d v (x ∷ xs) new rows kept a shares n empty some =
     let is : n ≡ a + 1 = some (omega arith) in
     let r = (kept refl).forward in
-    let long = r.row_of_each_stop in
     let old_low = shares.within_old in
-    let new_low = shares.within_new in
     record {
-      within = omega (arith, is, new_low);
-      there = omega (arith, is, old_low, long);
+      within = omega (arith, is, shares.within_new);
+      there = omega (arith, is, old_low, r.row_of_each_stop);
       each = λ k low. reached_in model d v (x ∷ xs) new k (row_at rows.forward k) (fewer_at_front (x ∷ xs) new a k shares (omega (arith, low, is))) (r.each k (omega (arith, low, is, old_low)));
     }
 

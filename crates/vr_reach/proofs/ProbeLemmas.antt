@@ -27,10 +27,10 @@ unbroken : (where_else : Sides) (allowed : List (ℤ → Bool)) (arcs : List Arc
 unbroken where_else allowed arcs slack rows plan m = record {
   cumul_of_each_stop = m.cumul_of_each_stop;
   slack_of_each_arc = m.slack_of_each_arc;
-  start_of_each_break = refl;
   cumuls_allowed = m.cumuls_allowed;
   slacks_left = m.slacks_left;
   slacks_bounded = m.slacks_bounded;
+  start_of_each_break = refl;
   breaks_in_range = λ k lt. absurd (omega arith);
   breaks_in_order = λ k lt. absurd (omega arith);
   breaks_placed = λ k lt. absurd (omega arith);

@@ -5,9 +5,8 @@ ghost use Rattle.vr_reach.specs.DrivenRows.{AreFirstOn, AreLastOn, AreReachedOn,
 ghost use Rattle.vr_reach.specs.DrivenRows.{IsReachedOn, IsReachingOn};
 
 use crate::stops::{ListStops, hop_from, set_at};
-use crate::uncounted::{cross_back, cross_on};
 use vr_model::NoMemory;
-use vr_steps::{Levels, end_levels_into, start_levels_into};
+use vr_steps::{Levels, Way, cross_uncounted, end_levels_into, start_levels_into};
 
 // Writes what a list reaches at its first stop.
 fn write_start(stops: &ListStops, row: &mut Levels) -> Result<(), NoMemory>
@@ -39,27 +38,14 @@ fn reach_on(stops: &ListStops, known: usize, rows: &mut [Levels]) -> Result<(), 
         let (done, left) = rows.split_at_mut(k + 1);
         let hop = hop_from(&stops.of, k);
         let next = set_at(stops, k + 1);
-        cross_on(&done[k], hop, next, &stops.ends.breaks, &mut left[0])?;
-    }
-    Ok(())
-}
-
-// Writes what the end is reached from at each stop of a list over the rows, of which the last `known` are those of the
-// list.
-fn reach_back(stops: &ListStops, known: usize, rows: &mut [Levels]) -> Result<(), NoMemory>
-    requires begun { 0 < known }
-    requires known { AreLastOn stops.now.of known rows.old }
-    requires long { length rows.old ≡ suc (suc (length stops.now.of.list.now)) }
-    ensures { OnOk result (AreReachingOn stops.now.of rows.new) }
-{
-    let n = stops.of.list.len();
-    let mut k = n + 2 - known;
-    'stops: while k > 0 {
-        k -= 1;
-        let (left, done) = rows.split_at_mut(k + 1);
-        let hop = hop_from(&stops.of, k);
-        let here = set_at(stops, k);
-        cross_back(&done[0], hop, here, &stops.ends.breaks, &mut left[k])?;
+        cross_uncounted(
+            Way::On,
+            &done[k],
+            hop,
+            next,
+            &stops.ends.breaks,
+            &mut left[0],
+        )?;
     }
     Ok(())
 }
@@ -79,6 +65,32 @@ pub(crate) fn write_ahead(
     }
     write_start(stops, &mut rows[0])?;
     reach_on(stops, 1, rows)
+}
+
+// Writes what the end is reached from at each stop of a list over the rows, of which the last `known` are those of the
+// list.
+fn reach_back(stops: &ListStops, known: usize, rows: &mut [Levels]) -> Result<(), NoMemory>
+    requires begun { 0 < known }
+    requires known { AreLastOn stops.now.of known rows.old }
+    requires long { length rows.old ≡ suc (suc (length stops.now.of.list.now)) }
+    ensures { OnOk result (AreReachingOn stops.now.of rows.new) }
+{
+    let mut k = stops.of.list.len() + 2 - known;
+    'stops: while k > 0 {
+        k -= 1;
+        let (left, done) = rows.split_at_mut(k + 1);
+        let hop = hop_from(&stops.of, k);
+        let here = set_at(stops, k);
+        cross_uncounted(
+            Way::Back,
+            &done[0],
+            hop,
+            here,
+            &stops.ends.breaks,
+            &mut left[k],
+        )?;
+    }
+    Ok(())
 }
 
 // Writes what the end is reached from at each stop of a list over the rows, of which the last `known` are those of the

@@ -1,4 +1,4 @@
-//! Walks through what an insertion changes in a list whose rows are known, the stretch told or the levels kept.
+//! Walks through what an insertion changes in a list whose rows are known, the stretch known or the levels kept.
 
 ghost use Rattle.std.specs.Prelude.{◌≡◌, ◌+◌, ◌≤◌, IsTrue, length, IfOk, OnOk};
 ghost use Rattle.vr_model.specs.schedules.Choices.{is_feasible};
@@ -15,7 +15,6 @@ use crate::legs::Leg;
 use crate::spliced::Spliced;
 use crate::stops::{ListStops, StopsFor, hop_from, set_at};
 use crate::stretches::Stretch;
-use crate::uncounted::Crossing;
 use crate::walking::{goes_along, levels_before, levels_behind};
 use crate::walks::Walk;
 use vr_model::NoMemory;
@@ -177,12 +176,6 @@ fn cross_arc(stops: &ListStops, k: usize, from: &Levels, walk: &mut Walk) -> Res
     let _few = stops.of.list.len();
     let hop = hop_from(&stops.of, k);
     let next = set_at(stops, k + 1);
-    let crossing = Crossing {
-        levels: from,
-        hop,
-        allowed: next,
-        breaks: &stops.ends.breaks,
-    };
-    walk.cross(&crossing)?;
+    walk.cross_from(from, hop, next, &stops.ends.breaks)?;
     Ok(())
 }

@@ -15,44 +15,44 @@ pub struct Stretch {
 }
 
 impl Stretch {
-    // What two lists share: as many nodes at the front as they can, and then as many at the back. Nodes that are told
-    // are not looked at.
-    pub(crate) fn of(old: &[u32], new: &Spliced, told: Stretch) -> Stretch
-        requires front { SharesFront old.now new.now told.front }
-        requires back { SharesBack old.now new.now told.back }
+    // What two lists share: as many nodes at the front as they can, and then as many at the back. Nodes that are known
+    // to be shared are not looked at.
+    pub(crate) fn of(old: &[u32], new: &Spliced, known: Stretch) -> Stretch
+        requires front { SharesFront old.now new.now known.front }
+        requires back { SharesBack old.now new.now known.back }
         ensures { IsStretch old.now new.now result }
     {
-        let front = shared_front(old, new, told.front);
-        let back = shared_back(old, new, front, told.back);
+        let front = shared_front(old, new, known.front);
+        let back = shared_back(old, new, front, known.back);
         Stretch { front, back }
     }
 }
 
-// How many nodes two lists share at the front: some that are told, and more.
-fn shared_front(old: &[u32], new: &Spliced, told: usize) -> usize
-    requires told { SharesFront old.now new.now told }
+// How many nodes two lists share at the front: some that are known, and more.
+fn shared_front(old: &[u32], new: &Spliced, known: usize) -> usize
+    requires known { SharesFront old.now new.now known }
     ensures shares { SharesFront old.now new.now result }
     ensures most { DifferAtFront old.now new.now result }
 {
     let most = old.len().min(new.len());
-    let mut front = told;
+    let mut front = known;
     'nodes: while front < most && old[front] == new.get(front) {
         front += 1;
     }
     front
 }
 
-// How many nodes two lists share at the back, beside those that they share at the front: some that are told, and more.
-fn shared_back(old: &[u32], new: &Spliced, front: usize, told: usize) -> usize
+// How many nodes two lists share at the back, beside those that they share at the front: some that are known, and more.
+fn shared_back(old: &[u32], new: &Spliced, front: usize, known: usize) -> usize
     requires front { SharesFront old.now new.now front }
-    requires told { SharesBack old.now new.now told }
+    requires known { SharesBack old.now new.now known }
     ensures shares { SharesBack old.now new.now result }
     ensures most { DifferAtBack old.now new.now front result }
     ensures apart { front + result ≤ length new.now }
     ensures apart_old { front + result ≤ length old.now }
 {
     let most = old.len().min(new.len()) - front;
-    let mut back = told.min(most);
+    let mut back = known.min(most);
     'nodes: while back < most && old[old.len() - 1 - back] == new.get(new.len() - 1 - back) {
         back += 1;
     }

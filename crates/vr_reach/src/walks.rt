@@ -12,14 +12,16 @@ ghost use Rattle.vr_reach.specs.Walks.{EndsAt, Meets, runs_in};
 
 use crate::Rows;
 use crate::shared::share;
-use crate::uncounted::Crossing;
 use std::alloc::Global;
 use std::marker::Model;
 use std::mem;
 use std::sync::ledger::Ledger;
 use vr_model::{NoMemory, Steps};
 use vr_spans::Spans;
-use vr_steps::{Breaks, Hop, Levels, Line, can_end, cross_into, start_levels, start_levels_into};
+use vr_steps::{
+    Breaks, Hop, Levels, Line, Way, can_end, cross_into, cross_uncounted, start_levels,
+    start_levels_into,
+};
 
 /// What is reached at a stop of a line, moved from stop to stop. Contracts see the levels at the stop where it stands.
 ///
@@ -122,13 +124,19 @@ impl Walk {
         Ok(())
     }
 
-    // Stands behind an arc that leads from a stop with these levels, where nobody counts steps.
-    pub(crate) fn cross(&mut self, crossing: &Crossing) -> Result<(), NoMemory>
-        ensures exact { OnOk result (AreCrossed crossing.now.levels.now crossing.now.hop crossing.now.allowed.now
-            crossing.now.breaks.now self.new) }
-        ensures levels { OnOk result (AreLevels crossing.now.breaks.now self.new) }
+    /// The same, where nobody counts steps.
+    pub fn cross_from(
+        &mut self,
+        from: &Levels,
+        hop: Hop,
+        next: &Spans,
+        breaks: &Breaks,
+    ) -> Result<(), NoMemory>
+        requires { IsCrossing from.now hop next.now breaks.now }
+        ensures exact { OnOk result (AreCrossed from.now hop next.now breaks.now self.new) }
+        ensures levels { OnOk result (AreLevels breaks.now self.new) }
     {
-        crossing.on(&mut self.next)?;
+        cross_uncounted(Way::On, from, hop, next, breaks, &mut self.next)?;
         mem::swap(&mut self.here, &mut self.next);
         Ok(())
     }
@@ -150,6 +158,17 @@ impl Walk {
         ensures kept { OnErr result (self.new ≡ self.old) }
     {
         cross_into(&self.here, hop, next, breaks, steps, &mut self.next)?;
+        mem::swap(&mut self.here, &mut self.next);
+        Ok(())
+    }
+
+    /// The same, where nobody counts steps.
+    pub fn cross(&mut self, hop: Hop, next: &Spans, breaks: &Breaks) -> Result<(), NoMemory>
+        requires { IsCrossing self.old hop next.now breaks.now }
+        ensures exact { OnOk result (AreCrossed self.old hop next.now breaks.now self.new) }
+        ensures levels { OnOk result (AreLevels breaks.now self.new) }
+    {
+        cross_uncounted(Way::On, &self.here, hop, next, breaks, &mut self.next)?;
         mem::swap(&mut self.here, &mut self.next);
         Ok(())
     }
@@ -195,13 +214,14 @@ fn walk_along(line: &Line, here: &mut Levels, next: &mut Levels) -> Result<(), N
 {
     start_levels_into(line.allowed.get(0), &line.breaks, here)?;
     for k in 0..line.hops.len() {
-        let crossing = Crossing {
-            levels: here,
-            hop: *line.hops.get(k),
-            allowed: line.allowed.get(k + 1),
-            breaks: &line.breaks,
-        };
-        crossing.on(next)?;
+        cross_uncounted(
+            Way::On,
+            here,
+            *line.hops.get(k),
+            line.allowed.get(k + 1),
+            &line.breaks,
+            next,
+        )?;
         mem::swap(here, next);
     }
     Ok(())

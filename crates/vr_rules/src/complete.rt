@@ -1,14 +1,15 @@
 //! Whether nothing is missing in lists that are open.
 
-ghost use Rattle.std.specs.Prelude.{◌≡◌, ◌<◌, ◌||◌, Some, None, cond, not, All, IfOk, IfSome, length, count_by};
+ghost use Rattle.std.specs.Prelude.{◌≡◌, ◌<◌, ◌||◌, Some, None, cond, not, IfOk, IfSome, length};
 ghost use Rattle.std.specs.List.{list_all};
 ghost use Rattle.vr_model.specs.tables.Tables.{is_visit, visits};
 ghost use Rattle.vr_model.specs.routes.Rules.{is_grouped as is_grouped_of, is_valid};
-ghost use Rattle.vr_rules.specs.Placing.{is_complete as is_complete_of, is_filled_by, is_marked, lists_in, AreBuilt};
+ghost use Rattle.vr_rules.specs.Placing.{is_complete as is_complete_of, is_marked, lists_in, AreBuilt};
 
+use crate::groups::{GroupRule, groups_pass};
 use crate::marks::active_marks;
 use std::alloc::Global;
-use vr_model::{Closed, Group, NoMemory, Seq};
+use vr_model::{NoMemory, Seq};
 use vr_plan::Lookups;
 use vr_routes::Routes;
 
@@ -35,51 +36,13 @@ fn has_required(lookups: &Lookups<'_>, marks: &[bool]) -> bool
     true
 }
 
-// How many nodes are marked.
-pub(crate) fn marked(marks: &[bool], nodes: &[u32]) -> usize
-    requires { All (λ node. node < length marks.now) nodes.now }
-    ensures { result ≡ count_by (is_marked marks.now) nodes.now }
-{
-    let mut count = 0;
-    for &node in nodes {
-        if marks[node as usize] {
-            count += 1;
-        }
-    }
-    count
-}
-
-// Whether a group has a penalty, or as many marked nodes as it may have.
-fn is_filled(marks: &[bool], group: &Group) -> bool
-    requires { All (λ node. node < length marks.now) group.now.nodes }
-    ensures { result ≡ is_filled_by marks.now group.now }
-{
-    match group.penalty {
-        Some(_) => true,
-        None => marked(marks, group.nodes.as_slice()) == group.max as usize,
-    }
-}
-
-// Whether each group has a penalty, or as many marked nodes as it may have.
-fn are_filled(closed: Closed<'_>, marks: &[bool]) -> bool
-    requires marks { length marks.now ≡ closed.model.now.nodes }
-    ensures { result ≡ list_all (is_filled_by marks.now) closed.entry.model.now.groups }
-{
-    for k in 0..closed.model.groups.len() {
-        if !is_filled(marks, closed.model.groups.get(k)) {
-            return false;
-        }
-    }
-    true
-}
-
 /// Whether each visit in no group is marked as active, and each group without a penalty has as many active nodes as it
 /// may have: open lists are valid exactly where this holds. Takes no memory.
 pub(crate) fn is_complete(lookups: &Lookups<'_>, marks: &[bool]) -> bool
     requires { length marks.now ≡ lookups.now.closed.model.now.nodes }
     ensures { result ≡ is_complete_of lookups.now.closed.model.now marks.now }
 {
-    has_required(lookups, marks) && are_filled(lookups.closed, marks)
+    has_required(lookups, marks) && groups_pass(GroupRule::Filled, lookups.closed, marks)
 }
 
 /// Routes with these open lists of the model; `None` exactly where they are not valid, since something is missing in

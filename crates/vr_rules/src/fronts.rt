@@ -19,10 +19,8 @@ ghost use Rattle.vr_steps.specs.declared.stops.StopName.TheVariants.{Visit};
 use crate::allowed::allows_item;
 use crate::items::Item;
 use std::alloc::Global;
-use std::marker::Brand;
-use std::sync::ledger::{Blank, Ledger};
 use vr_lists::{PairPlaces, keeps_pairs};
-use vr_model::{Closed, Model, NoMemory, Steps};
+use vr_model::{Closed, Model, NoMemory};
 use vr_plan::Lookups;
 use vr_reach::Walk;
 use vr_spans::Spans;
@@ -131,13 +129,12 @@ impl Front {
     }
 
     // Lets a walk stand behind the arc from the end of the list to a visit.
-    fn leave<L: Ledger>(
+    fn leave(
         &self,
         walk: &mut Walk,
         closed: Closed<'_>,
         list: &[u32],
         node: u32,
-        steps: &mut Steps<L>,
     ) -> Result<(), NoMemory>
         requires front { IsFront closed.model.now list.now self.now }
         requires visits { IsTrue (list_all (is_visit_of closed.model.now) list.now) }
@@ -149,19 +146,18 @@ impl Front {
         let origin = last_stop(closed.model, self.vehicle, list);
         let arc = hop(closed.model, self.dimension, self.vehicle, origin, node);
         let next = &self.visits[node as usize];
-        walk.leave(&self.here, arc, next, &self.breaks, steps)?;
+        walk.cross_from(&self.here, arc, next, &self.breaks)?;
         Ok(())
     }
 
     // Lets a walk go on from a visit behind the list to another.
-    fn go_on<L: Ledger>(
+    fn go_on(
         &self,
         walk: &mut Walk,
         closed: Closed<'_>,
         list: &[u32],
         before: u32,
         node: u32,
-        steps: &mut Steps<L>,
     ) -> Result<(), NoMemory>
         requires front { IsFront closed.model.now list.now self.now }
         requires before { IsTrue (is_visit_of closed.model.now before) }
@@ -175,17 +171,12 @@ impl Front {
     {
         let arc = hop(closed.model, self.dimension, self.vehicle, before, node);
         let next = &self.visits[node as usize];
-        walk.step(arc, next, &self.breaks, steps)?;
+        walk.cross(arc, next, &self.breaks)?;
         Ok(())
     }
 
     // Lets a walk stand at the last node of an item behind the list.
-    fn walk_item<L: Ledger>(
-        &self,
-        walk: &mut Walk,
-        longer: &Longer<'_, '_>,
-        steps: &mut Steps<L>,
-    ) -> Result<(), NoMemory>
+    fn walk_item(&self, walk: &mut Walk, longer: &Longer<'_, '_>) -> Result<(), NoMemory>
         requires { IsFront longer.now.closed.model.now longer.now.list.now self.now }
         ensures reached { OnOk result (AreReachedBehind longer.now.closed.model.now self.now.dimension self.now.vehicle
             (longer.now.list.now ++ nodes_of longer.now.item) walk.new) }
@@ -193,10 +184,10 @@ impl Front {
     {
         let (closed, list) = (longer.closed, longer.list);
         match longer.item {
-            Item::Visit(node) => self.leave(walk, closed, list, node, steps)?,
+            Item::Visit(node) => self.leave(walk, closed, list, node)?,
             Item::PickupAndDelivery(pickup, delivery) => {
-                self.leave(walk, closed, list, pickup, steps)?;
-                self.go_on(walk, closed, list, pickup, delivery, steps)?
+                self.leave(walk, closed, list, pickup)?;
+                self.go_on(walk, closed, list, pickup, delivery)?
             }
         }
         Ok(())
@@ -204,12 +195,7 @@ impl Front {
 
     // Whether the line of the list with the item at its end has a schedule, where the walk stands at the last node of
     // the item.
-    fn ends<L: Ledger>(
-        &self,
-        walk: &mut Walk,
-        longer: &Longer<'_, '_>,
-        steps: &mut Steps<L>,
-    ) -> Result<bool, NoMemory>
+    fn ends(&self, walk: &mut Walk, longer: &Longer<'_, '_>) -> Result<bool, NoMemory>
         requires front { IsFront longer.now.closed.model.now longer.now.list.now self.now }
         requires driven { IsDriven longer.now.closed.model.now (longer.now.list.now ++ nodes_of longer.now.item) }
         requires here { AreReachedBehind longer.now.closed.model.now self.now.dimension self.now.vehicle
@@ -223,50 +209,32 @@ impl Front {
         let end = closed.model.vehicles.get(self.vehicle as usize).end;
         let last = longer.item.last();
         let arc = hop(closed.model, self.dimension, self.vehicle, last, end);
-        walk.step(arc, &self.ending, &self.breaks, steps)?;
+        walk.cross(arc, &self.ending, &self.breaks)?;
         Ok(walk.ends(&self.breaks))
     }
 
     // Whether the line of the list with the item at its end has a schedule.
-    fn feasible_with<L: Ledger>(
-        &self,
-        walk: &mut Walk,
-        longer: &Longer<'_, '_>,
-        blank: Blank,
-    ) -> Result<bool, NoMemory>
-        requires name { blank.name ≡ L.name }
-        requires parts { blank.parts ≡ L.parts }
-        requires some { 0 < blank.parts }
+    fn feasible_with(&self, walk: &mut Walk, longer: &Longer<'_, '_>) -> Result<bool, NoMemory>
         requires front { IsFront longer.now.closed.model.now longer.now.list.now self.now }
         requires driven { IsDriven longer.now.closed.model.now (longer.now.list.now ++ nodes_of longer.now.item) }
         ensures { IfOk result (λ feasible. feasible
             ≡ is_feasible (line longer.now.closed.model.now self.now.dimension self.now.vehicle
             (longer.now.list.now ++ nodes_of longer.now.item))) }
     {
-        let mut steps = Steps::<L>::new(blank);
-        self.walk_item(walk, longer, &mut steps)?;
-        let feasible = self.ends(walk, longer, &mut steps)?;
+        self.walk_item(walk, longer)?;
+        let feasible = self.ends(walk, longer)?;
         Ok(feasible)
     }
 
     // Moves to the end of the list with the item at its end.
-    fn advance<L: Ledger>(
-        &mut self,
-        walk: &mut Walk,
-        longer: &Longer<'_, '_>,
-        blank: Blank,
-    ) -> Result<(), NoMemory>
-        requires name { blank.name ≡ L.name }
-        requires parts { blank.parts ≡ L.parts }
-        requires some { 0 < blank.parts }
+    fn advance(&mut self, walk: &mut Walk, longer: &Longer<'_, '_>) -> Result<(), NoMemory>
         requires front { IsFront longer.now.closed.model.now longer.now.list.now self.old }
         ensures front { OnOk result (IsFront longer.now.closed.model.now
             (longer.now.list.now ++ nodes_of longer.now.item) self.new) }
         ensures dimension { OnOk result (self.new.dimension ≡ self.old.dimension) }
         ensures vehicle { OnOk result (self.new.vehicle ≡ self.old.vehicle) }
     {
-        let mut steps = Steps::<L>::new(blank);
-        self.walk_item(walk, longer, &mut steps)?;
+        self.walk_item(walk, longer)?;
         walk.hand_over(&mut self.here);
         Ok(())
     }
@@ -285,7 +253,7 @@ fn is_feasible_with(
         (longer.now.list.now ++ nodes_of longer.now.item)) }
 {
     for d in 0..fronts.len() {
-        if !fronts[d].feasible_with::<Brand>(walk, longer, Blank::new(1))? {
+        if !fronts[d].feasible_with(walk, longer)? {
             return Ok(false);
         }
     }
@@ -304,7 +272,7 @@ fn advance_each(
         (longer.now.list.now ++ nodes_of longer.now.item) fronts.new.items) }
 {
     for d in 0..fronts.len() {
-        fronts[d].advance::<Brand>(walk, longer, Blank::new(1))?;
+        fronts[d].advance(walk, longer)?;
     }
     Ok(())
 }

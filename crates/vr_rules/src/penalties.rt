@@ -8,7 +8,7 @@ ghost use Rattle.vr_model.specs.tables.Limits.{greatest_cost};
 ghost use Rattle.vr_model.specs.tables.WellFormed.{IsIn, WherePresent};
 ghost use Rattle.vr_rules.specs.Placing.{fits_by, is_marked, penalty_by};
 
-use crate::complete::marked;
+use crate::groups::marked;
 use vr_model::{Closed, Group};
 
 // How many nodes fewer of a group are marked than may be.

@@ -64,17 +64,16 @@ fn is_feasible_in_each(
     list: &[u32],
     walk: &mut Walk,
 ) -> Result<bool, NoMemory>
-    requires vehicle { v < length lookups.now.closed.model.now.vehicles }
     requires some { 0 < length list.now }
+    requires vehicle { v < length lookups.now.closed.model.now.vehicles }
     requires visits { IsTrue (list_all (is_visit lookups.now.closed.model.now) list.now) }
     requires distinct { IsTrue (is_distinct list.now) }
     ensures { IfOk result (λ answer. answer ≡ is_feasible_in_each_of lookups.now.closed.model.now v list.now) }
 {
-    let closed = lookups.closed;
-    for d in 0..closed.model.dimensions.len() {
+    for d in 0..lookups.closed.model.dimensions.len() {
         let table = lookups.table(d as u32);
         let stops = StopsFor {
-            closed,
+            closed: lookups.closed,
             d: d as u32,
             v,
             of_dimension: &table.stops,

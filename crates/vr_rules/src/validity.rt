@@ -1,18 +1,19 @@
 //! Which routes are open, and which are valid.
 
-ghost use Rattle.std.specs.Prelude.{◌≡◌, ◌<◌, All, IfOk, IsTrue, count_by, length, nat_le, true};
+ghost use Rattle.std.specs.Prelude.{◌≡◌, ◌<◌, IfOk, IsTrue, length, true};
 ghost use Rattle.std.specs.List.{list_all};
 ghost use Rattle.vr_model.specs.tables.Tables.{is_visit};
 ghost use Rattle.vr_model.specs.routes.Routes.{is_distinct};
 ghost use Rattle.vr_model.specs.routes.Rules.{is_open as is_open_of, is_route_open as is_route_open_of};
 ghost use Rattle.vr_model.specs.routes.Rules.{is_valid as is_valid_of};
 ghost use Rattle.vr_routes.specs.Tours.{are_routes_open as are_routes_open_of};
-ghost use Rattle.vr_rules.specs.Placing.{fits_by, AreBuilt};
+ghost use Rattle.vr_rules.specs.Placing.{AreBuilt};
 
-use crate::complete::{is_complete, marked};
+use crate::complete::is_complete;
+use crate::groups::{GroupRule, groups_pass};
 use crate::marks::Marked;
 use crate::routes_open::{Driving, is_route_open};
-use vr_model::{Closed, Group, NoMemory};
+use vr_model::NoMemory;
 use vr_plan::Lookups;
 use vr_routes::Routes;
 
@@ -45,10 +46,10 @@ fn stays_open(
     list: &[u32],
     driving: &mut Driving,
 ) -> Result<bool, NoMemory>
+    requires other { is_route_open_of lookups.now.closed.model.now v other.now ≡ true }
     requires vehicle { v < length lookups.now.closed.model.now.vehicles }
     requires visits { IsTrue (list_all (is_visit lookups.now.closed.model.now) list.now) }
     requires distinct { IsTrue (is_distinct list.now) }
-    requires other { is_route_open_of lookups.now.closed.model.now v other.now ≡ true }
     ensures { IfOk result (λ answer. answer ≡ is_route_open_of lookups.now.closed.model.now v list.now) }
 {
     if is_same(list, other) {
@@ -78,32 +79,11 @@ fn are_routes_open_beside(
     Ok(true)
 }
 
-// Whether a group has no more marked nodes than it may have.
-fn fits(marks: &[bool], group: &Group) -> bool
-    requires { All (λ node. node < length marks.now) group.now.nodes }
-    ensures { result ≡ fits_by marks.now group.now }
-{
-    marked(marks, group.nodes.as_slice()) <= group.max as usize
-}
-
-// Whether no group has more marked nodes than it may have.
-fn groups_fit(closed: Closed<'_>, marks: &[bool]) -> bool
-    requires marks { length marks.now ≡ closed.model.now.nodes }
-    ensures { result ≡ list_all (fits_by marks.now) closed.entry.model.now.groups }
-{
-    for k in 0..closed.model.groups.len() {
-        if !fits(marks, closed.model.groups.get(k)) {
-            return false;
-        }
-    }
-    true
-}
-
 // Whether routes of the model are open.
 pub(crate) fn is_open(of: &Marked<'_, '_, '_, '_>, driving: &mut Driving) -> Result<bool, NoMemory>
     ensures { IfOk result (λ answer. answer ≡ is_open_of of.now.lookups.now.closed.model.now of.now.routes.now.lists) }
 {
-    if !groups_fit(of.lookups.closed, of.marks) {
+    if !groups_pass(GroupRule::Fitting, of.lookups.closed, of.marks) {
         return Ok(false);
     }
     let all = are_routes_open(of, driving)?;
@@ -119,7 +99,7 @@ pub(crate) fn is_open_beside(
     requires { AreBuilt of.now.lookups.now.closed.model.now others.now.lists }
     ensures { IfOk result (λ answer. answer ≡ is_open_of of.now.lookups.now.closed.model.now of.now.routes.now.lists) }
 {
-    if !groups_fit(of.lookups.closed, of.marks) {
+    if !groups_pass(GroupRule::Fitting, of.lookups.closed, of.marks) {
         return Ok(false);
     }
     let all = are_routes_open_beside(of, others, driving)?;

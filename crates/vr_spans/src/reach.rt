@@ -1,8 +1,8 @@
 //! The numbers that a set leads to within another: meets, shifts, and ways of a length between two bounds.
 
-ghost use Rattle.std.specs.Prelude.{◌≡◌, ◌↔◌, ◌&&◌, map, IsTrue, IfOk, OnOk, ℤ, pos, neg_ℤ, ◌-ℤ◌, ◌≤ℤ◌};
+ghost use Rattle.std.specs.Prelude.{◌≡◌, ◌↔◌, ◌&&◌, IsTrue, IfOk, OnOk, ℤ, pos, neg_ℤ, ◌-ℤ◌, ◌≤ℤ◌};
 ghost use Rattle.vr_spans.specs.Runs.{has, in_run, IsNormal, IsRun, IsStretched, StaysWithin, farthest};
-ghost use Rattle.vr_spans.specs.Build.{stretched, StaysNear};
+ghost use Rattle.vr_spans.specs.Build.{HasReached, IsWayNear};
 
 use crate::{LIMIT, NoMemory, Run, Spans};
 
@@ -113,10 +113,8 @@ impl Spans {
     fn reach(&mut self, from: &[Run], first: i64, last: i64, within: &[Run]) -> Result<(), NoMemory>
         requires from { IsNormal from.now }
         requires within { IsNormal within.now }
-        requires in_order { first ≤ℤ last }
-        requires near { StaysNear first last from.now }
-        ensures exact { OnOk result ((x : ℤ) →
-            has self.new x ≡ (has (map (stretched first last) from.now) x && has within.now x)) }
+        requires way { IsWayNear first last from.now }
+        ensures exact { OnOk result (HasReached first last from.now within.now self.new) }
         ensures normal { IsNormal self.new }
     {
         if from.len() == 1 && within.len() == 1 {
@@ -136,10 +134,8 @@ impl Spans {
     ) -> Result<(), NoMemory>
         requires from { IsNormal from.now }
         requires within { IsNormal within.now }
-        requires in_order { first ≤ℤ last }
-        requires near { StaysNear first last from.now }
-        ensures exact { OnOk result ((x : ℤ) →
-            has self.new x ≡ (has (map (stretched first last) from.now) x && has within.now x)) }
+        requires way { IsWayNear first last from.now }
+        ensures exact { OnOk result (HasReached first last from.now within.now self.new) }
         ensures normal { IsNormal self.new }
     {
         self.clear();

@@ -47,6 +47,7 @@ well_formed = record {
   number_of_nodes = (omega arith, omega arith);
   number_of_matrices = record { at_least = omega arith; at_most = omega arith };
   each_matrix = of_one (IsMatrix 3) _ (record { square = refl; entries_in_range = in_range least_value greatest_cost (matrix_at two_cars 0).entries refl });
+  search_in_range = default_is_search;
   number_of_vehicles = record { at_least = omega arith; at_most = omega arith };
   each_vehicle = of_one (IsVehicle three) car (record { start_in_range = omega arith; end_in_range = omega arith; costs_in_range = omega arith; fixed_in_range = one_in_range _ _ _ refl });
   number_of_dimensions = omega arith;
@@ -61,7 +62,6 @@ well_formed = record {
   number_of_allowed = omega arith;
   each_allowed = of_none _;
   no_node_allowed_twice = refl;
-  search_in_range = default_is_search;
   costs_not_negative = costs;
   entries_not_large = entries_small;
   transits_forward = forward;

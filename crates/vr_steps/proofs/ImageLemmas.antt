@@ -13,10 +13,14 @@ use Rattle.vr_spans.specs.Runs.{has, in_run, IsStretched}
 use Rattle.vr_steps.specs.declared.hops.Hop.{Hop}
 use Rattle.vr_steps.specs.declared.chains.Chain.{Chain}
 use Rattle.vr_steps.specs.declared.passages.Passage.{Passage}
+use Rattle.vr_steps.specs.declared.passages.Pass.{Pass}
+use Rattle.vr_steps.specs.declared.ways.Way.{Way}
+use Rattle.vr_steps.specs.declared.ways.Way.TheVariants.{On, Back}
 use Rattle.vr_steps.specs.Arcs.{IsSoundHop, Leads, between}
 use Rattle.vr_steps.specs.Chains.{CanBegin, IsChainOf}
 use Rattle.vr_steps.specs.Levels.{IsCumuls, level_at}
 use Rattle.vr_steps.specs.Passages.{IsPassage, LeadsNowhere, IsOver, HasWay, ArrivesAt, DepartsAt, AreArrivals, AreDepartures, upto, onward}
+use Rattle.vr_steps.specs.Ways.{LeadsBy, IsLedTo, pass_by}
 use Rattle.vr_steps.proofs.PassageLemmas.{passage, closed}
 
 -- the answer of a passage over a chain
@@ -90,27 +94,40 @@ module _ (hop : Hop) (rows : List BreakRow) (p : Passage) (is : IsPassage hop ro
             },
           )
 
-  pub arrivals : (from next left right image old whole : List Run) → IsCumuls from → IsCumuls next → ((x : ℤ) → has left x ≡ (has from x && in_run begin_run x)) → ((x : ℤ) → has right x ≡ (has next x && in_run end_run x))
-      → (least greatest : ℤ) → least ≡ p.least → greatest ≡ p.greatest
-      → ((x : ℤ) → IsTrue (has image x) ↔ (IsTrue (has right x) × IsStretched least greatest left x)) → ((x : ℤ) → has whole x ≡ (has old x || has image x))
-      → (x : ℤ) → IsTrue (has whole x) ↔ (IsTrue (has old x) ⊎ ArrivesAt from hop rows next x)
-  arrivals from next left right image old whole begins ends lefts rights least greatest least_is greatest_is =
-      added (λ y x. Leads hop rows y x) from next left right image old whole begin_run end_run least greatest (λ y x here there.
-      let m = asked y x (begins y here) (ends x there) in (
-        λ way. let a = m.0 way in (a.0, a.1, omega (arith, ints, least_is, a.2), omega (arith, ints, greatest_is, a.3)),
-        λ a. m.1 (a.0, a.1, omega (arith, ints, least_is, a.2), omega (arith, ints, greatest_is, a.3)),
+-- the same in one direction, by the pass that the passage has there
+module _ (hop : Hop) (rows : List BreakRow) (p : Passage) (is : IsPassage hop rows p) where
+  led_exactly : (way : Way) (pass : Pass) → pass ≡ pass_by way p → (x y : ℤ) → IsTrue (within (pos 0) horizon x) → IsTrue (within (pos 0) horizon y)
+      → LeadsBy way hop rows x y ↔ (IsTrue (in_run pass.out x) × IsTrue (in_run pass.into y) × ((x +ℤ pass.least) ≤ℤ y) × (y ≤ℤ (x +ℤ pass.greatest)))
+  led_exactly On pass e x y begins ends =
+      let m = asked hop rows p is pass.out pass.into (ap (λ (q : Pass). q.out) e) (ap (λ (q : Pass). q.into) e) x y begins ends in
+      let least : pass.least ≡ p.least = ap (λ (q : Pass). q.least) e in
+      let greatest : pass.greatest ≡ p.greatest = ap (λ (q : Pass). q.greatest) e in (
+        λ way. let a = m.0 way in (a.0, a.1, omega (arith, ints, least, a.2), omega (arith, ints, greatest, a.3)),
+        λ a. m.1 (a.0, a.1, omega (arith, ints, least, a.2), omega (arith, ints, greatest, a.3)),
+      )
+  led_exactly Back pass e x y ends begins =
+      let first : pass.least ≡ neg_ℤ p.greatest = ap (λ (q : Pass). q.least) e in
+      let last : pass.greatest ≡ neg_ℤ p.least = ap (λ (q : Pass). q.greatest) e in
+      let m = asked hop rows p is pass.into pass.out (ap (λ (q : Pass). q.into) e) (ap (λ (q : Pass). q.out) e) y x begins ends in (
+        λ way. let a = m.0 way in (a.1, a.0, omega (arith, ints, first, a.3), omega (arith, ints, last, a.2)),
+        λ a. m.1 (a.1, a.0, omega (arith, ints, last, a.3), omega (arith, ints, first, a.2)),
+      )
+
+  pub led_to : (way : Way) (pass : Pass) → pass ≡ pass_by way p → (from to left right image old whole : List Run) → IsCumuls from → IsCumuls to
+      → ((x : ℤ) → has left x ≡ (has from x && in_run pass.out x)) → ((y : ℤ) → has right y ≡ (has to y && in_run pass.into y))
+      → (least greatest : ℤ) → least ≡ pass.least → greatest ≡ pass.greatest
+      → ((y : ℤ) → IsTrue (has image y) ↔ (IsTrue (has right y) × IsStretched least greatest left y)) → ((y : ℤ) → has whole y ≡ (has old y || has image y))
+      → (y : ℤ) → IsTrue (has whole y) ↔ (IsTrue (has old y) ⊎ IsLedTo way from hop rows to y)
+  led_to way pass e from to left right image old whole cumuls limits lefts rights least greatest least_is greatest_is =
+      added (LeadsBy way hop rows) from to left right image old whole pass.out pass.into least greatest (λ x y here there.
+      let m = led_exactly way pass e x y (cumuls x here) (limits y there) in (
+        λ leads. let a = m.0 leads in (a.0, a.1, subst (λ n. (x +ℤ n) ≤ℤ y) (sym least_is) a.2, subst (λ n. y ≤ℤ (x +ℤ n)) (sym greatest_is) a.3),
+        λ a. m.1 (a.0, a.1, subst (λ n. (x +ℤ n) ≤ℤ y) least_is a.2, subst (λ n. y ≤ℤ (x +ℤ n)) greatest_is a.3),
       )) lefts rights
 
-  pub departures : (behind here left right image old whole : List Run) → IsCumuls behind → IsCumuls here → ((x : ℤ) → has left x ≡ (has behind x && in_run end_run x)) → ((y : ℤ) → has right y ≡ (has here y && in_run begin_run y))
-      → (first last : ℤ) → first ≡ neg_ℤ p.greatest → last ≡ neg_ℤ p.least
-      → ((y : ℤ) → IsTrue (has image y) ↔ (IsTrue (has right y) × IsStretched first last left y)) → ((y : ℤ) → has whole y ≡ (has old y || has image y))
-      → (y : ℤ) → IsTrue (has whole y) ↔ (IsTrue (has old y) ⊎ DepartsAt behind hop rows here y)
-  departures behind here left right image old whole ends begins lefts rights first last first_is last_is =
-      added (λ x y. Leads hop rows y x) behind here left right image old whole end_run begin_run first last (λ x y there inside.
-      let m = asked y x (begins y inside) (ends x there) in (
-        λ way. let a = m.0 way in (a.1, a.0, omega (arith, ints, first_is, a.3), omega (arith, ints, last_is, a.2)),
-        λ a. m.1 (a.1, a.0, omega (arith, ints, last_is, a.3), omega (arith, ints, first_is, a.2)),
-      )) lefts rights
+pub led_nowhere : (hop : Hop) (rows : List BreakRow) → LeadsNowhere hop rows → (way : Way) (from to : List Run) (y : ℤ) → IsLedTo way from hop rows to y → ⊥
+led_nowhere hop rows nowhere On from to y led = nowhere led.1.0 y led.1.2
+led_nowhere hop rows nowhere Back from to y led = nowhere y led.1.0 led.1.2
 
 -- where nothing comes in, the old is the whole
 pub nothing_more : {P : Type 0} (old : Bool) → (P → ⊥) → IsTrue old ↔ (IsTrue old ⊎ P)

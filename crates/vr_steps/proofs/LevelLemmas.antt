@@ -17,9 +17,12 @@ use Rattle.vr_steps.specs.declared.hops.Hop.{Hop}
 use Rattle.vr_steps.specs.Levels.{IsCumuls, AreLevels, AreStartLevels, AreEndLevels, AreCrossed, AreCrossedBack, level_at, forward_steps, backward_steps_from}
 use Rattle.vr_steps.specs.Arcs.{Leads, between}
 use Rattle.vr_steps.specs.Passages.{AreArrivals, AreDepartures, ArrivesAt, DepartsAt, upto, onward}
+use Rattle.vr_steps.specs.declared.ways.Way.{Way}
+use Rattle.vr_steps.specs.declared.ways.Way.TheVariants.{On, Back}
+use Rattle.vr_steps.specs.Ways.{AreCrossedBy, IsLedTo, IsLevelBy}
 use Rattle.vr_steps.specs.Fits.{IsEarliest, IsLatest, FitsBefore, FitsAfter}
 use Rattle.vr_steps.proofs.ArcLemmas.{plainly, leads}
-use Rattle.vr_steps.proofs.ImageLemmas.{slice_between}
+use Rattle.vr_steps.proofs.ImageLemmas.{slice_between, first_arrivals, first_departures}
 
 -- each of the first k sets is as P says of its place
 abbrev pub HoldBelow : (ℕ → List Run → Type 0) → ℕ → List (List Run) → Type 0
@@ -67,22 +70,39 @@ parts_are_cumuls sets whole n long cumuls part k d lt x there =
     same (s ∷ ss) (suc k) d lt = same ss k d (omega arith)
 
 module _ (from : List (List Run)) (hop : Hop) (next : List Run) (rows : List BreakRow) (first : List Run) (more : List (List Run)) where
-  pub crossed_levels : AreArrivals from hop next rows 0 0 first → ((j : ℕ) → j < length rows → AreArrivals from hop next rows 0 (suc j) (level_at more j)) → AreCrossed from hop next rows (first ∷ more)
+  crossed_levels : AreArrivals from hop next rows 0 0 first → ((j : ℕ) → j < length rows → AreArrivals from hop next rows 0 (suc j) (level_at more j)) → AreCrossed from hop next rows (first ∷ more)
   crossed_levels here each b few x =
       let is = all_levels (λ b set. AreArrivals from hop next rows 0 b set) (length rows) first more here each b few x in (
         λ there. let m = is.0 there in (m.0, (m.1.0, m.1.2, m.1.3, m.1.4, m.1.5)),
         λ m. is.1 (m.0, (m.1.0, omega arith, m.1.1, m.1.2, m.1.3, m.1.4)),
       )
 
-  pub crossed_back_levels : AreDepartures from hop next rows 0 (length rows) first → ((j : ℕ) → j < length rows → AreDepartures from hop next rows (suc j) (length rows) (level_at more j)) → AreCrossedBack from hop next rows (first ∷ more)
+  crossed_back_levels : AreDepartures from hop next rows 0 (length rows) first → ((j : ℕ) → j < length rows → AreDepartures from hop next rows (suc j) (length rows) (level_at more j)) → AreCrossedBack from hop next rows (first ∷ more)
   crossed_back_levels here each = all_levels (λ a set. AreDepartures from hop next rows a (length rows) set) (length rows) first more here each
 
--- what each level behind an arc is part of
-pub arrived : (from : List (List Run)) (hop : Hop) (next : List Run) (rows : List BreakRow) (reached : List (List Run)) → AreCrossed from hop next rows reached → length reached ≡ suc (length rows) → IsCumuls next → AreLevels rows reached
-arrived from hop next rows reached are long cumuls = record { one_more = long; cumuls = parts_are_cumuls reached next (length rows) long cumuls (λ b few x there. ((are b few x).0 there).0) }
+-- the levels to which an arc leads, in one direction
+pub crossed_by : (way : Way) (from : List (List Run)) (hop : Hop) (to : List Run) (rows : List BreakRow) (first : List Run) (more : List (List Run)) → IsLevelBy way from hop to rows 0 first → ((j : ℕ) → j < length rows → IsLevelBy way from hop to rows (suc j) (level_at more j)) → AreCrossedBy way from hop to rows (first ∷ more)
+crossed_by On from hop to rows first more = crossed_levels from hop to rows first more
+crossed_by Back from hop to rows first more = crossed_back_levels from hop to rows first more
 
-pub departed : (to : List (List Run)) (hop : Hop) (here : List Run) (rows : List BreakRow) (reached : List (List Run)) → AreCrossedBack to hop here rows reached → length reached ≡ suc (length rows) → IsCumuls here → AreLevels rows reached
-departed to hop here rows reached are long cumuls = record { one_more = long; cumuls = parts_are_cumuls reached here (length rows) long cumuls (λ b few x there. ((are b few x).0 there).0) }
+-- each is part of what the other stop allows
+pub crossed_are : (way : Way) (from : List (List Run)) (hop : Hop) (to : List Run) (rows : List BreakRow) (reached : List (List Run)) → AreCrossedBy way from hop to rows reached → length reached ≡ suc (length rows) → IsCumuls to → AreLevels rows reached
+crossed_are way from hop to rows reached are long cumuls = record { one_more = long; cumuls = parts_are_cumuls reached to (length rows) long cumuls (part way are) }
+  where
+    part : (w : Way) → AreCrossedBy w from hop to rows reached → (b : ℕ) → b ≤ length rows → (x : ℤ) → IsTrue (has (level_at reached b) x) → IsTrue (has to x)
+    part On crossed b few x there = ((crossed b few x).0 there).0
+    part Back crossed b few x there = ((crossed b few x).0 there).0
+
+-- those of an arc on which no break can be taken
+plain_level : (way : Way) (from : List (List Run)) (hop : Hop) (to set : List Run) → ((y : ℤ) → IsTrue (has set y) ↔ IsLedTo way (level_at from 0) hop [] to y) → IsLevelBy way from hop to [] 0 set
+plain_level On from hop to set is = first_arrivals from hop to [] 0 set is
+plain_level Back from hop to set is = first_departures from hop to [] 0 set is
+
+pub plain_crossed : (way : Way) (from : List (List Run)) (hop : Hop) (to : List Run) (rows : List BreakRow) (level set : List Run) (others more : List (List Run)) → rows ≡ [] → level ∷ others ≡ from → ((y : ℤ) → IsTrue (has set y) ↔ IsLedTo way level hop [] to y) → AreCrossedBy way from hop to rows (set ∷ more)
+plain_crossed way from hop to [] level set others more none whole is =
+    subst (λ ls. AreCrossedBy way ls hop to [] (set ∷ more)) whole
+    (crossed_by way (level ∷ others) hop to [] set more (plain_level way (level ∷ others) hop to set is) (λ j low. absurd (omega (arith, low))))
+plain_crossed way from hop to (r ∷ rs) level set others more none whole is = absurd (cc)
 
 module _ (allowed : List Run) (rows : List BreakRow) (first : List Run) (more : List (List Run)) (long : length more ≡ length rows) (cumuls : IsCumuls allowed) where
   pub start_levels : FitsBefore allowed (take 0 rows) first → ((j : ℕ) → j < length rows → FitsBefore allowed (take (suc j) rows) (level_at more j)) → AreStartLevels allowed rows (first ∷ more)

@@ -1,5 +1,5 @@
 -- The cumuls before and after which breaks fit.
-use Rattle.std.specs.Prelude.{◌↔◌, ℕ, ◌<◌, ◌≤◌, IsTrue, List, length, drop, ℤ, pos, ◌≤ℤ◌}
+use Rattle.std.specs.Prelude.{◌↔◌, ℕ, ◌<◌, ◌≤◌, IsTrue, Option, IfSome, IsNone, List, length, drop, ℤ, pos, ◌≤ℤ◌}
 use Rattle.vr_spans.specs.declared.runs.Run.{Run}
 use Rattle.vr_spans.specs.Runs.{has}
 use Rattle.vr_model.specs.tables.Numbers.{horizon}
@@ -18,6 +18,11 @@ pub record IsLatest (rows : List BreakRow) (last : ℤ) : Type 0 where
   pub low : pos 0 ≤ℤ last
   pub high : last ≤ℤ horizon
   pub exact : (x : ℤ) → pos 0 ≤ℤ x → x ≤ℤ horizon → FitAfter rows x ↔ (x ≤ℤ last)
+
+-- the answer of a search for a bound: one that is as asked, or none, and then no cumul is so
+pub record IsBoundFound (IsBound So : ℤ → Type 0) (found : Option ℤ) : Type 0 where
+  pub some : IfSome found IsBound
+  pub none : IsNone found → (x : ℤ) → pos 0 ≤ℤ x → x ≤ℤ horizon → So x → ⊥
 
 -- the set has the allowed cumuls before which these breaks fit
 abbrev pub FitsBefore : List Run → List BreakRow → List Run → Type 0

@@ -1,11 +1,10 @@
 //! Breaks taken one after another.
 
-ghost use Rattle.std.specs.Prelude.{◌≡◌, ◌≤◌, ◌↔◌, ℤ, pos, ◌≤ℤ◌, All, IsTrue, IsSome, IsNone, IfSome, length};
+ghost use Rattle.std.specs.Prelude.{◌≤◌, ◌↔◌, All, IsSome, IsNone, IfSome, length};
 ghost use Rattle.vr_model.specs.schedules.Levels.{FitBefore, FitAfter};
-ghost use Rattle.vr_model.specs.tables.Numbers.{horizon};
 ghost use Rattle.vr_model.specs.tables.WellFormed.{IsBreak};
 ghost use Rattle.vr_steps.specs.Chains.{CanBegin, IsAfter, IsChainOf, IsLate, IsSmall};
-ghost use Rattle.vr_steps.specs.Fits.{IsEarliest, IsLatest};
+ghost use Rattle.vr_steps.specs.Fits.{IsBoundFound, IsEarliest, IsLatest};
 
 use vr_model::BreakRow;
 use vr_model::limits::HORIZON;
@@ -69,8 +68,7 @@ impl Chain {
 pub(crate) fn earliest(rows: &[BreakRow]) -> Option<i64>
     requires few { length rows.now ≤ 8 }
     requires rows { All IsBreak rows.now }
-    ensures some { IfSome result (IsEarliest rows.now) }
-    ensures none { IsNone result → (x : ℤ) → pos 0 ≤ℤ x → x ≤ℤ horizon → FitBefore rows.now x → ⊥ }
+    ensures { IsBoundFound (IsEarliest rows.now) (FitBefore rows.now) result }
 {
     let chain = Chain::of(rows)?;
     let first = chain.first_end.max(0);
@@ -84,8 +82,7 @@ pub(crate) fn earliest(rows: &[BreakRow]) -> Option<i64>
 pub(crate) fn last(rows: &[BreakRow]) -> Option<i64>
     requires few { length rows.now ≤ 8 }
     requires rows { All IsBreak rows.now }
-    ensures some { IfSome result (IsLatest rows.now) }
-    ensures none { IsNone result → (x : ℤ) → pos 0 ≤ℤ x → x ≤ℤ horizon → FitAfter rows.now x → ⊥ }
+    ensures { IsBoundFound (IsLatest rows.now) (FitAfter rows.now) result }
 {
     let chain = Chain::of(rows)?;
     Some(chain.latest.min(HORIZON))

@@ -1,13 +1,17 @@
 //! Crossing an arc, forwards and backwards.
 
-ghost use Rattle.std.specs.Prelude.{◌≡◌, ◌+◌, ◌*◌, ◌<◌, ◌≤◌, ℕ, suc, [], All, length, IfOk, OnOk};
-ghost use Rattle.vr_spans.specs.Runs.{IsNormal};
+ghost use Rattle.std.specs.Prelude.{◌≡◌, ◌+◌, ◌*◌, ◌<◌, ◌≤◌, ◌↔◌, ℕ, ℤ, suc, [], All, IsTrue, length, IfOk, OnOk};
+ghost use Rattle.vr_spans.specs.Runs.{has, IsNormal};
+ghost use Rattle.vr_steps.specs.Arcs.{IsSoundHop};
+ghost use Rattle.vr_steps.specs.Levels.{IsCumuls};
 ghost use Rattle.vr_steps.specs.Levels.{IsCrossing, AreLevels, AreCrossed, AreCrossedBack};
 ghost use Rattle.vr_steps.specs.Levels.{forward_steps, backward_steps};
 ghost use Rattle.vr_steps.specs.Levels.{level_at};
 ghost use Rattle.vr_steps.specs.Passages.{AreArrivals, AreDepartures};
+ghost use Rattle.vr_steps.specs.Ways.{AreCrossedBy, IsLedTo, IsLevelBy};
 
-use crate::passages::{HopOver, Room};
+use crate::passages::{HopOver, Scratch};
+use crate::ways::Way;
 use crate::{Breaks, Hop, Levels};
 use std::alloc::Global;
 use std::sync::ledger::Ledger;
@@ -58,20 +62,8 @@ pub fn cross_into<L: Ledger>(
     // so that the definitions count their runs too
     ensures normal { All IsNormal from.now }
 {
-    if !breaks.rows.is_empty() {
-        return cross_over(from, hop, next, breaks, steps, out);
-    }
-    count_runs(&from.first, steps);
-    let (least, greatest) = (hop.transit, hop.transit + hop.slack);
-    empty(&mut out.more);
-    if from
-        .first
-        .reach_into(least, greatest, next, &mut out.first)
-        .is_err()
-    {
-        return Err(NoMemory);
-    }
-    Ok(())
+    count_forward(from, steps);
+    cross_uncounted(Way::On, from, hop, next, breaks, out)
 }
 
 /// The levels before an arc: with `a` breaks taken, the cumuls in `here` from which the arc leads to a cumul of some
@@ -118,134 +110,127 @@ pub fn cross_back_into<L: Ledger>(
     // so that the definitions count their runs too
     ensures normal { All IsNormal to.now }
 {
-    if !breaks.rows.is_empty() {
-        return cross_back_over(to, hop, here, breaks, steps, out);
-    }
-    count_runs(&to.first, steps);
-    let (least, greatest) = (-hop.transit - hop.slack, -hop.transit);
-    empty(&mut out.more);
-    if to
-        .first
-        .reach_into(least, greatest, here, &mut out.first)
-        .is_err()
-    {
-        return Err(NoMemory);
-    }
-    Ok(())
-}
-
-// As `cross_into`, where there are breaks.
-#[cold]
-#[inline(never)]
-fn cross_over<L: Ledger>(
-    from: &Levels,
-    hop: Hop,
-    next: &Spans,
-    breaks: &Breaks,
-    steps: &mut Steps<L>,
-    out: &mut Levels,
-) -> Result<(), NoMemory>
-    requires { IsCrossing from.now hop next.now breaks.now }
-    ensures exact { OnOk result (AreCrossed from.now hop next.now breaks.now out.new) }
-    ensures levels { OnOk result (AreLevels breaks.now out.new) }
-    ensures count { steps.new ≡ steps.old + forward_steps from.now }
-    ensures normal { All IsNormal from.now }
-{
-    count_forward(from, steps);
-    let mut room = Room::beside(next);
-    write_all_arrivals(from, hop, next, breaks, out, &mut room)
-}
-
-// As `cross_back_into`, where there are breaks.
-#[cold]
-#[inline(never)]
-fn cross_back_over<L: Ledger>(
-    to: &Levels,
-    hop: Hop,
-    here: &Spans,
-    breaks: &Breaks,
-    steps: &mut Steps<L>,
-    out: &mut Levels,
-) -> Result<(), NoMemory>
-    requires { IsCrossing to.now hop here.now breaks.now }
-    ensures exact { OnOk result (AreCrossedBack to.now hop here.now breaks.now out.new) }
-    ensures levels { OnOk result (AreLevels breaks.now out.new) }
-    ensures count { steps.new ≡ steps.old + backward_steps to.now }
-    ensures normal { All IsNormal to.now }
-{
     count_backward(to, steps);
-    let mut room = Room::beside(here);
-    write_all_departures(to, hop, here, breaks, out, &mut room)
+    cross_uncounted(Way::Back, to, hop, here, breaks, out)
 }
 
-// Writes the levels behind an arc over `out`, each with the breaks taken on the way.
-fn write_all_arrivals(
+/// Writes the levels to which an arc leads in one direction over `out`, as `cross_into` and `cross_back_into`, where
+/// nobody counts steps. After `NoMemory` nothing is said of `out`.
+#[inline]
+pub fn cross_uncounted(
+    way: Way,
     from: &Levels,
     hop: Hop,
-    next: &Spans,
+    within: &Spans,
     breaks: &Breaks,
     out: &mut Levels,
-    room: &mut Room,
 ) -> Result<(), NoMemory>
-    requires { IsCrossing from.now hop next.now breaks.now }
-    ensures exact { OnOk result (AreCrossed from.now hop next.now breaks.now out.new) }
+    requires { IsCrossing from.now hop within.now breaks.now }
+    ensures exact { OnOk result (AreCrossedBy way from.now hop within.now breaks.now out.new) }
     ensures levels { OnOk result (AreLevels breaks.now out.new) }
 {
-    let rows = breaks.rows.as_slice();
-    if out.fit(rows.len()).is_err() {
-        return Err(NoMemory);
+    if !breaks.rows.is_empty() {
+        return write_all(way, from, hop, within, breaks, out);
     }
-    if write_arrivals(from, hop, next, rows, 0, &mut out.first, room).is_err() {
-        return Err(NoMemory);
-    }
-    if write_further_arrivals(from, hop, next, rows, &mut out.more, room).is_err() {
+    empty(&mut out.more);
+    if write_plain(way, &from.first, hop, within, &mut out.first).is_err() {
         return Err(NoMemory);
     }
     Ok(())
 }
 
-// Writes the levels before an arc over `out`, each with the breaks taken on the way.
-fn write_all_departures(
-    to: &Levels,
+// Writes the cumuls of `within` over `set` to which an arc without breaks inside leads from those of `from`.
+#[inline(always)]
+fn write_plain(
+    way: Way,
+    from: &Spans,
     hop: Hop,
-    here: &Spans,
+    within: &Spans,
+    set: &mut Spans,
+) -> Result<(), vr_spans::NoMemory>
+    requires hop { IsSoundHop hop }
+    requires from { IsCumuls from.now }
+    requires within { IsCumuls within.now }
+    ensures { OnOk result ((y : ℤ) → IsTrue (has set.new y) ↔ IsLedTo way from.now hop [] within.now y) }
+{
+    match way {
+        Way::On => from.reach_into(hop.transit, hop.transit + hop.slack, within, set),
+        Way::Back => from.reach_into(-hop.transit - hop.slack, -hop.transit, within, set),
+    }
+}
+
+// An arc, and the breaks that may be taken on it.
+#[derive(Clone, Copy)]
+struct ArcBreaks<'r> {
+    hop: Hop,
+    rows: &'r [BreakRow],
+}
+
+// Writes the levels to which an arc leads over `out`, each with the breaks taken on the way.
+#[cold]
+#[inline(never)]
+fn write_all(
+    way: Way,
+    from: &Levels,
+    hop: Hop,
+    within: &Spans,
     breaks: &Breaks,
     out: &mut Levels,
-    room: &mut Room,
 ) -> Result<(), NoMemory>
-    requires { IsCrossing to.now hop here.now breaks.now }
-    ensures exact { OnOk result (AreCrossedBack to.now hop here.now breaks.now out.new) }
+    requires { IsCrossing from.now hop within.now breaks.now }
+    ensures exact { OnOk result (AreCrossedBy way from.now hop within.now breaks.now out.new) }
     ensures levels { OnOk result (AreLevels breaks.now out.new) }
 {
     let rows = breaks.rows.as_slice();
     if out.fit(rows.len()).is_err() {
         return Err(NoMemory);
     }
-    if write_departures(to, hop, here, rows, 0, &mut out.first, room).is_err() {
+    let arc = ArcBreaks { hop, rows };
+    let mut scratch = Scratch::beside(within);
+    if write_level(way, from, &arc, within, 0, &mut out.first, &mut scratch).is_err() {
         return Err(NoMemory);
     }
-    if write_further_departures(to, hop, here, rows, &mut out.more, room).is_err() {
+    if write_further(way, from, &arc, within, &mut out.more, &mut scratch).is_err() {
         return Err(NoMemory);
     }
     Ok(())
+}
+
+// Writes the cumuls of `within` over `set` to which the arc leads, with `k` breaks taken there.
+fn write_level(
+    way: Way,
+    from: &Levels,
+    arc: &ArcBreaks,
+    within: &Spans,
+    k: usize,
+    set: &mut Spans,
+    scratch: &mut Scratch,
+) -> Result<(), vr_spans::NoMemory>
+    requires taken { k ≤ length arc.now.rows.now }
+    requires crossing { IsCrossing from.now arc.now.hop within.now arc.now.rows.now }
+    ensures { OnOk result (IsLevelBy way from.now arc.now.hop within.now arc.now.rows.now k set.new) }
+{
+    match way {
+        Way::On => write_arrivals(from, arc, within, k, set, scratch),
+        Way::Back => write_departures(from, arc, within, k, set, scratch),
+    }
 }
 
 // Writes the cumuls of `next` over `set` to which the arc leads with `b` breaks taken behind it.
 fn write_arrivals(
     from: &Levels,
-    hop: Hop,
+    arc: &ArcBreaks,
     next: &Spans,
-    rows: &[BreakRow],
     b: usize,
     set: &mut Spans,
-    room: &mut Room,
+    scratch: &mut Scratch,
 ) -> Result<(), vr_spans::NoMemory>
-    requires taken { b ≤ length rows.now }
-    requires crossing { IsCrossing from.now hop next.now rows.now }
-    ensures { OnOk result (AreArrivals from.now hop next.now rows.now 0 b set.new) }
+    requires taken { b ≤ length arc.now.rows.now }
+    requires crossing { IsCrossing from.now arc.now.hop next.now arc.now.rows.now }
+    ensures { OnOk result (AreArrivals from.now arc.now.hop next.now arc.now.rows.now 0 b set.new) }
 {
-    from.level(b)
-        .reach_into(hop.transit, hop.transit + hop.slack, next, set)?;
+    let (hop, rows) = (arc.hop, arc.rows);
+    write_plain(Way::On, from.level(b), hop, next, set)?;
     let mut a = b;
     'fewer: while a > 0 {
         a -= 1;
@@ -253,7 +238,7 @@ fn write_arrivals(
             hop,
             rows: &rows[a..b],
         };
-        room.add_arrivals(from.level(a), &over, next, set)?;
+        scratch.add(Way::On, from.level(a), &over, next, set)?;
     }
     Ok(())
 }
@@ -261,19 +246,19 @@ fn write_arrivals(
 // Writes the cumuls of `here` over `set` from which the arc leads with `a` breaks taken before it.
 fn write_departures(
     to: &Levels,
-    hop: Hop,
+    arc: &ArcBreaks,
     here: &Spans,
-    rows: &[BreakRow],
     a: usize,
     set: &mut Spans,
-    room: &mut Room,
+    scratch: &mut Scratch,
 ) -> Result<(), vr_spans::NoMemory>
-    requires taken { a ≤ length rows.now }
-    requires crossing { IsCrossing to.now hop here.now rows.now }
-    ensures { OnOk result (AreDepartures to.now hop here.now rows.now a (length rows.now) set.new) }
+    requires taken { a ≤ length arc.now.rows.now }
+    requires crossing { IsCrossing to.now arc.now.hop here.now arc.now.rows.now }
+    ensures { OnOk result
+        (AreDepartures to.now arc.now.hop here.now arc.now.rows.now a (length arc.now.rows.now) set.new) }
 {
-    to.level(a)
-        .reach_into(-hop.transit - hop.slack, -hop.transit, here, set)?;
+    let (hop, rows) = (arc.hop, arc.rows);
+    write_plain(Way::Back, to.level(a), hop, here, set)?;
     let mut b = a;
     'further: while b < rows.len() {
         b += 1;
@@ -281,52 +266,29 @@ fn write_departures(
             hop,
             rows: &rows[a..b],
         };
-        room.add_departures(to.level(b), &over, here, set)?;
+        scratch.add(Way::Back, to.level(b), &over, here, set)?;
     }
     Ok(())
 }
 
-// Writes the sets of one break taken and more over `sets`, behind an arc.
-fn write_further_arrivals(
+// Writes the sets of one break taken and more over `sets`.
+fn write_further(
+    way: Way,
     from: &Levels,
-    hop: Hop,
-    next: &Spans,
-    rows: &[BreakRow],
+    arc: &ArcBreaks,
+    within: &Spans,
     sets: &mut Vec<Spans>,
-    room: &mut Room,
+    scratch: &mut Scratch,
 ) -> Result<(), vr_spans::NoMemory>
-    requires crossing { IsCrossing from.now hop next.now rows.now }
-    requires long { length sets.old.items ≡ length rows.now }
-    ensures each { OnOk result ((k : ℕ) → k < length rows.now →
-        AreArrivals from.now hop next.now rows.now 0 (suc k) (level_at sets.new.items k)) }
-    ensures long { OnOk result (length sets.new.items ≡ length rows.now) }
+    requires crossing { IsCrossing from.now arc.now.hop within.now arc.now.rows.now }
+    requires long { length sets.old.items ≡ length arc.now.rows.now }
+    ensures each { OnOk result ((k : ℕ) → k < length arc.now.rows.now →
+        IsLevelBy way from.now arc.now.hop within.now arc.now.rows.now (suc k) (level_at sets.new.items k)) }
+    ensures long { OnOk result (length sets.new.items ≡ length arc.now.rows.now) }
 {
     let mut k = 0;
-    'levels: while k < rows.len() {
-        write_arrivals(from, hop, next, rows, k + 1, &mut sets[k], room)?;
-        k += 1;
-    }
-    Ok(())
-}
-
-// Writes the sets of one break taken and more over `sets`, before an arc.
-fn write_further_departures(
-    to: &Levels,
-    hop: Hop,
-    here: &Spans,
-    rows: &[BreakRow],
-    sets: &mut Vec<Spans>,
-    room: &mut Room,
-) -> Result<(), vr_spans::NoMemory>
-    requires crossing { IsCrossing to.now hop here.now rows.now }
-    requires long { length sets.old.items ≡ length rows.now }
-    ensures each { OnOk result ((k : ℕ) → k < length rows.now →
-        AreDepartures to.now hop here.now rows.now (suc k) (length rows.now) (level_at sets.new.items k)) }
-    ensures long { OnOk result (length sets.new.items ≡ length rows.now) }
-{
-    let mut k = 0;
-    'levels: while k < rows.len() {
-        write_departures(to, hop, here, rows, k + 1, &mut sets[k], room)?;
+    'levels: while k < arc.rows.len() {
+        write_level(way, from, arc, within, k + 1, &mut sets[k], scratch)?;
         k += 1;
     }
     Ok(())
@@ -351,18 +313,8 @@ fn drop_all(sets: &mut Vec<Spans>)
     sets.clear();
 }
 
-// Counts a step for each run of a set.
-#[inline]
-fn count_runs<L: Ledger>(set: &Spans, steps: &mut Steps<L>)
-    ensures count { steps.new ≡ steps.old + length set.now }
-    ensures normal { IsNormal set.now }
-{
-    'runs: for _ in 0..set.len() {
-        steps.tick();
-    }
-}
-
 // Counts the steps of crossing from levels.
+#[inline]
 fn count_forward<L: Ledger>(from: &Levels, steps: &mut Steps<L>)
     ensures count { steps.new ≡ steps.old + forward_steps from.now }
     ensures normal { All IsNormal from.now }
@@ -375,6 +327,7 @@ fn count_forward<L: Ledger>(from: &Levels, steps: &mut Steps<L>)
 }
 
 // Counts the steps of crossing back to levels.
+#[inline]
 fn count_backward<L: Ledger>(to: &Levels, steps: &mut Steps<L>)
     ensures count { steps.new ≡ steps.old + backward_steps to.now }
     ensures normal { All IsNormal to.now }
@@ -387,6 +340,7 @@ fn count_backward<L: Ledger>(to: &Levels, steps: &mut Steps<L>)
 }
 
 // Counts some steps for each run of a set.
+#[inline]
 fn count_times<L: Ledger>(set: &Spans, times: usize, steps: &mut Steps<L>)
     ensures count { steps.new ≡ steps.old + length set.now * times }
     ensures normal { IsNormal set.now }

@@ -6,11 +6,12 @@ ghost use Rattle.vr_spans.specs.Runs.{has, IsRun};
 ghost use Rattle.vr_steps.specs.Arcs.{IsSoundHop};
 ghost use Rattle.vr_steps.specs.Chains.{IsSmall};
 ghost use Rattle.vr_steps.specs.Levels.{IsCumuls};
-ghost use Rattle.vr_steps.specs.Passages.{ArrivesAt, DepartsAt, HasWay, IsOpen, IsOver, IsPassage, LeadsNowhere};
-ghost use Rattle.vr_steps.specs.Passages.{onward, upto};
+ghost use Rattle.vr_steps.specs.Passages.{HasWay, IsOpen, IsOver, IsPassage, LeadsNowhere, onward, upto};
+ghost use Rattle.vr_steps.specs.Ways.{IsLedTo, IsOpenPass, pass_by};
 
 use crate::Hop;
 use crate::chains::Chain;
+use crate::ways::Way;
 use std::mem;
 use vr_model::BreakRow;
 use vr_model::limits::HORIZON;
@@ -39,6 +40,16 @@ pub struct Passage {
     pub greatest: i64,
     pub until: i64,
     pub from: i64,
+}
+
+// What a passage asks in one direction of the number `x` from which it leads and of the number `y` to which it leads:
+// `x` lies in `out`, `y` in `into`, and `x + least <= y <= x + greatest`.
+#[derive(Clone, Copy)]
+pub(crate) struct Pass {
+    out: Run,
+    into: Run,
+    least: i64,
+    greatest: i64,
 }
 
 impl Passage {
@@ -100,21 +111,43 @@ impl Passage {
             hi: HORIZON,
         }
     }
+
+    // What it asks in one direction.
+    fn by(&self, way: Way) -> Pass
+        requires open_way { IsOpen self.now }
+        ensures exact { result ≡ pass_by way self.now }
+        ensures open_pass { IsOpenPass result }
+    {
+        match way {
+            Way::On => Pass {
+                out: self.begins(),
+                into: self.ends(),
+                least: self.least,
+                greatest: self.greatest,
+            },
+            Way::Back => Pass {
+                out: self.ends(),
+                into: self.begins(),
+                least: -self.greatest,
+                greatest: -self.least,
+            },
+        }
+    }
 }
 
 // Sets that are written over while an arc with breaks is crossed.
 #[derive(Drop)]
-pub(crate) struct Room {
+pub(crate) struct Scratch {
     left: Spans,
     right: Spans,
     image: Spans,
     whole: Spans,
 }
 
-impl Room {
+impl Scratch {
     // Empty sets, with the allocator of this one. They take no memory.
-    pub(crate) fn beside(set: &Spans) -> Room {
-        Room {
+    pub(crate) fn beside(set: &Spans) -> Scratch {
+        Scratch {
             left: set.fresh(),
             right: set.fresh(),
             image: set.fresh(),
@@ -122,65 +155,31 @@ impl Room {
         }
     }
 
-    // Adds those cumuls of `next` to `set` to which the arc leads from `from` with these breaks inside.
-    pub(crate) fn add_arrivals(
+    // Adds those cumuls of `within` to `set` to which the arc leads from `from` with these breaks inside.
+    pub(crate) fn add(
         &mut self,
+        way: Way,
         from: &Spans,
         over: &HopOver,
-        next: &Spans,
+        within: &Spans,
         set: &mut Spans,
     ) -> Result<(), NoMemory>
         requires from { IsCumuls from.now }
-        requires next { IsCumuls next.now }
+        requires within { IsCumuls within.now }
         ensures { OnOk result ((x : ℤ) →
             IsTrue (has set.new x) ↔ (IsTrue (has set.old x)
-            ⊎ ArrivesAt from.now over.now.hop over.now.rows.now next.now x)) }
+            ⊎ IsLedTo way from.now over.now.hop over.now.rows.now within.now x)) }
     {
-        // the room is as it was where the arc leads nowhere
+        // the sets are as they were where the arc leads nowhere
         let _ = &self.left;
         let Some(passage) = Passage::of(over) else {
             return Ok(());
         };
-        from.clip_into(passage.begins(), &mut self.left)?;
-        next.clip_into(passage.ends(), &mut self.right)?;
-        self.left.reach_into(
-            passage.least,
-            passage.greatest,
-            &self.right,
-            &mut self.image,
-        )?;
-        set.union_into(&self.image, &mut self.whole)?;
-        mem::swap(set, &mut self.whole);
-        Ok(())
-    }
-
-    // Adds those cumuls of `here` to `set` from which the arc leads to `to` with these breaks inside.
-    pub(crate) fn add_departures(
-        &mut self,
-        to: &Spans,
-        over: &HopOver,
-        here: &Spans,
-        set: &mut Spans,
-    ) -> Result<(), NoMemory>
-        requires to { IsCumuls to.now }
-        requires here { IsCumuls here.now }
-        ensures { OnOk result ((y : ℤ) →
-            IsTrue (has set.new y) ↔ (IsTrue (has set.old y)
-            ⊎ DepartsAt to.now over.now.hop over.now.rows.now here.now y)) }
-    {
-        // the room is as it was where the arc leads nowhere
-        let _ = &self.left;
-        let Some(passage) = Passage::of(over) else {
-            return Ok(());
-        };
-        to.clip_into(passage.ends(), &mut self.left)?;
-        here.clip_into(passage.begins(), &mut self.right)?;
-        self.left.reach_into(
-            -passage.greatest,
-            -passage.least,
-            &self.right,
-            &mut self.image,
-        )?;
+        let pass = passage.by(way);
+        from.clip_into(pass.out, &mut self.left)?;
+        within.clip_into(pass.into, &mut self.right)?;
+        self.left
+            .reach_into(pass.least, pass.greatest, &self.right, &mut self.image)?;
         set.union_into(&self.image, &mut self.whole)?;
         mem::swap(set, &mut self.whole);
         Ok(())

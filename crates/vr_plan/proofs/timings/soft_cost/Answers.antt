@@ -30,19 +30,16 @@ loop-k-preserved c =
 
 pub returns-clause-value : goal.returns-clause-value
 returns-clause-value c =
-    let list = c.args.list.now in
-    let cumuls = c.args.cumuls.now in
-    let k = c.loop-k.k in
     let i = c.loop-k.invariant in
     let high = c.loop-k-test.false in
     let end = c.loop-k.auto.k-end in
-    let within : k + 1 < length cumuls = (let s = c.requires.stops in omega (arith, end, s)) in
-    let same : k ≡ length list = omega (arith, high, end) in
-    let x : ℤ = number_at cumuls (length list + 1) in
-    let step = soft-end (row_of c.args.dimension.now.nodes) (row_of c.args.dimension.now.ends c.args.v) list cumuls k high within in
+    let within : c.loop-k.k + 1 < length c.args.cumuls.now = (let s = c.requires.stops in omega (arith, end, s)) in
+    let same : c.loop-k.k ≡ length c.args.list.now = omega (arith, high, end) in
+    let x : ℤ = number_at c.args.cumuls.now (length c.args.list.now + 1) in
+    let step = soft-end (row_of c.args.dimension.now.nodes) (row_of c.args.dimension.now.ends c.args.v) c.args.list.now c.args.cumuls.now c.loop-k.k high within in
     let r = c.row_cost.ensures in
-    let value = r.value ∙ ap (λ o. row_cost o (to_z w64 (of_z w64 x))) c.of_key-2.ensures.value ∙ ap (row_cost (row_of c.args.dimension.now.ends c.args.v)) (read-cumul x (c.requires.range (length list + 1) (pos 0) (subst (λ n. n + 1 < length cumuls) same within))
-    ∙ ap (λ n. number_at cumuls (n + 1)) (sym same)) in
+    let value = r.value ∙ ap (λ o. row_cost o (to_z w64 (of_z w64 x))) c.of_key-2.ensures.value ∙ ap (row_cost (row_of c.args.dimension.now.ends c.args.v)) (read-cumul x (c.requires.range (length c.args.list.now + 1) (pos 0) (subst (λ n. n + 1 < length c.args.cumuls.now) same within))
+    ∙ ap (λ n. number_at c.args.cumuls.now (n + 1)) (sym same)) in
     let is = c.loop-k.cost-is in
     let few = c.requires.few in
     omega (arith, ints, i.sum, step, value, is, r.range.low, r.range.high, i.range.low, i.range.high, end, few)

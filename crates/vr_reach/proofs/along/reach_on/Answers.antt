@@ -21,8 +21,8 @@ loop-k-init c =
       each = λ j low. known.each j (omega (arith, low, begun));
     }
 
-pub cross_on-requires : goal.cross_on-requires
-cross_on-requires c =
+pub cross_uncounted-requires : goal.cross_uncounted-requires
+cross_uncounted-requires c =
     let stops = c.args.stops.now in
     let of = stops.of in
     let m = c.loop-k.invariant in
@@ -36,17 +36,17 @@ loop-k-preserved c =
     let stops = c.args.stops.now in
     let m = c.loop-k.invariant in
     let k = c.loop-k.k in
-    let new = c.cross_on.new.out in
+    let new = c.cross_uncounted.new.out in
     let same = stops.ends_are.breaks_are.same in
     let read = ap (λ rows. slice_index_or rows k c.index-done-k.result) c.split_at_mut-done.ensures.front ∙ read_front c.loop-k.rows (k + 1) k c.index-done-k.result (omega arith) (omega (arith, m.long, c.len-n.ensures.value)) in
     let whole : c.split_at_mut-done.result.0.now ++ set c.split_at_mut-done.result.1.now 0 new ≡ set c.loop-k.rows (k + 1) new =
     ap₂ (λ front back. front ++ set back 0 new) c.split_at_mut-done.ensures.front c.split_at_mut-done.ensures.back ∙ set_back c.loop-k.rows (k + 1) new in
-    let crossed = subst (λ from. AreCrossed from c.hop_from-hop.result c.set_at-next.result.now stops.ends.now.breaks new) read c.in_ok-cross_on.ensures.exact in
+    let crossed = subst (λ from. AreCrossed from c.hop_from-hop.result c.set_at-next.result.now stops.ends.now.breaks new) read c.in_ok-cross_uncounted.ensures.exact in
     rw whole (record {
       within = omega (arith, c.len-n.ensures.value);
       long = length-set c.loop-k.rows (k + 1) new ∙ m.long;
       each = hold_next (IsReachedOn stops.of) k c.loop-k.rows new (omega (arith, m.long, c.len-n.ensures.value)) m.each (record {
-        form = subst (λ breaks. AreLevels breaks new) same c.in_ok-cross_on.ensures.levels;
+        form = subst (λ breaks. AreLevels breaks new) same c.in_ok-cross_uncounted.ensures.levels;
         reached = next_on stops.of stops.ends.now.breaks same k (omega (arith, c.len-n.ensures.value)) c.hop_from-hop.result c.hop_from-hop.ensures.exact c.set_at-next.result.now c.set_at-next.ensures (row_at c.loop-k.rows k) new (m.each k (omega arith)).reached crossed;
       });
     })

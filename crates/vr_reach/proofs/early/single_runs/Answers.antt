@@ -28,18 +28,12 @@ returns-clause-known c =
 
 pub returns-then-not-has_no_breaks-clause-known : goal.returns-then-not-has_no_breaks-clause-known
 returns-then-not-has_no_breaks-clause-known c =
-    let m = c.args.model.now in
-    let d = c.args.d in
-    let v = c.args.v in
-    let here = ends_here m d v c.args.stops.now c.requires.stops c.requires.vehicle c.index-ends.result.now c.index-ends.ensures in
-    first_fails (is_empty (breaks_of (dimension_at m d) v)) (is_one_run (allowed_by m d v Start)) (is_one_run (allowed_by m d v End)) (have_visits_one_run m d v)
+    let here = ends_here c.args.model.now c.args.d c.args.v c.args.stops.now c.requires.stops c.requires.vehicle c.index-ends.result.now c.index-ends.ensures in
+    first_fails (is_empty (breaks_of (dimension_at c.args.model.now c.args.d) c.args.v)) (is_one_run (allowed_by c.args.model.now c.args.d c.args.v Start)) (is_one_run (allowed_by c.args.model.now c.args.d c.args.v End)) (have_visits_one_run c.args.model.now c.args.d c.args.v)
     (sym c.if-not-has_no_breaks.true ∙ c.has_no_breaks.ensures ∙ ap is_empty here.sets.breaks_are.same)
 
 pub returns-in_err-start-clause-known : goal.returns-in_err-start-clause-known
 returns-in_err-start-clause-known c =
-    let m = c.args.model.now in
-    let d = c.args.d in
-    let v = c.args.v in
-    let here = ends_here m d v c.args.stops.now c.requires.stops c.requires.vehicle c.index-ends.result.now c.index-ends.ensures in
-    ap is_some c.from_residual.ensures ∙ second_fails (is_empty (breaks_of (dimension_at m d) v)) (is_one_run (allowed_by m d v Start)) (is_one_run (allowed_by m d v End)) (have_visits_one_run m d v)
-    (c.in_err-start.ensures.known ∙ one_counted runs_are_counted (allowed_by m d v Start) c.index-ends.result.now.start_set here.sets.start_set_is)
+    let here = ends_here c.args.model.now c.args.d c.args.v c.args.stops.now c.requires.stops c.requires.vehicle c.index-ends.result.now c.index-ends.ensures in
+    ap is_some c.from_residual.ensures ∙ second_fails (is_empty (breaks_of (dimension_at c.args.model.now c.args.d) c.args.v)) (is_one_run (allowed_by c.args.model.now c.args.d c.args.v Start)) (is_one_run (allowed_by c.args.model.now c.args.d c.args.v End)) (have_visits_one_run c.args.model.now c.args.d c.args.v)
+    (c.in_err-start.ensures.known ∙ one_counted runs_are_counted (allowed_by c.args.model.now c.args.d c.args.v Start) c.index-ends.result.now.start_set here.sets.start_set_is)

@@ -5,5 +5,5 @@ use Rattle.vr_reach.proofs.stretches.shared_back.Goals as goal
 pub nodes-init : goal.nodes-init
 nodes-init c = record {
   within = omega (arith, c.min-back.ensures);
-  shares = fewer_at_back c.args.old.now c.args.new.now c.args.told c.min-back.result c.requires.told (omega (arith, c.min-back.ensures));
+  shares = fewer_at_back c.args.old.now c.args.new.now c.args.known c.min-back.result c.requires.known (omega (arith, c.min-back.ensures));
 }

@@ -6,9 +6,10 @@ use Rattle.vr_rules.specs.Placing.{nodes_of}
 use Rattle.vr_rules.proofs.FrontLemmas.{moved_more, left_behind}
 use Rattle.vr_rules.proofs.fronts.advance_each.Goals as goal
 
-pub advance-requires-clause-front : goal.advance-requires-clause-front
-advance-requires-clause-front c =
-    (subst (λ front. IsFrontOf c.args.longer.now.closed.model.now c.loop-d.d c.args.v c.args.longer.now.list.now front) (sym c.index_mut.ensures.value) (c.loop-d.invariant.left c.loop-d.d c.index_mut.result.now (omega arith) (omega (arith, c.loop-d.invariant.long)))).front_of_list
+pub advance-requires : goal.advance-requires
+advance-requires c = record {
+  front = (subst (λ front. IsFrontOf c.args.longer.now.closed.model.now c.loop-d.d c.args.v c.args.longer.now.list.now front) (sym c.index_mut.ensures.value) (c.loop-d.invariant.left c.loop-d.d c.index_mut.result.now (omega arith) (omega (arith, c.loop-d.invariant.long)))).front_of_list;
+}
 
 pub loop-d-preserved : goal.loop-d-preserved
 loop-d-preserved c =

@@ -12,6 +12,3 @@ invariant-loop-d l = record {
   moved : (d : ℕ) (other : Front) → d < l.d → d < length l.fronts.items → IsFrontOf l.longer.closed.model.now d l.v (l.longer.list.now ++ nodes_of l.longer.item) (slice_index_or l.fronts.items d other);
   left : (d : ℕ) (other : Front) → l.d ≤ d → d < length l.fronts.items → IsFrontOf l.longer.closed.model.now d l.v l.longer.list.now (slice_index_or l.fronts.items d other);
 }
-
-abbrev pub ghosts-advance : goal.ghosts-advance
-ghosts-advance a = record { name = a.blank.name; parts = a.blank.parts }

@@ -5,6 +5,3 @@ use Rattle.vr_rules.proofs.fronts.is_feasible_with.Given as goal
 
 abbrev pub invariant-loop-d : goal.invariant-loop-d
 invariant-loop-d l = IsFeasibleBelow l.longer.closed.model.now l.v (l.longer.list.now ++ nodes_of l.longer.item) l.d
-
-abbrev pub ghosts-feasible_with : goal.ghosts-feasible_with
-ghosts-feasible_with a = record { name = a.blank.name; parts = a.blank.parts }

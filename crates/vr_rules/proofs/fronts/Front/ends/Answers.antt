@@ -10,7 +10,7 @@ use Rattle.vr_rules.proofs.FrontLemmas.{at_end, item_last}
 use Rattle.vr_rules.proofs.fronts.Front.ends.Goals as goal
 
 pub returns : goal.returns
-returns g c =
+returns c =
     let model = c.args.longer.now.closed.model.now in
     let d = c.args.self.now.dimension in
     let v = c.args.self.now.vehicle in
@@ -20,6 +20,6 @@ returns g c =
     let end = ap (λ (vehicle : Vehicle). vehicle.end) (sym (c.get.ensures.value no_vehicle)) in
     let arc = c.hop-arc.ensures.exact ∙ (λ t. hop_between model d v (last t) (end t)) in
     same_test _ _
-    (c.ends.ensures (line model d v whole) (at_end model c.args.longer.now.closed.well_formed d v front.dimension front.vehicle whole c.args.walk.now c.step.new.self c.hop-arc.result
-    c.args.self.now.ending c.args.self.now.breaks c.requires.here front.breaks c.in_ok-step.ensures.exact arc front.ending c.requires.driven))
+    (c.ends.ensures (line model d v whole) (at_end model c.args.longer.now.closed.well_formed d v front.dimension front.vehicle whole c.args.walk.now c.cross.new.self c.hop-arc.result
+    c.args.self.now.ending c.args.self.now.breaks c.requires.here front.breaks c.in_ok-cross.ensures.exact arc front.ending c.requires.driven))
     (chosen_where_feasible (line model d v whole))

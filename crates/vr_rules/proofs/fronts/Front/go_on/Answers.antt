@@ -5,12 +5,12 @@ use Rattle.vr_rules.specs.Fronts.{AreReachedBehind}
 use Rattle.vr_rules.proofs.FrontLemmas.{behind_visit, last_behind, to_visit, visit_set_at}
 use Rattle.vr_rules.proofs.fronts.Front.go_on.Goals as goal
 
-pub step-requires : goal.step-requires
-step-requires g c =
+pub cross-requires : goal.cross-requires
+cross-requires c =
     to_visit c.args.closed.model.now c.args.list.now c.args.self.now c.requires.front c.args.walk.now c.hop-arc.result c.args.node c.index-next.result.now c.requires.form c.hop-arc.ensures.sound c.index-next.ensures c.requires.visit
 
 pub returns-clause-reached : goal.returns-clause-reached
-returns-clause-reached g c =
+returns-clause-reached c =
     let model = c.args.closed.model.now in
     let d = c.args.self.now.dimension in
     let v = c.args.self.now.vehicle in
@@ -18,6 +18,6 @@ returns-clause-reached g c =
     let front = c.requires.front in
     let set = visit_set_at model d v _ front.visits c.args.node c.index-next.result.now c.index-next.ensures c.requires.visit in
     let arc = c.hop-arc.ensures.exact ∙ ap (λ origin. hop_between model d v origin c.args.node) (sym (last_behind (vehicle_at model v).start c.args.list.now (c.args.before ∷ []))) in
-    subst (λ list. AreReachedBehind model d v list c.step.new.self) (append_assoc c.args.list.now (c.args.before ∷ []) (c.args.node ∷ []))
-    (behind_visit model c.args.closed.well_formed d v front.dimension front.vehicle before c.args.walk.now c.step.new.self c.hop-arc.result c.index-next.result.now
-    c.args.self.now.breaks c.requires.here front.breaks c.in_ok-step.ensures.exact c.args.node arc set)
+    subst (λ list. AreReachedBehind model d v list c.cross.new.self) (append_assoc c.args.list.now (c.args.before ∷ []) (c.args.node ∷ []))
+    (behind_visit model c.args.closed.well_formed d v front.dimension front.vehicle before c.args.walk.now c.cross.new.self c.hop-arc.result c.index-next.result.now
+    c.args.self.now.breaks c.requires.here front.breaks c.in_ok-cross.ensures.exact c.args.node arc set)
