@@ -101,15 +101,6 @@ fn next_item(
     Ok(item_of(best))
 }
 
-// Puts an item at the end of a list among lists.
-fn append_to(lists: &mut [Seq<u32>], v: u32, item: Item) -> Result<(), NoMemory>
-    requires { v < length lists.now }
-    ensures { OnOk result (lists.new ≡ appended lists.old v (nodes_of item)) }
-{
-    append(&mut lists[v as usize], item)?;
-    Ok(())
-}
-
 // Puts an item at the end of the list of vehicle `v`, and moves its fronts there.
 fn place(
     fronts: &mut Fronts,

@@ -11,21 +11,19 @@ after-step : (x y z : ℤ) (p q r : Bool) → (p ≡ true → q ≡ true → r �
 after-step x y z true true true f h g = Prim.grind arith
 after-step x y z true true false f h g = absurd (let e = f refl refl in cc)
 after-step x y z true false r f h g = Prim.grind arith
-after-step x y z false true r f h g = Prim.grind arith
-after-step x y z false false r f h g = Prim.grind arith
+after-step x y z false q r f h g = Prim.grind arith
+
+not-step : (x y z : ℤ) (p q r : Bool) → (p ≡ false → q ≡ false → r ≡ false) → (int_lt x y || (int_le x y && p)) ≡ false → (int_lt y z || (int_le y z && q)) ≡ false → (int_lt x z || (int_le x z && r)) ≡ false
+not-step x y z false false false f h g = Prim.grind arith
+not-step x y z false false true f h g = absurd (let e = f refl refl in cc)
+not-step x y z false true r f h g = Prim.grind arith
+not-step x y z true q r f h g = Prim.grind arith
 
 pub less-trans : (a b c : List ℤ) → is_lex_less a b ≡ true → is_lex_less b c ≡ true → is_lex_less a c ≡ true
 less-trans a [] c h g = absurd (cc)
 less-trans a (y ∷ ys) [] h g = absurd (cc)
 less-trans [] (y ∷ ys) (z ∷ zs) h g = refl
 less-trans (x ∷ xs) (y ∷ ys) (z ∷ zs) h g = after-step x y z (is_lex_less xs ys) (is_lex_less ys zs) (is_lex_less xs zs) (less-trans xs ys zs) h g
-
-not-step : (x y z : ℤ) (p q r : Bool) → (p ≡ false → q ≡ false → r ≡ false) → (int_lt x y || (int_le x y && p)) ≡ false → (int_lt y z || (int_le y z && q)) ≡ false → (int_lt x z || (int_le x z && r)) ≡ false
-not-step x y z false false false f h g = Prim.grind arith
-not-step x y z false false true f h g = absurd (let e = f refl refl in cc)
-not-step x y z false true r f h g = Prim.grind arith
-not-step x y z true false r f h g = Prim.grind arith
-not-step x y z true true r f h g = Prim.grind arith
 
 pub not_less-trans : (a b c : List ℤ) → is_lex_less a b ≡ false → is_lex_less b c ≡ false → is_lex_less a c ≡ false
 not_less-trans a b [] h g = refl

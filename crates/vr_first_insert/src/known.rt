@@ -5,8 +5,8 @@ ghost use Rattle.vr_first_insert.specs.Kept.{begun_with as begun_with_of, best_o
 ghost use Rattle.vr_first_insert.specs.Kept.{is_settled as is_settled_of, told_by as told_by_of};
 ghost use Rattle.vr_first_insert.specs.Kept.{AddsAtLeast, BestAddsAtLeast, IsForgotten};
 ghost use Rattle.vr_first_insert.specs.VehicleLists.{best_of_candidate, sought_in, tried_in, IsKnownOf, IsReadyList};
-ghost use Rattle.vr_first_insert.specs.declared.known.Known.TheVariants.{Nothing};
 ghost use Rattle.vr_first_insert.specs.KeptRows.{list_model};
+ghost use Rattle.vr_first_insert.specs.declared.known.Known.TheVariants.{Nothing};
 
 use crate::bound::{least_pair, least_visit};
 use crate::choice::{Choice, improves, may_improve};
@@ -165,9 +165,9 @@ fn tried(
     bound: Bound,
     best: Option<Choice>,
 ) -> Result<Known, NoMemory>
-    requires ready { IsReadyList of.now.list of.now.keeps.now }
     requires bound { BestAddsAtLeast (list_model of.now.list) of.now.list.vehicle of.now.list.nodes.now
         of.now.candidate bound.least }
+    requires ready { IsReadyList of.now.list of.now.keeps.now }
     ensures exact { IfOk result (λ known. known ≡ tried_in of.now bound best) }
     ensures known { IfOk result (IsKnownOf of.now) }
     ensures better { IfOk result (λ known. best_of known best ≡ best_of_candidate of.now best) }

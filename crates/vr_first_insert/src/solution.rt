@@ -67,12 +67,12 @@ fn rebuild_in_place(
     requires keeper { IsKeeper lookups.now.closed.model.now keeper.old }
     requires of_model { routes.old.visits ≡ visits lookups.now.closed.model.now }
     requires built { AreBuilt lookups.now.closed.model.now routes.old.lists }
+    ensures visits { routes.new.visits ≡ routes.old.visits }
     ensures keeper { OnOk result (IsKeeper lookups.now.closed.model.now keeper.new) }
     ensures lists { OnOk result (routes.new.lists ≡ rebuilt lookups.now.closed.model.now
         (length (items lookups.now.closed.model.now)) routes.old.lists) }
     ensures built { OnOk result (AreBuilt lookups.now.closed.model.now routes.new.lists) }
     ensures as_before { OnErr result (routes.new.lists ≡ routes.old.lists) }
-    ensures visits { routes.new.visits ≡ routes.old.visits }
 {
     keeper.rebuild(lookups, routes)?;
     routes.set_lists(&keeper.lists);

@@ -1,6 +1,10 @@
 //! Whether a list stays open with an item put in.
 
-ghost use Rattle.std.specs.Prelude.{◌≡◌, IfOk};
+ghost use Rattle.std.specs.Prelude.{◌≡◌, IfOk, IsTrue};
+ghost use Rattle.std.specs.List.{list_all};
+ghost use Rattle.vr_model.specs.routes.Routes.{is_distinct};
+ghost use Rattle.vr_model.specs.tables.Tables.{is_visit};
+ghost use Rattle.vr_lists.specs.Pairs.{keeps_pairs as keeps_pairs_of};
 ghost use Rattle.vr_model.specs.routes.Rules.{is_route_open};
 ghost use Rattle.vr_first_insert.specs.Placings.{placed};
 ghost use Rattle.vr_first_insert.specs.VehicleLists.{MayTestPair, MayTestVisit};
@@ -9,7 +13,7 @@ ghost use Rattle.vr_first_insert.specs.KeptRows.{list_model};
 
 use crate::kept::is_feasible_between;
 use crate::probes::Probes;
-use crate::vehicle_list::{PairIn, VisitIn};
+use crate::vehicle_list::{PairIn, VehicleList, VisitIn};
 use std::alloc::Global;
 use vr_lists::{PairPlaces, keeps_pairs};
 use vr_model::{NoMemory, Seq};
@@ -35,6 +39,24 @@ impl Trying {
     }
 }
 
+// Whether the list that is written serves each pair in order, and as the policy of the vehicle of a list asks.
+#[inline(always)]
+fn keeps_its_pairs(trying: &mut Trying, list: &VehicleList<'_, '_, '_>) -> bool
+    requires visits { IsTrue (list_all (is_visit (list_model list.now)) trying.old.longer) }
+    requires distinct { IsTrue (is_distinct trying.old.longer) }
+    ensures keeps { result ≡ keeps_pairs_of (list_model list.now) list.now.vehicle trying.old.longer }
+    ensures longer { trying.new.longer ≡ trying.old.longer }
+{
+    let lookups = list.lookups;
+    let longer = trying.longer.as_slice();
+    keeps_pairs(
+        lookups.closed.model,
+        list.vehicle,
+        longer,
+        &mut trying.pairs,
+    )
+}
+
 /// Whether the vehicle of a list may drive it with a visit before place `t`, as it is written, found by walks over the
 /// two arcs that are new.
 pub(crate) fn may_visit(
@@ -54,13 +76,7 @@ pub(crate) fn may_visit(
     if !is_feasible_between(visit.keeps, list, longer, t, back, &mut trying.walk)? {
         return Ok(false);
     }
-    let lookups = list.lookups;
-    Ok(keeps_pairs(
-        lookups.closed.model,
-        list.vehicle,
-        longer,
-        &mut trying.pairs,
-    ))
+    Ok(keeps_its_pairs(trying, list))
 }
 
 /// Whether the vehicle of a list may drive it with a pickup before place `s` and its delivery before place `t`, as it
@@ -84,11 +100,5 @@ pub(crate) fn may_serve(
     if !probes.goes_from(pair.keeps, list, longer, t + 1, back, &mut trying.walk)? {
         return Ok(false);
     }
-    let lookups = list.lookups;
-    Ok(keeps_pairs(
-        lookups.closed.model,
-        list.vehicle,
-        longer,
-        &mut trying.pairs,
-    ))
+    Ok(keeps_its_pairs(trying, list))
 }

@@ -17,13 +17,13 @@ use Rattle.vr_model.specs.tables.Tables.{is_visit}
 use Rattle.vr_first_insert.proofs.PlacedLemmas.{placed-distinct, placed-visits}
 use Rattle.vr_first_insert.proofs.trying.may_serve.Goals as goal
 
-pub keeps_pairs-requires-clause-visits : goal.keeps_pairs-requires-clause-visits
-keeps_pairs-requires-clause-visits c =
-    ap (list_all (is_visit c.args.pair.now.list.lookups.now.closed.model.now)) (c.as_slice-longer.ensures ∙ c.requires.longer) ∙ placed-visits c.args.pair.now.list.lookups.now.closed.model.now c.args.pair.now.list.nodes.now (Two c.args.pair.now.pickup c.args.pair.now.delivery c.args.s c.args.t) (c.requires.order, c.requires.within) c.args.pair.now.may_hold
+pub keeps_its_pairs-requires-clause-visits : goal.keeps_its_pairs-requires-clause-visits
+keeps_its_pairs-requires-clause-visits c =
+    ap (list_all (is_visit c.args.pair.now.list.lookups.now.closed.model.now)) c.requires.longer ∙ placed-visits c.args.pair.now.list.lookups.now.closed.model.now c.args.pair.now.list.nodes.now (Two c.args.pair.now.pickup c.args.pair.now.delivery c.args.s c.args.t) (c.requires.order, c.requires.within) c.args.pair.now.may_hold
 
-pub keeps_pairs-requires-clause-distinct : goal.keeps_pairs-requires-clause-distinct
-keeps_pairs-requires-clause-distinct c =
-    ap is_distinct (c.as_slice-longer.ensures ∙ c.requires.longer) ∙ placed-distinct c.args.pair.now.list.lookups.now.closed.model.now c.args.pair.now.list.nodes.now (Two c.args.pair.now.pickup c.args.pair.now.delivery c.args.s c.args.t) (c.requires.order, c.requires.within) c.args.pair.now.may_hold
+pub keeps_its_pairs-requires-clause-distinct : goal.keeps_its_pairs-requires-clause-distinct
+keeps_its_pairs-requires-clause-distinct c =
+    ap is_distinct c.requires.longer ∙ placed-distinct c.args.pair.now.list.lookups.now.closed.model.now c.args.pair.now.list.nodes.now (Two c.args.pair.now.pickup c.args.pair.now.delivery c.args.s c.args.t) (c.requires.order, c.requires.within) c.args.pair.now.may_hold
 
 pub goes_from-requires : goal.goes_from-requires
 goes_from-requires c =
@@ -51,7 +51,6 @@ returns-then-not-branch-clause-open c =
 
 pub returns-clause-open : goal.returns-clause-open
 returns-clause-open c =
-    let is = c.as_slice-longer.ensures ∙ c.requires.longer in
-    c.keeps_pairs.ensures ∙ ap (keeps_pairs c.args.pair.now.list.lookups.now.closed.model.now c.args.pair.now.list.vehicle) is
+    c.keeps_its_pairs.ensures.keeps ∙ ap (keeps_pairs c.args.pair.now.list.lookups.now.closed.model.now c.args.pair.now.list.vehicle) c.requires.longer
     ∙ sym (open-by_pairs c.args.pair.now.list.lookups.now.closed.model.now c.args.pair.now.list.vehicle c.args.pair.now.list.nodes.now (Two c.args.pair.now.pickup c.args.pair.now.delivery c.args.s c.args.t) (c.requires.order, c.requires.within) c.requires.ready.stands c.args.pair.now.allowed
-    (ap (is_feasible_in_each c.args.pair.now.list.lookups.now.closed.model.now c.args.pair.now.list.vehicle) (sym is) ∙ sym c.in_ok-goes_from.ensures ∙ c.if-not-branch.false))
+    (ap (is_feasible_in_each c.args.pair.now.list.lookups.now.closed.model.now c.args.pair.now.list.vehicle) (sym (c.as_slice-longer.ensures ∙ c.requires.longer)) ∙ sym c.in_ok-goes_from.ensures ∙ c.if-not-branch.false))

@@ -14,13 +14,13 @@ use Rattle.vr_model.specs.tables.Tables.{is_visit}
 use Rattle.vr_first_insert.proofs.PlacedLemmas.{placed-distinct, placed-visits}
 use Rattle.vr_first_insert.proofs.trying.may_visit.Goals as goal
 
-pub keeps_pairs-requires-clause-visits : goal.keeps_pairs-requires-clause-visits
-keeps_pairs-requires-clause-visits c =
-    ap (list_all (is_visit c.args.visit.now.list.lookups.now.closed.model.now)) (c.as_slice-longer.ensures ∙ c.requires.longer) ∙ placed-visits c.args.visit.now.list.lookups.now.closed.model.now c.args.visit.now.list.nodes.now (One c.args.visit.now.node c.args.t) c.requires.within c.args.visit.now.may_hold
+pub keeps_its_pairs-requires-clause-visits : goal.keeps_its_pairs-requires-clause-visits
+keeps_its_pairs-requires-clause-visits c =
+    ap (list_all (is_visit c.args.visit.now.list.lookups.now.closed.model.now)) c.requires.longer ∙ placed-visits c.args.visit.now.list.lookups.now.closed.model.now c.args.visit.now.list.nodes.now (One c.args.visit.now.node c.args.t) c.requires.within c.args.visit.now.may_hold
 
-pub keeps_pairs-requires-clause-distinct : goal.keeps_pairs-requires-clause-distinct
-keeps_pairs-requires-clause-distinct c =
-    ap is_distinct (c.as_slice-longer.ensures ∙ c.requires.longer) ∙ placed-distinct c.args.visit.now.list.lookups.now.closed.model.now c.args.visit.now.list.nodes.now (One c.args.visit.now.node c.args.t) c.requires.within c.args.visit.now.may_hold
+pub keeps_its_pairs-requires-clause-distinct : goal.keeps_its_pairs-requires-clause-distinct
+keeps_its_pairs-requires-clause-distinct c =
+    ap is_distinct c.requires.longer ∙ placed-distinct c.args.visit.now.list.lookups.now.closed.model.now c.args.visit.now.list.nodes.now (One c.args.visit.now.node c.args.t) c.requires.within c.args.visit.now.may_hold
 
 pub is_feasible_between-requires : goal.is_feasible_between-requires
 is_feasible_between-requires c =
@@ -43,7 +43,6 @@ returns-then-not-branch-clause-open c =
 
 pub returns-clause-open : goal.returns-clause-open
 returns-clause-open c =
-    let is = c.as_slice-longer.ensures ∙ c.requires.longer in
-    c.keeps_pairs.ensures ∙ ap (keeps_pairs c.args.visit.now.list.lookups.now.closed.model.now c.args.visit.now.list.vehicle) is
+    c.keeps_its_pairs.ensures.keeps ∙ ap (keeps_pairs c.args.visit.now.list.lookups.now.closed.model.now c.args.visit.now.list.vehicle) c.requires.longer
     ∙ sym (open-by_pairs c.args.visit.now.list.lookups.now.closed.model.now c.args.visit.now.list.vehicle c.args.visit.now.list.nodes.now (One c.args.visit.now.node c.args.t) c.requires.within c.requires.ready.stands c.args.visit.now.allowed
-    (ap (is_feasible_in_each c.args.visit.now.list.lookups.now.closed.model.now c.args.visit.now.list.vehicle) (sym is) ∙ sym c.in_ok-is_feasible_between.ensures ∙ c.if-not-branch.false))
+    (ap (is_feasible_in_each c.args.visit.now.list.lookups.now.closed.model.now c.args.visit.now.list.vehicle) (sym (c.as_slice-longer.ensures ∙ c.requires.longer)) ∙ sym c.in_ok-is_feasible_between.ensures ∙ c.if-not-branch.false))
