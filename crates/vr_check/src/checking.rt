@@ -110,7 +110,7 @@ fn plans_finding(solution: &Solution<'_>) -> Finding
     numbers_finding(solution)
 }
 
-// What the rules on numbers find.
+// What the rules on numbers find, in the order of `Rule`.
 fn numbers_finding(solution: &Solution<'_>) -> Finding
     ensures { result ≡ checks.numbers_finding solution.now.closed.model.now solution.now.printed.now }
 {

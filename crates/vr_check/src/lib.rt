@@ -2,7 +2,7 @@
 //!
 //! It shares only the look-ups of the model with the search and its judges: each rule is asked of the printed lists,
 //! plans and numbers themselves, one pass for each. A pass is handed the model and the solution and answers the first
-//! place where its rule is broken; nothing is kept from one to the next, and the first that answers a place is told.
+//! place where its rule is broken; nothing is kept from one to the next, and the first answer is the one given.
 //!
 //! `vr_app` calls [`check`] for the words `check` and `spans`, and has the law that what is printed meets it.
 #![tactic(auto)]

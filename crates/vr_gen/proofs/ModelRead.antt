@@ -49,12 +49,12 @@ at_any P [] k d h p = p
 at_any P (x ∷ xs) zero d h p = All-head P x xs h
 at_any P (x ∷ xs) (suc k) d h p = at_any P xs k d (All-tail P x xs h) p
 
-for_range_passes : (rule : ℕ → Result ⊤ Fault) (a n : ℕ) → ((k : ℕ) → rule k ≡ Ok tt) → for_all (range_with_len a n) rule ≡ Ok tt
+pub for_range_passes : (rule : ℕ → Result ⊤ Fault) (a n : ℕ) → ((k : ℕ) → rule k ≡ Ok tt) → for_all (range_with_len a n) rule ≡ Ok tt
 unfolding for_all and_then
 for_range_passes rule a zero h = refl
 for_range_passes rule a (suc n) h = step _ (h a) (for_range_passes rule (a + 1) n h)
 
-not_negative : (z : ℤ) → pos 0 ≤ℤ z → is_negative z ≡ false
+pub not_negative : (z : ℤ) → pos 0 ≤ℤ z → is_negative z ≡ false
 not_negative z h = grind (arith, ints)
 
 not_large : (z : ℤ) → z ≤ℤ pos 2000 → int_lt greatest_entry z ≡ false

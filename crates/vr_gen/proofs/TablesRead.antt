@@ -13,7 +13,6 @@ use Rattle.vr_json.specs.Kinds.{whole, below as below_n, count as count_of, text
 use Rattle.vr_model.specs.tables.Numbers.{below, horizon}
 use Rattle.vr_model.specs.tables.Limits.{least_value, greatest_value, greatest_cost}
 use Rattle.vr_model.specs.routes.Routes.{holds}
-use Rattle.vr_model.specs.moves.Moves.{all_neighbourhoods}
 use Rattle.vr_model.specs.declared.records.Matrix.{Matrix}
 use Rattle.vr_model.specs.declared.records.Vehicle.{Vehicle}
 use Rattle.vr_model.specs.declared.records.Policy.TheVariants.{Any}
@@ -33,7 +32,7 @@ use Rattle.vr_read.specs.Vehicles.{matrix as matrix_of, vehicle as vehicle_of, e
 use Rattle.vr_read.specs.StopRows.{interval, limits, stop_row, break_row, vehicle_breaks}
 use Rattle.vr_read.specs.Dimensions.{evaluator, capped, name, transits, bounds, rows, span_costs, dimension}
 use Rattle.vr_read.specs.Visits.{group_node, group as group_of}
-use Rattle.vr_read.specs.Searches.{choices, search_row as search_of}
+use Rattle.vr_read.specs.Searches.{choices, default_search, search_row as search_of}
 use Rattle.vr_gen.specs.declared.draws.Site.{Site}
 use Rattle.vr_gen.specs.declared.draws.Customer.{Customer}
 use Rattle.vr_gen.specs.Generated.{apart, distance, row, matrix, values, vehicle, pause, rest, window, services, times, demand_of, loads, dimensions, group, search_row}
@@ -285,17 +284,7 @@ group_reads k path low = step _ (step _ (step _ (visit_reads k _ low) (step _ (r
 -- ---- the search
 
 abbrev pub search_read : SearchRow
-search_read = record {
-  first = ParallelCheapestInsertion;
-  improve = improve.GuidedLocalSearch;
-  tries = 20000;
-  solutions = 1000000000;
-  p = pos 1;
-  q = pos 10;
-  neighbourhoods = all_neighbourhoods;
-  cut = 10;
-  tenure = 10;
-}
+search_read = record default_search { first = ParallelCheapestInsertion; improve = improve.GuidedLocalSearch; tries = 20000 }
 
 pub search_reads : (path : List ℕ) → search_of path search_row ≡ Ok search_read
 unfolding search_of choices search_row choice count_of optional known if_unknown field if_present at_path and_then

@@ -6,13 +6,13 @@ use Rattle.vr_io.specs.Edges.{Gave, Took}
 
 pub Gave-append : (a b c : Option (List ℕ)) (x y : List ℕ) → Gave a b x → Gave b c y → Gave a c (x ++ y)
 Gave-append a b c x y h k = record {
-  told = λ bytes e. let m = h.told bytes e in let n = k.told m.0 m.2 in
+  known = λ bytes e. let m = h.known bytes e in let n = k.known m.0 m.2 in
       (n.0, m.1 ∙ ap (λ r. x ++ r) n.1 ∙ sym (append_assoc x y n.0), n.2);
 }
 
 pub Took-append : (a b c : Option (List ℕ)) (x y : List ℕ) → Took a b x → Took b c y → Took a c (x ++ y)
 Took-append a b c x y h k = record {
-  told = λ after e. let n = k.told after e in let m = h.told n.0 n.1 in
+  known = λ after e. let n = k.known after e in let m = h.known n.0 n.1 in
       (m.0, m.1, n.2 ∙ ap (λ r. r ++ y) m.2 ∙ append_assoc m.0 x y);
 }
 

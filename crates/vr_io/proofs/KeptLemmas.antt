@@ -5,7 +5,7 @@ use Rattle.std.proofs.lemmas.List.{take_all, length-take-le}
 use Rattle.std.proofs.Math.Seq.{take-append-add}
 use Rattle.std.proofs.lemmas.Bool.Decides.{nat_tests}
 use Rattle.vr_io.specs.Edges.{Took}
-use Rattle.vr_io.specs.Kept.{Kept, told, keeping}
+use Rattle.vr_io.specs.Kept.{Kept, known_bytes, keeping}
 
 -- what has room is all there
 take-room : (room : ℕ) (bytes piece : List ℕ) → nat_lt room (length bytes + length piece) ≡ false → take room (bytes ++ piece) ≡ bytes ++ piece
@@ -13,13 +13,13 @@ take-room room bytes piece h = take_all room (bytes ++ piece) (rw length-append 
 
 Took-kept : (lost full : Bool) (old new piece : List ℕ) → (full ≡ false → new ≡ old ++ piece)
     → Took (cond lost None (Some old)) (cond (lost || full) None (Some new)) piece
-Took-kept true full old new piece h = record { told = λ after e. absurd (cc) }
-Took-kept false true old new piece h = record { told = λ after e. absurd (cc) }
-Took-kept false false old new piece h = record { told = λ after e. (old, refl, let k : new ≡ after = cc in sym k ∙ h refl) }
+Took-kept true full old new piece h = record { known = λ after e. absurd (cc) }
+Took-kept false true old new piece h = record { known = λ after e. absurd (cc) }
+Took-kept false false old new piece h = record { known = λ after e. (old, refl, let k : new ≡ after = cc in sym k ∙ h refl) }
 
--- a sink that tells what it took after a piece told it before
-pub Took-told : (kept : Kept) (piece : List ℕ) → Took (told kept) (told (keeping piece kept)) piece
-Took-told kept piece = Took-kept kept.lost (nat_lt kept.room (length kept.bytes + length piece)) kept.bytes
+-- where it is known after a piece what a sink took, it was known before
+pub Took-known : (kept : Kept) (piece : List ℕ) → Took (known_bytes kept) (known_bytes (keeping piece kept)) piece
+Took-known kept piece = Took-kept kept.lost (nat_lt kept.room (length kept.bytes + length piece)) kept.bytes
     (take kept.room (kept.bytes ++ piece)) piece (take-room kept.room kept.bytes piece)
 
 -- a piece of which n bytes fill the room, and one more has none

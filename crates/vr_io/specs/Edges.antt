@@ -11,17 +11,17 @@ Rose old new = (old < new) ⊎ (new ≡ 2 ^ 64 - 1)
 abbrev pub risen : ℕ → ℕ
 risen count = min (count + 1) (2 ^ 64 - 1)
 
--- where the source told what was left, these bytes stood at its front, and the rest is left
+-- where it is known what the source had left, these bytes stood at its front, and the rest is left
 pub record Gave (old new : Option (List ℕ)) (piece : List ℕ) : Type 0 where
-  pub told : (bytes : List ℕ) → old ≡ Some bytes → (rest : List ℕ) × (bytes ≡ piece ++ rest) × (new ≡ Some rest)
+  pub known : (bytes : List ℕ) → old ≡ Some bytes → (rest : List ℕ) × (bytes ≡ piece ++ rest) × (new ≡ Some rest)
 
--- where the source told what was left and there was room, it gave no byte exactly where none was left
+-- where it is known what the source had left and there was room, it gave no byte exactly where none was left
 pub record EndsAtEnd (old : Option (List ℕ)) (room given : ℕ) : Type 0 where
-  pub told : (bytes : List ℕ) → old ≡ Some bytes → 0 < room → (given ≡ 0) ↔ (bytes ≡ [])
+  pub known : (bytes : List ℕ) → old ≡ Some bytes → 0 < room → (given ≡ 0) ↔ (bytes ≡ [])
 
--- where the sink tells what it took, it told it before, and took these bytes since
+-- where it is known what the sink took, it was known before, and these bytes were taken since
 pub record Took (old new : Option (List ℕ)) (piece : List ℕ) : Type 0 where
-  pub told : (after : List ℕ) → new ≡ Some after → (before : List ℕ) × (old ≡ Some before) × (after ≡ before ++ piece)
+  pub known : (after : List ℕ) → new ≡ Some after → (before : List ℕ) × (old ≡ Some before) × (after ≡ before ++ piece)
 
 -- the bytes that a writer is known to hold grew by a front of this piece, which may be empty
 abbrev pub AppendsFront : Option (List ℕ) → Option (List ℕ) → List ℕ → Type 0

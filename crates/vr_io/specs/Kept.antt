@@ -8,8 +8,8 @@ pub record Kept : Type 0 where
   pub lost : Bool
 
 -- all bytes taken, as long as all had room
-abbrev pub told : Kept → Option (List ℕ)
-told kept = if kept.lost then None else Some kept.bytes
+abbrev pub known_bytes : Kept → Option (List ℕ)
+known_bytes kept = if kept.lost then None else Some kept.bytes
 
 -- after a piece was taken: it is kept as far as there is room
 abbrev pub keeping : List ℕ → Kept → Kept

@@ -1,4 +1,4 @@
--- How the calls of a source or a sink in memory go that fails where it is told to.
+-- How the calls of a source or a sink in memory go that fails where it names a call.
 use Rattle.std.specs.Prelude.{ℕ, List, Bool, ◌++◌, ◌-◌, ◌&&◌, ◌||◌, nat_eq, nat_lt, length, take, min, if◌then◌else◌}
 use Rattle.std.specs.List.{list_any}
 use Rattle.vr_io.specs.Edges.{risen}

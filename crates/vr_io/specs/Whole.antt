@@ -2,9 +2,9 @@
 use Rattle.std.specs.Prelude.{◌≡◌, ◌<◌, ◌≤◌, ℕ, List, [], Option, Some, length, take}
 use Rattle.vr_io.specs.Edges.{Gave, Took}
 
--- where the source told what was left, these bytes are all of it
+-- where it is known what the source had left, these bytes are all of it
 pub record GaveAll (old new : Option (List ℕ)) (bytes : List ℕ) : Type 0 where
-  pub told : (left : List ℕ) → old ≡ Some left → (left ≡ bytes) × (new ≡ Some [])
+  pub known : (left : List ℕ) → old ≡ Some left → (left ≡ bytes) × (new ≡ Some [])
 
 -- some bytes were taken from the front of what was left
 abbrev pub GaveFront : Option (List ℕ) → Option (List ℕ) → Type 0

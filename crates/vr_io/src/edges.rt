@@ -9,7 +9,7 @@ pub struct Failed;
 
 /// Where bytes come from.
 pub trait Source {
-    /// The bytes still to come, where the source tells them.
+    /// The bytes still to come, where they are known.
     ghost left: { Self → Option (List ℕ) };
 
     /// How often the device has failed: a number that never falls.
@@ -28,7 +28,7 @@ pub trait Source {
 
 /// Where bytes go to.
 pub trait Sink {
-    /// The bytes that were taken, where the sink tells them. One that does not tell them never begins to.
+    /// The bytes that were taken, where they are known. Where they are not, they never will be.
     ghost written: { Self → Option (List ℕ) };
 
     /// How often the device has failed: a number that never falls.

@@ -1,6 +1,6 @@
 //! Where bytes come from and go to, and how all of them are read and written.
 //!
-//! A [`Source`] and a [`Sink`] are devices that may fail: each tells how often it has, so that a caller's contract can
+//! A [`Source`] and a [`Sink`] are devices that may fail: each says how often it has, so that a caller's contract can
 //! say that a failure has a cause. There are three kinds of each: over std's readers and writers, in memory without
 //! faults, and in memory with faults at the calls that a test names.
 #![tactic(auto)]

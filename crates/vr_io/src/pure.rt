@@ -3,13 +3,13 @@
 ghost use Rattle.std.specs.Prelude.{◌≡◌, ◌≤◌, ◌+◌, ◌++◌, List, ℕ, [], false, length, take, drop, min, Some, IfSome};
 ghost use Rattle.std.specs.Prelude.{IfOk, OnErr, Ok, vec_len};
 ghost use Rattle.vr_io.specs.Edges.{Rose, Gave, EndsAtEnd, Took};
-ghost use Rattle.vr_io.specs.Kept.{told, keeping};
+ghost use Rattle.vr_io.specs.Kept.{known_bytes, keeping};
 
 use crate::remaining::Remaining;
 use crate::{Failed, Sink, Source};
 use std::marker::Model;
 
-/// Gives bytes that stand in memory, as many in each call as fit. It tells them all, and never fails.
+/// Gives bytes that stand in memory, as many in each call as fit. All of them are known, and it never fails.
 #[derive(Drop)]
 pub struct PureSource {
     bytes: Remaining,
@@ -54,7 +54,7 @@ impl Source for PureSource {
 }
 
 /// Keeps bytes in a room of a fixed length, which it overwrites, and never fails. Bytes beyond the room are taken and
-/// not kept; from then on it does not tell what it took.
+/// not kept; from then on it is not known what it took.
 #[derive(Drop)]
 pub struct PureSink {
     room: Vec<u8>,
@@ -88,7 +88,7 @@ impl PureSink {
     /// The bytes that were kept: all that were taken, as long as there was room for them.
     pub fn bytes(&self) -> &[u8]
         ensures kept { result.now ≡ self.now.bytes }
-        ensures told { IfSome (told self.now) (λ all. result.now ≡ all) }
+        ensures known { IfSome (known_bytes self.now) (λ all. result.now ≡ all) }
     {
         &self.room[..self.taken]
     }
@@ -107,13 +107,13 @@ impl PureSink {
 }
 
 impl Sink for PureSink {
-    ghost written = { told };
+    ghost written = { known_bytes };
 
     ghost faults = { λ _. 0 };
 
     /// As the trait says; every byte of the piece is taken.
     fn write(&mut self, piece: &[u8]) -> Result<usize, Failed>
-        ensures takes { IfOk result (λ n. Took (told self.old) (told self.new) (take n piece.now)) }
+        ensures takes { IfOk result (λ n. Took (known_bytes self.old) (known_bytes self.new) (take n piece.now)) }
         ensures number { result ≡ Ok (length piece.now) }
         ensures keeps { self.new ≡ keeping piece.now self.old }
     {

@@ -1,5 +1,5 @@
-//! A source and a sink in memory that move bytes in small pieces and fail at the calls that they are told: for tests of
-//! what a caller does when a device fails.
+//! A source and a sink in memory that move bytes in small pieces and fail at the calls that a script names: for tests
+//! of what a caller does when a device fails.
 
 ghost use Rattle.std.specs.Prelude.{◌≡◌, ◌≤◌, ◌<◌, ◌^◌, [], is_err, length, take, min, Some, IfOk, OnErr};
 ghost use Rattle.vr_io.specs.Edges.{Rose, Gave, EndsAtEnd, Took};
@@ -13,7 +13,7 @@ use std::marker::Model;
 
 const ROOM: usize = 1 << 20;
 
-/// Gives bytes that stand in memory, in pieces, and fails at the calls that it is told. It tells what is left.
+/// Gives bytes that stand in memory, in pieces, and fails at the calls that its script names. What is left is known.
 ///
 /// Its calls are numbered from 0. The counter of calls and that of failed calls, which is its number of faults, each
 /// stand still at 2^64 - 1.
@@ -71,8 +71,8 @@ impl Source for MemSource {
     }
 }
 
-/// Takes bytes in pieces into a buffer of fixed room, and fails at the calls that it is told and where the room is too
-/// small. It tells the bytes that it took.
+/// Takes bytes in pieces into a buffer of fixed capacity, and fails at the calls that its script names and where that
+/// is too small. The bytes that it took are known.
 ///
 /// Its calls are numbered from 0. The counter of calls and that of failed calls, which is its number of faults, each
 /// stand still at 2^64 - 1.

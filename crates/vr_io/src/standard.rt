@@ -1,5 +1,5 @@
 //! Standard input and output, or any other reader and writer of std, as a source and a sink. What std's readers and
-//! writers give is trusted: these tell no bytes.
+//! writers give is trusted: no bytes of these are known.
 
 ghost use Rattle.std.specs.Prelude.{◌≡◌, ◌≤◌, ◌<◌, [], None, Ok, IfOk, OnErr, is_err, length, take, if◌then◌else◌};
 ghost use Rattle.std.specs.Io.KnownBytes.{Keeps, Consumes, IsAtEnd, Appends};
@@ -15,8 +15,8 @@ pub type StdSource<R> = StdDevice<R>;
 /// A writer of std as a sink, which is flushed after each write: each error of the writer or of its flush is a fault.
 pub type StdSink<W> = StdDevice<W>;
 
-/// A reader or a writer of std. It tells no bytes. Contracts see it as the reader or writer and the number of its
-/// errors, which stands still at 2^64 - 1.
+/// A reader or a writer of std. No bytes of it are known. Contracts see it as the reader or writer and the number of
+/// its errors, which stands still at 2^64 - 1.
 #[derive(Drop)]
 pub struct StdDevice<D> {
     device: D,

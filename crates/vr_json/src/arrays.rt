@@ -3,11 +3,13 @@
 ghost use Rattle.std.specs.Prelude.{◌≡◌, [], map, replicate, IfOk};
 ghost use Rattle.serde_json.specs.View.{view};
 ghost use Rattle.vr_json.specs.Reading as reading;
+ghost use Rattle.vr_json.specs.Places.{place_path};
 ghost use Rattle.vr_json.specs.Reading.{Answers};
 
 use crate::fault::refusal;
 use crate::kinds::list;
-use crate::{Cause, Path, Place, ReadFail, Reader};
+use crate::reader::read_alone;
+use crate::{Cause, Datum, Path, ReadFail, Reader};
 use serde_json::Value;
 use std::alloc::Global;
 use vr_model::{NoMemory, Seq};
@@ -20,25 +22,30 @@ pub struct Array<R> {
     pub entry: R,
 }
 
-#[tactic(auto, unfolding(crate::specs::Reading::and_then, crate::specs::Reading::array))]
 impl<R: Reader> Reader for Array<R> {
-    ghost use Rattle.vr_json.specs.Reading.{array};
-
     type Item = Seq<R::Item>;
 
-    ghost reads = { λ it earlier path d. array it.lo it.hi (R.reads it.entry) path d };
+    ghost reads = { λ it earlier path d. reading.array it.lo it.hi (R.reads it.entry) path d };
 
-    fn read(
-        &self,
-        alloc: Global,
-        _earlier: &[Seq<R::Item>],
-        value: &Value,
-        place: Place<'_>,
-    ) -> Result<Seq<R::Item>, ReadFail> {
-        let path = place.path()?;
-        let values = list(alloc, value, self.lo, self.hi, &path)?;
-        entries(alloc, &self.entry, values, &path)
+    fn read(&self, _earlier: &[Self::Item], datum: Datum<'_, '_>) -> Result<Self::Item, ReadFail> {
+        array_at(datum, self.lo, self.hi, &self.entry)
     }
+}
+
+// The array of `lo` to `hi` entries that stands at a place.
+#[tactic(auto, unfolding(crate::specs::Reading::and_then, crate::specs::Reading::array))]
+fn array_at<R: Reader>(
+    datum: Datum<'_, '_>,
+    lo: usize,
+    hi: usize,
+    entry: &R,
+) -> Result<Seq<R::Item>, ReadFail>
+    ensures { Answers result
+        (reading.array lo hi (R.reads entry.now) (place_path datum.entry.place) (view datum.entry.value.now)) }
+{
+    let path = datum.place.path()?;
+    let values = list(datum.alloc, datum.value, lo, hi, &path)?;
+    entries(datum.alloc, entry, values, &path)
 }
 
 // What is read of each entry, in order.
@@ -53,7 +60,12 @@ fn entries<R: Reader>(
 {
     let mut found = Seq::new(alloc);
     for (k, value) in values.iter().enumerate() {
-        let entry = reader.read(alloc, found.as_slice(), value, path.entry(k))?;
+        let datum = Datum {
+            alloc,
+            value,
+            place: path.entry(k),
+        };
+        let entry = reader.read(found.as_slice(), datum)?;
         found.push(entry)?;
     }
     Ok(found)
@@ -67,23 +79,14 @@ pub struct TwoEntries<R> {
 
 #[tactic(auto, unfolding(crate::specs::Reading::and_then, crate::specs::Reading::two_entries))]
 impl<R: Reader> Reader for TwoEntries<R> {
-    ghost use Rattle.std.specs.Prelude.{[]};
-    ghost use Rattle.vr_json.specs.Reading.{two_entries};
-
     type Item = (R::Item, R::Item);
 
-    ghost reads = { λ it earlier path d. two_entries (R.reads it.entry []) path d };
+    ghost reads = { λ it earlier path d. reading.two_entries (R.reads it.entry []) path d };
 
-    fn read(
-        &self,
-        alloc: Global,
-        _earlier: &[(R::Item, R::Item)],
-        value: &Value,
-        place: Place<'_>,
-    ) -> Result<(R::Item, R::Item), ReadFail> {
-        let path = place.path()?;
-        let items = list(alloc, value, 2, 2, &path)?;
-        first_two(alloc, &self.entry, items, &path)
+    fn read(&self, _earlier: &[Self::Item], datum: Datum<'_, '_>) -> Result<Self::Item, ReadFail> {
+        let path = datum.place.path()?;
+        let items = list(datum.alloc, datum.value, 2, 2, &path)?;
+        first_two(datum.alloc, &self.entry, items, &path)
     }
 }
 
@@ -99,8 +102,8 @@ fn first_two<R: Reader>(
 {
     match items {
         [first, second] => {
-            let one = entry.read(alloc, &[], first, path.entry(0))?;
-            let other = entry.read(alloc, &[], second, path.entry(1))?;
+            let one = read_alone(alloc, entry, first, path.entry(0))?;
+            let other = read_alone(alloc, entry, second, path.entry(1))?;
             Ok((one, other))
         }
         _ => Err(refusal(alloc, Cause::WrongLength, path.here())),
@@ -114,31 +117,21 @@ pub struct ForEach<R> {
     pub entry: R,
 }
 
-#[tactic(auto, unfolding(crate::specs::Reading::and_then, crate::specs::Reading::for_each, crate::specs::Reading::array))]
+#[tactic(auto, unfolding(crate::specs::Reading::and_then, crate::specs::Reading::for_each))]
 impl<R: Reader> Reader for ForEach<R>
 where
     R::Item: Copy,
 {
-    ghost use Rattle.vr_json.specs.Reading.{for_each};
-
     type Item = Seq<R::Item>;
 
-    ghost reads = { λ it earlier path d. for_each it.count (R.reads it.entry) path d };
+    ghost reads = { λ it earlier path d. reading.for_each it.count (R.reads it.entry) path d };
 
-    fn read(
-        &self,
-        alloc: Global,
-        _earlier: &[Seq<R::Item>],
-        value: &Value,
-        place: Place<'_>,
-    ) -> Result<Seq<R::Item>, ReadFail> {
-        if value.is_array() {
-            let path = place.path()?;
-            let values = list(alloc, value, self.count, self.count, &path)?;
-            entries(alloc, &self.entry, values, &path)
+    fn read(&self, _earlier: &[Self::Item], datum: Datum<'_, '_>) -> Result<Self::Item, ReadFail> {
+        if datum.value.is_array() {
+            array_at(datum, self.count, self.count, &self.entry)
         } else {
-            let item = self.entry.read(alloc, &[], value, place)?;
-            Ok(copies(alloc, item, self.count)?)
+            let item = self.entry.read(&[], datum)?;
+            Ok(copies(datum.alloc, item, self.count)?)
         }
     }
 }

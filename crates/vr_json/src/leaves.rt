@@ -6,10 +6,9 @@ ghost use Rattle.serde_json.specs.View.{view};
 ghost use Rattle.vr_json.specs.Kinds as kinds;
 ghost use Rattle.vr_json.specs.Kinds.{named};
 
-use crate::kinds::{flag_in, whole_in};
-use crate::{Cause, Place, ReadFail, Reader, settle, text};
+use crate::kinds::{flag_in, text, whole_in};
+use crate::{Cause, Datum, ReadFail, Reader};
 use serde_json::Value;
-use std::alloc::Global;
 use vr_model::Text;
 
 /// A whole number in `lo..=hi`.
@@ -19,30 +18,45 @@ pub struct Whole {
     pub hi: i64,
 }
 
-#[tactic(auto, unfolding(crate::specs::Reading::at_path, crate::specs::Kinds::whole))]
-impl Reader for Whole {
-    ghost use Rattle.vr_json.specs.Kinds.{whole};
-
-    type Item = i64;
-
-    ghost reads = { λ it earlier path d. whole it.lo it.hi path d };
-
-    fn read(
-        &self,
-        alloc: Global,
-        _earlier: &[i64],
-        value: &Value,
-        place: Place<'_>,
-    ) -> Result<i64, ReadFail> {
-        settle(alloc, whole_in(value, self.lo, self.hi), place)
-    }
-}
-
 /// A count in `lo..=hi`.
 #[derive(Clone, Copy)]
 pub struct Count {
     pub lo: u32,
     pub hi: u32,
+}
+
+/// The number of one of `count` things, from 0.
+#[derive(Clone, Copy)]
+pub struct Below {
+    pub count: u32,
+}
+
+/// A boolean.
+#[derive(Clone, Copy)]
+pub struct Flag;
+
+/// A string of `lo` to `hi` bytes.
+#[derive(Clone, Copy)]
+pub struct TextOf {
+    pub lo: usize,
+    pub hi: usize,
+}
+
+/// A string that is one of some words, as what the word stands for.
+#[derive(Clone, Copy)]
+pub struct Choice<'a, T> {
+    pub words: &'a [(&'a str, T)],
+}
+
+#[tactic(auto, unfolding(crate::specs::Reading::at_path, crate::specs::Kinds::whole))]
+impl Reader for Whole {
+    type Item = i64;
+
+    ghost reads = { λ it earlier path d. kinds.whole it.lo it.hi path d };
+
+    fn read(&self, _earlier: &[Self::Item], datum: Datum<'_, '_>) -> Result<Self::Item, ReadFail> {
+        datum.settle(whole_in(datum.value, self.lo, self.hi))
+    }
 }
 
 // A whole number in `lo..=hi`, as a count.
@@ -56,27 +70,13 @@ fn count_in(value: &Value, lo: u32, hi: u32) -> Result<u32, Cause>
 
 #[tactic(auto, unfolding(crate::specs::Reading::at_path, crate::specs::Kinds::count))]
 impl Reader for Count {
-    ghost use Rattle.vr_json.specs.Kinds.{count};
-
     type Item = u32;
 
-    ghost reads = { λ it earlier path d. count it.lo it.hi path d };
+    ghost reads = { λ it earlier path d. kinds.count it.lo it.hi path d };
 
-    fn read(
-        &self,
-        alloc: Global,
-        _earlier: &[u32],
-        value: &Value,
-        place: Place<'_>,
-    ) -> Result<u32, ReadFail> {
-        settle(alloc, count_in(value, self.lo, self.hi), place)
+    fn read(&self, _earlier: &[Self::Item], datum: Datum<'_, '_>) -> Result<Self::Item, ReadFail> {
+        datum.settle(count_in(datum.value, self.lo, self.hi))
     }
-}
-
-/// The number of one of `count` things, from 0.
-#[derive(Clone, Copy)]
-pub struct Below {
-    pub count: u32,
 }
 
 // A whole number in `0..count`.
@@ -90,50 +90,35 @@ fn below_in(value: &Value, count: u32) -> Result<u32, Cause>
 
 #[tactic(auto, unfolding(crate::specs::Reading::at_path, crate::specs::Kinds::below))]
 impl Reader for Below {
-    ghost use Rattle.vr_json.specs.Kinds.{below};
-
     type Item = u32;
 
-    ghost reads = { λ it earlier path d. below it.count path d };
+    ghost reads = { λ it earlier path d. kinds.below it.count path d };
 
-    fn read(
-        &self,
-        alloc: Global,
-        _earlier: &[u32],
-        value: &Value,
-        place: Place<'_>,
-    ) -> Result<u32, ReadFail> {
-        settle(alloc, below_in(value, self.count), place)
+    fn read(&self, _earlier: &[Self::Item], datum: Datum<'_, '_>) -> Result<Self::Item, ReadFail> {
+        datum.settle(below_in(datum.value, self.count))
     }
 }
-
-/// A boolean.
-#[derive(Clone, Copy)]
-pub struct Flag;
 
 #[tactic(auto, unfolding(crate::specs::Reading::at_path, crate::specs::Kinds::flag))]
 impl Reader for Flag {
-    ghost use Rattle.vr_json.specs.Kinds.{flag};
-
     type Item = bool;
 
-    ghost reads = { λ it earlier path d. flag path d };
+    ghost reads = { λ it earlier path d. kinds.flag path d };
 
-    fn read(
-        &self,
-        alloc: Global,
-        _earlier: &[bool],
-        value: &Value,
-        place: Place<'_>,
-    ) -> Result<bool, ReadFail> {
-        settle(alloc, flag_in(value), place)
+    fn read(&self, _earlier: &[Self::Item], datum: Datum<'_, '_>) -> Result<Self::Item, ReadFail> {
+        datum.settle(flag_in(datum.value))
     }
 }
 
-/// A string that is one of some words, as what the word stands for.
-#[derive(Clone, Copy)]
-pub struct Choice<'a, T> {
-    pub words: &'a [(&'a str, T)],
+impl Reader for TextOf {
+    type Item = Text;
+
+    ghost reads = { λ it earlier path d. kinds.text it.lo it.hi path d };
+
+    fn read(&self, _earlier: &[Self::Item], datum: Datum<'_, '_>) -> Result<Self::Item, ReadFail> {
+        let path = datum.place.path()?;
+        text(datum.alloc, datum.value, self.lo, self.hi, &path)
+    }
 }
 
 // What the first of some words that is this text stands for.
@@ -160,20 +145,11 @@ fn choice_in<T: Copy>(value: &Value, words: &[(&str, T)]) -> Result<T, Cause>
 
 #[tactic(auto, unfolding(crate::specs::Reading::at_path, crate::specs::Kinds::choice))]
 impl<T: Copy + Drop> Reader for Choice<'_, T> {
-    ghost use Rattle.std.specs.Prelude.{map};
-    ghost use Rattle.vr_json.specs.Kinds.{choice, named};
-
     type Item = T;
 
-    ghost reads = { λ it earlier path d. choice (map named it.words.now) path d };
+    ghost reads = { λ it earlier path d. kinds.choice (map named it.words.now) path d };
 
-    fn read(
-        &self,
-        alloc: Global,
-        _earlier: &[T],
-        value: &Value,
-        place: Place<'_>,
-    ) -> Result<T, ReadFail> {
-        settle(alloc, choice_in(value, self.words), place)
+    fn read(&self, _earlier: &[Self::Item], datum: Datum<'_, '_>) -> Result<Self::Item, ReadFail> {
+        datum.settle(choice_in(datum.value, self.words))
     }
 }

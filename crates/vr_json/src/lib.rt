@@ -3,7 +3,7 @@
 //! A reader is a value that reads one kind: a number in a range, a word, an array of something, an object by a table of
 //! its fields. Each stands beside its definition (`specs/`): it answers the value, or the code of the fault and the
 //! path where it stands, and the first fault in the order of the table is the answer. A tree is built field by field,
-//! in the order of bytes, and `to_line` prints it.
+//! in any order, and `to_line` prints it, its keys in the order of bytes.
 //!
 //! `vr_read`, `vr_printed` and `vr_tsplib` read and build by it, and `vr_app` prints each reply.
 #![tactic(auto)]
@@ -23,9 +23,9 @@ pub use arrays::{Array, ForEach, TwoEntries, copies};
 pub use fault::{Cause, Fault, ReadFail};
 pub use fields::{field, known};
 pub use kinds::{flag, list, text, whole, word};
-pub use leaves::{Below, Choice, Count, Flag, Whole};
+pub use leaves::{Below, Choice, Count, Flag, TextOf, Whole};
 pub use path::Path;
 pub use place::{Place, Step};
-pub use reader::{Reader, maybe, optional, refuse_if, required, settle};
+pub use reader::{Datum, Reader, refuse_if, settle};
 pub use table::{Fields, Object, Table};
 pub use tree::{Tree, one_entry, text_value, to_line};

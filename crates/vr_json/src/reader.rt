@@ -1,4 +1,4 @@
-//! Readers, and the forms that tables are made of.
+//! Readers of one value.
 
 ghost use Rattle.std.specs.Prelude.{List, [], ℕ, Result};
 ghost use Rattle.serde_json.specs.Data.{Data};
@@ -8,10 +8,33 @@ ghost use Rattle.vr_json.specs.Reading.{Answers, at_path};
 ghost use Rattle.vr_json.specs.Places.{place_path};
 
 use crate::fault::refusal;
-use crate::fields::field;
-use crate::{Cause, Path, Place, ReadFail};
+use crate::{Cause, Place, ReadFail};
 use serde_json::Value;
 use std::alloc::Global;
+
+/// A value at the place where it stands, and the memory for what is read of it.
+#[derive(Clone, Copy)]
+pub struct Datum<'v, 'p> {
+    pub alloc: Global,
+    pub value: &'v Value,
+    pub place: Place<'p>,
+}
+
+impl Datum<'_, '_> {
+    /// What was read of the value, where a refusal lies at its place.
+    pub fn settle<T>(self, outcome: Result<T, Cause>) -> Result<T, ReadFail>
+        ensures { Answers result (at_path (place_path self.entry.place) outcome) }
+    {
+        settle(self.alloc, outcome, self.place)
+    }
+
+    /// Refuses the value where a rule is broken.
+    pub fn refuse_if(self, broken: bool, cause: Cause) -> Result<(), ReadFail>
+        ensures { Answers result (reading.refuse_if broken cause (place_path self.entry.place)) }
+    {
+        refuse_if(self.alloc, broken, cause, self.place)
+    }
+}
 
 /// Reads a value of one form.
 pub trait Reader {
@@ -22,15 +45,27 @@ pub trait Reader {
 
     ghost reads: { Self → List Self.Item → List ℕ → Data → Result Self.Item FaultOf };
 
-    /// The value at a place, beside the entries that stand before it in its array.
-    fn read(
-        &self,
-        alloc: Global,
-        earlier: &[Self::Item],
-        value: &Value,
-        place: Place<'_>,
-    ) -> Result<Self::Item, ReadFail>
-        ensures { Answers result (reads self.now earlier.now (place_path place.entry) (view value.now)) };
+    /// What the value is, beside the entries that stand before it in its array.
+    fn read(&self, earlier: &[Self::Item], datum: Datum<'_, '_>) -> Result<Self::Item, ReadFail>
+        ensures { Answers result
+            (reads self.now earlier.now (place_path datum.entry.place) (view datum.entry.value.now)) };
+}
+
+// What a reader makes of a value at a place, with no entry before it.
+pub(crate) fn read_alone<R: Reader>(
+    alloc: Global,
+    reader: &R,
+    value: &Value,
+    place: Place<'_>,
+) -> Result<R::Item, ReadFail>
+    ensures { Answers result (R.reads reader.now [] (place_path place.entry) (view value.now)) }
+{
+    let datum = Datum {
+        alloc,
+        value,
+        place,
+    };
+    reader.read(&[], datum)
 }
 
 /// What was read at a place, where a refusal lies at that very place.
@@ -41,69 +76,6 @@ pub fn settle<T>(alloc: Global, outcome: Result<T, Cause>, place: Place<'_>) -> 
     match outcome {
         Ok(found) => Ok(found),
         Err(cause) => Err(refusal(alloc, cause, place)),
-    }
-}
-
-/// A field that must be there.
-///
-/// Refused as the reader says; with the cause `Absent`, at the path of the field, where the object has
-/// no such field; with the cause `OtherKind`, at `path`, where the value is no object.
-#[tactic(auto, unfolding(crate::specs::Reading::and_then, crate::specs::Reading::required, crate::specs::Reading::if_present))]
-pub fn required<R: Reader>(
-    alloc: Global,
-    value: &Value,
-    name: &str,
-    path: &Path,
-    reader: &R,
-) -> Result<R::Item, ReadFail>
-    ensures { Answers result (reading.required name.now (R.reads reader.now []) path.now (view value.now)) }
-{
-    match field(alloc, value, name, path)? {
-        None => Err(refusal(alloc, Cause::Absent, path.field(name))),
-        Some(found) => reader.read(alloc, &[], found, path.field(name)),
-    }
-}
-
-/// A field that may be absent, with its value then.
-///
-/// Refused as the reader says, and with the cause `OtherKind`, at `path`, where the value is no object.
-#[tactic(auto, unfolding(crate::specs::Reading::and_then, crate::specs::Reading::optional, crate::specs::Reading::if_present))]
-pub fn optional<R: Reader>(
-    alloc: Global,
-    value: &Value,
-    name: &str,
-    path: &Path,
-    absent: R::Item,
-    reader: &R,
-) -> Result<R::Item, ReadFail>
-    ensures { Answers result
-        (reading.optional name.now absent (R.reads reader.now []) path.now (view value.now)) }
-{
-    match field(alloc, value, name, path)? {
-        None => Ok(absent),
-        Some(found) => reader.read(alloc, &[], found, path.field(name)),
-    }
-}
-
-/// A field that may be absent, with no value then.
-///
-/// Refused as the reader says, and with the cause `OtherKind`, at `path`, where the value is no object.
-#[tactic(auto, unfolding(crate::specs::Reading::and_then, crate::specs::Reading::maybe, crate::specs::Reading::if_present, crate::specs::Reading::present))]
-pub fn maybe<R: Reader>(
-    alloc: Global,
-    value: &Value,
-    name: &str,
-    path: &Path,
-    reader: &R,
-) -> Result<Option<R::Item>, ReadFail>
-    ensures { Answers result (reading.maybe name.now (R.reads reader.now []) path.now (view value.now)) }
-{
-    match field(alloc, value, name, path)? {
-        None => Ok(None),
-        Some(found) => {
-            let item = reader.read(alloc, &[], found, path.field(name))?;
-            Ok(Some(item))
-        }
     }
 }
 

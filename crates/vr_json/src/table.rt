@@ -7,9 +7,9 @@ ghost use Rattle.vr_json.specs.Paths.{name_path};
 ghost use Rattle.vr_json.specs.Reading as reading;
 ghost use Rattle.vr_json.specs.Reading.{Answers};
 
-use crate::{
-    Array, Cause, Path, Place, ReadFail, Reader, known, maybe, optional, refuse_if, required,
-};
+use crate::fault::refusal;
+use crate::reader::read_alone;
+use crate::{Array, Cause, Datum, Path, ReadFail, Reader, field, known, refuse_if};
 use serde_json::Value;
 use std::alloc::Global;
 use vr_model::Seq;
@@ -24,15 +24,25 @@ pub struct Fields<'v, 'p> {
 }
 
 impl Fields<'_, '_> {
-    /// A field that must be there, as `required` says.
+    /// A field that must be there.
+    ///
+    /// Refused as the reader says; with the cause `Absent`, at the path of the field, where the object has no such
+    /// field; with the cause `OtherKind` where the value is no object.
+    #[tactic(auto, unfolding(crate::specs::Reading::and_then, crate::specs::Reading::required, crate::specs::Reading::if_present))]
     pub fn required<R: Reader>(self, name: &str, reader: &R) -> Result<R::Item, ReadFail>
         ensures { Answers result
             (reading.required name.now (R.reads reader.now []) self.entry.path.now (view self.entry.value.now)) }
     {
-        required(self.alloc, self.value, name, self.path, reader)
+        match field(self.alloc, self.value, name, self.path)? {
+            None => Err(refusal(self.alloc, Cause::Absent, self.path.field(name))),
+            Some(value) => read_alone(self.alloc, reader, value, self.path.field(name)),
+        }
     }
 
-    /// A field that may be absent, with its value then, as `optional` says.
+    /// A field that may be absent, with its value then.
+    ///
+    /// Refused as the reader says, and with the cause `OtherKind` where the value is no object.
+    #[tactic(auto, unfolding(crate::specs::Reading::and_then, crate::specs::Reading::optional, crate::specs::Reading::if_present))]
     pub fn optional<R: Reader>(
         self,
         name: &str,
@@ -42,7 +52,10 @@ impl Fields<'_, '_> {
         ensures { Answers result
             (reading.optional name.now absent (R.reads reader.now []) self.entry.path.now (view self.entry.value.now)) }
     {
-        optional(self.alloc, self.value, name, self.path, absent, reader)
+        match field(self.alloc, self.value, name, self.path)? {
+            None => Ok(absent),
+            Some(value) => read_alone(self.alloc, reader, value, self.path.field(name)),
+        }
     }
 
     /// An array in a field that may be absent, and has no entries then, as `optional` says.
@@ -55,15 +68,24 @@ impl Fields<'_, '_> {
             Answers result (reading.optional name.now [] read self.entry.path.now (view self.entry.value.now)) }
     {
         let none = Seq::new(self.alloc);
-        optional(self.alloc, self.value, name, self.path, none, array)
+        self.optional(name, none, array)
     }
 
-    /// A field that may be absent, with no value then, as `maybe` says.
+    /// A field that may be absent, with no value then.
+    ///
+    /// Refused as the reader says, and with the cause `OtherKind` where the value is no object.
+    #[tactic(auto, unfolding(crate::specs::Reading::and_then, crate::specs::Reading::maybe, crate::specs::Reading::if_present, crate::specs::Reading::present))]
     pub fn maybe<R: Reader>(self, name: &str, reader: &R) -> Result<Option<R::Item>, ReadFail>
         ensures { Answers result
             (reading.maybe name.now (R.reads reader.now []) self.entry.path.now (view self.entry.value.now)) }
     {
-        maybe(self.alloc, self.value, name, self.path, reader)
+        match field(self.alloc, self.value, name, self.path)? {
+            None => Ok(None),
+            Some(value) => {
+                let item = read_alone(self.alloc, reader, value, self.path.field(name))?;
+                Ok(Some(item))
+            }
+        }
     }
 
     /// Refuses a field of another name, as `known` says.
@@ -92,7 +114,7 @@ pub trait Table {
     ghost reads: { Self → List Self.Row → List ℕ → Data → Result Self.Row FaultOf };
 
     /// The row of these fields, beside the rows that stand before it in its array.
-    fn read_row(&self, earlier: &[Self::Row], fields: Fields<'_, '_>) -> Result<Self::Row, ReadFail>
+    fn read(&self, earlier: &[Self::Row], fields: Fields<'_, '_>) -> Result<Self::Row, ReadFail>
         ensures { Answers result
             (reads self.now earlier.now fields.entry.path.now (view fields.entry.value.now)) };
 }
@@ -106,21 +128,13 @@ impl<T: Table> Reader for Object<T> {
 
     ghost reads = { λ it earlier path d. T.reads it.0 earlier path d };
 
-    fn read(
-        &self,
-        alloc: Global,
-        earlier: &[T::Row],
-        value: &Value,
-        place: Place<'_>,
-    ) -> Result<T::Row, ReadFail> {
-        let path = place.path()?;
-        self.0.read_row(
-            earlier,
-            Fields {
-                alloc,
-                value,
-                path: &path,
-            },
-        )
+    fn read(&self, earlier: &[Self::Item], datum: Datum<'_, '_>) -> Result<Self::Item, ReadFail> {
+        let path = datum.place.path()?;
+        let fields = Fields {
+            alloc: datum.alloc,
+            value: datum.value,
+            path: &path,
+        };
+        self.0.read(earlier, fields)
     }
 }

@@ -50,7 +50,7 @@ plan-at model lists d v low known some =
 
 -- ---- no float stands in a tree, and it is not deep
 
-is_float-whole : (z : ℤ) → is_float (of_integer z) ≡ false
+pub is_float-whole : (z : ℤ) → is_float (of_integer z) ≡ false
 is_float-whole (pos n) = refl
 is_float-whole (negsuc n) = refl
 
@@ -58,7 +58,7 @@ no_float_counts : (numbers : List ℕ) → items_have_float (items_of (map count
 no_float_counts [] = refl
 no_float_counts (n ∷ numbers) = no_float_counts numbers
 
-no_float_wholes : (numbers : List ℤ) → items_have_float (items_of (map whole numbers)) ≡ false
+pub no_float_wholes : (numbers : List ℤ) → items_have_float (items_of (map whole numbers)) ≡ false
 no_float_wholes [] = refl
 no_float_wholes (n ∷ numbers) = rw (is_float-whole n) (no_float_wholes numbers)
 
@@ -66,7 +66,7 @@ flat_counts : (numbers : List ℕ) → items_depth (items_of (map count numbers)
 flat_counts [] = refl
 flat_counts (n ∷ numbers) = ap (max 0) (flat_counts numbers)
 
-flat_wholes : (numbers : List ℤ) → items_depth (items_of (map whole numbers)) ≡ 0
+pub flat_wholes : (numbers : List ℤ) → items_depth (items_of (map whole numbers)) ≡ 0
 flat_wholes [] = refl
 flat_wholes (n ∷ numbers) = ap (max 0) (flat_wholes numbers)
 

@@ -14,7 +14,7 @@ use crate::tables::SolutionTable;
 use crate::{Printed, PrintedPlan, PrintedRoute};
 use serde_json::Value;
 use std::alloc::Global;
-use vr_json::{Object, Path, ReadFail, Reader};
+use vr_json::{Fields, Path, ReadFail, Table};
 use vr_model::{Dimension, Model, NoMemory};
 
 // Whether a plan of a vehicle in a dimension has its name and the right lengths.
@@ -94,8 +94,12 @@ fn read_tables(alloc: Global, nodes: u32, solution: &Value) -> Result<Printed, R
     ensures { Answers result (solution_table nodes [] (view solution.now)) }
 {
     let path = Path::root(alloc);
-    let printed = Object(SolutionTable { nodes }).read(alloc, &[], solution, path.here())?;
-    Ok(printed)
+    let fields = Fields {
+        alloc,
+        value: solution,
+        path: &path,
+    };
+    SolutionTable { nodes }.read(&[], fields)
 }
 
 // A solution, if its routes have the right shape.

@@ -1,10 +1,30 @@
 //! The tables of a printed solution.
 
+ghost use Rattle.vr_printed.specs.Tables as tables;
+
 use crate::{Printed, PrintedPlan, PrintedRoute};
-use serde_json::Value;
-use std::alloc::Global;
-use vr_json::{Array, Below, Choice, Fields, Object, Place, ReadFail, Reader, Table, Whole, text};
-use vr_model::{Parts, Text};
+use vr_json::{Array, Below, Choice, Fields, Object, ReadFail, Table, TextOf, Whole};
+use vr_model::Parts;
+
+/// A plan of a route in a dimension.
+#[derive(Clone, Copy)]
+pub struct PlanTable;
+
+/// A route, in a model of so many nodes.
+#[derive(Clone, Copy)]
+pub struct RouteTable {
+    pub nodes: u32,
+}
+
+/// The parts of a cost.
+#[derive(Clone, Copy)]
+pub struct PartsTable;
+
+/// A solution, in a model of so many nodes.
+#[derive(Clone, Copy)]
+pub struct SolutionTable {
+    pub nodes: u32,
+}
 
 // Any whole number of 64 bits.
 const ANY_WHOLE: Whole = Whole {
@@ -12,57 +32,30 @@ const ANY_WHOLE: Whole = Whole {
     hi: i64::MAX,
 };
 
-/// A string of any length.
-#[derive(Clone, Copy)]
-pub struct AnyText;
+// An array of such numbers.
+const NUMBERS: Array<Whole> = Array {
+    lo: 0,
+    hi: usize::MAX,
+    entry: ANY_WHOLE,
+};
 
-impl Reader for AnyText {
-    ghost use Rattle.vr_json.specs.Kinds.{text};
-    ghost use Rattle.vr_printed.specs.Tables.{any_length};
-
-    type Item = Text;
-
-    ghost reads = { λ it earlier path d. text 0 any_length path d };
-
-    fn read(
-        &self,
-        alloc: Global,
-        _earlier: &[Text],
-        value: &Value,
-        place: Place<'_>,
-    ) -> Result<Text, ReadFail> {
-        let path = place.path()?;
-        let found = text(alloc, value, 0, usize::MAX, &path)?;
-        Ok(found)
-    }
-}
-
-/// A plan of a route in a dimension.
-#[derive(Clone, Copy)]
-pub struct PlanTable;
+// A string of any length.
+const ANY_TEXT: TextOf = TextOf {
+    lo: 0,
+    hi: usize::MAX,
+};
 
 #[tactic(auto, unfolding(vr_json::specs::Reading::and_then, crate::specs::Tables::plan))]
 impl Table for PlanTable {
-    ghost use Rattle.vr_printed.specs.Tables.{plan};
-
     type Row = PrintedPlan;
 
-    ghost reads = { λ it earlier path d. plan path d };
+    ghost reads = { λ it earlier path d. tables.plan path d };
 
-    fn read_row(
-        &self,
-        _earlier: &[PrintedPlan],
-        fields: Fields<'_, '_>,
-    ) -> Result<PrintedPlan, ReadFail> {
-        let numbers = Array {
-            lo: 0,
-            hi: usize::MAX,
-            entry: ANY_WHOLE,
-        };
-        let breaks = fields.required("breaks", &numbers)?;
-        let cumuls = fields.required("cumuls", &numbers)?;
-        let name = fields.required("name", &AnyText)?;
-        let slacks = fields.required("slacks", &numbers)?;
+    fn read(&self, _earlier: &[Self::Row], fields: Fields<'_, '_>) -> Result<Self::Row, ReadFail> {
+        let breaks = fields.required("breaks", &NUMBERS)?;
+        let cumuls = fields.required("cumuls", &NUMBERS)?;
+        let name = fields.required("name", &ANY_TEXT)?;
+        let slacks = fields.required("slacks", &NUMBERS)?;
         fields.known(&["breaks", "cumuls", "name", "slacks"])?;
         Ok(PrintedPlan {
             name,
@@ -73,25 +66,13 @@ impl Table for PlanTable {
     }
 }
 
-/// A route, in a model of so many nodes.
-#[derive(Clone, Copy)]
-pub struct RouteTable {
-    pub nodes: u32,
-}
-
 #[tactic(auto, unfolding(vr_json::specs::Reading::and_then, crate::specs::Tables::printed_route))]
 impl Table for RouteTable {
-    ghost use Rattle.vr_printed.specs.Tables.{printed_route};
-
     type Row = PrintedRoute;
 
-    ghost reads = { λ it earlier path d. printed_route it.nodes path d };
+    ghost reads = { λ it earlier path d. tables.printed_route it.nodes path d };
 
-    fn read_row(
-        &self,
-        _earlier: &[PrintedRoute],
-        fields: Fields<'_, '_>,
-    ) -> Result<PrintedRoute, ReadFail> {
+    fn read(&self, _earlier: &[Self::Row], fields: Fields<'_, '_>) -> Result<Self::Row, ReadFail> {
         let table = Array {
             lo: 0,
             hi: usize::MAX,
@@ -114,19 +95,13 @@ impl Table for RouteTable {
     }
 }
 
-/// The parts of a cost.
-#[derive(Clone, Copy)]
-pub struct PartsTable;
-
 #[tactic(auto, unfolding(vr_json::specs::Reading::and_then, crate::specs::Tables::printed_parts))]
 impl Table for PartsTable {
-    ghost use Rattle.vr_printed.specs.Tables.{printed_parts};
-
     type Row = Parts;
 
-    ghost reads = { λ it earlier path d. printed_parts path d };
+    ghost reads = { λ it earlier path d. tables.printed_parts path d };
 
-    fn read_row(&self, _earlier: &[Parts], fields: Fields<'_, '_>) -> Result<Parts, ReadFail> {
+    fn read(&self, _earlier: &[Self::Row], fields: Fields<'_, '_>) -> Result<Self::Row, ReadFail> {
         let arcs = fields.required("arcs", &ANY_WHOLE)?;
         let fixed = fields.required("fixed", &ANY_WHOLE)?;
         let global = fields.required("global", &ANY_WHOLE)?;
@@ -145,12 +120,6 @@ impl Table for PartsTable {
     }
 }
 
-/// A solution, in a model of so many nodes.
-#[derive(Clone, Copy)]
-pub struct SolutionTable {
-    pub nodes: u32,
-}
-
 // The fields of a solution.
 const FIELDS: [&str; 9] = [
     "cost",
@@ -166,13 +135,11 @@ const FIELDS: [&str; 9] = [
 
 #[tactic(auto, unfolding(vr_json::specs::Reading::and_then, crate::specs::Tables::solution))]
 impl Table for SolutionTable {
-    ghost use Rattle.vr_printed.specs.Tables.{solution};
-
     type Row = Printed;
 
-    ghost reads = { λ it earlier path d. solution it.nodes path d };
+    ghost reads = { λ it earlier path d. tables.solution it.nodes path d };
 
-    fn read_row(&self, _earlier: &[Printed], fields: Fields<'_, '_>) -> Result<Printed, ReadFail> {
+    fn read(&self, _earlier: &[Self::Row], fields: Fields<'_, '_>) -> Result<Self::Row, ReadFail> {
         let node = Below { count: self.nodes };
         let numbers = Array {
             lo: 0,

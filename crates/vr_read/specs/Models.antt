@@ -46,22 +46,26 @@ model_fields =
     codes "format" ∷ codes "nodes" ∷ codes "matrices" ∷ codes "vehicles" ∷ codes "dimensions" ∷ codes "groups"
     ∷ codes "pairs" ∷ codes "allowed" ∷ codes "search" ∷ []
 
+-- a model of these fields
+abbrev pub model_of : ModelBase → ModelParts → Model
+model_of start others = record {
+  nodes = start.nodes;
+  matrices = start.matrices;
+  vehicles = start.vehicles;
+  dimensions = others.dimensions;
+  groups = others.tables.groups;
+  pairs = others.tables.pairs;
+  allowed = others.tables.allowed;
+  search = others.search;
+}
+
 -- the table of a model
 unfoldable pub model_table : ReaderOf Model
 model_table path d = do
   start ← base path d
   others ← parts start.nodes (length start.matrices) (length start.vehicles) start.vehicles path d
   unknown ← known model_fields path d
-  Ok (record {
-    nodes = start.nodes;
-    matrices = start.matrices;
-    vehicles = start.vehicles;
-    dimensions = others.dimensions;
-    groups = others.tables.groups;
-    pairs = others.tables.pairs;
-    allowed = others.tables.allowed;
-    search = others.search;
-  })
+  Ok (model_of start others)
 
 -- a model
 unfoldable pub read_model : ReaderOf Model

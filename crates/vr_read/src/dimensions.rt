@@ -8,11 +8,9 @@ ghost use Rattle.vr_json.specs.Reading.{Answers};
 ghost use Rattle.vr_read.specs.Dimensions as dimension_tables;
 
 use crate::{StopTable, VehicleBreaksTable, Visit};
-use serde_json::Value;
-use std::alloc::Global;
 use vr_json::{
-    Array, Below, Cause, Fields, Flag, ForEach, Object, Place, ReadFail, Reader, Table, Whole,
-    copies, refuse_if, text,
+    Array, Below, Cause, Datum, Fields, Flag, ForEach, Object, ReadFail, Reader, Table, TextOf,
+    Whole, copies,
 };
 use vr_model::limits::{GREATEST_COEFFICIENT, GREATEST_VALUE, HORIZON, LEAST_VALUE};
 use vr_model::{Dimension, Evaluator, Seq, StopRow, Text, Vehicle, VehicleBreaks};
@@ -24,19 +22,33 @@ pub struct EvaluatorTable {
     pub matrices: u32,
 }
 
+/// A whole number that is not negative; above the horizon it is read as the horizon.
+#[derive(Clone, Copy)]
+pub struct Capped;
+
+/// The name of a dimension, which no earlier one has.
+#[derive(Clone, Copy)]
+pub struct Name<'a> {
+    pub earlier: &'a [Dimension],
+}
+
+/// A dimension, in a model of so many nodes, matrices and vehicles.
+#[derive(Clone, Copy)]
+pub struct DimensionTable<'a> {
+    pub nodes: u32,
+    pub matrices: u32,
+    /// The number of `vehicles`.
+    pub fleet: u32,
+    pub vehicles: &'a [Vehicle],
+}
+
 #[tactic(auto, unfolding(vr_json::specs::Reading::and_then, crate::specs::Dimensions::evaluator))]
 impl Table for EvaluatorTable {
-    ghost use Rattle.vr_read.specs.Dimensions.{evaluator};
-
     type Row = Evaluator;
 
-    ghost reads = { λ it earlier path d. evaluator it.nodes it.matrices path d };
+    ghost reads = { λ it earlier path d. dimension_tables.evaluator it.nodes it.matrices path d };
 
-    fn read_row(
-        &self,
-        _earlier: &[Evaluator],
-        fields: Fields<'_, '_>,
-    ) -> Result<Evaluator, ReadFail> {
+    fn read(&self, _earlier: &[Self::Row], fields: Fields<'_, '_>) -> Result<Self::Row, ReadFail> {
         let number = Below {
             count: self.matrices,
         };
@@ -55,38 +67,20 @@ impl Table for EvaluatorTable {
     }
 }
 
-/// A whole number that is not negative; above the horizon it is read as the horizon.
-#[derive(Clone, Copy)]
-pub struct Capped;
-
 #[tactic(auto, unfolding(vr_json::specs::Reading::and_then, crate::specs::Dimensions::capped))]
 impl Reader for Capped {
-    ghost use Rattle.vr_read.specs.Dimensions.{capped};
-
     type Item = i64;
 
-    ghost reads = { λ it earlier path d. capped path d };
+    ghost reads = { λ it earlier path d. dimension_tables.capped path d };
 
-    fn read(
-        &self,
-        alloc: Global,
-        _earlier: &[i64],
-        value: &Value,
-        place: Place<'_>,
-    ) -> Result<i64, ReadFail> {
+    fn read(&self, _earlier: &[Self::Item], datum: Datum<'_, '_>) -> Result<Self::Item, ReadFail> {
         let any = Whole {
             lo: 0,
             hi: i64::MAX,
         };
-        let number = any.read(alloc, &[], value, place)?;
+        let number = any.read(&[], datum)?;
         Ok(if HORIZON < number { HORIZON } else { number })
     }
-}
-
-/// The name of a dimension, which no earlier one has.
-#[derive(Clone, Copy)]
-pub struct Name<'a> {
-    pub earlier: &'a [Dimension],
 }
 
 // Whether some dimension has this name.
@@ -98,24 +92,15 @@ fn has_name(dimensions: &[Dimension], name: &Text) -> bool
         .any(|dimension| dimension.name.as_str() == name.as_str())
 }
 
+#[tactic(auto, unfolding(vr_json::specs::Reading::and_then, crate::specs::Dimensions::name))]
 impl Reader for Name<'_> {
-    ghost use Rattle.vr_read.specs.Dimensions.{name};
-
     type Item = Text;
 
-    ghost reads = { λ it earlier path d. name it.earlier.now path d };
+    ghost reads = { λ it earlier path d. dimension_tables.name it.earlier.now path d };
 
-    fn read(
-        &self,
-        alloc: Global,
-        _earlier: &[Text],
-        value: &Value,
-        place: Place<'_>,
-    ) -> Result<Text, ReadFail> {
-        let path = place.path()?;
-        let name = text(alloc, value, 1, 64, &path)?;
-        let broken = has_name(self.earlier, &name);
-        refuse_if(alloc, broken, Cause::Repeated, path.here())?;
+    fn read(&self, _earlier: &[Self::Item], datum: Datum<'_, '_>) -> Result<Self::Item, ReadFail> {
+        let name = TextOf { lo: 1, hi: 64 }.read(&[], datum)?;
+        datum.refuse_if(has_name(self.earlier, &name), Cause::Repeated)?;
         Ok(name)
     }
 }
@@ -150,16 +135,6 @@ pub struct Rows {
 pub struct SpanCosts {
     pub by_vehicle: Seq<i64>,
     pub global: i64,
-}
-
-/// A dimension, in a model of so many nodes, matrices and vehicles.
-#[derive(Clone, Copy)]
-pub struct DimensionTable<'a> {
-    pub nodes: u32,
-    pub matrices: u32,
-    /// The number of `vehicles`.
-    pub fleet: u32,
-    pub vehicles: &'a [Vehicle],
 }
 
 impl DimensionTable<'_> {
@@ -295,17 +270,12 @@ impl DimensionTable<'_> {
 
 #[tactic(auto, unfolding(vr_json::specs::Reading::and_then, crate::specs::Dimensions::dimension))]
 impl Table for DimensionTable<'_> {
-    ghost use Rattle.vr_read.specs.Dimensions.{dimension};
-
     type Row = Dimension;
 
-    ghost reads = { λ it earlier path d. dimension it.nodes it.matrices it.fleet it.vehicles.now earlier path d };
+    ghost reads = { λ it earlier path d.
+        dimension_tables.dimension it.nodes it.matrices it.fleet it.vehicles.now earlier path d };
 
-    fn read_row(
-        &self,
-        earlier: &[Dimension],
-        fields: Fields<'_, '_>,
-    ) -> Result<Dimension, ReadFail> {
+    fn read(&self, earlier: &[Self::Row], fields: Fields<'_, '_>) -> Result<Self::Row, ReadFail> {
         let name = fields.required("name", &Name { earlier })?;
         let transits = self.transits(fields)?;
         let bounds = self.bounds(fields)?;

@@ -3,9 +3,7 @@
 ghost use Rattle.std.specs.Prelude.{◌≡◌};
 ghost use Rattle.vr_read.specs.Formats as formats;
 
-use serde_json::Value;
-use std::alloc::Global;
-use vr_json::{Count, Place, ReadFail, Reader};
+use vr_json::{Count, Datum, ReadFail, Reader};
 
 /// The format of a model: which fields its tables have.
 #[derive(Clone, Copy)]
@@ -32,20 +30,12 @@ fn format_of(number: u32) -> Format
 }
 
 impl Reader for FormatNumber {
-    ghost use Rattle.vr_read.specs.Formats.{format};
-
     type Item = Format;
 
-    ghost reads = { λ it earlier path d. format path d };
+    ghost reads = { λ it earlier path d. formats.format path d };
 
-    fn read(
-        &self,
-        alloc: Global,
-        _earlier: &[Format],
-        value: &Value,
-        place: Place<'_>,
-    ) -> Result<Format, ReadFail> {
-        let number = Count { lo: 1, hi: 2 }.read(alloc, &[], value, place)?;
+    fn read(&self, _earlier: &[Self::Item], datum: Datum<'_, '_>) -> Result<Self::Item, ReadFail> {
+        let number = Count { lo: 1, hi: 2 }.read(&[], datum)?;
         Ok(format_of(number))
     }
 }

@@ -6,13 +6,41 @@ ghost use Rattle.vr_model.specs.routes.Routes.{holds};
 ghost use Rattle.vr_read.specs.Visits as visit_tables;
 
 use crate::Visit;
-use serde_json::Value;
-use std::alloc::Global;
-use vr_json::{
-    Array, Below, Cause, Count, Fields, Place, ReadFail, Reader, Table, Whole, refuse_if,
-};
+use vr_json::{Array, Below, Cause, Count, Datum, Fields, ReadFail, Reader, Table, Whole};
 use vr_model::limits::GREATEST_COST;
 use vr_model::{Allowed, Group, Pair, Vehicle};
+
+/// A node of a group, which stands in no earlier group.
+#[derive(Clone, Copy)]
+pub struct GroupNode<'a> {
+    pub visit: Visit<'a>,
+    pub groups: &'a [Group],
+}
+
+/// A group.
+#[derive(Clone, Copy)]
+pub struct GroupTable<'a> {
+    pub visit: Visit<'a>,
+}
+
+/// A pair of a pickup and its delivery.
+#[derive(Clone, Copy)]
+pub struct PairTable<'a> {
+    pub visit: Visit<'a>,
+}
+
+/// One of so many vehicles, each once.
+#[derive(Clone, Copy)]
+pub struct AllowedVehicle {
+    pub fleet: u32,
+}
+
+/// The vehicles that a visit allows, in a model of so many vehicles.
+#[derive(Clone, Copy)]
+pub struct AllowedTable<'a> {
+    pub visit: Visit<'a>,
+    pub fleet: u32,
+}
 
 // Whether a number stands in a list.
 fn is_held(numbers: &[u32], number: u32) -> bool
@@ -46,50 +74,28 @@ fn has_allowed(rows: &[Allowed], node: u32) -> bool
     rows.iter().any(|row| row.node == node)
 }
 
-/// A node of a group, which stands in no earlier group.
-#[derive(Clone, Copy)]
-pub struct GroupNode<'a> {
-    pub visit: Visit<'a>,
-    pub groups: &'a [Group],
-}
-
 #[tactic(auto, unfolding(vr_json::specs::Reading::and_then, crate::specs::Visits::group_node))]
 impl Reader for GroupNode<'_> {
-    ghost use Rattle.vr_read.specs.Visits.{group_node};
-
     type Item = u32;
 
-    ghost reads = { λ it earlier path d. group_node it.visit.nodes it.visit.vehicles.now it.groups.now earlier path d };
+    ghost reads = { λ it earlier path d.
+        visit_tables.group_node it.visit.nodes it.visit.vehicles.now it.groups.now earlier path d };
 
-    fn read(
-        &self,
-        alloc: Global,
-        earlier: &[u32],
-        value: &Value,
-        place: Place<'_>,
-    ) -> Result<u32, ReadFail> {
-        let node = self.visit.read(alloc, &[], value, place)?;
+    fn read(&self, earlier: &[Self::Item], datum: Datum<'_, '_>) -> Result<Self::Item, ReadFail> {
+        let node = self.visit.read(&[], datum)?;
         let stands = is_grouped(self.groups, node) || is_held(earlier, node);
-        refuse_if(alloc, stands, Cause::Repeated, place)?;
+        datum.refuse_if(stands, Cause::Repeated)?;
         Ok(node)
     }
 }
 
-/// A group.
-#[derive(Clone, Copy)]
-pub struct GroupTable<'a> {
-    pub visit: Visit<'a>,
-}
-
 #[tactic(auto, unfolding(vr_json::specs::Reading::and_then, crate::specs::Visits::group))]
 impl Table for GroupTable<'_> {
-    ghost use Rattle.vr_read.specs.Visits.{group};
-
     type Row = Group;
 
-    ghost reads = { λ it earlier path d. group it.visit.nodes it.visit.vehicles.now earlier path d };
+    ghost reads = { λ it earlier path d. visit_tables.group it.visit.nodes it.visit.vehicles.now earlier path d };
 
-    fn read_row(&self, earlier: &[Group], fields: Fields<'_, '_>) -> Result<Group, ReadFail> {
+    fn read(&self, earlier: &[Self::Row], fields: Fields<'_, '_>) -> Result<Self::Row, ReadFail> {
         let members = Array {
             lo: 1,
             hi: 1000,
@@ -115,21 +121,13 @@ impl Table for GroupTable<'_> {
     }
 }
 
-/// A pair of a pickup and its delivery.
-#[derive(Clone, Copy)]
-pub struct PairTable<'a> {
-    pub visit: Visit<'a>,
-}
-
 #[tactic(auto, unfolding(vr_json::specs::Reading::and_then, crate::specs::Visits::pair))]
 impl Table for PairTable<'_> {
-    ghost use Rattle.vr_read.specs.Visits.{pair};
-
     type Row = Pair;
 
-    ghost reads = { λ it earlier path d. pair it.visit.nodes it.visit.vehicles.now earlier path d };
+    ghost reads = { λ it earlier path d. visit_tables.pair it.visit.nodes it.visit.vehicles.now earlier path d };
 
-    fn read_row(&self, earlier: &[Pair], fields: Fields<'_, '_>) -> Result<Pair, ReadFail> {
+    fn read(&self, earlier: &[Self::Row], fields: Fields<'_, '_>) -> Result<Self::Row, ReadFail> {
         let pickup = fields.required("pickup", &self.visit)?;
         fields.refuse_if(is_paired(earlier, pickup), Cause::Repeated, "pickup")?;
         let delivery = fields.required("delivery", &self.visit)?;
@@ -140,48 +138,27 @@ impl Table for PairTable<'_> {
     }
 }
 
-/// One of so many vehicles, each once.
-#[derive(Clone, Copy)]
-pub struct AllowedVehicle {
-    pub fleet: u32,
-}
-
 #[tactic(auto, unfolding(vr_json::specs::Reading::and_then, crate::specs::Visits::allowed_vehicle))]
 impl Reader for AllowedVehicle {
-    ghost use Rattle.vr_read.specs.Visits.{allowed_vehicle};
-
     type Item = u32;
 
-    ghost reads = { λ it earlier path d. allowed_vehicle it.fleet earlier path d };
+    ghost reads = { λ it earlier path d. visit_tables.allowed_vehicle it.fleet earlier path d };
 
-    fn read(
-        &self,
-        alloc: Global,
-        earlier: &[u32],
-        value: &Value,
-        place: Place<'_>,
-    ) -> Result<u32, ReadFail> {
-        let vehicle = Below { count: self.fleet }.read(alloc, &[], value, place)?;
-        refuse_if(alloc, is_held(earlier, vehicle), Cause::Repeated, place)?;
+    fn read(&self, earlier: &[Self::Item], datum: Datum<'_, '_>) -> Result<Self::Item, ReadFail> {
+        let vehicle = Below { count: self.fleet }.read(&[], datum)?;
+        datum.refuse_if(is_held(earlier, vehicle), Cause::Repeated)?;
         Ok(vehicle)
     }
 }
 
-/// The vehicles that a visit allows, in a model of so many vehicles.
-#[derive(Clone, Copy)]
-pub struct AllowedTable<'a> {
-    pub visit: Visit<'a>,
-    pub fleet: u32,
-}
-
+#[tactic(auto, unfolding(vr_json::specs::Reading::and_then, crate::specs::Visits::allowed))]
 impl Table for AllowedTable<'_> {
-    ghost use Rattle.vr_read.specs.Visits.{allowed};
-
     type Row = Allowed;
 
-    ghost reads = { λ it earlier path d. allowed it.visit.nodes it.fleet it.visit.vehicles.now earlier path d };
+    ghost reads = { λ it earlier path d.
+        visit_tables.allowed it.visit.nodes it.fleet it.visit.vehicles.now earlier path d };
 
-    fn read_row(&self, earlier: &[Allowed], fields: Fields<'_, '_>) -> Result<Allowed, ReadFail> {
+    fn read(&self, earlier: &[Self::Row], fields: Fields<'_, '_>) -> Result<Self::Row, ReadFail> {
         let permitted = Array {
             lo: 1,
             hi: self.fleet as usize,

@@ -1,10 +1,10 @@
 //! The table of matrices.
 
 ghost use Rattle.std.specs.Prelude.{◌≡◌, flat_map, IfOk};
+ghost use Rattle.vr_read.specs.Vehicles as vehicle_tables;
 
-use serde_json::Value;
 use std::alloc::Global;
-use vr_json::{Array, Place, ReadFail, Reader, Whole};
+use vr_json::{Array, Datum, ReadFail, Reader, Whole};
 use vr_model::limits::{GREATEST_COST, LEAST_VALUE};
 use vr_model::{Matrix, NoMemory, Seq};
 
@@ -26,19 +26,11 @@ pub struct MatrixTable {
 }
 
 impl Reader for MatrixTable {
-    ghost use Rattle.vr_read.specs.Vehicles.{matrix};
-
     type Item = Matrix;
 
-    ghost reads = { λ it earlier path d. matrix it.nodes path d };
+    ghost reads = { λ it earlier path d. vehicle_tables.matrix it.nodes path d };
 
-    fn read(
-        &self,
-        alloc: Global,
-        _earlier: &[Matrix],
-        value: &Value,
-        place: Place<'_>,
-    ) -> Result<Matrix, ReadFail> {
+    fn read(&self, _earlier: &[Self::Item], datum: Datum<'_, '_>) -> Result<Self::Item, ReadFail> {
         let nodes = self.nodes as usize;
         let entry = Whole {
             lo: LEAST_VALUE,
@@ -54,8 +46,8 @@ impl Reader for MatrixTable {
             hi: nodes,
             entry: row,
         };
-        let rows = table.read(alloc, &[], value, place)?;
-        let entries = joined(alloc, rows.as_slice())?;
+        let rows = table.read(&[], datum)?;
+        let entries = joined(datum.alloc, rows.as_slice())?;
         Ok(Matrix { entries })
     }
 }

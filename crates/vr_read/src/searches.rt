@@ -7,13 +7,20 @@ ghost use Rattle.serde_json.specs.View.{view};
 ghost use Rattle.vr_json.specs.Reading.{Answers};
 ghost use Rattle.vr_read.specs.Searches as search_tables;
 
-use serde_json::Value;
 use std::alloc::Global;
 use vr_json::{
-    Array, Cause, Choice, Count, Fields, Place, ReadFail, Reader, Table, TwoEntries, Whole,
-    refuse_if,
+    Array, Cause, Choice, Count, Datum, Fields, ReadFail, Reader, Table, TwoEntries, Whole,
 };
 use vr_model::{First, Improve, Neighbourhood, NoMemory, SearchRow, Seq};
+
+/// A neighbourhood, named by a word that stands nowhere earlier in its array.
+#[derive(Clone, Copy)]
+pub struct NeighbourhoodTable;
+
+/// The search: its strategy for the first solution, its improvement, its limits, the weight of
+/// penalties, its neighbourhoods, how long its cuts are, and for how long changed visits are tabu.
+#[derive(Clone, Copy)]
+pub struct SearchTable;
 
 // The words for first solutions.
 const STRATEGIES: [(&str, First); 3] = [
@@ -62,10 +69,6 @@ const CUT: u32 = 10;
 // For how many rounds a changed visit is tabu, where a model does not say it.
 const TENURE: u32 = 10;
 
-/// A neighbourhood, named by a word that stands nowhere earlier in its array.
-#[derive(Clone, Copy)]
-pub struct NeighbourhoodTable;
-
 // Whether two neighbourhoods are the same.
 fn is_same(one: Neighbourhood, other: Neighbourhood) -> bool
     ensures { result ≡ (number_of one == number_of other) }
@@ -81,29 +84,16 @@ fn has_neighbourhood(some: &[Neighbourhood], neighbourhood: Neighbourhood) -> bo
 }
 
 impl Reader for NeighbourhoodTable {
-    ghost use Rattle.vr_read.specs.Searches.{neighbourhood};
-
     type Item = Neighbourhood;
 
-    ghost reads = { λ it earlier path d. neighbourhood earlier path d };
+    ghost reads = { λ it earlier path d. search_tables.neighbourhood earlier path d };
 
-    fn read(
-        &self,
-        alloc: Global,
-        earlier: &[Neighbourhood],
-        value: &Value,
-        place: Place<'_>,
-    ) -> Result<Neighbourhood, ReadFail> {
+    fn read(&self, earlier: &[Self::Item], datum: Datum<'_, '_>) -> Result<Self::Item, ReadFail> {
         let words = Choice {
             words: &NEIGHBOURHOODS,
         };
-        let chosen = words.read(alloc, &[], value, place)?;
-        refuse_if(
-            alloc,
-            has_neighbourhood(earlier, chosen),
-            Cause::Repeated,
-            place,
-        )?;
+        let chosen = words.read(&[], datum)?;
+        datum.refuse_if(has_neighbourhood(earlier, chosen), Cause::Repeated)?;
         Ok(chosen)
     }
 }
@@ -159,24 +149,13 @@ fn choices(fields: Fields<'_, '_>) -> Result<SearchChoices, ReadFail>
     })
 }
 
-/// The search: its strategy for the first solution, its improvement, its limits, the weight of
-/// penalties, its neighbourhoods, how long its cuts are, and for how long changed visits are tabu.
-#[derive(Clone, Copy)]
-pub struct SearchTable;
-
 #[tactic(auto, unfolding(vr_json::specs::Reading::and_then, crate::specs::Searches::search_row))]
 impl Table for SearchTable {
-    ghost use Rattle.vr_read.specs.Searches.{search_row};
-
     type Row = SearchRow;
 
-    ghost reads = { λ it earlier path d. search_row path d };
+    ghost reads = { λ it earlier path d. search_tables.search_row path d };
 
-    fn read_row(
-        &self,
-        _earlier: &[SearchRow],
-        fields: Fields<'_, '_>,
-    ) -> Result<SearchRow, ReadFail> {
+    fn read(&self, _earlier: &[Self::Row], fields: Fields<'_, '_>) -> Result<Self::Row, ReadFail> {
         let choices = choices(fields)?;
         let weight = TwoEntries {
             entry: Whole { lo: 1, hi: 1000 },

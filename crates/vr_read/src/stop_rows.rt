@@ -1,41 +1,55 @@
 //! The tables of stop rows and breaks.
 
-ghost use Rattle.std.specs.Prelude.{◌≡◌, ◌==◌};
+ghost use Rattle.std.specs.Prelude.{◌≡◌, ◌==◌, []};
 ghost use Rattle.std.specs.List.{list_any};
 ghost use Rattle.serde_json.specs.View.{view};
 ghost use Rattle.vr_json.specs.Reading.{Answers};
 ghost use Rattle.vr_read.specs.StopRows as stop_tables;
 
-use serde_json::Value;
-use std::alloc::Global;
 use vr_json::{
-    Array, Below, Cause, Fields, Object, Place, ReadFail, Reader, Table, TwoEntries, Whole,
+    Array, Below, Cause, Datum, Fields, Object, ReadFail, Reader, Table, TwoEntries, Whole,
     refuse_if,
 };
 use vr_model::limits::{GREATEST_COEFFICIENT, HORIZON};
 use vr_model::{BreakRow, Interval, Seq, Soft, StopRow, VehicleBreaks};
 
+// A cumul.
+const CUMUL: Whole = Whole { lo: 0, hi: HORIZON };
+
 /// An interval: an array of two cumuls, the lower one first.
 #[derive(Clone, Copy)]
 pub struct IntervalTable;
 
-impl Reader for IntervalTable {
-    ghost use Rattle.vr_read.specs.StopRows.{interval};
+/// A soft upper bound.
+#[derive(Clone, Copy)]
+pub struct SoftTable;
 
+/// A row for a stop, whose key stands in the field `name`.
+#[derive(Clone, Copy)]
+pub struct StopTable<'a, K> {
+    pub name: &'a str,
+    pub key: K,
+}
+
+/// A break: a start range and a duration.
+#[derive(Clone, Copy)]
+pub struct BreakTable;
+
+/// The breaks of one of so many vehicles.
+#[derive(Clone, Copy)]
+pub struct VehicleBreaksTable {
+    pub vehicles: u32,
+}
+
+#[tactic(auto, unfolding(vr_json::specs::Reading::and_then, crate::specs::StopRows::interval))]
+impl Reader for IntervalTable {
     type Item = Interval;
 
-    ghost reads = { λ it earlier path d. interval path d };
+    ghost reads = { λ it earlier path d. stop_tables.interval path d };
 
-    fn read(
-        &self,
-        alloc: Global,
-        _earlier: &[Interval],
-        value: &Value,
-        place: Place<'_>,
-    ) -> Result<Interval, ReadFail> {
-        let cumul = Whole { lo: 0, hi: HORIZON };
-        let ends = TwoEntries { entry: cumul }.read(alloc, &[], value, place)?;
-        refuse_if(alloc, ends.1 < ends.0, Cause::Reversed, place)?;
+    fn read(&self, _earlier: &[Self::Item], datum: Datum<'_, '_>) -> Result<Self::Item, ReadFail> {
+        let ends = TwoEntries { entry: CUMUL }.read(&[], datum)?;
+        datum.refuse_if(ends.1 < ends.0, Cause::Reversed)?;
         Ok(Interval {
             lo: ends.0,
             hi: ends.1,
@@ -43,24 +57,18 @@ impl Reader for IntervalTable {
     }
 }
 
-/// A soft upper bound.
-#[derive(Clone, Copy)]
-pub struct SoftTable;
-
+#[tactic(auto, unfolding(vr_json::specs::Reading::and_then, crate::specs::StopRows::soft))]
 impl Table for SoftTable {
-    ghost use Rattle.vr_read.specs.StopRows.{soft};
-
     type Row = Soft;
 
-    ghost reads = { λ it earlier path d. soft path d };
+    ghost reads = { λ it earlier path d. stop_tables.soft path d };
 
-    fn read_row(&self, _earlier: &[Soft], fields: Fields<'_, '_>) -> Result<Soft, ReadFail> {
-        let cumul = Whole { lo: 0, hi: HORIZON };
+    fn read(&self, _earlier: &[Self::Row], fields: Fields<'_, '_>) -> Result<Self::Row, ReadFail> {
         let cost = Whole {
             lo: 0,
             hi: GREATEST_COEFFICIENT,
         };
-        let bound = fields.required("bound", &cumul)?;
+        let bound = fields.required("bound", &CUMUL)?;
         let coefficient = fields.required("coefficient", &cost)?;
         fields.known(&["bound", "coefficient"])?;
         Ok(Soft { bound, coefficient })
@@ -95,13 +103,6 @@ fn limits(fields: Fields<'_, '_>) -> Result<StopLimits, ReadFail>
     })
 }
 
-/// A row for a stop, whose key stands in the field `name`.
-#[derive(Clone, Copy)]
-pub struct StopTable<'a, K> {
-    pub name: &'a str,
-    pub key: K,
-}
-
 // Whether some row has this key.
 fn has_row(rows: &[StopRow], key: u32) -> bool
     ensures { result ≡ list_any (λ row. row.key == key) rows.now }
@@ -109,15 +110,13 @@ fn has_row(rows: &[StopRow], key: u32) -> bool
     rows.iter().any(|row| row.key == key)
 }
 
+#[tactic(auto, unfolding(vr_json::specs::Reading::and_then, crate::specs::StopRows::stop_row))]
 impl<K: Reader<Item = u32>> Table for StopTable<'_, K> {
-    ghost use Rattle.std.specs.Prelude.{[]};
-    ghost use Rattle.vr_read.specs.StopRows.{stop_row};
-
     type Row = StopRow;
 
-    ghost reads = { λ it earlier path d. stop_row it.name.now (K.reads it.key []) earlier path d };
+    ghost reads = { λ it earlier path d. stop_tables.stop_row it.name.now (K.reads it.key []) earlier path d };
 
-    fn read_row(&self, earlier: &[StopRow], fields: Fields<'_, '_>) -> Result<StopRow, ReadFail> {
+    fn read(&self, earlier: &[Self::Row], fields: Fields<'_, '_>) -> Result<Self::Row, ReadFail> {
         let key = fields.required(self.name, &self.key)?;
         fields.refuse_if(has_row(earlier, key), Cause::Repeated, self.name)?;
         let limits = limits(fields)?;
@@ -131,38 +130,21 @@ impl<K: Reader<Item = u32>> Table for StopTable<'_, K> {
     }
 }
 
-/// A break: a start range and a duration.
-#[derive(Clone, Copy)]
-pub struct BreakTable;
-
 #[tactic(auto, unfolding(vr_json::specs::Reading::and_then, crate::specs::StopRows::break_row))]
 impl Table for BreakTable {
-    ghost use Rattle.vr_read.specs.StopRows.{break_row};
-
     type Row = BreakRow;
 
-    ghost reads = { λ it earlier path d. break_row path d };
+    ghost reads = { λ it earlier path d. stop_tables.break_row path d };
 
-    fn read_row(
-        &self,
-        _earlier: &[BreakRow],
-        fields: Fields<'_, '_>,
-    ) -> Result<BreakRow, ReadFail> {
-        let cumul = Whole { lo: 0, hi: HORIZON };
+    fn read(&self, _earlier: &[Self::Row], fields: Fields<'_, '_>) -> Result<Self::Row, ReadFail> {
         let length = Whole { lo: 1, hi: HORIZON };
-        let from = fields.required("from", &cumul)?;
-        let to = fields.required("to", &cumul)?;
+        let from = fields.required("from", &CUMUL)?;
+        let to = fields.required("to", &CUMUL)?;
         let duration = fields.required("duration", &length)?;
         fields.known(&["from", "to", "duration"])?;
         refuse_if(fields.alloc, to < from, Cause::Reversed, fields.path.here())?;
         Ok(BreakRow { from, to, duration })
     }
-}
-
-/// The breaks of one of so many vehicles.
-#[derive(Clone, Copy)]
-pub struct VehicleBreaksTable {
-    pub vehicles: u32,
 }
 
 // Whether some entry is of this vehicle.
@@ -172,18 +154,13 @@ fn has_breaks(entries: &[VehicleBreaks], vehicle: u32) -> bool
     entries.iter().any(|entry| entry.vehicle == vehicle)
 }
 
+#[tactic(auto, unfolding(vr_json::specs::Reading::and_then, crate::specs::StopRows::vehicle_breaks))]
 impl Table for VehicleBreaksTable {
-    ghost use Rattle.vr_read.specs.StopRows.{vehicle_breaks};
-
     type Row = VehicleBreaks;
 
-    ghost reads = { λ it earlier path d. vehicle_breaks it.vehicles earlier path d };
+    ghost reads = { λ it earlier path d. stop_tables.vehicle_breaks it.vehicles earlier path d };
 
-    fn read_row(
-        &self,
-        earlier: &[VehicleBreaks],
-        fields: Fields<'_, '_>,
-    ) -> Result<VehicleBreaks, ReadFail> {
+    fn read(&self, earlier: &[Self::Row], fields: Fields<'_, '_>) -> Result<Self::Row, ReadFail> {
         let number = Below {
             count: self.vehicles,
         };

@@ -6,9 +6,7 @@ ghost use Rattle.vr_json.specs.Reading.{Answers, known};
 ghost use Rattle.vr_read.specs.Vehicles as vehicle_tables;
 
 use crate::Format;
-use serde_json::Value;
-use std::alloc::Global;
-use vr_json::{Below, Cause, Choice, Fields, Place, ReadFail, Reader, Table, Whole, refuse_if};
+use vr_json::{Below, Cause, Choice, Datum, Fields, ReadFail, Reader, Table, Whole};
 use vr_model::limits::GREATEST_COST;
 use vr_model::{Policy, ScheduleRule, Vehicle};
 
@@ -78,13 +76,11 @@ impl VehicleTable {
 
 #[tactic(auto, unfolding(vr_json::specs::Reading::and_then, crate::specs::Vehicles::vehicle))]
 impl Table for VehicleTable {
-    ghost use Rattle.vr_read.specs.Vehicles.{vehicle};
-
     type Row = Vehicle;
 
-    ghost reads = { λ it earlier path d. vehicle it.format it.nodes it.matrices path d };
+    ghost reads = { λ it earlier path d. vehicle_tables.vehicle it.format it.nodes it.matrices path d };
 
-    fn read_row(&self, _earlier: &[Vehicle], fields: Fields<'_, '_>) -> Result<Vehicle, ReadFail> {
+    fn read(&self, _earlier: &[Self::Row], fields: Fields<'_, '_>) -> Result<Self::Row, ReadFail> {
         let matrix = Below {
             count: self.matrices,
         };
@@ -128,26 +124,13 @@ fn is_terminal(vehicles: &[Vehicle], node: u32) -> bool
 
 #[tactic(auto, unfolding(vr_json::specs::Reading::and_then, crate::specs::Vehicles::visit))]
 impl Reader for Visit<'_> {
-    ghost use Rattle.vr_read.specs.Vehicles.{visit};
-
     type Item = u32;
 
-    ghost reads = { λ it earlier path d. visit it.nodes it.vehicles.now path d };
+    ghost reads = { λ it earlier path d. vehicle_tables.visit it.nodes it.vehicles.now path d };
 
-    fn read(
-        &self,
-        alloc: Global,
-        _earlier: &[u32],
-        value: &Value,
-        place: Place<'_>,
-    ) -> Result<u32, ReadFail> {
-        let node = Below { count: self.nodes }.read(alloc, &[], value, place)?;
-        refuse_if(
-            alloc,
-            is_terminal(self.vehicles, node),
-            Cause::NotAVisit,
-            place,
-        )?;
+    fn read(&self, _earlier: &[Self::Item], datum: Datum<'_, '_>) -> Result<Self::Item, ReadFail> {
+        let node = Below { count: self.nodes }.read(&[], datum)?;
+        datum.refuse_if(is_terminal(self.vehicles, node), Cause::NotAVisit)?;
         Ok(node)
     }
 }

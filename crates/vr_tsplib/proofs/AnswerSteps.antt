@@ -8,7 +8,7 @@ use Rattle.vr_json.specs.Reading.{Answers, and_then, seen}
 use Rattle.vr_tsplib.specs.declared.flaws.Flaw.{Flaw}
 use Rattle.vr_tsplib.specs.declared.flaws.LineFail.{LineFail}
 use Rattle.vr_tsplib.specs.declared.flaws.LineFail.TheVariants.{Flawed, NoMemory}
-use Rattle.vr_tsplib.specs.Flaws.{Refuses, Tells, at_line, fault_at}
+use Rattle.vr_tsplib.specs.Flaws.{Refuses, AnswersLine, at_line, fault_at}
 
 -- ---- a line
 
@@ -21,15 +21,15 @@ unfolding at_line
 at_flaw number e = ap (at_line number) e
 
 -- a line that is not taken is refused
-pub refused : {A : Type 0} {reading : Result A Flaw} (fail : LineFail) (number : ℕ) (e : ReadFail) → Tells {A = A} (Err fail) reading → Refuses fail number e → Answers {A = A} (Err e) (at_line number reading)
+pub refused : {A : Type 0} {reading : Result A Flaw} (fail : LineFail) (number : ℕ) (e : ReadFail) → AnswersLine {A = A} (Err fail) reading → Refuses fail number e → Answers {A = A} (Err e) (at_line number reading)
 refused (Flawed flaw) number e h k = record {
   value = tt;
   refused = λ fault is. let one : e ≡ Refused fault = cc in at_flaw number (h.flawed flaw refl) ∙ ap Err (sym (k fault one));
 }
 refused NoMemory number e h k = record { value = tt; refused = λ fault is. let one : e ≡ Refused fault = cc in cc }
 
-pub flaw_told : {A : Type 0} {flaw : Flaw} {reading : Result A Flaw} → reading ≡ Err flaw → Tells {A = A} (Err (Flawed flaw)) reading
-flaw_told {flaw = flaw} e = record { value = tt; flawed = λ other is. let one : flaw ≡ other = cc in e ∙ ap Err one }
+pub line_flaw : {A : Type 0} {flaw : Flaw} {reading : Result A Flaw} → reading ≡ Err flaw → AnswersLine {A = A} (Err (Flawed flaw)) reading
+line_flaw {flaw = flaw} e = record { value = tt; flawed = λ other is. let one : flaw ≡ other = cc in e ∙ ap Err one }
 
 -- ---- a reading
 

@@ -1,7 +1,7 @@
 pub mod RootLemmas
 pub mod TextLemmas
 pub mod RangeLemmas
-pub mod TellSteps
+pub mod LineSteps
 pub mod RowLemmas
 pub mod LineLemmas
 pub mod TreeLemmas

@@ -132,32 +132,17 @@ module _ (head : Head) (h : IsInRange head) where
   unfolding keyword_parts
   keyword_line_keeps name value = after any_value λ _ _. after any_value λ key _. keyword_keeps key value
 
-  sites_begin : KeepsRange (begin_sites head)
-  unfolding begin_sites
-  sites_begin =
+  section_keeps : (section : Heading) → KeepsRange (begin section head)
+  unfolding begin_sites begin_weights begin_demands begin_depot
+  section_keeps heading.NodeCoordSection =
       after any_value λ n _. gives (same_numbers head (record head { has_sites = true; place = place.Sites n }) h refl refl refl)
-
-  weights_begin : KeepsRange (begin_weights head)
-  unfolding begin_weights
-  weights_begin =
+  section_keeps heading.EdgeWeightSection =
       after any_value λ n _. after any_value λ left _.
       gives (same_numbers head (record head { has_weights = true; place = weights_left left }) h refl refl refl)
-
-  demands_begin : KeepsRange (begin_demands head)
-  unfolding begin_demands
-  demands_begin =
+  section_keeps heading.DemandSection =
       after any_value λ n _. gives (same_numbers head (record head { has_demands = true; place = place.Demands n }) h refl refl refl)
-
-  depot_begins : KeepsRange (begin_depot head)
-  unfolding begin_depot
-  depot_begins =
+  section_keeps heading.DepotSection =
       after any_value λ n _. gives (same_numbers head (record head { has_depot = true; place = place.Depot }) h refl refl refl)
-
-  section_keeps : (section : Heading) → KeepsRange (begin section head)
-  section_keeps heading.NodeCoordSection = sites_begin
-  section_keeps heading.EdgeWeightSection = weights_begin
-  section_keeps heading.DemandSection = demands_begin
-  section_keeps heading.DepotSection = depot_begins
   section_keeps heading.Eof = gives (same_numbers head (record head { place = place.Ended }) h refl refl refl)
 
   heading_keeps : (line : List ℕ) → KeepsRange (heading_line head line)
@@ -253,7 +238,7 @@ unfolding at_line
 at_line_sound number (Ok x) h = gives (h.of_value x refl)
 at_line_sound number (Err flaw) h = fails
 
--- what lines tell lies in its ranges
+-- what lines say lies in its ranges
 pub lines_sound : (rest : List (List ℕ)) (state : State) (number : ℕ) → IsSound state → Ensures IsSound (read_lines state number rest)
 unfolding read_lines
 lines_sound [] state number h = gives h

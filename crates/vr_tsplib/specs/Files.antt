@@ -93,12 +93,12 @@ abbrev pub of_formats : Option WeightFormat → Option Distances
 of_formats None = None
 of_formats (Some format) = of_format format
 
--- how the distances are told, where the section of the weights stood
+-- how the distances are given, where the section of the weights stood
 abbrev pub distances_of : WeightType → Head → Option Distances
 distances_of Euclidean head = if head.has_sites then Some distances.Plane else None
 distances_of Explicit head = if head.has_weights then of_formats head.weight_format else None
 
--- what a whole file tells; something may be missing in it, and the depot has no demand
+-- what a whole file says; something may be missing in it, and the depot has no demand
 unfoldable pub complete : State → Result Problem Flaw
 complete state = do
   outside ← refuse_if (is_inside state.head.place) Missing
@@ -108,6 +108,6 @@ complete state = do
   weights ← ok_or state.head.weight_type Missing
   demands ← refuse_if (not state.head.has_demands) Missing
   depot ← ok_or state.head.depot Missing
-  told ← ok_or (distances_of weights state.head) Missing
+  distances ← ok_or (distances_of weights state.head) Missing
   idle ← refuse_if (not (demand_of state.demands depot == 0)) DepotDemand
-  Ok (record { nodes = nodes; capacity = capacity; depot = depot; distances = told })
+  Ok (record { nodes = nodes; capacity = capacity; depot = depot; distances = distances })

@@ -34,7 +34,7 @@ unfoldable pub refuse_if : Bool → Flaw → Result ⊤ Flaw
 refuse_if wrong flaw = if wrong then Err flaw else Ok tt
 
 -- What a call answers, beside what is to be read: that value or that flaw. It may want memory instead.
-pub record Tells {A : Type 0} (answer : Result A LineFail) (reading : Result A Flaw) : Type 0 where
+pub record AnswersLine {A : Type 0} (answer : Result A LineFail) (reading : Result A Flaw) : Type 0 where
   pub value : IfOk answer (λ x. reading ≡ Ok x)
   pub flawed : (flaw : Flaw) → answer ≡ Err (Flawed flaw) → reading ≡ Err flaw
 

@@ -9,7 +9,7 @@ use Rattle.vr_tsplib.specs.Texts.{lines}
 use Rattle.vr_tsplib.specs.Files.{start, read_lines, complete}
 use Rattle.vr_tsplib.specs.Trees.{tree_of}
 
--- the tree of the model of a whole file whose lines told this, with so many vehicles
+-- the tree of the model of a whole file whose lines said this, with so many vehicles
 unfoldable pub model_of : ℕ → State → Result Data Fault
 model_of vehicles state = do
   problem ← at_line 0 (complete state)

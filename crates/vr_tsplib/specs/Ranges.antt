@@ -31,7 +31,7 @@ IsFew row = row.demand ≤ 1073741824
 abbrev pub IsLight : ℕ → Type 0
 IsLight weight = weight ≤ 1099511627776
 
--- all that lines told
+-- all that lines said
 pub record IsSound (state : State) : Type 0 where
   pub head : IsInRange state.head
   pub sites : All IsNear state.sites

@@ -3,7 +3,7 @@
 ghost use Rattle.std.specs.Prelude.{◌≡◌, IfOk};
 ghost use Rattle.vr_json.specs.Reading.{Answers, seen};
 ghost use Rattle.vr_tsplib.specs.Files as files;
-ghost use Rattle.vr_tsplib.specs.Flaws.{Tells};
+ghost use Rattle.vr_tsplib.specs.Flaws.{AnswersLine};
 ghost use Rattle.vr_tsplib.specs.Ranges.{IsSound};
 ghost use Rattle.vr_tsplib.specs.Texts.{lines};
 
@@ -17,7 +17,7 @@ use std::alloc::Global;
 use vr_json::ReadFail;
 use vr_model::Seq;
 
-/// What the lines of a file have told so far.
+/// What the lines of a file have said so far.
 #[derive(Drop)]
 pub struct State {
     pub head: Head,
@@ -42,7 +42,7 @@ impl State {
     // Takes a row of coordinates, of so many that are to come.
     #[tactic(auto, unfolding(vr_json::specs::Reading::and_then, crate::specs::Files::sites_line))]
     fn sites_line(&mut self, left: u32, line: &[u8]) -> Result<(), LineFail>
-        ensures { Tells (seen (λ u. self.new) result) (files.sites_line left self.old line.now) }
+        ensures { AnswersLine (seen (λ u. self.new) result) (files.sites_line left self.old line.now) }
     {
         let row = site_row(self.head.node_count(), self.sites.as_slice(), line)?;
         self.sites.push(row)?;
@@ -53,7 +53,7 @@ impl State {
     // Takes the row of a demand, of so many that are to come.
     #[tactic(auto, unfolding(vr_json::specs::Reading::and_then, crate::specs::Files::demands_line))]
     fn demands_line(&mut self, left: u32, line: &[u8]) -> Result<(), LineFail>
-        ensures { Tells (seen (λ u. self.new) result) (files.demands_line left self.old line.now) }
+        ensures { AnswersLine (seen (λ u. self.new) result) (files.demands_line left self.old line.now) }
     {
         let row = demand_row(self.head.node_count(), self.demands.as_slice(), line)?;
         self.demands.push(row)?;
@@ -63,7 +63,7 @@ impl State {
 
     // Takes a row of weights, of so many that are to come.
     fn weights_line(&mut self, left: u64, line: &[u8]) -> Result<(), LineFail>
-        ensures { Tells (seen (λ u. self.new) result) (files.weights_line left self.old line.now) }
+        ensures { AnswersLine (seen (λ u. self.new) result) (files.weights_line left self.old line.now) }
     {
         let before = self.weights.len();
         push_row(&mut self.weights, left, line)?;
@@ -75,7 +75,7 @@ impl State {
     // Takes a line with words.
     #[tactic(auto, unfolding(vr_json::specs::Reading::and_then, crate::specs::Files::head_line))]
     fn line_at(&mut self, line: &[u8]) -> Result<(), LineFail>
-        ensures { Tells (seen (λ u. self.new) result) (files.line_at self.old.head.place self.old line.now) }
+        ensures { AnswersLine (seen (λ u. self.new) result) (files.line_at self.old.head.place self.old line.now) }
     {
         match self.head.place {
             Place::Outside => self.head = self.head.outside_line(line)?,
@@ -91,7 +91,7 @@ impl State {
 
     // Takes a line.
     fn read_line(&mut self, line: &[u8]) -> Result<(), LineFail>
-        ensures { Tells (seen (λ u. self.new) result) (files.read_line self.old line.now) }
+        ensures { AnswersLine (seen (λ u. self.new) result) (files.read_line self.old line.now) }
     {
         if is_wordless(line) {
             return Ok(());
@@ -100,7 +100,7 @@ impl State {
     }
 }
 
-/// What the lines of a file tell.
+/// What the lines of a file say.
 pub(crate) fn read_lines(alloc: Global, bytes: &[u8]) -> Result<State, ReadFail>
     ensures lines { Answers result (files.read_lines files.start 1 (lines bytes.now)) }
     ensures sound { IfOk result (λ state. IsSound state) }

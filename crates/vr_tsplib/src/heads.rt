@@ -1,4 +1,4 @@
-//! Keywords with their values: what the lines outside sections tell.
+//! Keywords with their values: what the lines outside sections say.
 
 ghost use Rattle.std.specs.Prelude.{◌≡◌, ◌≤◌, IfOk};
 ghost use Rattle.vr_tsplib.specs.Heads as heads;

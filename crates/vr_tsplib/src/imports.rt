@@ -14,7 +14,7 @@ use serde_json::Value;
 use std::alloc::Global;
 use vr_json::ReadFail;
 
-// The tree of the model that the lines of a whole file tell.
+// The tree of the model that the lines of a whole file say.
 fn model(alloc: Global, vehicles: u32, state: &State) -> Result<Value, ReadFail>
     requires { IsSound state.now }
     ensures { Answers (seen view result) (model_of vehicles state.now) }

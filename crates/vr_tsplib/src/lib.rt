@@ -1,6 +1,6 @@
 //! Import of routing problems from TSPLIB files of type CVRP.
 //!
-//! A file is read line by line, once, and what a line tells is kept in a `State`: the head (keywords, which sections
+//! A file is read line by line, once, and what a line says is kept in a `State`: the head (keywords, which sections
 //! stood, and where the next line stands) and the rows of the sections. Nothing of the file's text is kept. The state
 //! behind each line is that of the definition `read_lines`, so the first faulty line gives the answer. A whole file
 //! becomes the tree of a model of format 1. `vr_app` calls `import`.

@@ -1,4 +1,4 @@
-//! What a whole file tells.
+//! What a whole file says.
 
 ghost use Rattle.std.specs.Prelude.{◌≡◌};
 ghost use Rattle.vr_tsplib.specs.Files as files;
@@ -9,7 +9,7 @@ use crate::flaws::{Flaw, refuse_if};
 use crate::heads::{Head, Place, WeightFormat, WeightType};
 use crate::rows::DemandRow;
 
-/// How the distances of nodes are told.
+/// How the distances of nodes are given.
 #[derive(Clone, Copy)]
 pub enum Distances {
     /// By where the nodes stand in the plane.
@@ -20,7 +20,7 @@ pub enum Distances {
     Lower,
 }
 
-/// What a whole file tells, beside the rows of its sections.
+/// What a whole file says, beside the rows of its sections.
 #[derive(Clone, Copy)]
 pub struct Problem {
     pub nodes: u32,
@@ -52,7 +52,7 @@ fn is_inside(place: Place) -> bool
     }
 }
 
-// How distances are told by weights of a format.
+// How distances are given by weights of a format.
 fn of_format(format: WeightFormat) -> Option<Distances>
     ensures { result ≡ files.of_format format }
 {
@@ -63,7 +63,7 @@ fn of_format(format: WeightFormat) -> Option<Distances>
     }
 }
 
-// How distances are told by weights of the format, if there is one.
+// How distances are given by weights of the format, if there is one.
 fn of_formats(format: Option<WeightFormat>) -> Option<Distances>
     ensures { result ≡ files.of_formats format }
 {
@@ -73,7 +73,7 @@ fn of_formats(format: Option<WeightFormat>) -> Option<Distances>
     }
 }
 
-// How the distances are told, where the section of the weights stood.
+// How the distances are given, where the section of the weights stood.
 fn distances_of(weights: WeightType, head: Head) -> Option<Distances>
     ensures { result ≡ files.distances_of weights head }
 {
@@ -84,7 +84,7 @@ fn distances_of(weights: WeightType, head: Head) -> Option<Distances>
     }
 }
 
-/// What a whole file tells.
+/// What a whole file says.
 ///
 /// The flaw `Missing` comes where the file ended within a section, or without something that must be there, and then
 /// `DepotDemand` where the depot has a demand.

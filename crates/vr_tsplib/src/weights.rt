@@ -2,7 +2,7 @@
 
 ghost use Rattle.std.specs.Prelude.{◌≡◌};
 ghost use Rattle.vr_json.specs.Reading.{seen};
-ghost use Rattle.vr_tsplib.specs.Flaws.{Tells};
+ghost use Rattle.vr_tsplib.specs.Flaws.{AnswersLine};
 ghost use Rattle.vr_tsplib.specs.Rows as row_tables;
 ghost use Rattle.vr_tsplib.specs.Texts.{words};
 
@@ -41,7 +41,7 @@ fn weight(word: &[u8]) -> Result<u64, Flaw>
 
 // Puts the words of a line behind the weights. After an error nothing is said of the weights.
 fn push_weights(weights: &mut Seq<u64>, line: &[u8]) -> Result<(), LineFail>
-    ensures { Tells (seen (λ u. weights.new) result) (row_tables.weights_behind weights.old (words line.now)) }
+    ensures { AnswersLine (seen (λ u. weights.new) result) (row_tables.weights_behind weights.old (words line.now)) }
 {
     let mut rest = line;
     while let Some((word, behind)) = first_word(rest) {
@@ -54,7 +54,7 @@ fn push_weights(weights: &mut Seq<u64>, line: &[u8]) -> Result<(), LineFail>
 /// Puts a row of weights, of which `left` are still to come, behind the others. After an error nothing is said of the
 /// weights.
 pub(crate) fn push_row(weights: &mut Seq<u64>, left: u64, line: &[u8]) -> Result<(), LineFail>
-    ensures { Tells (seen (λ u. weights.new) result) (row_tables.row_behind left weights.old (words line.now)) }
+    ensures { AnswersLine (seen (λ u. weights.new) result) (row_tables.row_behind left weights.old (words line.now)) }
 {
     refuse_if(!are_numbers(left, line), Flaw::FaultyLine)?;
     push_weights(weights, line)

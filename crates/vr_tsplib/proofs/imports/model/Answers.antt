@@ -2,7 +2,7 @@ use Rattle.std.proofs.Common.{Ok, Err, refl, sym, ap, ◌∙◌}
 use Rattle.vr_json.proofs.Steps.{stops}
 use Rattle.vr_tsplib.specs.declared.flaws.LineFail.TheVariants.{Flawed}
 use Rattle.vr_tsplib.specs.Imported.{model_of}
-use Rattle.vr_tsplib.proofs.AnswerSteps.{answers_value, at_value, flaw_told, refused}
+use Rattle.vr_tsplib.proofs.AnswerSteps.{answers_value, at_value, line_flaw, refused}
 use Rattle.vr_tsplib.proofs.Chains.{goes}
 use Rattle.vr_tsplib.proofs.RangeLemmas.{complete_ranges}
 use Rattle.vr_tsplib.proofs.imports.model.Goals as goal
@@ -16,4 +16,4 @@ returns-in_ok-tree-in-Ok c = answers_value (goes _ (at_value 0 (sym c.in-Ok.ensu
 
 pub returns-in-Err : goal.returns-in-Err
 unfolding model_of
-returns-in-Err c = stops (Err c.refusal.result) _ (refused (Flawed c.in-Err.flaw) 0 c.refusal.result (flaw_told (sym c.in-Err.ensures)) c.refusal.ensures) refl
+returns-in-Err c = stops (Err c.refusal.result) _ (refused (Flawed c.in-Err.flaw) 0 c.refusal.result (line_flaw (sym c.in-Err.ensures)) c.refusal.ensures) refl

@@ -3,7 +3,7 @@ use Rattle.vr_tsplib.specs.declared.flaws.Flaw.TheVariants.{FaultyLine}
 use Rattle.vr_tsplib.specs.Flaws.{refuse_if}
 use Rattle.vr_tsplib.specs.Rows.{row_behind}
 use Rattle.vr_tsplib.proofs.Chains.{halts}
-use Rattle.vr_tsplib.proofs.TellSteps.{fails_seen, known}
+use Rattle.vr_tsplib.proofs.LineSteps.{fails_seen, known}
 use Rattle.vr_tsplib.proofs.weights.push_row.Goals as goal
 
 pub returns-in_err-refuse_if : goal.returns-in_err-refuse_if

@@ -2,7 +2,7 @@ use Rattle.std.proofs.Common.{◌∷◌, sym, ap, ◌∙◌}
 use Rattle.vr_tsplib.specs.Rows.{weights_behind}
 use Rattle.vr_tsplib.specs.Texts.{words}
 use Rattle.vr_tsplib.proofs.RowLemmas.{no_weight, no_weight_more, one_weight_more}
-use Rattle.vr_tsplib.proofs.TellSteps.{fails_seen, tells_value}
+use Rattle.vr_tsplib.proofs.LineSteps.{fails_seen, line_value}
 use Rattle.vr_tsplib.proofs.weights.push_weights.Goals as goal
 
 pub returns-in_err-weight : goal.returns-in_err-weight
@@ -22,4 +22,4 @@ loop-word-preserved c =
 pub returns : goal.returns
 returns c =
     let all = c.loop-word.weights in
-    tells_value (sym c.loop-word.invariant ∙ ap (weights_behind all) c.in_default.ensures.words ∙ no_weight_more all)
+    line_value (sym c.loop-word.invariant ∙ ap (weights_behind all) c.in_default.ensures.words ∙ no_weight_more all)

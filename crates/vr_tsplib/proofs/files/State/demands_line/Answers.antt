@@ -2,7 +2,7 @@ use Rattle.std.proofs.Common.{sym, ap₂, ◌∙◌}
 use Rattle.vr_tsplib.specs.Files.{at_place, demands_line}
 use Rattle.vr_tsplib.specs.Rows.{demand_row}
 use Rattle.vr_tsplib.specs.Texts.{words}
-use Rattle.vr_tsplib.proofs.TellSteps.{gives, known}
+use Rattle.vr_tsplib.proofs.LineSteps.{gives, known}
 use Rattle.vr_tsplib.proofs.files.State.demands_line.Goals as goal
 
 pub returns : goal.returns

@@ -3,7 +3,7 @@ use Rattle.vr_tsplib.specs.Files.{at_place, weights_line}
 use Rattle.vr_tsplib.specs.Heads.{weights_left}
 use Rattle.vr_tsplib.specs.Texts.{words}
 use Rattle.vr_tsplib.proofs.RowLemmas.{row_longer}
-use Rattle.vr_tsplib.proofs.TellSteps.{gives, stops_seen, then}
+use Rattle.vr_tsplib.proofs.LineSteps.{gives, stops_seen, then}
 use Rattle.vr_tsplib.proofs.files.State.weights_line.Goals as goal
 
 pub returns-in_err-push_row : goal.returns-in_err-push_row

@@ -1,7 +1,7 @@
 use Rattle.std.proofs.Common.{rules}
 use Rattle.vr_json.proofs.Steps.{then, gives}
 use Rattle.vr_printed.specs.Tables.{plan}
-use Rattle.vr_printed.proofs.tables.PlanTableTable.read_row.Goals as goal
+use Rattle.vr_printed.proofs.tables.PlanTableTable.read.Goals as goal
 
 pub returns : goal.returns
 unfolding plan

@@ -1,7 +1,7 @@
 use Rattle.std.proofs.Common.{refl, rules}
 use Rattle.vr_json.proofs.Steps.{then, stops, gives, asked}
 use Rattle.vr_read.specs.Visits.{pair}
-use Rattle.vr_read.proofs.groups.PairTableTable.read_row.Goals as goal
+use Rattle.vr_read.proofs.groups.PairTableTable.read.Goals as goal
 
 pub returns-in_err-refuse_if-2 : goal.returns-in_err-refuse_if-2
 unfolding pair

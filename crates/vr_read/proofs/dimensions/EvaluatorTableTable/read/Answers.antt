@@ -1,7 +1,7 @@
 use Rattle.std.proofs.Common.{rules}
 use Rattle.vr_json.proofs.Steps.{then, gives}
 use Rattle.vr_read.specs.Dimensions.{evaluator}
-use Rattle.vr_read.proofs.dimensions.EvaluatorTableTable.read_row.Goals as goal
+use Rattle.vr_read.proofs.dimensions.EvaluatorTableTable.read.Goals as goal
 
 pub returns : goal.returns
 unfolding evaluator

@@ -3,7 +3,7 @@ use Rattle.vr_json.proofs.Steps.{then, gives}
 use Rattle.vr_read.specs.Visits.{group}
 use Rattle.std.proofs.Common.{arith}
 use Rattle.vr_json.proofs.Readings.{field_length}
-use Rattle.vr_read.proofs.groups.GroupTableTable.read_row.Goals as goal
+use Rattle.vr_read.proofs.groups.GroupTableTable.read.Goals as goal
 
 pub returns : goal.returns
 unfolding group

@@ -1,7 +1,7 @@
 use Rattle.std.proofs.Common.{rules}
 use Rattle.vr_json.proofs.Steps.{then, stops, gives}
 use Rattle.vr_read.specs.Vehicles.{vehicle}
-use Rattle.vr_read.proofs.vehicles.VehicleTableTable.read_row.Goals as goal
+use Rattle.vr_read.proofs.vehicles.VehicleTableTable.read.Goals as goal
 
 pub returns-in_err-keep_fields : goal.returns-in_err-keep_fields
 unfolding vehicle

@@ -1,7 +1,7 @@
 use Rattle.std.proofs.Common.{rules}
 use Rattle.vr_json.proofs.Steps.{then, stops, gives, otherwise}
 use Rattle.vr_read.specs.Searches.{search_row}
-use Rattle.vr_read.proofs.searches.SearchTableTable.read_row.Goals as goal
+use Rattle.vr_read.proofs.searches.SearchTableTable.read.Goals as goal
 
 pub returns-in_err-known : goal.returns-in_err-known
 unfolding search_row

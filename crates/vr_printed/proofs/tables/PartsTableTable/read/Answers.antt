@@ -1,7 +1,7 @@
 use Rattle.std.proofs.Common.{rules}
 use Rattle.vr_json.proofs.Steps.{then, stops, gives}
 use Rattle.vr_printed.specs.Tables.{printed_parts}
-use Rattle.vr_printed.proofs.tables.PartsTableTable.read_row.Goals as goal
+use Rattle.vr_printed.proofs.tables.PartsTableTable.read.Goals as goal
 
 pub returns-in_err-known : goal.returns-in_err-known
 unfolding printed_parts

@@ -1,7 +1,7 @@
 use Rattle.std.proofs.Common.{rules}
 use Rattle.vr_json.proofs.Steps.{then, stops, gives}
 use Rattle.vr_printed.specs.Tables.{solution}
-use Rattle.vr_printed.proofs.tables.SolutionTableTable.read_row.Goals as goal
+use Rattle.vr_printed.proofs.tables.SolutionTableTable.read.Goals as goal
 
 pub returns-in_err-parts : goal.returns-in_err-parts
 unfolding solution

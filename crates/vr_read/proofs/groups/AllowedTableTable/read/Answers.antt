@@ -1,11 +1,7 @@
 use Rattle.std.proofs.Common.{refl, rules}
 use Rattle.vr_json.proofs.Steps.{then, stops, gives, asked}
 use Rattle.vr_read.specs.Visits.{allowed}
-use Rattle.vr_read.proofs.groups.AllowedTableTable.read_row.Goals as goal
-
-pub returns-in_err-node : goal.returns-in_err-node
-unfolding allowed
-returns-in_err-node c = stops _ _ c.in_err-node.ensures c.from_residual.ensures.1
+use Rattle.vr_read.proofs.groups.AllowedTableTable.read.Goals as goal
 
 pub returns-in_err-refuse_if : goal.returns-in_err-refuse_if
 unfolding allowed

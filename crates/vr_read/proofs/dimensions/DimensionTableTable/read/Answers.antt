@@ -1,7 +1,7 @@
 use Rattle.std.proofs.Common.{rules}
 use Rattle.vr_json.proofs.Steps.{then, stops, gives}
 use Rattle.vr_read.specs.Dimensions.{dimension}
-use Rattle.vr_read.proofs.dimensions.DimensionTableTable.read_row.Goals as goal
+use Rattle.vr_read.proofs.dimensions.DimensionTableTable.read.Goals as goal
 
 pub returns-in_err-span_costs : goal.returns-in_err-span_costs
 unfolding dimension

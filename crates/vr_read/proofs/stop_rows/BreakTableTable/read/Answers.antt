@@ -1,7 +1,7 @@
 use Rattle.std.proofs.Common.{rules}
 use Rattle.vr_json.proofs.Steps.{then, stops, gives, asked}
 use Rattle.vr_read.specs.StopRows.{break_row}
-use Rattle.vr_read.proofs.stop_rows.BreakTableTable.read_row.Goals as goal
+use Rattle.vr_read.proofs.stop_rows.BreakTableTable.read.Goals as goal
 
 pub returns-in_err-refuse_if : goal.returns-in_err-refuse_if
 unfolding break_row

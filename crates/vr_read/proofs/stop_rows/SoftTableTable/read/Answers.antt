@@ -1,11 +1,7 @@
 use Rattle.std.proofs.Common.{rules}
 use Rattle.vr_json.proofs.Steps.{then, stops, gives}
 use Rattle.vr_read.specs.StopRows.{soft}
-use Rattle.vr_read.proofs.stop_rows.SoftTableTable.read_row.Goals as goal
-
-pub returns-in_err-bound : goal.returns-in_err-bound
-unfolding soft
-returns-in_err-bound c = stops _ _ c.in_err-bound.ensures c.from_residual.ensures.1
+use Rattle.vr_read.proofs.stop_rows.SoftTableTable.read.Goals as goal
 
 pub returns-in_err-coefficient : goal.returns-in_err-coefficient
 unfolding soft

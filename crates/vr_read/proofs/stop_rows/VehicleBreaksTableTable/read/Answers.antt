@@ -1,11 +1,7 @@
 use Rattle.std.proofs.Common.{refl, rules}
 use Rattle.vr_json.proofs.Steps.{then, stops, gives, asked}
 use Rattle.vr_read.specs.StopRows.{vehicle_breaks}
-use Rattle.vr_read.proofs.stop_rows.VehicleBreaksTableTable.read_row.Goals as goal
-
-pub returns-in_err-vehicle : goal.returns-in_err-vehicle
-unfolding vehicle_breaks
-returns-in_err-vehicle c = stops _ _ c.in_err-vehicle.ensures c.from_residual.ensures.1
+use Rattle.vr_read.proofs.stop_rows.VehicleBreaksTableTable.read.Goals as goal
 
 pub returns-in_err-refuse_if : goal.returns-in_err-refuse_if
 unfolding vehicle_breaks
