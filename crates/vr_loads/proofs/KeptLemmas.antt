@@ -40,6 +40,11 @@ module _ (model : Model) (d : ℕ) (lists : List (List ℕ)) where
       (sym (is ∙ (ap (λ l. slice_index_or l v one) same ∙ get_or_default carried v one nothing_carried (let n = are.many in omega (arith, low, n)))))
       (are.each v low)
 
+  -- of two looks at it, the evaluator of the first and the room of the second
+  pub kept-both : (carried inside : List Carried) (v : ℕ) (one two : Carried) → AreCarried model d lists carried → v < length lists → inside ≡ carried → one ≡ slice_index_or inside v one → two ≡ slice_index_or inside v two
+      → (one.evaluator ≡ evaluator_number (dimension_at model d) v) × (two.room ≡ number_at (dimension_at model d).capacities v -ℤ taken model d v (vehicle_at model v).start)
+  kept-both carried inside v one two are low same is also = ((kept-at carried inside v one are low same is).evaluator_is, (kept-at carried inside v two are low same also).room_is)
+
   -- what is kept of one vehicle more
   pub carried-more : (carried more : List Carried) (n : ℕ) (one : Carried) → length carried ≡ n → ((v : ℕ) → v < n → IsCarried model d v (route lists v) (slice_index_or carried v nothing_carried))
       → IsCarried model d n (route lists n) one → more ≡ carried ++ one ∷ [] → (v : ℕ) → v < n + 1 → IsCarried model d v (route lists v) (slice_index_or more v nothing_carried)

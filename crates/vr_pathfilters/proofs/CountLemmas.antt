@@ -1,6 +1,6 @@
 -- What is counted before a place of a list.
 use Rattle.std.proofs.Common.{◌≡◌, ◌∙◌, ℕ, ◌+◌, ◌-◌, ◌<◌, ◌≤◌, List, Bool, true, false, cond, length, take, refl, sym, ap, ap₂, subst, inl, inr, arith}
-use Rattle.std.specs.Prelude.{IsTrue, ◌==◌, ◌||◌, Option, Some, None, slice_index, slice_set}
+use Rattle.std.specs.Prelude.{IsTrue, ◌==◌, ◌||◌, Option, Some, None, count_by, slice_index, slice_set}
 use Rattle.std.proofs.lemmas.Bool.{cases_lt}
 use Rattle.std.proofs.lemmas.List.{get_or-set_other, get_or-set_same, length-take-le, take_all}
 use Rattle.std.proofs.lemmas.List.Sums.{count_by-le-length, count_by_more_no, count_by_more_yes}
@@ -134,19 +134,16 @@ module _ (model : Model) (old middle : List ℕ) (front behind : ℕ) (seams : A
       (ap₂ (λ (x y : Counts). x.deliveries + y.deliveries) at_front inside ∙ (sym (in_middle (is_delivery model) old middle front behind seams (place - front) low) ∙ ap (λ n. deliveries_in model (take n new)) e))
 
   module _ (later : ℕ) (is_later : later ≡ behind + (place - front - length middle)) (c d : Counts) (at_behind : c ≡ counts model (take behind old)) (past : d ≡ counts model (take later old)) where
-    pub pickups_rise : c.pickups ≤ a.pickups + b.pickups + d.pickups
-    pickups_rise =
-        let e = ap (λ (x : Counts). x.pickups) at_behind in
-        let g = ap (λ (x : Counts). x.pickups) past in
-        let more = count_rises (is_pickup model) behind later old (omega (arith, is_later)) in
+    rise : (count : Counts → ℕ) (test : ℕ → Bool) → count c ≡ count_by test (take behind old) → count d ≡ count_by test (take later old) → count c ≤ count a + count b + count d
+    rise count test e g =
+        let more = count_rises test behind later old (omega (arith, is_later)) in
         omega (arith, e, g, more)
 
+    pub pickups_rise : c.pickups ≤ a.pickups + b.pickups + d.pickups
+    pickups_rise = rise (λ x. x.pickups) (is_pickup model) (ap (λ (x : Counts). x.pickups) at_behind) (ap (λ (x : Counts). x.pickups) past)
+
     pub deliveries_rise : c.deliveries ≤ a.deliveries + b.deliveries + d.deliveries
-    deliveries_rise =
-        let e = ap (λ (x : Counts). x.deliveries) at_behind in
-        let g = ap (λ (x : Counts). x.deliveries) past in
-        let more = count_rises (is_delivery model) behind later old (omega (arith, is_later)) in
-        omega (arith, e, g, more)
+    deliveries_rise = rise (λ x. x.deliveries) (is_delivery model) (ap (λ (x : Counts). x.deliveries) at_behind) (ap (λ (x : Counts). x.deliveries) past)
 
     pub counts_behind : front < place → length middle < place - front
         → ◌≡◌ {A = Counts} (record { pickups = a.pickups + b.pickups + d.pickups - c.pickups; deliveries = a.deliveries + b.deliveries + d.deliveries - c.deliveries }) (counts model (take place new))

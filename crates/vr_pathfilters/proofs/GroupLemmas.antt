@@ -236,12 +236,13 @@ module _ (model : Model) (numbers : List ℕ) (tours : Tours) (stands : KnowsGro
 -- ---- where the code asks
 
 -- the group of a node, asked by its number and by what comes and goes of it
-pub node-asked : (model : Model) (numbers : List ℕ) (lists : List (List ℕ)) (turnover : Turnover) (x g come gone : ℕ) → g ≡ number_of numbers x → come ≡ many_of numbers lists turnover.come g → gone ≡ many_of numbers lists turnover.gone g
-    → allows_number model lists g come gone ≡ allows_node model numbers lists turnover x
-node-asked model numbers lists turnover x g come gone g_is come_is gone_is =
-    ap (λ n. allows_number model lists g n gone) come_is
-    ∙ (ap (allows_number model lists g (many_of numbers lists turnover.come g)) gone_is
-    ∙ ap (λ h. allows_number model lists h (many_of numbers lists turnover.come h) (many_of numbers lists turnover.gone h)) g_is)
+pub node-asked : (model : Model) (numbers : List ℕ) (lists : List (List ℕ)) (turnover : Turnover) (x : ℕ) {g come gone : ℕ} {coming going : List Piece} {answer : Bool} → g ≡ number_of numbers x
+    → come ≡ many_of numbers lists coming g → coming ≡ turnover.come → gone ≡ many_of numbers lists going g → going ≡ turnover.gone
+    → answer ≡ allows_number model lists g come gone → answer ≡ allows_node model numbers lists turnover x
+node-asked model numbers lists turnover x {g} {come} {gone} g_is come_is coming_is gone_is going_is is =
+    is ∙ (ap (λ n. allows_number model lists g n gone) (come_is ∙ ap (λ ps. many_of numbers lists ps g) coming_is)
+    ∙ (ap (allows_number model lists g (many_of numbers lists turnover.come g)) (gone_is ∙ ap (λ ps. many_of numbers lists ps g) going_is)
+    ∙ ap (λ h. allows_number model lists h (many_of numbers lists turnover.come h) (many_of numbers lists turnover.gone h)) g_is))
 
 all-turned : (p : ℕ → Bool) (xs : List ℕ) → list_all p (reverse xs) ≡ list_all p xs
 all-turned p [] = refl

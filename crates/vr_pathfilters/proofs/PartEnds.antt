@@ -12,8 +12,7 @@ use Rattle.vr_lists.proofs.VisitLists.{visits-below, visits-few}
 use Rattle.vr_routes.specs.Tours.{Tours}
 use Rattle.vr_routes.specs.Changes.{IsMadeOn, AreParts}
 use Rattle.vr_routes.specs.declared.pieces.Piece.{Piece}
-use Rattle.vr_routes.specs.Pieces.{ListAfter, IsWithin, joined, no_part, part_at}
-use Rattle.vr_balance.specs.Ends.{AreEnds}
+use Rattle.vr_routes.specs.Pieces.{ListAfter, IsSplice, IsWithin, joined, no_part, part_at}
 use Rattle.vr_reach.specs.Spliced.{AreSeams, spliced}
 use Rattle.vr_reach.specs.Lists.{IsTour}
 use Rattle.vr_reach.proofs.Splicing.{long}
@@ -30,10 +29,10 @@ module _ {lists : List (List ℕ)} {parts : List ListAfter} (are : AreParts list
   pub part_within : {pieces : List Piece} → pieces ≡ (part_at parts k).pieces → All (IsWithin lists) pieces
   part_within is = subst (All (IsWithin lists)) (sym is) (are.each_within k no_part low)
 
-pub part_between : {model : Model} {tours : Tours} {parts : List ListAfter} {v front behind : ℕ} {pieces middle : List Piece} {between : List ℕ}
-    → IsWellFormed model → AreTours model tours → IsMadeOn tours parts → (k : ℕ) → k < length parts → v ≡ (part_at parts k).vehicle → pieces ≡ (part_at parts k).pieces
-    → AreEnds tours.lists v pieces front behind middle → between ≡ joined tours.lists middle → IsPartBetween model tours.lists (part_at parts k) v front behind between
-part_between {model} {tours} {parts} {v} {front} {behind} {pieces} {middle} {between} well_formed are made k low same same_pieces ends is = record {
+pub part_between : {model : Model} {tours : Tours} {parts : List ListAfter} {v front behind : ℕ} {middle : List Piece} {between : List ℕ}
+    → IsWellFormed model → AreTours model tours → IsMadeOn tours parts → (k : ℕ) → k < length parts → v ≡ (part_at parts k).vehicle
+    → IsSplice tours.lists (part_at parts k).vehicle (part_at parts k).pieces front behind middle → between ≡ joined tours.lists middle → IsPartBetween model tours.lists (part_at parts k) v front behind between
+part_between {model} {tours} {parts} {v} {front} {behind} {middle} {between} well_formed are made k low same splice is = record {
   same = same;
   vehicle = part_vehicle made.makes.parts_are k low same;
   long = let before = tour_of model tours are v (part_vehicle made.makes.parts_are k low same) in let few = visits-few model list before.visits before.distinct in omega (arith, few, number);
@@ -50,11 +49,14 @@ part_between {model} {tours} {parts} {v} {front} {behind} {pieces} {middle} {bet
     list : List ℕ
     list = route tours.lists v
 
+    ends : IsSplice tours.lists v (part_at parts k).pieces front behind middle
+    ends = subst (λ w. IsSplice tours.lists w (part_at parts k).pieces front behind middle) (sym same) splice
+
     seams : AreSeams (length list) front behind
     seams = record { order = ends.order; high = ends.high }
 
     whole : spliced list front behind between ≡ joined tours.lists (part_at parts k).pieces
-    whole = ap (spliced list front behind) is ∙ (sym ends.joins ∙ ap (joined tours.lists) same_pieces)
+    whole = ap (spliced list front behind) is ∙ sym ends.joins
 
     tour : IsTour model (spliced list front behind between)
     tour = subst (IsTour model) (sym whole) (tour_of_part model tours are parts made k low)

@@ -390,7 +390,7 @@ fn part_passes<L: Ledger, M: Ledger>(
         (joined at.now.routes.now.lists (part_at change.now k).pieces) }
 {
     let ends = write_between(at.closed, at.routes, change, k, &mut room.list);
-    let v = ends.v;
+    let v = ends.vehicle;
     let stops = StopsFor {
         closed: at.closed,
         d: at.d,

@@ -132,7 +132,7 @@ impl PairTables {
         mark(self.list.as_slice(), &mut self.marks);
         let between = Between {
             routes,
-            v: ends.v,
+            v: ends.vehicle,
             front: ends.front,
             behind: ends.behind,
             middle: self.list.as_slice(),
@@ -141,7 +141,7 @@ impl PairTables {
         if !serves_between(lookups, &between) {
             return false;
         }
-        let policy = policy_of(lookups, ends.v);
+        let policy = policy_of(lookups, ends.vehicle);
         if !Turns::are_asked(policy) {
             return true;
         }

@@ -15,7 +15,6 @@ ghost use Rattle.vr_pathfilters.specs.Vehicles.{are_allowed_pieces, is_allowed_l
 
 use crate::lists::{ListFilter, ListRule};
 use std::alloc::Global;
-use vr_balance::strip;
 use vr_filter::PathFilter;
 use vr_lists::NodeTables;
 use vr_model::{Closed, Model, NoMemory};
@@ -37,9 +36,8 @@ impl<'m> ListRule for VehicleRule<'m> {
         if self.lookups.closed.model.allowed.is_empty() {
             return true;
         }
-        let v = change.vehicle(k);
-        let ends = strip(routes, v, change.pieces(k));
-        pieces_allow(self.lookups.nodes(), routes, v, ends.middle)
+        let splice = change.splice(routes, k);
+        pieces_allow(self.lookups.nodes(), routes, splice.vehicle, splice.middle)
     }
 
     fn commit(&mut self, _routes: &Routes, _change: &Change) {}

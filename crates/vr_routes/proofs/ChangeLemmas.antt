@@ -11,7 +11,7 @@ use Rattle.vr_routes.proofs.TourLemmas.{set_twice}
 use Rattle.vr_model.specs.moves.Moves.{apply, with_route}
 use Rattle.vr_model.specs.declared.records.Model.{Model}
 use Rattle.vr_model.specs.declared.neighbours.Move.{Move}
-use Rattle.vr_routes.specs.Pieces.{ListAfter, joined, IsWithin}
+use Rattle.vr_routes.specs.Pieces.{ListAfter, joined, IsWithin, IsSpliced}
 use Rattle.vr_routes.specs.Changes.{IsAfter, IsChange, IsOther}
 
 all_one : {A : Type 0} (P : A → Type 0) (x : A) → P x → All P (x ∷ [])
@@ -32,6 +32,13 @@ pairs_two R x y h i zero d low high = absurd (omega (arith, low))
 pairs_two R x y h (suc i) (suc zero) d low high = absurd (omega (arith, low))
 pairs_two R x y h i (suc (suc j)) d low high = absurd (omega (arith, high))
 
+-- a move that is read as one of a kind
+pub read_as : (model : Model) (lists : List (List ℕ)) {mv kind : Move} → mv ≡ kind → is_move model lists mv ≡ true → is_move model lists kind ≡ true
+read_as model lists is h = subst (λ m. is_move model lists m ≡ true) is h
+
+pub change_as : {model : Model} {lists : List (List ℕ)} {mv kind : Move} {parts : List ListAfter} → mv ≡ kind → IsChange model lists kind parts → IsChange model lists mv parts
+change_as {model} {lists} {mv} {kind} {parts} is h = subst (λ m. IsChange model lists m parts) (sym is) h
+
 put : (lists base : List (List ℕ)) (part : ListAfter) (v : ℕ) (list : List ℕ) → IsAfter lists part v list → with_route base part.vehicle (joined lists part.pieces) ≡ with_route base v list
 put lists base part v list h = ap (λ w. with_route base w (joined lists part.pieces)) h.vehicle_is ∙ ap (with_route base v) h.list_is
 
@@ -44,6 +51,7 @@ one_part model lists mv part v list low h e is_one = record {
   parts_are = record {
     each_vehicle = all_one (λ p. p.vehicle < length lists) part (subst (λ w. w < length lists) (sym h.vehicle_is) low);
     each_within = all_one (λ p. All (IsWithin lists) p.pieces) part h.each_within;
+    each_spliced = all_one (IsSpliced lists) part h.spliced;
     apart = pairs_one (λ p q. p.vehicle ≢ q.vehicle) part;
   };
   lists_are = put lists lists part v list h ∙ e;
@@ -59,6 +67,7 @@ two_parts model lists mv part other v w list second low low_w differ h g e first
   parts_are = record {
     each_vehicle = all_two (λ p. p.vehicle < length lists) part other (subst (λ u. u < length lists) (sym h.vehicle_is) low) (subst (λ u. u < length lists) (sym g.vehicle_is) low_w);
     each_within = all_two (λ p. All (IsWithin lists) p.pieces) part other h.each_within g.each_within;
+    each_spliced = all_two (IsSpliced lists) part other h.spliced g.spliced;
     apart = pairs_two (λ p q. p.vehicle ≢ q.vehicle) part other (λ same. differ (sym h.vehicle_is ∙ same ∙ g.vehicle_is));
   };
   lists_are = ap (λ base. with_route base other.vehicle (joined lists other.pieces)) (put lists lists part v list h) ∙ put lists (with_route lists v list) other w second g ∙ e;

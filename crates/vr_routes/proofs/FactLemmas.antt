@@ -6,6 +6,7 @@ use Rattle.vr_model.specs.routes.Routes.{route}
 use Rattle.vr_model.specs.tables.Tables.{pair_at}
 use Rattle.vr_model.specs.moves.Moves.{is_pair_inactive, is_pair_served, without_pair}
 use Rattle.vr_model.specs.moves.MoveTests.{is_vehicle, is_place, is_gap, is_inactive, may_put_pair, is_move}
+use Rattle.vr_routes.specs.Places.{AreCuts, AreNodeAndGap, AreTwoNodes, AreTwoPlaces}
 use Rattle.vr_model.specs.declared.records.Model.{Model}
 use Rattle.vr_model.specs.declared.neighbours.Move.TheVariants.{TwoOpt, OrOpt, Relocate, Exchange, Cross, MakeActive, MakeInactive, SwapActive, PairActive, RelocatePair}
 
@@ -13,12 +14,7 @@ module _ (model : Model) (lists : List (List ℕ)) where
   differ : (v w : ℕ) → (v == w) ≡ false → v ≢ w
   differ v w e same = Prim.grind arith
 
-  pub record TwoOptFacts (v a b : ℕ) : Type 0 where
-    pub vehicle : v < length lists
-    pub order : a < b
-    pub place : b < length (route lists v)
-
-  pub of_two_opt : (v a b : ℕ) → is_move model lists (TwoOpt v a b) ≡ true → TwoOptFacts v a b
+  pub of_two_opt : (v a b : ℕ) → is_move model lists (TwoOpt v a b) ≡ true → AreTwoPlaces lists v a b
   of_two_opt v a b h = record { vehicle = Prim.grind arith; order = Prim.grind arith; place = Prim.grind arith }
 
   pub record OrOptFacts (v a k t : ℕ) : Type 0 where
@@ -30,35 +26,13 @@ module _ (model : Model) (lists : List (List ℕ)) where
   pub of_or_opt : (v a k t : ℕ) → is_move model lists (OrOpt v a k t) ≡ true → OrOptFacts v a k t
   of_or_opt v a k t h = record { vehicle = Prim.grind arith; few = Prim.grind arith; chain = Prim.grind arith; gap = Prim.grind arith }
 
-  pub record RelocateFacts (v a w t : ℕ) : Type 0 where
-    pub vehicle : v < length lists
-    pub other : w < length lists
-    pub apart : v ≢ w
-    pub place : a < length (route lists v)
-    pub gap : t ≤ length (route lists w)
-
-  pub of_relocate : (v a w t : ℕ) → is_move model lists (Relocate v a w t) ≡ true → RelocateFacts v a w t
+  pub of_relocate : (v a w t : ℕ) → is_move model lists (Relocate v a w t) ≡ true → AreNodeAndGap lists v a w t
   of_relocate v a w t h = record { vehicle = Prim.grind arith; other = Prim.grind arith; apart = differ v w (Prim.grind arith); place = Prim.grind arith; gap = Prim.grind arith }
 
-  pub record ExchangeFacts (v a w b : ℕ) : Type 0 where
-    pub vehicle : v < length lists
-    pub other : w < length lists
-    pub place : a < length (route lists v)
-    pub other_place : b < length (route lists w)
-    pub behind : v ≡ w → a < b
-
-  pub of_exchange : (v a w b : ℕ) → is_move model lists (Exchange v a w b) ≡ true → ExchangeFacts v a w b
+  pub of_exchange : (v a w b : ℕ) → is_move model lists (Exchange v a w b) ≡ true → AreTwoNodes lists v a w b
   of_exchange v a w b h = record { vehicle = Prim.grind arith; other = Prim.grind arith; place = Prim.grind arith; other_place = Prim.grind arith; behind = λ e. Prim.grind arith }
 
-  pub record CrossFacts (v a w b : ℕ) : Type 0 where
-    pub vehicle : v < length lists
-    pub other : w < length lists
-    pub apart : v ≢ w
-    pub gap : a ≤ length (route lists v)
-    pub other_gap : b ≤ length (route lists w)
-    pub some : a ≡ 0 → b ≡ 0 → ⊥
-
-  pub of_cross : (v a w b : ℕ) → is_move model lists (Cross v a w b) ≡ true → CrossFacts v a w b
+  pub of_cross : (v a w b : ℕ) → is_move model lists (Cross v a w b) ≡ true → AreCuts lists v a w b
   of_cross v a w b h = record { vehicle = Prim.grind arith; other = Prim.grind arith; apart = λ e. Prim.grind arith; gap = Prim.grind arith; other_gap = Prim.grind arith; some = λ e f. Prim.grind arith }
 
   pub record PlaceFacts (v a : ℕ) : Type 0 where

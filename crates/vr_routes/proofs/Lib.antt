@@ -1,6 +1,7 @@
 pub mod SeatLemmas
 pub mod TourLemmas
 pub mod PieceLemmas
+pub mod SpliceLemmas
 pub mod JoinedPieces
 pub mod ChangeLemmas
 pub mod OnceLemmas

@@ -1,5 +1,5 @@
 -- What a part of a change is.
-use Rattle.std.specs.Prelude.{◌≡◌, ◌≢◌, ◌<◌, ℕ, true, IsTrue, List, length, All}
+use Rattle.std.specs.Prelude.{◌≡◌, ◌≢◌, ◌<◌, ℕ, true, false, IsTrue, List, ◌∷◌, length, All}
 use Rattle.std.specs.List.{AllPairs}
 use Rattle.vr_model.specs.moves.Moves.{apply}
 use Rattle.vr_model.specs.routes.Routes.{route, are_lists}
@@ -10,7 +10,9 @@ use Rattle.vr_model.specs.moves.MoveTests.{is_move}
 use Rattle.vr_model.specs.tables.WellFormed.{IsWellFormed}
 use Rattle.vr_routes.specs.Seats.{Seated, IsOnce, HaveNodes}
 use Rattle.vr_routes.specs.Tours.{Tours}
-use Rattle.vr_routes.specs.Pieces.{ListAfter, joined, changed, IsWithin}
+use Rattle.vr_routes.specs.Pieces.{ListAfter, joined, changed, IsWithin, IsSpliced}
+use Rattle.vr_routes.specs.declared.pieces.Piece.{Piece}
+use Rattle.vr_routes.specs.declared.pieces.Piece.TheVariants.{Chain}
 
 -- the routes after a change
 abbrev pub after : Tours → List ListAfter → Tours
@@ -20,16 +22,27 @@ after tours parts = record { visits = tours.visits; lists = changed tours.lists 
 abbrev pub NothingReady : (Tours → List ListAfter → Type 0) → Type 0
 NothingReady ready = (tours : Tours) (parts : List ListAfter) → ready tours parts → ⊥
 
--- the pieces of the part, each within its list, are joined to the list of v
+-- the part begins with the places of the list of v below `front`, and the pieces behind them are joined to the nodes
+pub record IsBegun (lists : List (List ℕ)) (part : ListAfter) (v front : ℕ) (nodes : List ℕ) : Type 0 where
+  pub vehicle_is : part.vehicle ≡ v
+  pub front_is : part.front ≡ front
+  pub middle : List Piece
+  pub pieces_are : part.pieces ≡ Chain v 0 front false ∷ middle
+  pub nodes_are : joined lists middle ≡ nodes
+  pub each_within : All (IsWithin lists) middle
+
+-- the pieces of the part, each within its list, are joined to the list of v, and are a splice of the one before
 pub record IsAfter (lists : List (List ℕ)) (part : ListAfter) (v : ℕ) (list : List ℕ) : Type 0 where
   pub vehicle_is : part.vehicle ≡ v
   pub list_is : joined lists part.pieces ≡ list
   pub each_within : All (IsWithin lists) part.pieces
+  pub spliced : IsSpliced lists part
 
--- the parts are of vehicles of the lists, two of them of two, and their pieces lie within the lists
+-- the parts are of vehicles of the lists, two of them of two, their pieces lie within the lists, and each is a splice
 pub record AreParts (lists : List (List ℕ)) (parts : List ListAfter) : Type 0 where
   pub each_vehicle : All (λ part. part.vehicle < length lists) parts
   pub each_within : All (λ part. All (IsWithin lists) part.pieces) parts
+  pub each_spliced : All (IsSpliced lists) parts
   pub apart : AllPairs (λ p q. p.vehicle ≢ q.vehicle) parts
 
 -- a part gives its vehicle another list than it has

@@ -1,15 +1,23 @@
 -- Lists after a change, as pieces of the lists before it.
-use Rattle.std.specs.Prelude.{ℕ, ◌<◌, ◌≤◌, cond, List, [], ◌∷◌, length, reverse, slice_range, slice_index_or}
+use Rattle.std.specs.Prelude.{◌≡◌, ℕ, ◌+◌, ◌-◌, ◌<◌, ◌≤◌, cond, List, [], ◌∷◌, ◌++◌, length, take, drop, reverse, All}
+use Rattle.std.specs.Prelude.{slice_range, slice_index_or}
 use Rattle.vr_model.specs.tables.Numbers.{each}
 use Rattle.vr_model.specs.routes.Routes.{route}
 use Rattle.vr_model.specs.moves.Moves.{with_route}
 use Rattle.vr_routes.specs.declared.pieces.Piece.{Piece}
 use Rattle.vr_routes.specs.declared.pieces.Piece.TheVariants.{Chain, Node}
 
--- the pieces of the list of a vehicle
+-- the pieces of the list of a vehicle; the first one is its front before the change, up to place `front`, and the last
+-- one its end, from place `behind` on
 pub record ListAfter : Type 0 where
   pub vehicle : ℕ
   pub pieces : List Piece
+  pub front : ℕ
+  pub behind : ℕ
+
+-- the pieces between the first and the last one
+abbrev pub middle_of : List Piece → List Piece
+middle_of pieces = slice_range pieces 1 (length pieces - 1)
 
 -- the nodes of a piece of these lists
 abbrev pub nodes_of : List (List ℕ) → Piece → List ℕ
@@ -27,6 +35,19 @@ abbrev pub IsWithin : List (List ℕ) → Piece → Type 0
 IsWithin lists (Chain v from to reversed) = (v < length lists) × (from ≤ to) × (to ≤ length (route lists v))
 IsWithin lists (Node node) = Unit {0}
 
+-- pieces are a splice of the list of v: its places below `front`, the middle ones, and its places from `behind` on
+pub record IsSplice (lists : List (List ℕ)) (v : ℕ) (pieces : List Piece) (front behind : ℕ) (middle : List Piece) :
+    Type 0 where
+  pub order : front ≤ behind
+  pub high : behind ≤ length (route lists v)
+  pub within : All (IsWithin lists) middle
+  pub few : length middle + 2 ≤ length pieces
+  pub joins : joined lists pieces ≡ take front (route lists v) ++ (joined lists middle ++ drop behind (route lists v))
+
+-- the pieces of a part are a splice of the list of its vehicle
+abbrev pub IsSpliced : List (List ℕ) → ListAfter → Type 0
+IsSpliced lists part = IsSplice lists part.vehicle part.pieces part.front part.behind (middle_of part.pieces)
+
 -- lists, with those of the parts in the place of the old ones, where each piece is one of old
 abbrev pub with_parts : List (List ℕ) → List ListAfter → List (List ℕ) → List (List ℕ)
 with_parts old [] lists = lists
@@ -38,7 +59,7 @@ changed lists parts = with_parts lists parts lists
 
 -- the part that is read where a change has none of a number
 abbrev pub no_part : ListAfter
-no_part = record { vehicle = 0; pieces = [] }
+no_part = record { vehicle = 0; pieces = []; front = 0; behind = 0 }
 
 -- part k of a change
 abbrev pub part_at : List ListAfter → ℕ → ListAfter

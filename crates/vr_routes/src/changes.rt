@@ -4,17 +4,17 @@ ghost use Rattle.std.specs.Prelude.{◌≡◌, ◌<◌, ◌≤◌, true, false, 
 ghost use Rattle.vr_model.specs.tables.Tables.{visits};
 ghost use Rattle.vr_model.specs.tables.WellFormed.{IsWellFormed};
 ghost use Rattle.vr_model.specs.moves.MoveTests.{is_move};
-ghost use Rattle.vr_model.specs.declared.neighbours.Move.TheVariants.{TwoOpt, OrOpt, Relocate, Exchange, Cross};
-ghost use Rattle.vr_model.specs.declared.neighbours.Move.TheVariants.{MakeActive, MakeInactive, SwapActive};
-ghost use Rattle.vr_model.specs.declared.neighbours.Move.TheVariants.{PairActive, PairInactive, RelocatePair};
-ghost use Rattle.vr_routes.specs.Pieces.{changed, no_part, part_at};
-ghost use Rattle.vr_routes.specs.Changes.{IsChange, MayChange};
+ghost use Rattle.vr_model.specs.declared.records.Model.{Model as Defined};
+ghost use Rattle.vr_model.specs.declared.neighbours.Move.TheVariants.{Relocate, Exchange, Cross};
+ghost use Rattle.vr_model.specs.declared.neighbours.Move.TheVariants.{PairInactive, RelocatePair};
+ghost use Rattle.vr_routes.specs.Places.{AreCuts, AreNodeAndGap, AreTwoNodes};
+ghost use Rattle.vr_routes.specs.Pieces.{changed, no_part, part_at, IsSplice};
+ghost use Rattle.vr_routes.specs.Changes.{AreParts, IsChange, MayChange};
 
 use crate::conditions::{is_move, pair_served, pair_together};
 use crate::filling::fill;
-use crate::kinds::{Ends, Stretch, TwoGaps, TwoPlaces, take_pair};
 use crate::pairs::{Served, Standing};
-use crate::pieces::{Part, Piece};
+use crate::pieces::{Part, Piece, Splice};
 use crate::routes::Routes;
 use crate::rows::Row;
 use crate::seats::Seating;
@@ -89,16 +89,20 @@ impl Change {
         requires is_one { is_move model.now routes.now.lists mv ≡ true }
         ensures { IsChange model.now routes.now.lists mv out.new }
     {
+        out.has_second = false;
         match mv {
-            Move::TwoOpt { v, a, b } => out.write_two_opt(model, routes, v, a, b),
-            Move::OrOpt { v, a, k, t } => out.write_or_opt(model, routes, v, a, k, t),
-            Move::Relocate { v, a, w, t } => out.write_relocate(model, routes, v, a, w, t),
-            Move::Exchange { v, a, w, b } => out.write_exchange(model, routes, v, a, w, b),
-            Move::Cross { v, a, w, b } => out.write_cross(model, routes, v, a, w, b),
-            Move::MakeInactive { v, a } => out.write_make_inactive(model, routes, v, a),
-            Move::MakeActive { u, w, t } => out.write_make_active(model, routes, u, w, t),
-            Move::SwapActive { v, a, u } => out.write_swap_active(model, routes, v, a, u),
-            Move::PairActive { p, w, s, t } => out.write_pair_active(model, routes, p, w, s, t),
+            Move::TwoOpt { v, a, b } => out.first.reverse(routes, v, a, b),
+            Move::OrOpt { v, a, k, t } => out.first.move_chain(routes, v, a, k, t),
+            Move::Relocate { v, a, w, t } => out.write_relocate(routes, v, a, w, t),
+            Move::Exchange { v, a, w, b } => out.write_exchange(routes, v, a, w, b),
+            Move::Cross { v, a, w, b } => out.write_cross(routes, v, a, w, b),
+            Move::MakeInactive { v, a } => out.first.take_out(routes, v, a, 1),
+            Move::MakeActive { u, w, t } => out.first.put(routes, w, t, 0, u),
+            Move::SwapActive { v, a, u } => out.first.put(routes, v, a, 1, u),
+            Move::PairActive { p, w, s, t } => {
+                out.first
+                    .put_pair(routes, w, s, t, *model.pairs.get(p as usize))
+            }
             Move::PairInactive { p } => out.write_pair_inactive(Closed { model }, routes, p),
             Move::RelocatePair { p, w, s, t } => {
                 out.write_relocate_pair(model, routes, p, w, s, t)
@@ -107,193 +111,39 @@ impl Change {
     }
 
     #[inline]
-    fn write_two_opt(&mut self, model: &RoutingModel, routes: &Routes, v: u32, a: u32, b: u32)
-        requires is_one { is_move model.now routes.now.lists (TwoOpt v a b) ≡ true }
-        ensures { IsChange model.now routes.now.lists (TwoOpt v a b) self.new }
-    {
-        self.has_second = false;
-        let places = TwoPlaces {
-            routes,
-            v,
-            lo: a,
-            hi: b,
-        };
-        places.reverse(&mut self.first);
-    }
-
-    #[inline]
-    fn write_or_opt(
-        &mut self,
-        model: &RoutingModel,
-        routes: &Routes,
-        v: u32,
-        a: u32,
-        k: u32,
-        t: u32,
-    )
-        requires is_one { is_move model.now routes.now.lists (OrOpt v a k t) ≡ true }
-        ensures { IsChange model.now routes.now.lists (OrOpt v a k t) self.new }
-    {
-        self.has_second = false;
-        let chain = Stretch {
-            routes,
-            v,
-            from: a,
-            nodes: k,
-        };
-        chain.move_to(t, &mut self.first);
-    }
-
-    #[inline]
-    fn write_relocate(
-        &mut self,
-        model: &RoutingModel,
-        routes: &Routes,
-        v: u32,
-        a: u32,
-        w: u32,
-        t: u32,
-    )
-        requires is_one { is_move model.now routes.now.lists (Relocate v a w t) ≡ true }
-        ensures { IsChange model.now routes.now.lists (Relocate v a w t) self.new }
+    fn write_relocate(&mut self, routes: &Routes, v: u32, a: u32, w: u32, t: u32)
+        requires { AreNodeAndGap routes.now.lists v a w t }
+        ensures { (model : Defined) → IsChange model routes.now.lists (Relocate v a w t) self.new }
     {
         self.has_second = true;
-        let visit = Stretch {
-            routes,
-            v,
-            from: a,
-            nodes: 1,
-        };
-        visit.take_out(&mut self.first);
-        let gap = Stretch {
-            routes,
-            v: w,
-            from: t,
-            nodes: 0,
-        };
-        gap.put(routes.node_at(v, a), &mut self.second);
+        self.first.take_out(routes, v, a, 1);
+        self.second.put(routes, w, t, 0, routes.node_at(v, a));
     }
 
     #[inline]
-    fn write_exchange(
-        &mut self,
-        model: &RoutingModel,
-        routes: &Routes,
-        v: u32,
-        a: u32,
-        w: u32,
-        b: u32,
-    )
-        requires is_one { is_move model.now routes.now.lists (Exchange v a w b) ≡ true }
-        ensures { IsChange model.now routes.now.lists (Exchange v a w b) self.new }
+    fn write_exchange(&mut self, routes: &Routes, v: u32, a: u32, w: u32, b: u32)
+        requires { AreTwoNodes routes.now.lists v a w b }
+        ensures { (model : Defined) → is_move model routes.now.lists (Exchange v a w b) ≡ true
+            → IsChange model routes.now.lists (Exchange v a w b) self.new }
     {
         if v == w {
             self.has_second = false;
-            let places = TwoPlaces {
-                routes,
-                v,
-                lo: a,
-                hi: b,
-            };
-            places.swap(&mut self.first);
+            self.first.swap_two(routes, v, a, b);
             return;
         }
         self.has_second = true;
-        let one = Stretch {
-            routes,
-            v,
-            from: a,
-            nodes: 1,
-        };
-        one.put(routes.node_at(w, b), &mut self.first);
-        let other = Stretch {
-            routes,
-            v: w,
-            from: b,
-            nodes: 1,
-        };
-        other.put(routes.node_at(v, a), &mut self.second);
+        self.first.put(routes, v, a, 1, routes.node_at(w, b));
+        self.second.put(routes, w, b, 1, routes.node_at(v, a));
     }
 
     #[inline]
-    fn write_cross(&mut self, model: &RoutingModel, routes: &Routes, v: u32, a: u32, w: u32, b: u32)
-        requires is_one { is_move model.now routes.now.lists (Cross v a w b) ≡ true }
-        ensures { IsChange model.now routes.now.lists (Cross v a w b) self.new }
+    fn write_cross(&mut self, routes: &Routes, v: u32, a: u32, w: u32, b: u32)
+        requires { AreCuts routes.now.lists v a w b }
+        ensures { (model : Defined) → IsChange model routes.now.lists (Cross v a w b) self.new }
     {
         self.has_second = true;
-        let one = Ends { routes, v, a, w, b };
-        one.join(&mut self.first);
-        let other = Ends {
-            routes,
-            v: w,
-            a: b,
-            w: v,
-            b: a,
-        };
-        other.join(&mut self.second);
-    }
-
-    #[inline]
-    fn write_make_inactive(&mut self, model: &RoutingModel, routes: &Routes, v: u32, a: u32)
-        requires is_one { is_move model.now routes.now.lists (MakeInactive v a) ≡ true }
-        ensures { IsChange model.now routes.now.lists (MakeInactive v a) self.new }
-    {
-        self.has_second = false;
-        let visit = Stretch {
-            routes,
-            v,
-            from: a,
-            nodes: 1,
-        };
-        visit.take_out(&mut self.first);
-    }
-
-    #[inline]
-    fn write_make_active(&mut self, model: &RoutingModel, routes: &Routes, u: u32, w: u32, t: u32)
-        requires is_one { is_move model.now routes.now.lists (MakeActive u w t) ≡ true }
-        ensures { IsChange model.now routes.now.lists (MakeActive u w t) self.new }
-    {
-        self.has_second = false;
-        let gap = Stretch {
-            routes,
-            v: w,
-            from: t,
-            nodes: 0,
-        };
-        gap.put(u, &mut self.first);
-    }
-
-    #[inline]
-    fn write_swap_active(&mut self, model: &RoutingModel, routes: &Routes, v: u32, a: u32, u: u32)
-        requires is_one { is_move model.now routes.now.lists (SwapActive v a u) ≡ true }
-        ensures { IsChange model.now routes.now.lists (SwapActive v a u) self.new }
-    {
-        self.has_second = false;
-        let visit = Stretch {
-            routes,
-            v,
-            from: a,
-            nodes: 1,
-        };
-        visit.put(u, &mut self.first);
-    }
-
-    #[inline]
-    fn write_pair_active(
-        &mut self,
-        model: &RoutingModel,
-        routes: &Routes,
-        p: u32,
-        w: u32,
-        s: u32,
-        t: u32,
-    )
-        requires is_one { is_move model.now routes.now.lists (PairActive p w s t) ≡ true }
-        ensures { IsChange model.now routes.now.lists (PairActive p w s t) self.new }
-    {
-        self.has_second = false;
-        let gaps = TwoGaps { routes, v: w, s, t };
-        gaps.put_pair(*model.pairs.get(p as usize), &mut self.first);
+        self.first.join(routes, v, a, w, b);
+        self.second.join(routes, w, b, v, a);
     }
 
     #[inline]
@@ -312,7 +162,7 @@ impl Change {
                     p,
                     at,
                 };
-                take_pair(on, &mut self.first);
+                self.first.take_pair(on);
             }
         }
     }
@@ -360,19 +210,12 @@ impl Change {
         let pair = *on.model.pairs.get(on.p as usize);
         if w == at.vehicle {
             self.has_second = false;
-            let places = TwoPlaces {
-                routes,
-                v: w,
-                lo: at.pickup,
-                hi: at.delivery,
-            };
-            places.move_pair(s, t, pair, &mut self.first);
+            self.first.move_pair(routes, at, s, t, pair);
             return;
         }
         self.has_second = true;
-        take_pair(on, &mut self.first);
-        let gaps = TwoGaps { routes, v: w, s, t };
-        gaps.put_pair(pair, &mut self.second);
+        self.first.take_pair(on);
+        self.second.put_pair(routes, w, s, t, pair);
     }
 
     /// How many lists are changed.
@@ -413,6 +256,19 @@ impl Change {
     {
         let part = self.part(k);
         part.pieces()
+    }
+
+    /// The list of part `k` as a splice of the list of its vehicle before the change.
+    #[inline]
+    pub fn splice(&self, _routes: &Routes, k: usize) -> Splice<'_>
+        requires part { k < length self.now }
+        requires parts { AreParts _routes.now.lists self.now }
+        ensures vehicle { result.vehicle ≡ (part_at self.now k).vehicle }
+        ensures ends { let part = part_at self.now k in
+            IsSplice _routes.now.lists part.vehicle part.pieces result.front result.behind result.middle.now }
+    {
+        let part = self.part(k);
+        part.splice()
     }
 
     /// Gives the vehicles of the change their lists. The rows are written over.

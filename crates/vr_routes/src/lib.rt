@@ -31,7 +31,7 @@ pub use judging::{Judge, Verdict};
 pub use pairs::{
     PairPlaces, is_elsewhere, is_pair_inactive, is_pair_together, pair_places, rest_len,
 };
-pub use pieces::Piece;
+pub use pieces::{Piece, Splice};
 pub use routes::Routes;
 pub use rows::Row;
 pub use runs::with_last;

@@ -1,10 +1,11 @@
 //! Pieces that lists after a change are made of.
 
-ghost use Rattle.std.specs.Prelude.{All, ◌≡◌, ℕ, ◌+◌, ◌<◌, ◌≤◌, List, [], ◌∷◌, ◌++◌, length, reverse, slice_range};
+ghost use Rattle.std.specs.Prelude.{All, ◌≡◌, ℕ, ◌+◌, ◌<◌, ◌≤◌, List, [], ◌∷◌, ◌++◌, length, reverse};
+ghost use Rattle.std.specs.Prelude.{take, drop, slice_range};
 ghost use Rattle.vr_model.specs.routes.Routes.{route};
-ghost use Rattle.vr_routes.specs.Changes.{IsAfter};
+ghost use Rattle.vr_routes.specs.Changes.{IsAfter, IsBegun};
 ghost use Rattle.vr_routes.specs.Pairs.{is_past};
-ghost use Rattle.vr_routes.specs.Pieces.{IsWithin, joined, nodes_of};
+ghost use Rattle.vr_routes.specs.Pieces.{IsWithin, joined, middle_of, no_part, nodes_of};
 
 use crate::Routes;
 use arrayvec::ArrayVec;
@@ -60,11 +61,27 @@ impl Piece {
     }
 }
 
-/// The list of a vehicle after a change, as pieces of the lists before it.
+/// A changed list as a splice of the list before it: what stays at its ends, and what comes between.
+#[derive(Clone, Copy)]
+pub struct Splice<'a> {
+    pub vehicle: u32,
+    /// How many nodes stay at the front.
+    pub front: u32,
+    /// The place from which on nodes stay at the end, the length of the list where none do.
+    pub behind: u32,
+    /// What comes between.
+    pub middle: &'a [Piece],
+}
+
+/// The list of a vehicle after a change, as a splice of the list before it: its front, what comes between, and its end.
 #[derive(Drop)]
 pub struct Part {
     vehicle: u32,
-    // The pieces, and behind them those of an earlier change, which are written over.
+    // How many nodes stay at the front.
+    front: u32,
+    // The place from which on nodes stay at the end.
+    behind: u32,
+    // The front, the pieces between and the end; behind them pieces of an earlier change, which are written over.
     pieces: ArrayVec<Piece, 8>,
     used: usize,
 }
@@ -76,7 +93,12 @@ impl Model for Part {
 
     ghost Value = { ListAfter };
 
-    ghost view = { λ p. record { vehicle = p.vehicle; pieces = take p.used p.pieces.items } };
+    ghost view = { λ p. record {
+      vehicle = p.vehicle;
+      pieces = take p.used p.pieces.items;
+      front = p.front;
+      behind = p.behind;
+    } };
 
     ghost invariant = { λ p. p.used ≤ array_vec_len p.pieces };
 }
@@ -84,10 +106,12 @@ impl Model for Part {
 impl Part {
     /// An empty list of vehicle 0.
     pub fn new() -> Part
-        ensures { result ≡ record { vehicle = 0; pieces = [] } }
+        ensures { result ≡ no_part }
     {
         Part {
             vehicle: 0,
+            front: 0,
+            behind: 0,
             pieces: ArrayVec::new(),
             used: 0,
         }
@@ -110,14 +134,40 @@ impl Part {
         &self.pieces.as_slice()[..self.used]
     }
 
-    /// Begins an empty list of a vehicle.
+    /// The list as a splice of the one before it.
     #[inline]
-    pub fn begin(&mut self, v: u32)
-        ensures room { length self.new.pieces ≡ 0 }
-        ensures after { (lists : List (List ℕ)) → IsAfter lists self.new v [] }
+    pub fn splice(&self) -> Splice<'_>
+        requires ends { 2 ≤ length self.now.pieces }
+        ensures vehicle { result.vehicle ≡ self.now.vehicle }
+        ensures front { result.front ≡ self.now.front }
+        ensures behind { result.behind ≡ self.now.behind }
+        ensures middle { result.middle.now ≡ middle_of self.now.pieces }
+    {
+        let pieces = self.pieces();
+        let end = pieces.len() - 1;
+        Splice {
+            vehicle: self.vehicle,
+            front: self.front,
+            behind: self.behind,
+            middle: &pieces[1..end],
+        }
+    }
+
+    /// Begins a list of a vehicle, of which so many nodes stay at the front.
+    #[inline]
+    pub fn begin(&mut self, v: u32, front: u32)
+        ensures room { length self.new.pieces ≡ 1 }
+        ensures after { (lists : List (List ℕ)) → IsBegun lists self.new v front [] }
     {
         self.vehicle = v;
+        self.front = front;
         self.used = 0;
+        self.add(Piece::Chain {
+            vehicle: v,
+            from: 0,
+            to: front,
+            reversed: false,
+        });
     }
 
     // Adds a piece.
@@ -125,6 +175,8 @@ impl Part {
     fn add(&mut self, piece: Piece)
         requires room { length self.old.pieces < 8 }
         ensures vehicle { self.new.vehicle ≡ self.old.vehicle }
+        ensures front { self.new.front ≡ self.old.front }
+        ensures behind { self.new.behind ≡ self.old.behind }
         ensures pieces { self.new.pieces ≡ self.old.pieces ++ piece ∷ [] }
     {
         if self.used < self.pieces.len() {
@@ -140,8 +192,8 @@ impl Part {
     pub fn node(&mut self, node: u32)
         requires room { length self.old.pieces < 8 }
         ensures room { length self.new.pieces ≤ length self.old.pieces + 1 }
-        ensures after { (lists : List (List ℕ)) (w : ℕ) (list : List ℕ)
-            → IsAfter lists self.old w list → IsAfter lists self.new w (list ++ node ∷ []) }
+        ensures after { (lists : List (List ℕ)) (w front : ℕ) (nodes : List ℕ)
+            → IsBegun lists self.old w front nodes → IsBegun lists self.new w front (nodes ++ node ∷ []) }
     {
         self.add(Piece::Node { node });
     }
@@ -152,8 +204,9 @@ impl Part {
         requires order { from ≤ to }
         requires room { length self.old.pieces < 8 }
         ensures room { length self.new.pieces ≤ length self.old.pieces + 1 }
-        ensures after { (lists : List (List ℕ)) (w : ℕ) (list : List ℕ) → v < length lists → to ≤ length (route lists v)
-            → IsAfter lists self.old w list → IsAfter lists self.new w (list ++ slice_range (route lists v) from to) }
+        ensures after { (lists : List (List ℕ)) (w front : ℕ) (nodes : List ℕ)
+            → v < length lists → to ≤ length (route lists v) → IsBegun lists self.old w front nodes
+            → IsBegun lists self.new w front (nodes ++ slice_range (route lists v) from to) }
     {
         self.add(Piece::Chain {
             vehicle: v,
@@ -168,8 +221,9 @@ impl Part {
     pub fn some_chain(&mut self, v: u32, from: u32, to: u32)
         requires room { from < to → length self.old.pieces < 8 }
         ensures room { length self.new.pieces ≤ length self.old.pieces + is_past from to }
-        ensures after { (lists : List (List ℕ)) (w : ℕ) (list : List ℕ) → v < length lists → to ≤ length (route lists v)
-            → IsAfter lists self.old w list → IsAfter lists self.new w (list ++ slice_range (route lists v) from to) }
+        ensures after { (lists : List (List ℕ)) (w front : ℕ) (nodes : List ℕ)
+            → v < length lists → to ≤ length (route lists v) → IsBegun lists self.old w front nodes
+            → IsBegun lists self.new w front (nodes ++ slice_range (route lists v) from to) }
     {
         if from < to {
             self.chain(v, from, to);
@@ -182,15 +236,34 @@ impl Part {
         requires order { from ≤ to }
         requires room { length self.old.pieces < 8 }
         ensures room { length self.new.pieces ≤ length self.old.pieces + 1 }
-        ensures after { (lists : List (List ℕ)) (w : ℕ) (list : List ℕ) → v < length lists → to ≤ length (route lists v)
-            → IsAfter lists self.old w list
-            → IsAfter lists self.new w (list ++ reverse (slice_range (route lists v) from to)) }
+        ensures after { (lists : List (List ℕ)) (w front : ℕ) (nodes : List ℕ)
+            → v < length lists → to ≤ length (route lists v) → IsBegun lists self.old w front nodes
+            → IsBegun lists self.new w front (nodes ++ reverse (slice_range (route lists v) from to)) }
     {
         self.add(Piece::Chain {
             vehicle: v,
             from,
             to,
             reversed: true,
+        });
+    }
+
+    /// Ends the list: the `n` nodes that it had before stay from place `behind` on.
+    #[inline]
+    pub fn end(&mut self, behind: u32, n: u32)
+        requires order { behind ≤ n }
+        requires room { length self.old.pieces < 8 }
+        ensures { (lists : List (List ℕ)) (v front : ℕ) (nodes : List ℕ)
+            → v < length lists → n ≡ length (route lists v) → front ≤ behind → IsBegun lists self.old v front nodes
+            → IsAfter lists self.new v (take front (route lists v) ++ (nodes ++ drop behind (route lists v))) }
+    {
+        let vehicle = self.vehicle;
+        self.behind = behind;
+        self.add(Piece::Chain {
+            vehicle,
+            from: behind,
+            to: n,
+            reversed: false,
         });
     }
 }

@@ -24,7 +24,7 @@ counted told start {model} {lists} {part} {v} {front} {behind} {new} {list} {bet
 pub passes_along-requires-clause-known : goal.passes_along-requires-clause-known
 passes_along-requires-clause-known g c =
     let m = c.args.at.now.closed.model.now in
-    let v = c.write_between-ends.result.v in
+    let v = c.write_between-ends.result.vehicle in
     let known : v < length c.args.known.now = omega (arith, c.write_between-ends.ensures.vehicle, c.requires.stands.tours_are.list_of_each, (c.requires.stands.rows_are refl).known_of_each) in
     let here = (c.requires.stands.rows_are refl).known_are v c.index-known-v.result known in
     subst (λ l. AreRowsIfUsed m c.args.at.now.d v l c.index-known-v.result) (sym c.list.ensures.value)
@@ -33,13 +33,13 @@ passes_along-requires-clause-known g c =
 pub passes_along-requires-clause-passed : goal.passes_along-requires-clause-passed
 passes_along-requires-clause-passed g c =
     let feasible = is_feasible_list c.args.at.now.closed.model.now c.args.at.now.d in
-    let v = c.write_between-ends.result.v in
+    let v = c.write_between-ends.result.vehicle in
     subst (λ l. IsTrue (feasible v l)) (sym c.list.ensures.value) (rule_at feasible c.args.at.now.routes.now.lists c.requires.stands.rule v c.write_between-ends.ensures.vehicle)
 
 pub passes_along-requires-clause-old_tour : goal.passes_along-requires-clause-old_tour
 passes_along-requires-clause-old_tour g c =
     let m = c.args.at.now.closed.model.now in
-    subst (IsTour m) (sym c.list.ensures.value) (tour_of m c.args.at.now.routes.now c.requires.stands.tours_are c.write_between-ends.result.v c.write_between-ends.ensures.vehicle)
+    subst (IsTour m) (sym c.list.ensures.value) (tour_of m c.args.at.now.routes.now c.requires.stands.tours_are c.write_between-ends.result.vehicle c.write_between-ends.ensures.vehicle)
 
 pub passes_along-requires-clause-seams : goal.passes_along-requires-clause-seams
 passes_along-requires-clause-seams g c =
@@ -62,7 +62,7 @@ pub returns-clause-answer : goal.returns-clause-answer
 returns-clause-answer g c =
     let feasible = is_feasible_list c.args.at.now.closed.model.now c.args.at.now.d in
     let ends = c.write_between-ends in
-    c.in_ok-passed.ensures.exact ∙ (ap₂ (λ l s. feasible ends.result.v (spliced l ends.result.front ends.result.behind s)) c.list.ensures.value c.as_slice.ensures.value
+    c.in_ok-passed.ensures.exact ∙ (ap₂ (λ l s. feasible ends.result.vehicle (spliced l ends.result.front ends.result.behind s)) c.list.ensures.value c.as_slice.ensures.value
     ∙ ap₂ feasible ends.ensures.same ends.ensures.whole)
 
 pub returns-clause-count : goal.returns-clause-count

@@ -36,13 +36,11 @@ sum_of-requires-clause-nodes c =
 
 pub returns-else-other-evaluator : goal.returns-else-other-evaluator
 returns-else-other-evaluator c =
-    let m = c.args.model.now in
-    let d = c.args.d in
-    let lists : List (List ℕ) = c.args.routes.now.lists in
+    let f = value_of c.args.model.now c.args.d c.args.evaluator in
+    let less = small c.args.model.now c.args.d c.requires.load c.args.evaluator c.requires.evaluator in
     let p = c.in-Chain in
-    let w = subst (IsWithin lists) p.is c.requires.within in
-    let few = subst (λ l. length l ≤ 1000) c.list-list.ensures.value c.list-list.ensures.few in
-    let f = value_of m d c.args.evaluator in
-    let less = small m d c.requires.load c.args.evaluator c.requires.evaluator in
-    chain-along f less lists p.vehicle p.from p.to p.reversed w.2 c.args.piece p.is (chain-up f less lists p.vehicle p.from p.to p.reversed w.2 few)
+    let lists : List (List ℕ) = c.args.routes.now.lists in
+    let high = (subst (IsWithin lists) p.is c.requires.within).2 in
+    chain-along f less lists p.vehicle p.from p.to p.reversed high c.args.piece p.is
+    (chain-up f less lists p.vehicle p.from p.to p.reversed high (subst (λ l. length l ≤ 1000) c.list-list.ensures.value c.list-list.ensures.few))
     c.sum_of.result (c.sum_of.ensures ∙ ap (λ l. total_by f (slice_range l p.from p.to)) c.list-list.ensures.value)

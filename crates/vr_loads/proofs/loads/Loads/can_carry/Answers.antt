@@ -7,7 +7,7 @@ use Rattle.vr_routes.specs.declared.pieces.Piece.{Piece}
 use Rattle.vr_routes.specs.declared.pieces.Piece.TheVariants.{Chain}
 use Rattle.vr_routes.specs.Pieces.{joined}
 use Rattle.vr_loads.specs.Loads.{value_of}
-use Rattle.vr_loads.proofs.KeptLemmas.{kept-at, carries, carries-nothing}
+use Rattle.vr_loads.proofs.KeptLemmas.{kept-both, carries, carries-nothing}
 use Rattle.vr_routes.proofs.JoinedPieces.{all_at, empty_by_length}
 use Rattle.vr_loads.proofs.PieceLemmas.{piece-read, piece-up}
 use Rattle.vr_loads.proofs.loads.Loads.can_carry.Goals as goal
@@ -31,27 +31,17 @@ loop-k-preserved c =
 
 pub returns-then-sum-index : goal.returns-then-sum-index
 returns-then-sum-index c =
-    let m = c.args.model.now in
-    let d = c.args.d in
-    let lists : List (List ℕ) = c.args.routes.now.lists in
-    let pieces = c.args.pieces.now in
-    let one = kept-at m d lists c.args.self.now c.self.inside.vehicles.items c.args.v c.index.result.now c.requires.carried c.requires.vehicle c.self.view_is c.index.ensures in
-    let two = kept-at m d lists c.args.self.now c.self.inside.vehicles.items c.args.v c.index-2.result.now c.requires.carried c.requires.vehicle c.self.view_is c.index-2.ensures in
-    let f = value_of m d c.index.result.now.evaluator in
-    let whole = ap (λ l. total_by f (joined lists l)) (take_all c.loop-k.k pieces c.loop-k-test.false) in
-    sym (carries m d c.args.v (joined lists pieces) c.index.result.now.evaluator (to_z w64 c.loop-k.sum-bits) c.index-2.result.now.room one.evaluator_is two.room_is (c.loop-k.invariant.sum ∙ whole)
+    let list : List ℕ = joined c.args.routes.now.lists c.args.pieces.now in
+    let kept = kept-both c.args.model.now c.args.d c.args.routes.now.lists c.args.self.now c.self.inside.vehicles.items c.args.v c.index.result.now c.index-2.result.now c.requires.carried c.requires.vehicle c.self.view_is c.index.ensures c.index-2.ensures in
+    sym (carries c.args.model.now c.args.d c.args.v list c.index.result.now.evaluator (to_z w64 c.loop-k.sum-bits) c.index-2.result.now.room kept.0 kept.1
+    (c.loop-k.invariant.sum ∙ ap (λ l. total_by (value_of c.args.model.now c.args.d c.index.result.now.evaluator) (joined c.args.routes.now.lists l)) (take_all c.loop-k.k c.args.pieces.now c.loop-k-test.false))
     (let t = c.if-sum-index.true in omega (arith, ints, t)))
 
 pub returns : goal.returns
 returns c =
-    let m = c.args.model.now in
-    let d = c.args.d in
-    let lists : List (List ℕ) = c.args.routes.now.lists in
-    let pieces = c.args.pieces.now in
-    let one = kept-at m d lists c.args.self.now c.self.inside.vehicles.items c.args.v c.index.result.now c.requires.carried c.requires.vehicle c.self.view_is c.index.ensures in
-    let two = kept-at m d lists c.args.self.now c.self.inside.vehicles.items c.args.v c.index-2.result.now c.requires.carried c.requires.vehicle c.self.view_is c.index-2.ensures in
-    let f = value_of m d c.index.result.now.evaluator in
-    let whole = ap (λ l. total_by f (joined lists l)) (take_all c.loop-k.k pieces c.loop-k-test.false) in
-    ap (λ n. n == 0) c.nodes_in.ensures ∙ empty_by_length (joined lists pieces)
-    ∙ sym (carries-nothing m d c.args.v (joined lists pieces) c.index.result.now.evaluator (to_z w64 c.loop-k.sum-bits) c.index-2.result.now.room one.evaluator_is two.room_is (c.loop-k.invariant.sum ∙ whole)
+    let list : List ℕ = joined c.args.routes.now.lists c.args.pieces.now in
+    let kept = kept-both c.args.model.now c.args.d c.args.routes.now.lists c.args.self.now c.self.inside.vehicles.items c.args.v c.index.result.now c.index-2.result.now c.requires.carried c.requires.vehicle c.self.view_is c.index.ensures c.index-2.ensures in
+    ap (λ n. n == 0) c.nodes_in.ensures ∙ empty_by_length list
+    ∙ sym (carries-nothing c.args.model.now c.args.d c.args.v list c.index.result.now.evaluator (to_z w64 c.loop-k.sum-bits) c.index-2.result.now.room kept.0 kept.1
+    (c.loop-k.invariant.sum ∙ ap (λ l. total_by (value_of c.args.model.now c.args.d c.index.result.now.evaluator) (joined c.args.routes.now.lists l)) (take_all c.loop-k.k c.args.pieces.now c.loop-k-test.false))
     (let t = c.if-sum-index.false in omega (arith, ints, t)))

@@ -45,7 +45,7 @@ pub serves_between-requires : goal.serves_between-requires
 serves_between-requires c =
     let m : Model = c.args.lookups.now in
     let lists : List (List ℕ) = c.args.routes.now.lists in
-    let v = c.write_between-ends.result.v in
+    let v = c.write_between-ends.result.vehicle in
     record {
       before = and_left (list_all (serves_pair (route lists v)) m.pairs) (keeps_policy m v (route lists v))
           (rule_at (keeps_pairs m) lists c.requires.before v c.write_between-ends.ensures.vehicle);
@@ -58,13 +58,13 @@ put_between-requires c =
     record {
       nodes = part.nodes;
       few = part.few;
-      distinct = distinct_between (route c.args.routes.now.lists ends.v) c.as_slice-2.result.now ends.front ends.behind part.tour.distinct;
+      distinct = distinct_between (route c.args.routes.now.lists ends.vehicle) c.as_slice-2.result.now ends.front ends.behind part.tour.distinct;
     }
 
 pub takes_turns-requires-clause-listed : goal.takes_turns-requires-clause-listed
 takes_turns-requires-clause-listed c =
     let m : Model = c.args.lookups.now in
-    let v = c.write_between-ends.result.v in
+    let v = c.write_between-ends.result.vehicle in
     let asks : IsTrue (asks_turns_of m v) = ap asks_turns (sym c.policy_of-policy.ensures) ∙ (sym c.are_asked.ensures ∙ c.if-not-are_asked.false) in
     subst (λ listed. AreCounted m (route c.args.routes.now.lists v) listed) (sym c.put_between.ensures.kept)
     (c.requires.knows.counted v c.write_between-ends.ensures.vehicle asks)
@@ -76,7 +76,7 @@ returns-then-not-are_asked-clause-answer c =
     let new : List ℕ = joined c.args.routes.now.lists kept.pieces in
     let part = part_seen c.write_between-ends.ensures c.as_slice-2.ensures.value in
     let served : list_all (serves_pair new) m.pairs ≡ true = ap (λ l. list_all (serves_pair l) m.pairs) (sym part.whole) ∙ (sym c.serves_between.ensures ∙ c.if-not-serves_between.false) in
-    let none : asks_turns_of m c.write_between-ends.result.v ≡ false = ap asks_turns (sym c.policy_of-policy.ensures) ∙ (sym c.are_asked.ensures ∙ c.if-not-are_asked.true) in
+    let none : asks_turns_of m c.write_between-ends.result.vehicle ≡ false = ap asks_turns (sym c.policy_of-policy.ensures) ∙ (sym c.are_asked.ensures ∙ c.if-not-are_asked.true) in
     keeps_unasked m kept.vehicle new served (ap (asks_turns_of m) (sym part.same) ∙ none)
 
 pub returns-clause-answer : goal.returns-clause-answer
@@ -84,16 +84,16 @@ returns-clause-answer c =
     let m : Model = c.args.lookups.now in
     let lists : List (List ℕ) = c.args.routes.now.lists in
     let ends = c.write_between-ends.result in
-    let old : List ℕ = route lists ends.v in
+    let old : List ℕ = route lists ends.vehicle in
     let new : List ℕ = joined lists (part_at c.args.change.now c.args.k).pieces in
     let middle = c.as_slice-2.result.now in
     let part = part_seen c.write_between-ends.ensures c.as_slice-2.ensures.value in
-    let kept = rule_at (keeps_pairs m) lists c.requires.before ends.v part.vehicle in
+    let kept = rule_at (keeps_pairs m) lists c.requires.before ends.vehicle part.vehicle in
     let served = sym c.serves_between.ensures ∙ c.if-not-serves_between.false in
     c.takes_turns.ensures
     ∙ (ap (λ policy. takes_turns_between m policy old ends.front ends.behind middle) c.policy_of-policy.ensures
-    ∙ (keeps_between m ends.v old middle ends.front ends.behind c.requires.knows.knows_tours.well_formed part.seams
-    (record { distinct = (tour_of m c.args.routes.now c.requires.knows.knows_tours.tours_are ends.v part.vehicle).distinct; each_pair = and_left (list_all (serves_pair old) m.pairs) (keeps_policy m ends.v old) kept })
+    ∙ (keeps_between m ends.vehicle old middle ends.front ends.behind c.requires.knows.knows_tours.well_formed part.seams
+    (record { distinct = (tour_of m c.args.routes.now c.requires.knows.knows_tours.tours_are ends.vehicle part.vehicle).distinct; each_pair = and_left (list_all (serves_pair old) m.pairs) (keeps_policy m ends.vehicle old) kept })
     (record { distinct = part.tour.distinct; each_pair = served })
-    (and_right (list_all (serves_pair old) m.pairs) (keeps_policy m ends.v old) kept)
-    ∙ (ap (keeps_pairs m ends.v) part.whole ∙ ap (λ w. keeps_pairs m w new) part.same)))
+    (and_right (list_all (serves_pair old) m.pairs) (keeps_policy m ends.vehicle old) kept)
+    ∙ (ap (keeps_pairs m ends.vehicle) part.whole ∙ ap (λ w. keeps_pairs m w new) part.same)))

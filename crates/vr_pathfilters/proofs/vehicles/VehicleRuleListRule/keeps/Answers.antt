@@ -9,7 +9,7 @@ use Rattle.vr_model.specs.routes.Rules.{allows_vehicle, row_allows_vehicle}
 use Rattle.vr_model.proofs.tables.Tests.{list_all-true}
 use Rattle.vr_routes.specs.Pieces.{joined, part_at}
 use Rattle.vr_pathfilters.specs.Vehicles.{are_allowed_pieces, is_allowed_list}
-use Rattle.vr_pathfilters.proofs.PartEnds.{part_vehicle, part_within}
+use Rattle.vr_pathfilters.proofs.PartEnds.{part_vehicle}
 use Rattle.vr_pathfilters.proofs.PartTours.{rule_at}
 use Rattle.vr_pathfilters.proofs.VehicleLemmas.{all-joined, all-spliced}
 use Rattle.vr_pathfilters.proofs.vehicles.VehicleRuleListRule.keeps.Goals as goal
@@ -26,20 +26,17 @@ returns-then-is_empty-clause-answer c =
     let none = sym c.is_empty.ensures ∙ c.if-is_empty.true in
     allowing_all part.vehicle model.allowed (joined c.args.routes.now.lists part.pieces) (eqb-true (length model.allowed) 0 none)
 
-pub strip-ends-requires : goal.strip-ends-requires
-strip-ends-requires c = record {
-  vehicle = part_vehicle c.requires.made.makes.parts_are c.args.k c.requires.part c.vehicle-v.ensures;
-  within = part_within c.requires.made.makes.parts_are c.args.k c.requires.part c.pieces.ensures.value;
-}
+pub splice-splice-requires-clause-parts : goal.splice-splice-requires-clause-parts
+splice-splice-requires-clause-parts c = c.requires.made.makes.parts_are
 
 pub pieces_allow-requires : goal.pieces_allow-requires
 pieces_allow-requires c =
     let lists : List (List ℕ) = c.args.routes.now.lists in
-    let v = c.vehicle-v.result in
-    let low : c.vehicle-v.result < length c.args.routes.now.lists = part_vehicle c.requires.made.makes.parts_are c.args.k c.requires.part c.vehicle-v.ensures in
+    let v = c.splice-splice.result.vehicle in
+    let low : v < length lists = part_vehicle c.requires.made.makes.parts_are c.args.k c.requires.part c.splice-splice.ensures.vehicle in
     record {
       rule = subst (λ m. IsTrue (is_allowed_list m v (route lists v))) (sym c.nodes.ensures) (rule_at (is_allowed_list c.args.self.now.lookups.closed.model.now) lists c.requires.before v low);
-      within = c.strip-ends.ensures.within;
+      within = c.splice-splice.ensures.ends.within;
     }
 
 pub returns-clause-answer : goal.returns-clause-answer
@@ -47,12 +44,12 @@ returns-clause-answer c =
     let model : Model = c.args.self.now.lookups.closed.model.now in
     let lists : List (List ℕ) = c.args.routes.now.lists in
     let part = part_at c.args.change.now c.args.k in
-    let v = c.vehicle-v.result in
-    let ends = c.strip-ends in
-    let low : v < length lists = part_vehicle c.requires.made.makes.parts_are c.args.k c.requires.part c.vehicle-v.ensures in
+    let v = part.vehicle in
+    let ends = c.splice-splice in
+    let low : v < length lists = part_vehicle c.requires.made.makes.parts_are c.args.k c.requires.part refl in
     c.pieces_allow.ensures
-    ∙ (ap (λ m. are_allowed_pieces m lists v ends.result.middle.now) c.nodes.ensures
+    ∙ (ap (λ m. are_allowed_pieces m lists ends.result.vehicle ends.result.middle.now) c.nodes.ensures
+    ∙ (ap (λ w. are_allowed_pieces model lists w ends.result.middle.now) ends.ensures.vehicle
     ∙ (sym (all-joined (allows_vehicle model v) lists ends.result.middle.now)
     ∙ (sym (all-spliced (allows_vehicle model v) (route lists v) (joined lists ends.result.middle.now) ends.result.front ends.result.behind (rule_at (is_allowed_list model) lists c.requires.before v low))
-    ∙ (sym (ap (list_all (allows_vehicle model v)) ends.ensures.joins)
-    ∙ (ap (λ w. list_all (allows_vehicle model w) (joined lists c.pieces.result.now)) c.vehicle-v.ensures ∙ ap (λ ps. list_all (allows_vehicle model part.vehicle) (joined lists ps)) c.pieces.ensures.value)))))
+    ∙ sym (ap (list_all (allows_vehicle model v)) ends.ensures.ends.joins)))))

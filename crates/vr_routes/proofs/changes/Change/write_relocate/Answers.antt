@@ -5,29 +5,24 @@ use Rattle.vr_model.specs.moves.Moves.{with_route}
 use Rattle.vr_model.specs.declared.neighbours.Move.TheVariants.{Relocate}
 use Rattle.vr_routes.specs.Changes.{IsAfter}
 use Rattle.vr_routes.proofs.PieceLemmas.{removed_is, inserted_is}
-use Rattle.vr_routes.proofs.FactLemmas.{of_relocate}
 use Rattle.vr_routes.proofs.ChangeLemmas.{two_parts}
 use Rattle.vr_routes.proofs.DifferLemmas.{removed_differs, inserted_differs}
 use Rattle.vr_routes.proofs.changes.Change.write_relocate.Goals as goal
 
-pub invariant_of-visit : goal.invariant_of-visit
-invariant_of-visit c =
-    let test = of_relocate c.args.model.now c.args.routes.now.lists c.args.v c.args.a c.args.w c.args.t c.requires.is_one in
-    record { vehicle = test.vehicle; within = omega (arith, test.place) }
+pub take_out-requires : goal.take_out-requires
+take_out-requires c = record { vehicle = c.requires.vehicle; within = omega (arith, c.requires.place) }
 
-pub invariant_of-gap : goal.invariant_of-gap
-invariant_of-gap c =
-    let test = of_relocate c.args.model.now c.args.routes.now.lists c.args.v c.args.a c.args.w c.args.t c.requires.is_one in
-    record { vehicle = test.other; within = omega (arith, test.gap) }
+pub put-requires : goal.put-requires
+put-requires c = record { vehicle = c.requires.other; within = omega (arith, c.requires.gap) }
 
 pub returns : goal.returns
-returns c =
+returns c model =
     let lists : List (List ℕ) = c.args.routes.now.lists in
-    let test = of_relocate c.args.model.now c.args.routes.now.lists c.args.v c.args.a c.args.w c.args.t c.requires.is_one in
-    two_parts c.args.model.now lists (Relocate c.args.v c.args.a c.args.w c.args.t) _ _ c.args.v c.args.w _ _
+    let test = c.requires in
+    two_parts model lists (Relocate c.args.v c.args.a c.args.w c.args.t) _ _ c.args.v c.args.w _ _
     test.vehicle test.other test.apart
-    (subst (IsAfter lists c.take_out.new.part c.args.v) (removed_is (route lists c.args.v) c.args.a) c.take_out.ensures)
-    (subst (IsAfter lists c.put.new.part c.args.w) (inserted_is (route lists c.args.w) c.args.t c.node_at.result) c.put.ensures)
+    (subst (IsAfter lists c.take_out.new.self c.args.v) (removed_is (route lists c.args.v) c.args.a) c.take_out.ensures)
+    (subst (IsAfter lists c.put.new.self c.args.w) (inserted_is (route lists c.args.w) c.args.t c.node_at.result) c.put.ensures)
     (ap (λ node. with_route (with_route lists c.args.v (remove (route lists c.args.v) c.args.a)) c.args.w (insert (route lists c.args.w) c.args.t node)) c.node_at.ensures)
     (λ are. removed_differs (route lists c.args.v) c.args.a test.place)
     (λ are. inserted_differs (route lists c.args.w) c.args.t c.node_at.result)

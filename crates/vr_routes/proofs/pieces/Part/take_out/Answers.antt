@@ -1,0 +1,7 @@
+use Rattle.std.proofs.Common.{arith}
+use Rattle.vr_routes.proofs.pieces.Part.take_out.Goals as goal
+
+pub returns : goal.returns
+returns c =
+    let lists = c.args.routes.now.lists in
+    c.end.ensures lists c.args.v c.args.from _ c.requires.vehicle c.len-n.ensures.value (omega arith) (c.begin.ensures.after lists)
