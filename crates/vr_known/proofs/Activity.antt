@@ -1,5 +1,5 @@
 -- A move of one of five kinds leaves each visit as often in the lists as it was, so the same visits are active.
-use Rattle.std.proofs.Common.{◌⊎◌, ◌≡◌, ◌≢◌, ◌∙◌, ℕ, zero, suc, ◌+◌, ◌<◌, ◌≤◌, true, false, List, [], ◌∷◌, ◌++◌, length, reverse, take, drop, sym, ap, inl, inr, arith, length-set}
+use Rattle.std.proofs.Common.{◌⊎◌, ◌≡◌, ◌≢◌, ◌∙◌, ℕ, suc, ◌+◌, ◌<◌, ◌≤◌, true, false, List, ◌++◌, length, reverse, take, drop, sym, ap, inl, inr, arith, length-set}
 use Rattle.std.specs.Prelude.{IsTrue, ◌==◌, slice_index, slice_range, slice_set}
 use Rattle.std.specs.List.{concat}
 use Rattle.std.proofs.lemmas.List.{get_or-set_other}
@@ -15,7 +15,7 @@ use Rattle.vr_model.specs.declared.neighbours.Move.TheVariants.{TwoOpt, OrOpt, R
 use Rattle.vr_model.proofs.tables.Tests.{same_tests}
 use Rattle.vr_model.proofs.routes.Lists.{route_set_same, route_set_other, is_active-concat}
 use Rattle.vr_model.proofs.moves.Times.{times, times_in, hit, times_append, times_split, times_reverse, times_set, joined_times, held_times, times_held}
-use Rattle.vr_model.proofs.moves.Kept.{removed_times, inserted_times}
+use Rattle.vr_model.proofs.moves.Kept.{removed_times, inserted_times, replaced_times}
 use Rattle.vr_known.specs.Blocks.{kind_of}
 
 reversed_times : (x : ℕ) (xs : List ℕ) (a e : ℕ) → a ≤ e → times x (reversed_between xs a e) ≡ times x xs
@@ -38,11 +38,6 @@ moved_times x xs a k t =
     let one = times_append x (take t rest) (chain ++ drop t rest) in
     let two = times_append x chain (drop t rest) in
     omega (arith, whole, tail, parts, cut, one, two)
-
-replaced_times : (x : ℕ) (xs : List ℕ) (a y : ℕ) → a < length xs → times x (slice_set xs a y) + hit x (slice_index xs a) ≡ times x xs + hit x y
-replaced_times x [] a y low = absurd (omega (arith, low))
-replaced_times x (z ∷ zs) zero y low = omega arith
-replaced_times x (z ∷ zs) (suc a) y low = let r = replaced_times x zs a y (omega (arith, low)) in omega (arith, r)
 
 module _ (model : Model) (lists : List (List ℕ)) where
   same_in_one : (x v : ℕ) (list : List ℕ) → v < length lists → times x list ≡ times x (route lists v) → times_in x (slice_set lists v list) ≡ times_in x lists

@@ -9,6 +9,7 @@ use Rattle.vr_model.specs.declared.records.Model.{Model}
 use Rattle.vr_model.specs.declared.neighbours.Move.{Move}
 use Rattle.vr_model.specs.declared.neighbours.Move.TheVariants.{TwoOpt, OrOpt, Relocate, Exchange, Cross}
 use Rattle.vr_model.proofs.routes.Lists.{route_set_same, route_set_other}
+use Rattle.vr_routes.proofs.FactLemmas.{of_cross, of_exchange, of_or_opt, of_relocate, of_two_opt}
 use Rattle.vr_known.specs.Blocks.{kind_of, first_of, second_of}
 
 pub same_or_not : (u v : ℕ) → (u ≡ v) ⊎ (u ≢ v)
@@ -39,21 +40,20 @@ module _ (model : Model) (lists : List (List ℕ)) where
   stays (Cross v a w b) u kind e f = route_set_other (with_route lists v _) w u _ f ∙ route_set_other lists v u _ e
   stays other u kind e f = absurd (omega (arith, kind))
 
+  -- the vehicles that a move of one of five kinds names have lists
+  both_low : (mv : Move) → IsTrue (is_move model lists mv) → kind_of mv < 5 → (first_of mv < length lists) × (second_of mv < length lists)
+  both_low (TwoOpt v a b) h kind = let f = of_two_opt model lists v a b h in (f.vehicle, f.vehicle)
+  both_low (OrOpt v a k t) h kind = let f = of_or_opt model lists v a k t h in (f.vehicle, f.vehicle)
+  both_low (Relocate v a w t) h kind = let f = of_relocate model lists v a w t h in (f.vehicle, f.other)
+  both_low (Exchange v a w b) h kind = let f = of_exchange model lists v a w b h in (f.vehicle, f.other)
+  both_low (Cross v a w b) h kind = let f = of_cross model lists v a w b h in (f.vehicle, f.other)
+  both_low other h kind = absurd (omega (arith, kind))
+
   pub first_low : (mv : Move) → IsTrue (is_move model lists mv) → kind_of mv < 5 → first_of mv < length lists
-  first_low (TwoOpt v a b) h kind = Prim.grind arith
-  first_low (OrOpt v a k t) h kind = Prim.grind arith
-  first_low (Relocate v a w t) h kind = Prim.grind arith
-  first_low (Exchange v a w b) h kind = Prim.grind arith
-  first_low (Cross v a w b) h kind = Prim.grind arith
-  first_low other h kind = absurd (omega (arith, kind))
+  first_low mv h kind = (both_low mv h kind).0
 
   pub second_low : (mv : Move) → IsTrue (is_move model lists mv) → kind_of mv < 5 → second_of mv < length lists
-  second_low (TwoOpt v a b) h kind = Prim.grind arith
-  second_low (OrOpt v a k t) h kind = Prim.grind arith
-  second_low (Relocate v a w t) h kind = Prim.grind arith
-  second_low (Exchange v a w b) h kind = Prim.grind arith
-  second_low (Cross v a w b) h kind = Prim.grind arith
-  second_low other h kind = absurd (omega (arith, kind))
+  second_low mv h kind = (both_low mv h kind).1
 
   module _ (other : List (List ℕ)) where
     -- where two lists agree at a vehicle, so do the lists after the move

@@ -1,20 +1,13 @@
 -- How many moves a range has.
-use Rattle.std.proofs.Common.{◌≡◌, ◌∙◌, ℕ, zero, suc, ◌+◌, ◌-◌, ◌<◌, ◌≤◌, Bool, true, false, cond, ◌∷◌, length, map, refl, sym, ap, arith, inl, inr}
+use Rattle.std.proofs.Common.{◌≡◌, ◌∙◌, ℕ, zero, suc, ◌+◌, ◌-◌, ◌<◌, ◌≤◌, Bool, true, false, cond, ◌∷◌, length, refl, sym, ap, arith, inl, inr}
 use Rattle.std.specs.Prelude.{◌==◌, filter}
 use Rattle.std.specs.List.{range_with_len}
 use Rattle.std.proofs.lemmas.Bool.{cases_lt}
-use Rattle.std.proofs.lemmas.List.{length-map}
 use Rattle.std.proofs.lemmas.List.FromFn.{length-range_with_len}
 use Rattle.vr_model.specs.tables.Numbers.{below, from_to}
 use Rattle.vr_model.proofs.tables.Ranges.{all_left}
 use Rattle.vr_known.proofs.NestLemmas.{filter_all, filter_same, from_to_step}
 use Rattle.vr_model.specs.moves.Moves.{is_other, has_some_front}
-
-pub count_given : {A : Type 0} (f : ℕ → A) (a b : ℕ) → length (map f (from_to a b)) ≡ b - a
-count_given f a b = length-map (from_to a b) f ∙ length-range_with_len a (b - a)
-
-pub count_below : {A : Type 0} (f : ℕ → A) (n : ℕ) → length (map f (below n)) ≡ n
-count_below f n = length-map (below n) f ∙ length-range_with_len 0 n
 
 count_passing_below : (p : ℕ → Bool) (a n : ℕ) → ((k : ℕ) → a ≤ k → k < a + n → p k ≡ true) → length (filter p (range_with_len a n)) ≡ n
 count_passing_below p a zero h = refl
@@ -47,9 +40,6 @@ count_but_one x (suc n) a low high = elim (cases_lt a x) [
   | inr same ↦ step_same x a (suc n) (is_other_same x a (omega (arith, same, low)))
       ∙ count_passing (is_other x) (a + 1) (suc n) (λ k above. is_other_above x k (omega (arith, above, same)))
 ]
-
-pub count_other : (x n : ℕ) → x ≤ n → length (filter (is_other x) (below (suc n))) ≡ n
-count_other x n low = count_but_one x n 0 (omega arith) (omega (arith, low))
 
 front_there : (a k : ℕ) → 1 ≤ k → has_some_front a k ≡ true
 front_there a k low = Prim.grind arith

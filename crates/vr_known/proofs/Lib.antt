@@ -4,6 +4,7 @@ pub mod Pairs
 pub mod Local
 pub mod CostLocality
 pub mod Locality
+pub mod TouchedLemmas
 pub mod MemoryLemmas
 pub mod NestLemmas
 pub mod PassingLemmas

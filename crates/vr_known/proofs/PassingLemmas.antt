@@ -6,11 +6,13 @@ use Rattle.std.proofs.lemmas.List.{append-nil, length-map, map-append}
 use Rattle.std.proofs.lemmas.List.Elements.{All-append, All-cons, All-head, All-nil, filter-append}
 use Rattle.vr_model.proofs.tables.Tests.{clash}
 use Rattle.vr_model.specs.tables.Numbers.{from_to}
+use Rattle.vr_model.specs.tables.WellFormed.{number_of as kind_at}
 use Rattle.vr_model.specs.declared.neighbours.Move.{Move}
 use Rattle.vr_known.proofs.NestLemmas.{range_split}
 use Rattle.vr_known.specs.Blocks.{Memory, covers, is_known, kind_of, first_of, second_of}
 use Rattle.vr_known.specs.Nests.{run_of}
-use Rattle.vr_known.specs.Passing.{capped, ArePassed, CoversBlock, Passes, IsFirst, Takes}
+use Rattle.vr_known.specs.declared.blocks.Block.{Block}
+use Rattle.vr_known.specs.Passing.{capped, ArePassed, CoversBlock, IsBlockOf, Passes, IsFirst, Takes}
 
 pub capped_small : (n : ℕ) → n < 2 ^ 64 → n ≡ capped n
 capped_small n low = Prim.grind arith
@@ -90,6 +92,15 @@ module _ (covers : Move → Type 0) where
     counts = counts ∙ ap (λ n. capped (count + n)) (number ∙ sym (length-map (filter p (from_to a m)) f));
   }
 
+  -- all moves of a run stand in a block that is covered
+  pub run_passed : (p : ℕ → Bool) (f : ℕ → Move) (a b many : ℕ) (block : Block) → IsBlockOf block f
+      → CoversBlock covers (kind_at block.neighbourhood) block.row block.vehicle → many ≡ length (filter p (from_to a b))
+      → ArePassed covers (run_of p f a b) many
+  run_passed p f a b many block stands known number = record {
+    covered = run_covered p f a (b - a) (λ k low high. known (f k) (stands.kind k) (stands.first k) (stands.second k));
+    long = length-map (filter p (from_to a b)) f ∙ sym number;
+  }
+
 -- what is told of the moves in front of a number, where one is told
 pub told_of_each : (P Q : ℕ → Type 0) → ((k : ℕ) → P k → Q k) → (from : ℕ) (told : Option ℕ)
     → IfSome told (λ first. (k : ℕ) → from ≤ k → k < first → P k) → IfSome told (λ first. (k : ℕ) → from ≤ k → k < first → Q k)
@@ -115,8 +126,3 @@ covers_none memory none mv covered = clash (is_known memory (kind_of mv) (first_
 pub covers_known : (memory : Memory) (kind v w : ℕ) → IsTrue (is_known memory kind v w) → CoversBlock (λ mv. IsTrue (covers memory mv)) kind v w
 covers_known memory kind v w known mv k f s =
     subst (λ n. IsTrue (is_known memory n (first_of mv) (second_of mv))) (sym k) (subst (λ n. IsTrue (is_known memory kind n (second_of mv))) (sym f) (subst (λ n. IsTrue (is_known memory kind v n)) (sym s) known))
-
--- a property of all that f gives
-pub all_given : {A B : Type 0} (P : B → Type 0) (f : A → B) (xs : List A) → ((x : A) → P (f x)) → All P (map f xs)
-all_given P f [] h = All-nil P
-all_given P f (x ∷ xs) h = All-cons P (f x) (map f xs) (h x) (all_given P f xs h)

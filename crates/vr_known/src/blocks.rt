@@ -6,6 +6,29 @@ ghost use Rattle.vr_model.specs.tables.WellFormed.{number_of};
 
 use vr_model::{Move, Neighbourhood};
 
+/// The moves of a neighbourhood, of a row and of the vehicle that they name last, as [`crate::Known::has`] says of
+/// rows.
+#[derive(Clone, Copy)]
+pub struct Block {
+    pub neighbourhood: Neighbourhood,
+    pub row: u32,
+    pub vehicle: u32,
+}
+
+impl Block {
+    /// The moves of a neighbourhood that stand in a row and name a vehicle last.
+    #[inline(always)]
+    pub fn new(neighbourhood: Neighbourhood, row: u32, vehicle: u32) -> Block
+        ensures { result ≡ record { neighbourhood = neighbourhood; row = row; vehicle = vehicle } }
+    {
+        Block {
+            neighbourhood,
+            row,
+            vehicle,
+        }
+    }
+}
+
 /// The number of a kind of moves.
 #[inline(always)]
 pub(crate) fn kind_at(neighbourhood: Neighbourhood) -> u32

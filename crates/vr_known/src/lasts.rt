@@ -1,19 +1,36 @@
 //! Moves that differ in their last number alone.
 
-ghost use Rattle.std.specs.Prelude.{◌≡◌};
+ghost use Rattle.std.specs.Prelude.{◌≡◌, ℕ, refl};
+ghost use Rattle.vr_known.specs.Passing.{IsBlockOf};
+ghost use Rattle.vr_model.specs.declared.neighbours.Move.{Move as Moved};
 ghost use Rattle.vr_model.specs.moves.Moves.{is_other};
 ghost use Rattle.vr_routes.specs.Runs.{with_last};
 
-use crate::Numbered;
+use crate::{Block, Numbered};
 use vr_model::Move;
-use vr_routes::with_last;
 
-/// The moves that differ from one in their last number, which may be any.
+/// Moves that differ in their last number alone. Each kind has a type of its own, so that what makes a move knows its
+/// kind.
+pub trait Pattern: Drop {
+    ghost move_at: { Self → ℕ → Moved };
+
+    /// The move with this last number.
+    fn make(&self, k: u32) -> Move
+        ensures { result ≡ move_at self.now k };
+
+    /// The block in which all these moves stand.
+    fn block(&self) -> Block
+        ensures { IsBlockOf result (move_at self.now) };
+
+    ghost differ_in_last: { (s : Self) (k : ℕ) → with_last (move_at s 0) k ≡ move_at s k };
+}
+
+/// The moves of a pattern whose last number may be any.
 #[derive(Drop)]
-pub struct AnyLast(pub Move);
+pub struct AnyLast<P: Pattern>(pub P);
 
-impl Numbered for AnyLast {
-    ghost move_at = { λ s k. with_last s.0 k };
+impl<P: Pattern> Numbered for AnyLast<P> {
+    ghost move_at = { λ s. P.move_at s.0 };
 
     #[inline]
     fn has(&self, _k: u32) -> bool {
@@ -22,12 +39,17 @@ impl Numbered for AnyLast {
 
     #[inline]
     fn make(&self, k: u32) -> Move {
-        with_last(self.0, k)
+        self.0.make(k)
     }
 
     #[inline]
     fn run(&self) -> Option<Move> {
-        Some(self.0)
+        Some(self.0.make(0))
+    }
+
+    #[inline]
+    fn block(&self) -> Option<Block> {
+        Some(self.0.block())
     }
 
     #[inline]
@@ -36,19 +58,18 @@ impl Numbered for AnyLast {
     }
 }
 
-/// The moves that differ from one in their last number, which may be any but `but`.
+/// The moves of a pattern whose last number may be any but `but`.
 #[derive(Drop)]
-pub struct AnyLastBut {
-    /// The move, whose last number does not matter.
-    pub mv: Move,
+pub struct AnyLastBut<P: Pattern> {
+    pub pattern: P,
     /// The number that is left out.
     pub but: u32,
 }
 
-impl Numbered for AnyLastBut {
+impl<P: Pattern> Numbered for AnyLastBut<P> {
     ghost passes = { λ s k. is_other s.but k };
 
-    ghost move_at = { λ s k. with_last s.mv k };
+    ghost move_at = { λ s. P.move_at s.pattern };
 
     #[inline]
     fn has(&self, k: u32) -> bool {
@@ -57,12 +78,17 @@ impl Numbered for AnyLastBut {
 
     #[inline]
     fn make(&self, k: u32) -> Move {
-        with_last(self.mv, k)
+        self.pattern.make(k)
     }
 
     #[inline]
     fn run(&self) -> Option<Move> {
-        Some(self.mv)
+        Some(self.pattern.make(0))
+    }
+
+    #[inline]
+    fn block(&self) -> Option<Block> {
+        Some(self.pattern.block())
     }
 
     #[inline]

@@ -10,14 +10,16 @@
 //!
 //! No stamp is above the clock, so what changes now is later than all that was learned.
 //!
-//! `vr_moves_route`, `vr_moves_cross`, `vr_moves_active` and `vr_moves_pair` list their moves by these ranges and say
-//! how many a range has that is known. `vr_descent` learns at the end of each scan, and forgets where a move is made,
-//! by the vehicles that it touches ([`Touched`]).
+//! `vr_moves_route`, `vr_moves_cross`, `vr_moves_active` and `vr_moves_pair` list their moves by these ranges. What
+//! makes the moves of a run knows their kind ([`Pattern`]), and says in which block they stand ([`Block`]).
+//! `vr_descent` learns at the end of each scan, and forgets where a move is made, by the vehicles that it touches
+//! ([`Touched`]).
 #![tactic(auto)]
 
 mod blocks;
 mod lasts;
 mod laws;
+mod lists;
 mod memory;
 mod moves;
 mod nests;
@@ -26,8 +28,10 @@ mod stamps;
 mod stretches;
 mod touched;
 
-pub use lasts::{AnyLast, AnyLastBut};
+pub use blocks::Block;
+pub use lasts::{AnyLast, AnyLastBut, Pattern};
 pub use laws::{cost_is_local, moves_are_local, validity_is_local};
+pub use lists::{Lists, OfList, of_each_list};
 pub use memory::Known;
 pub use moves::Moves;
 pub use nests::{Each, Family, Listed, Numbered, Run};

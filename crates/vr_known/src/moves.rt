@@ -50,7 +50,7 @@ impl<L: Listed> Moves<L> {
     }
 
     /// Takes those at the front that differ from the move that was taken last in their last number alone, where the
-    /// sieve could tell nothing of them.
+    /// sieve knows nothing of them.
     #[inline(always)]
     pub fn stretch(&mut self) -> Stretch
         ensures { self.old ≡ result ++ self.new }

@@ -1,4 +1,4 @@
-//! What tells of moves, without asking about each, that none is to be tried.
+//! What knows of many moves at once that none of them is to be tried.
 
 ghost use Rattle.std.specs.Prelude.{◌≡◌, ℕ, ◌+◌, ◌<◌, ◌≤◌, IfSome, IsTrue};
 ghost use Rattle.vr_model.specs.declared.neighbours.Move.{Move as Moved};
@@ -10,7 +10,7 @@ ghost use Rattle.vr_known.specs.Passing.{CoversBlock};
 use crate::Known;
 use vr_model::{Move, Neighbourhood};
 
-/// Tells of blocks and of runs of moves that they can be passed over. It takes no memory.
+/// Knows of blocks and of runs of moves that they can be passed over. It takes no memory.
 pub trait Sieve {
     /// What is asked about runs of moves. It is lent, since it may count the questions.
     type Judge;
@@ -47,7 +47,7 @@ pub trait Sieve {
 
     /// Goes over a run of moves, which differ in their last number: those of the numbers from `from` on, below `end`.
     /// Says from which number on they are to be tried: all in front of it can be passed over. The last number of `mv`
-    /// is any. `None` where nothing can be told of such a run, from whichever number on it is asked.
+    /// is any. `None` where nothing is known of such a run, from whichever number on it is asked.
     #[inline]
     fn first(&self, judge: &mut Self::Judge, mv: Move, from: u32, end: u32) -> Option<u32>
         requires ready { is_ready self.now }

@@ -1,11 +1,14 @@
 //! The vehicles whose lists a move changes.
 
 ghost use Rattle.std.specs.Prelude.{◌≡◌, ◌≢◌, ℕ, ◌<◌, IsTrue, length};
+ghost use Rattle.vr_known.specs.Touching.{AreFound, named_by};
 ghost use Rattle.vr_model.specs.moves.Moves.{apply, is_pair_together};
 ghost use Rattle.vr_model.specs.moves.MoveTests.{is_move};
 ghost use Rattle.vr_model.specs.routes.Routes.{holds, route};
 ghost use Rattle.vr_model.specs.tables.Tables.{pair_at};
+ghost use Rattle.vr_model.specs.declared.neighbours.Move.TheVariants.{RelocatePair};
 
+use crate::blocks::first_of;
 use vr_model::{Model, Move};
 use vr_routes::Routes;
 
@@ -17,6 +20,39 @@ pub struct Touched {
 }
 
 impl Touched {
+    /// Those that a move names by its numbers alone. `None` of a move that takes a pair out, since it does not name the
+    /// list where the pair stands.
+    #[inline]
+    pub fn named(mv: Move) -> Option<Touched>
+        ensures { result ≡ named_by mv }
+    {
+        match mv {
+            Move::TwoOpt { v, .. } => Some(Touched::one(v)),
+            Move::OrOpt { v, .. } => Some(Touched::one(v)),
+            Move::Relocate { v, w, .. } => Some(Touched::two(v, w)),
+            Move::Exchange { v, w, .. } => Some(Touched::two(v, w)),
+            Move::Cross { v, w, .. } => Some(Touched::two(v, w)),
+            Move::RelocatePair { .. } => None,
+            Move::PairActive { w, .. } => Some(Touched::one(w)),
+            Move::PairInactive { .. } => None,
+            Move::MakeActive { w, .. } => Some(Touched::one(w)),
+            Move::MakeInactive { v, .. } => Some(Touched::one(v)),
+            Move::SwapActive { v, .. } => Some(Touched::one(v)),
+        }
+    }
+
+    /// Those that a move names, and the one that serves the pair that it puts elsewhere. `None` of `pair_inactive`, and
+    /// where that pair stands nowhere.
+    #[inline]
+    pub fn found(model: &Model, routes: &Routes, mv: Move) -> Option<Touched>
+        ensures { AreFound model.now routes.now.lists mv result }
+    {
+        match mv {
+            Move::RelocatePair { p, w, .. } => put_elsewhere(model, routes, p, w),
+            _ => Touched::named(mv),
+        }
+    }
+
     /// The vehicles whose lists a move of the routes changes: those that it names, and the one that serves the pair
     /// which it takes out.
     pub fn of(model: &Model, routes: &Routes, mv: Move) -> Touched
@@ -28,41 +64,41 @@ impl Touched {
     {
         routes.know_once();
         let _few = routes.vehicles();
-        match mv {
-            Move::TwoOpt { v, .. } => Touched::one(v),
-            Move::OrOpt { v, .. } => Touched::one(v),
-            Move::Relocate { v, w, .. } => Touched {
-                first: v,
-                second: w,
-            },
-            Move::Exchange { v, w, .. } => Touched {
-                first: v,
-                second: w,
-            },
-            Move::Cross { v, w, .. } => Touched {
-                first: v,
-                second: w,
-            },
-            Move::RelocatePair { p, w, .. } => Touched {
-                first: serving(model, routes, p),
-                second: w,
-            },
-            Move::PairActive { w, .. } => Touched::one(w),
-            Move::PairInactive { p } => Touched::one(serving(model, routes, p)),
-            Move::MakeActive { w, .. } => Touched::one(w),
-            Move::MakeInactive { v, .. } => Touched::one(v),
-            Move::SwapActive { v, .. } => Touched::one(v),
+        match Touched::found(model, routes, mv) {
+            Some(touched) => touched,
+            // It takes a pair out, or puts one elsewhere that stands nowhere.
+            None => Touched::one(serving(model, routes, first_of(mv))),
         }
     }
 
     // One vehicle.
+    #[inline]
     fn one(v: u32) -> Touched
         ensures { result ≡ record { first = v; second = v } }
     {
-        Touched {
-            first: v,
-            second: v,
-        }
+        Touched::two(v, v)
+    }
+
+    // Two vehicles.
+    #[inline]
+    fn two(first: u32, second: u32) -> Touched
+        ensures { result ≡ record { first = first; second = second } }
+    {
+        Touched { first, second }
+    }
+}
+
+// The vehicle that serves a pair, and the one that the pair goes to.
+#[inline]
+fn put_elsewhere(model: &Model, routes: &Routes, p: u32, w: u32) -> Option<Touched>
+    ensures { (s t : ℕ) → AreFound model.now routes.now.lists (RelocatePair p w s t) result }
+{
+    if p as usize >= model.pairs.len() {
+        return None;
+    }
+    match routes.vehicle_of(model.pairs.get(p as usize).pickup) {
+        Some(v) => Some(Touched::two(v, w)),
+        None => None,
     }
 }
 

@@ -1,18 +1,40 @@
 //! Inactive visits that are put in.
 
-ghost use Rattle.std.specs.Prelude.{◌≡◌, ℕ, ◌≤◌, suc, length, slice_index, map};
-ghost use Rattle.vr_known.specs.Passing.{ArePassed};
-ghost use Rattle.vr_model.specs.tables.Numbers.{each};
-ghost use Rattle.vr_model.specs.tables.Tables.{visits};
-ghost use Rattle.vr_model.specs.routes.Routes.{route, vehicles};
-ghost use Rattle.vr_model.specs.moves.Moves.{gaps, moves_in};
-ghost use Rattle.vr_model.specs.declared.records.Model.{Model as Defined};
-ghost use Rattle.vr_model.specs.declared.neighbours.Move.TheVariants.{MakeActive};
-ghost use Rattle.vr_model.specs.declared.neighbours.Neighbourhood.TheVariants.{MakeActive as MakeActiveKind};
+ghost use Rattle.std.specs.Prelude.{◌≡◌, ◌<◌, length, map, refl, slice_index};
+ghost use Rattle.vr_known.specs.Listing.{each, gaps, moves_in, route, vehicles, visits, Defined, MakeActive};
+ghost use Rattle.vr_known.specs.Listing.{MakeActiveKind};
 
-use vr_known::{AnyLast, Each, Family, Moves, Run, Sieve};
+use vr_known::{AnyLast, Block, Each, Family, Moves, Pattern, Run};
 use vr_model::{Move, Neighbourhood};
 use vr_routes::Routes;
+
+/// The places of `w` before which `u` may be put.
+#[derive(Drop)]
+pub struct Gaps {
+    u: u32,
+    w: u32,
+    ghost vehicle: { w < 100 },
+}
+
+impl Pattern for Gaps {
+    ghost move_at = { λ s k. MakeActive s.u s.w k };
+
+    #[inline]
+    fn make(&self, k: u32) -> Move {
+        Move::MakeActive {
+            u: self.u,
+            w: self.w,
+            t: k,
+        }
+    }
+
+    #[inline]
+    fn block(&self) -> Block {
+        Block::new(Neighbourhood::MakeActive, 0, self.w)
+    }
+
+    ghost differ_in_last = { λ s k. refl };
+}
 
 /// The vehicles to which `u` may be added.
 #[derive(Drop)]
@@ -22,29 +44,17 @@ pub struct Targets<'a> {
 }
 
 impl<'a> Family for Targets<'a> {
-    type Inner = Run<AnyLast>;
+    type Inner = Run<AnyLast<Gaps>>;
 
     ghost count = { λ s. length s.routes.now.lists };
 
     ghost moves = { λ s k. map (MakeActive s.u k) (gaps (route s.routes.now.lists k)) };
 
     #[inline]
-    fn open(&self, k: u32) -> Option<Run<AnyLast>> {
-        let mv = Move::MakeActive {
-            u: self.u,
-            w: k,
-            t: 0,
-        };
-        Some(Run::new(AnyLast(mv), 0, self.routes.len(k) + 1))
-    }
-
-    #[inline]
-    fn passed<S: Sieve>(&self, k: u32, sieve: &S) -> Option<u64> {
+    fn open(&self, k: u32) -> Option<Run<AnyLast<Gaps>>> {
         let _few = self.routes.vehicles();
-        if sieve.has(Neighbourhood::MakeActive, 0, k) {
-            return Some(self.routes.len(k) as u64 + 1);
-        }
-        None
+        let gaps = Gaps { u: self.u, w: k };
+        Some(Run::new(AnyLast(gaps), 0, self.routes.len(k) + 1))
     }
 }
 

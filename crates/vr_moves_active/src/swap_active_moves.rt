@@ -1,16 +1,9 @@
 //! Inactive visits that take the place of nodes.
 
-ghost use Rattle.std.specs.Prelude.{◌≡◌, ℕ, ◌<◌, ◌≤◌, length, slice_index, map};
-ghost use Rattle.vr_known.specs.Passing.{ArePassed};
-ghost use Rattle.vr_model.specs.tables.Numbers.{each};
-ghost use Rattle.vr_model.specs.tables.Tables.{visits};
-ghost use Rattle.vr_model.specs.routes.Routes.{route};
-ghost use Rattle.vr_model.specs.moves.Moves.{places, moves_in};
-ghost use Rattle.vr_model.specs.declared.records.Model.{Model as Defined};
-ghost use Rattle.vr_model.specs.declared.neighbours.Move.TheVariants.{SwapActive};
-ghost use Rattle.vr_model.specs.declared.neighbours.Neighbourhood.TheVariants.{SwapActive as SwapActiveKind};
+ghost use Rattle.std.specs.Prelude.{◌≡◌, ℕ, ◌<◌, ◌≤◌, length, map, slice_index};
+ghost use Rattle.vr_known.specs.Listing.{each, moves_in, places, route, visits, Defined, SwapActive, SwapActiveKind};
 
-use vr_known::{Each, Family, Moves, Numbered, Run, Sieve};
+use vr_known::{Block, Each, Family, Moves, Numbered, Run, Sieve};
 use vr_model::{Move, Neighbourhood};
 use vr_routes::Routes;
 
@@ -20,6 +13,7 @@ pub struct Newcomers<'a> {
     v: u32,
     a: u32,
     nodes: &'a [u32],
+    ghost vehicle: { v < 100 },
 }
 
 impl<'a> Numbered for Newcomers<'a> {
@@ -39,6 +33,11 @@ impl<'a> Numbered for Newcomers<'a> {
             a: self.a,
             u: self.nodes[k as usize],
         }
+    }
+
+    #[inline]
+    fn block(&self) -> Option<Block> {
+        Some(Block::new(Neighbourhood::SwapActive, 0, self.v))
     }
 
     // The sieve is asked about all numbers from the first of these nodes to the last, active nodes among them: what it
@@ -109,14 +108,6 @@ impl<'a> Family for Places<'a> {
             nodes: self.nodes,
         };
         Some(Run::new(newcomers, 0, self.nodes.len() as u32))
-    }
-
-    #[inline]
-    fn passed<S: Sieve>(&self, _k: u32, sieve: &S) -> Option<u64> {
-        if sieve.has(Neighbourhood::SwapActive, 0, self.v) {
-            return Some(self.nodes.len() as u64);
-        }
-        None
     }
 }
 

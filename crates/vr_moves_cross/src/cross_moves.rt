@@ -1,17 +1,43 @@
 //! Fronts of lists that change vehicles.
 
-ghost use Rattle.std.specs.Prelude.{◌≡◌, ◌==◌, ℕ, ◌<◌, ◌≤◌, suc, cond, length, map, filter};
-ghost use Rattle.vr_model.specs.tables.Numbers.{each, from_to};
-ghost use Rattle.vr_model.specs.routes.Routes.{route, vehicles};
-ghost use Rattle.vr_model.specs.moves.Moves.{gaps, has_some_front, moves_in};
-ghost use Rattle.vr_known.specs.Passing.{ArePassed};
-ghost use Rattle.vr_model.specs.declared.records.Model.{Model as Defined};
-ghost use Rattle.vr_model.specs.declared.neighbours.Move.TheVariants.{Cross};
-ghost use Rattle.vr_model.specs.declared.neighbours.Neighbourhood.TheVariants.{Cross as CrossKind};
+ghost use Rattle.std.specs.Prelude.{◌≡◌, ◌==◌, ◌<◌, ◌≤◌, cond, filter, length, map, refl, suc};
+ghost use Rattle.vr_known.specs.Listing.{each, from_to, gaps, has_some_front, moves_in, route, vehicles, Cross};
+ghost use Rattle.vr_known.specs.Listing.{CrossKind, Defined};
 
-use vr_known::{AnyLast, Each, Family, Moves, Run, Sieve};
+use vr_known::{AnyLast, Block, Each, Family, Moves, Pattern, Run};
 use vr_model::{Move, Neighbourhood};
 use vr_routes::Routes;
+
+/// The fronts of `w` with which that of `v` before place `a` may change vehicles.
+#[derive(Drop)]
+pub struct Fronts {
+    v: u32,
+    a: u32,
+    w: u32,
+    ghost vehicle: { v < 100 },
+    ghost other: { w < 100 },
+}
+
+impl Pattern for Fronts {
+    ghost move_at = { λ s k. Cross s.v s.a s.w k };
+
+    #[inline]
+    fn make(&self, k: u32) -> Move {
+        Move::Cross {
+            v: self.v,
+            a: self.a,
+            w: self.w,
+            b: k,
+        }
+    }
+
+    #[inline]
+    fn block(&self) -> Block {
+        Block::new(Neighbourhood::Cross, self.v, self.w)
+    }
+
+    ghost differ_in_last = { λ s k. refl };
+}
 
 /// The vehicles that may change fronts with `v`.
 #[derive(Drop)]
@@ -23,30 +49,21 @@ pub struct Targets<'a> {
 }
 
 impl<'a> Family for Targets<'a> {
-    type Inner = Run<AnyLast>;
+    type Inner = Run<AnyLast<Fronts>>;
 
     ghost count = { λ s. length s.routes.now.lists };
 
     ghost moves = { λ s k. map (Cross s.v s.a k) (filter (has_some_front s.a) (gaps (route s.routes.now.lists k))) };
 
     #[inline]
-    fn open(&self, k: u32) -> Option<Run<AnyLast>> {
-        let mv = Move::Cross {
+    fn open(&self, k: u32) -> Option<Run<AnyLast<Fronts>>> {
+        let _few = self.routes.vehicles();
+        let fronts = Fronts {
             v: self.v,
             a: self.a,
             w: k,
-            b: 0,
         };
-        Some(Run::new(AnyLast(mv), first_gap(self.a), self.routes.len(k) + 1))
-    }
-
-    #[inline]
-    fn passed<S: Sieve>(&self, k: u32, sieve: &S) -> Option<u64> {
-        let _few = self.routes.vehicles();
-        if sieve.has(Neighbourhood::Cross, self.v, k) {
-            return Some((self.routes.len(k) + 1 - first_gap(self.a)) as u64);
-        }
-        None
+        Some(Run::new(AnyLast(fronts), first_gap(self.a), self.routes.len(k) + 1))
     }
 }
 

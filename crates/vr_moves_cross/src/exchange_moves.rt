@@ -1,17 +1,43 @@
 //! Nodes that change places.
 
-ghost use Rattle.std.specs.Prelude.{◌≡◌, ◌==◌, ℕ, ◌<◌, ◌≤◌, suc, cond, length, map};
-ghost use Rattle.vr_model.specs.tables.Numbers.{each, from_to};
-ghost use Rattle.vr_model.specs.routes.Routes.{route, vehicles};
-ghost use Rattle.vr_model.specs.moves.Moves.{places, places_behind, moves_in};
-ghost use Rattle.vr_known.specs.Passing.{ArePassed};
-ghost use Rattle.vr_model.specs.declared.records.Model.{Model as Defined};
-ghost use Rattle.vr_model.specs.declared.neighbours.Move.TheVariants.{Exchange};
-ghost use Rattle.vr_model.specs.declared.neighbours.Neighbourhood.TheVariants.{Exchange as ExchangeKind};
+ghost use Rattle.std.specs.Prelude.{◌≡◌, ◌==◌, ◌<◌, ◌≤◌, cond, length, map, refl, suc};
+ghost use Rattle.vr_known.specs.Listing.{each, from_to, moves_in, places, places_behind, route, vehicles, Defined};
+ghost use Rattle.vr_known.specs.Listing.{Exchange, ExchangeKind};
 
-use vr_known::{AnyLast, Each, Family, Moves, Run, Sieve};
+use vr_known::{AnyLast, Block, Each, Family, Moves, Pattern, Run};
 use vr_model::{Move, Neighbourhood};
 use vr_routes::Routes;
+
+/// The nodes of `w` with which that at place `a` of `v` may change places.
+#[derive(Drop)]
+pub struct Partners {
+    v: u32,
+    a: u32,
+    w: u32,
+    ghost vehicle: { v < 100 },
+    ghost other: { w < 100 },
+}
+
+impl Pattern for Partners {
+    ghost move_at = { λ s k. Exchange s.v s.a s.w k };
+
+    #[inline]
+    fn make(&self, k: u32) -> Move {
+        Move::Exchange {
+            v: self.v,
+            a: self.a,
+            w: self.w,
+            b: k,
+        }
+    }
+
+    #[inline]
+    fn block(&self) -> Block {
+        Block::new(Neighbourhood::Exchange, self.v, self.w)
+    }
+
+    ghost differ_in_last = { λ s k. refl };
+}
 
 /// The vehicles with whose nodes that at place `a` of `v` may change places.
 #[derive(Drop)]
@@ -24,32 +50,22 @@ pub struct Targets<'a> {
 }
 
 impl<'a> Family for Targets<'a> {
-    type Inner = Run<AnyLast>;
+    type Inner = Run<AnyLast<Partners>>;
 
     ghost count = { λ s. length s.routes.now.lists };
 
     ghost moves = { λ s k. map (Exchange s.v s.a k) (places_behind s.routes.now.lists s.v s.a k) };
 
     #[inline]
-    fn open(&self, k: u32) -> Option<Run<AnyLast>> {
-        let mv = Move::Exchange {
+    fn open(&self, k: u32) -> Option<Run<AnyLast<Partners>>> {
+        let _few = self.routes.vehicles();
+        let partners = Partners {
             v: self.v,
             a: self.a,
             w: k,
-            b: 0,
         };
         let first = first_behind(self.v, self.a, k);
-        Some(Run::new(AnyLast(mv), first, self.routes.len(k)))
-    }
-
-    #[inline]
-    fn passed<S: Sieve>(&self, k: u32, sieve: &S) -> Option<u64> {
-        let _few = self.routes.vehicles();
-        if sieve.has(Neighbourhood::Exchange, self.v, k) {
-            let first = first_behind(self.v, self.a, k);
-            return Some(self.routes.len(k).saturating_sub(first) as u64);
-        }
-        None
+        Some(Run::new(AnyLast(partners), first, self.routes.len(k)))
     }
 }
 

@@ -1,17 +1,43 @@
 //! Nodes that are moved to other lists.
 
-ghost use Rattle.std.specs.Prelude.{◌≡◌, ℕ, ◌<◌, ◌≤◌, suc, length, map, filter};
-ghost use Rattle.vr_model.specs.tables.Numbers.{each};
-ghost use Rattle.vr_model.specs.routes.Routes.{route, vehicles};
-ghost use Rattle.vr_model.specs.moves.Moves.{places, gaps, is_other, moves_in};
-ghost use Rattle.vr_known.specs.Passing.{ArePassed};
-ghost use Rattle.vr_model.specs.declared.records.Model.{Model as Defined};
-ghost use Rattle.vr_model.specs.declared.neighbours.Move.TheVariants.{Relocate};
-ghost use Rattle.vr_model.specs.declared.neighbours.Neighbourhood.TheVariants.{Relocate as RelocateKind};
+ghost use Rattle.std.specs.Prelude.{◌≡◌, ◌<◌, filter, length, map, refl};
+ghost use Rattle.vr_known.specs.Listing.{each, gaps, is_other, moves_in, places, route, vehicles, Defined, Relocate};
+ghost use Rattle.vr_known.specs.Listing.{RelocateKind};
 
-use vr_known::{AnyLast, Each, Family, Moves, Run, Sieve};
+use vr_known::{AnyLast, Block, Each, Family, Moves, Pattern, Run};
 use vr_model::{Move, Neighbourhood};
 use vr_routes::Routes;
+
+/// The places of `w` before which the node at place `a` of `v` may be put.
+#[derive(Drop)]
+pub struct Gaps {
+    v: u32,
+    a: u32,
+    w: u32,
+    ghost vehicle: { v < 100 },
+    ghost other: { w < 100 },
+}
+
+impl Pattern for Gaps {
+    ghost move_at = { λ s k. Relocate s.v s.a s.w k };
+
+    #[inline]
+    fn make(&self, k: u32) -> Move {
+        Move::Relocate {
+            v: self.v,
+            a: self.a,
+            w: self.w,
+            t: k,
+        }
+    }
+
+    #[inline]
+    fn block(&self) -> Block {
+        Block::new(Neighbourhood::Relocate, self.v, self.w)
+    }
+
+    ghost differ_in_last = { λ s k. refl };
+}
 
 /// The vehicles to which the node at place `a` of `v` may be moved.
 #[derive(Drop)]
@@ -23,7 +49,7 @@ pub struct Targets<'a> {
 }
 
 impl<'a> Family for Targets<'a> {
-    type Inner = Run<AnyLast>;
+    type Inner = Run<AnyLast<Gaps>>;
 
     ghost count = { λ s. length s.routes.now.lists };
 
@@ -32,26 +58,17 @@ impl<'a> Family for Targets<'a> {
     ghost moves = { λ s k. map (Relocate s.v s.a k) (gaps (route s.routes.now.lists k)) };
 
     #[inline]
-    fn open(&self, k: u32) -> Option<Run<AnyLast>> {
+    fn open(&self, k: u32) -> Option<Run<AnyLast<Gaps>>> {
         if self.v == k {
             return None;
         }
-        let mv = Move::Relocate {
+        let _few = self.routes.vehicles();
+        let gaps = Gaps {
             v: self.v,
             a: self.a,
             w: k,
-            t: 0,
         };
-        Some(Run::new(AnyLast(mv), 0, self.routes.len(k) + 1))
-    }
-
-    #[inline]
-    fn passed<S: Sieve>(&self, k: u32, sieve: &S) -> Option<u64> {
-        let _few = self.routes.vehicles();
-        if self.v != k && sieve.has(Neighbourhood::Relocate, self.v, k) {
-            return Some(self.routes.len(k) as u64 + 1);
-        }
-        None
+        Some(Run::new(AnyLast(gaps), 0, self.routes.len(k) + 1))
     }
 }
 

@@ -1,17 +1,42 @@
 //! Inactive pairs that are put in.
 
-ghost use Rattle.std.specs.Prelude.{◌≡◌, ℕ, ◌<◌, ◌≤◌, suc, length, map};
-ghost use Rattle.vr_known.specs.Passing.{ArePassed};
-ghost use Rattle.vr_model.specs.tables.Numbers.{each, from_to};
-ghost use Rattle.vr_model.specs.routes.Routes.{route, vehicles};
-ghost use Rattle.vr_model.specs.moves.Moves.{gaps, is_pair_inactive, moves_in};
-ghost use Rattle.vr_model.specs.tables.WellFormed.{IsWellFormed};
-ghost use Rattle.vr_model.specs.declared.neighbours.Move.TheVariants.{PairActive};
-ghost use Rattle.vr_model.specs.declared.neighbours.Neighbourhood.TheVariants.{PairActive as PairActiveKind};
+ghost use Rattle.std.specs.Prelude.{◌≡◌, ◌<◌, ◌≤◌, length, map, refl, suc};
+ghost use Rattle.vr_known.specs.Listing.{each, from_to, gaps, is_pair_inactive, moves_in, route, vehicles};
+ghost use Rattle.vr_known.specs.Listing.{IsWellFormed, PairActive, PairActiveKind};
 
-use vr_known::{AnyLast, Each, Family, Moves, Run, Sieve};
+use vr_known::{AnyLast, Block, Each, Family, Moves, Pattern, Run};
 use vr_model::{Model as RoutingModel, Move, Neighbourhood};
 use vr_routes::{Routes, is_pair_inactive};
+
+/// The places of `w` before which the delivery may be put, where the pickup is put before place `s`.
+#[derive(Drop)]
+pub struct Deliveries {
+    p: u32,
+    w: u32,
+    s: u32,
+    ghost vehicle: { w < 100 },
+}
+
+impl Pattern for Deliveries {
+    ghost move_at = { λ m t. PairActive m.p m.w m.s t };
+
+    #[inline]
+    fn make(&self, t: u32) -> Move {
+        Move::PairActive {
+            p: self.p,
+            w: self.w,
+            s: self.s,
+            t,
+        }
+    }
+
+    #[inline]
+    fn block(&self) -> Block {
+        Block::new(Neighbourhood::PairActive, 0, self.w)
+    }
+
+    ghost differ_in_last = { λ m t. refl };
+}
 
 /// The places of `w`, which has `n`, before which the pickup may be put.
 #[derive(Drop)]
@@ -24,29 +49,20 @@ pub struct Pickups {
 }
 
 impl Family for Pickups {
-    type Inner = Run<AnyLast>;
+    type Inner = Run<AnyLast<Deliveries>>;
 
     ghost count = { λ s. suc s.n };
 
     ghost moves = { λ s k. map (PairActive s.p s.w k) (from_to k (suc s.n)) };
 
     #[inline]
-    fn open(&self, k: u32) -> Option<Run<AnyLast>> {
-        let mv = Move::PairActive {
+    fn open(&self, k: u32) -> Option<Run<AnyLast<Deliveries>>> {
+        let deliveries = Deliveries {
             p: self.p,
             w: self.w,
             s: k,
-            t: 0,
         };
-        Some(Run::new(AnyLast(mv), k, self.n + 1))
-    }
-
-    #[inline]
-    fn passed<S: Sieve>(&self, k: u32, sieve: &S) -> Option<u64> {
-        if sieve.has(Neighbourhood::PairActive, 0, self.w) {
-            return Some((self.n + 1 - k) as u64);
-        }
-        None
+        Some(Run::new(AnyLast(deliveries), k, self.n + 1))
     }
 }
 

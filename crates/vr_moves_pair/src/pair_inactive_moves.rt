@@ -1,10 +1,7 @@
 //! Pairs that are taken out.
 
-ghost use Rattle.std.specs.Prelude.{◌≡◌, ◌≤◌, ℕ, length};
-ghost use Rattle.vr_model.specs.moves.Moves.{is_pair_together, moves_in};
-ghost use Rattle.vr_model.specs.tables.WellFormed.{IsWellFormed};
-ghost use Rattle.vr_model.specs.declared.neighbours.Move.TheVariants.{PairInactive};
-ghost use Rattle.vr_model.specs.declared.neighbours.Neighbourhood.TheVariants.{PairInactive as PairInactiveKind};
+ghost use Rattle.std.specs.Prelude.{◌≡◌, ◌≤◌, length};
+ghost use Rattle.vr_known.specs.Listing.{is_pair_together, moves_in, IsWellFormed, PairInactive, PairInactiveKind};
 
 use vr_known::{Moves, Numbered, Run, Sieve};
 use vr_model::{Model as RoutingModel, Move, Neighbourhood};

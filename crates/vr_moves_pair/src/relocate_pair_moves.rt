@@ -1,18 +1,12 @@
 //! Served pairs that are put elsewhere.
 
-ghost use Rattle.std.specs.Prelude.{◌≡◌, ℕ, ◌<◌, ◌≤◌, suc, length, map, filter};
-ghost use Rattle.vr_known.specs.Passing.{ArePassed};
-ghost use Rattle.vr_model.specs.tables.Numbers.{each, from_to};
-ghost use Rattle.vr_model.specs.routes.Routes.{route, vehicles};
-ghost use Rattle.vr_model.specs.tables.Tables.{pair_at};
-ghost use Rattle.vr_model.specs.moves.Moves.{changes_the_list, gaps, is_pair_served, moves_in, without_pair};
-ghost use Rattle.vr_model.specs.tables.WellFormed.{IsWellFormed};
-ghost use Rattle.vr_model.specs.declared.neighbours.Move.TheVariants.{RelocatePair};
-ghost use Rattle.vr_model.specs.declared.neighbours.Neighbourhood.TheVariants.{RelocatePair as RelocatePairKind};
+ghost use Rattle.std.specs.Prelude.{◌≡◌, ◌<◌, ◌≤◌, filter, length, map, suc};
+ghost use Rattle.vr_known.specs.Listing.{each, from_to, is_pair_served, moves_in, pair_at, route, vehicles};
+ghost use Rattle.vr_known.specs.Listing.{IsWellFormed, RelocatePair, RelocatePairKind};
 ghost use Rattle.vr_routes.specs.Pairs.{ArePlaces, is_elsewhere};
 ghost use Rattle.vr_moves_pair.specs.Putting.{puts_into};
 
-use vr_known::{Each, Family, Moves, Numbered, Run, Sieve};
+use vr_known::{Block, Each, Family, Moves, Numbered, Run};
 use vr_model::{Model as RoutingModel, Move, Neighbourhood};
 use vr_routes::{PairPlaces, Routes, is_elsewhere, pair_served, rest_len};
 
@@ -24,6 +18,8 @@ pub struct Deliveries {
     w: u32,
     s: u32,
     at: PairPlaces,
+    ghost pair: { p < 500 },
+    ghost vehicle: { w < 100 },
     ghost order: { at.pickup < at.delivery },
 }
 
@@ -50,6 +46,11 @@ impl Numbered for Deliveries {
     #[inline]
     fn run(&self) -> Option<Move> {
         Some(self.make(0))
+    }
+
+    #[inline]
+    fn block(&self) -> Option<Block> {
+        Some(Block::new(Neighbourhood::RelocatePair, self.p, self.w))
     }
 
     #[inline]
@@ -92,20 +93,6 @@ impl Family for Pickups {
             at: self.at,
         };
         Some(Run::new(deliveries, k, self.n + 1))
-    }
-
-    #[inline]
-    fn passed<S: Sieve>(&self, k: u32, sieve: &S) -> Option<u64> {
-        if sieve.has(Neighbourhood::RelocatePair, self.p, self.w) {
-            let deliveries = Deliveries {
-                p: self.p,
-                w: self.w,
-                s: k,
-                at: self.at,
-            };
-            return Some(deliveries.many(k, self.n + 1) as u64);
-        }
-        None
     }
 }
 

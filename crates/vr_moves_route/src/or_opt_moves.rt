@@ -1,17 +1,41 @@
 //! Chains that are moved within a list.
 
-ghost use Rattle.std.specs.Prelude.{◌≡◌, ℕ, ◌+◌, ◌-◌, ◌<◌, ◌≤◌, nat_le, suc, length, map, filter};
-ghost use Rattle.vr_model.specs.tables.Numbers.{below, each, from_to};
-ghost use Rattle.vr_model.specs.routes.Routes.{route};
-ghost use Rattle.vr_model.specs.moves.Moves.{places, is_other, has_chain, moves_in};
-ghost use Rattle.vr_known.specs.Passing.{ArePassed};
-ghost use Rattle.vr_model.specs.declared.records.Model.{Model as Defined};
-ghost use Rattle.vr_model.specs.declared.neighbours.Move.TheVariants.{OrOpt};
-ghost use Rattle.vr_model.specs.declared.neighbours.Neighbourhood.TheVariants.{OrOpt as OrOptKind};
+ghost use Rattle.std.specs.Prelude.{◌≡◌, ◌+◌, ◌-◌, ◌<◌, ◌≤◌, filter, map, nat_le, refl, suc};
+ghost use Rattle.vr_known.specs.Listing.{below, each, from_to, is_other, moves_in, Defined, OrOpt, OrOptKind};
 
-use vr_known::{AnyLastBut, Each, Family, Moves, Run, Sieve};
+use vr_known::{AnyLastBut, Block, Each, Family, Lists, Moves, OfList, Pattern, Run, of_each_list};
 use vr_model::{Move, Neighbourhood};
 use vr_routes::Routes;
+
+/// The places before which the `k` nodes of `v` from place `a` on may be put.
+#[derive(Drop)]
+pub struct Gaps {
+    v: u32,
+    a: u32,
+    k: u32,
+    ghost vehicle: { v < 100 },
+}
+
+impl Pattern for Gaps {
+    ghost move_at = { λ s t. OrOpt s.v s.a s.k t };
+
+    #[inline]
+    fn make(&self, t: u32) -> Move {
+        Move::OrOpt {
+            v: self.v,
+            a: self.a,
+            k: self.k,
+            t,
+        }
+    }
+
+    #[inline]
+    fn block(&self) -> Block {
+        Block::new(Neighbourhood::OrOpt, self.v, self.v)
+    }
+
+    ghost differ_in_last = { λ s k. refl };
+}
 
 /// How many nodes of `v`, which has `n`, may be moved from place `a` on.
 #[derive(Drop)]
@@ -24,7 +48,7 @@ pub struct Chains {
 }
 
 impl Family for Chains {
-    type Inner = Run<AnyLastBut>;
+    type Inner = Run<AnyLastBut<Gaps>>;
 
     ghost count = { λ s. 4 };
 
@@ -33,28 +57,20 @@ impl Family for Chains {
     ghost moves = { λ s k. map (OrOpt s.v s.a k) (filter (is_other s.a) (below (suc (s.n - k)))) };
 
     #[inline]
-    fn open(&self, k: u32) -> Option<Run<AnyLastBut>> {
+    fn open(&self, k: u32) -> Option<Run<AnyLastBut<Gaps>>> {
         if self.a as u64 + k as u64 > self.n as u64 {
             return None;
         }
-        let mv = Move::OrOpt {
+        let pattern = Gaps {
             v: self.v,
             a: self.a,
             k,
-            t: 0,
         };
-        Some(Run::new(AnyLastBut { mv, but: self.a }, 0, self.n - k + 1))
-    }
-
-    #[inline]
-    fn passed<S: Sieve>(&self, k: u32, sieve: &S) -> Option<u64> {
-        if sieve.has(Neighbourhood::OrOpt, self.v, self.v) {
-            if self.a as u64 + k as u64 > self.n as u64 {
-                return Some(0);
-            }
-            return Some((self.n - k) as u64);
-        }
-        None
+        let others = AnyLastBut {
+            pattern,
+            but: self.a,
+        };
+        Some(Run::new(others, 0, self.n - k + 1))
     }
 }
 
@@ -86,38 +102,30 @@ impl Family for Begins {
     }
 }
 
-/// The vehicles.
+/// The chains of each list that are put elsewhere in it.
 #[derive(Drop)]
-pub struct Vehicles<'a> {
-    routes: &'a Routes,
-}
+pub struct Shifts {}
 
-impl<'a> Family for Vehicles<'a> {
+impl OfList for Shifts {
     type Inner = Each<Begins>;
 
-    ghost count = { λ s. length s.routes.now.lists };
-
-    ghost moves = { λ s k. each (places (route s.routes.now.lists k)) λ a.
-        each (filter (has_chain (route s.routes.now.lists k) a) (from_to 1 4)) λ j.
-        map (OrOpt k a j) (filter (is_other a) (below (suc (length (route s.routes.now.lists k) - j)))) };
+    ghost moves = { λ s v n. each (below n) λ a. each (filter (λ k. nat_le (a + k) n) (from_to 1 4)) λ k.
+        map (OrOpt v a k) (filter (is_other a) (below (suc (n - k)))) };
 
     #[inline]
-    fn open(&self, k: u32) -> Option<Each<Begins>> {
-        let _few = self.routes.vehicles();
-        let n = self.routes.len(k);
-        Some(Each::new(Begins { v: k, n }, 0, n))
+    fn open(&self, v: u32, n: u32) -> Each<Begins> {
+        Each::new(Begins { v, n }, 0, n)
     }
 }
 
 /// The moves that put up to three nodes elsewhere in their list (OR-Tools' `OrOpt`), in lexicographic order of their
 /// numbers. Contracts see the list of those that are left.
-pub type OrOptMoves<'a> = Moves<Each<Vehicles<'a>>>;
+pub type OrOptMoves<'a> = Moves<Each<Lists<'a, Shifts>>>;
 
 /// The moves that put up to three nodes elsewhere in their list (OR-Tools' `OrOpt`), in lexicographic order of their
 /// numbers.
 pub fn or_opt<'a>(routes: &'a Routes) -> OrOptMoves<'a>
     ensures { (model : Defined) → result ≡ moves_in model routes.now.lists OrOptKind }
 {
-    let vehicles = routes.vehicles();
-    Moves::new(Each::new(Vehicles { routes }, 0, vehicles))
+    of_each_list(routes, Shifts {})
 }

@@ -1,4 +1,4 @@
-use Rattle.std.proofs.Common.{◌≡◌, ◌-◌, ◌≤◌, ◌<◌}
+use Rattle.std.proofs.Common.{◌≡◌, ◌-◌, ◌<◌}
 use Rattle.vr_known.specs.Nests.{run_of}
 use Rattle.vr_known.proofs.nests.go_to_next.Given as goal
 

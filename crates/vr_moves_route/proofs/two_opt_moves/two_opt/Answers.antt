@@ -1,14 +1,4 @@
-use Rattle.std.proofs.Common.{◌∙◌, ℕ, List, suc, map, ap, length}
-use Rattle.vr_model.specs.tables.Numbers.{from_to, below, each}
-use Rattle.vr_model.specs.routes.Routes.{route}
-use Rattle.vr_model.specs.moves.Moves.{places}
-use Rattle.vr_model.specs.declared.neighbours.Move.{Move}
-use Rattle.vr_model.specs.declared.neighbours.Move.TheVariants.{TwoOpt}
-use Rattle.vr_known.proofs.NestLemmas.{joined_all_below}
 use Rattle.vr_moves_route.proofs.two_opt_moves.two_opt.Goals as goal
 
 pub returns : goal.returns
-returns c model =
-    let lists : List (List ℕ) = c.args.routes.now.lists in
-    let at : ℕ → List Move = λ v. each (places (route lists v)) (λ a. map (TwoOpt v a) (from_to (suc a) (length (route lists v)))) in
-    c.new-2.ensures ∙ c.new.ensures ∙ (joined_all_below at c.vehicles-vehicles.result ∙ ap (λ n. each (below n) at) c.vehicles-vehicles.ensures.value)
+returns c model = c.of_each_list.ensures

@@ -1,9 +1,0 @@
-use Rattle.std.proofs.Common.{◌∙◌, map, ap}
-use Rattle.vr_model.specs.tables.Numbers.{below}
-use Rattle.vr_model.specs.declared.neighbours.Move.TheVariants.{MakeInactive}
-use Rattle.vr_known.proofs.NestLemmas.{run_all_below}
-use Rattle.vr_moves_active.proofs.make_inactive_moves.VehiclesFamily.open.Goals as goal
-
-pub returns : goal.returns
-returns c =
-    c.new.ensures.rest ∙ (run_all_below (MakeInactive c.args.k) c.len.result ∙ ap (λ n. map (MakeInactive c.args.k) (below n)) c.len.ensures.value)
