@@ -1,16 +1,15 @@
 //! The arc costs of used vehicles.
 
-ghost use Rattle.std.specs.Prelude.{◌≡◌, ◌<◌, ◌≤◌, ◌-ℤ◌, ℕ, All, IsTrue, IfOk, IsOk, OnOk, OnErr, length};
+ghost use Rattle.std.specs.Prelude.{◌≡◌, ◌<◌, ◌≤◌, ℕ, All, IsTrue, IfOk, length};
 ghost use Rattle.vr_model.specs.routes.Costs.{arcs_part};
 ghost use Rattle.vr_model.specs.routes.Routes.{route, route_cost};
 ghost use Rattle.vr_model.specs.tables.Tables.{arc_cost, pair_at, visits};
 ghost use Rattle.vr_model.specs.routes.Rules.{is_valid};
 ghost use Rattle.vr_model.specs.tables.WellFormed.{IsWellFormed};
-ghost use Rattle.vr_routes.specs.Pieces.{changed, joined};
-ghost use Rattle.vr_routes.specs.Changes.{IsMadeOn, NothingReady};
+ghost use Rattle.vr_routes.specs.Pieces.{joined};
 ghost use Rattle.vr_arccosts.specs.Along.{StandsAlong};
 ghost use Rattle.vr_arccosts.specs.ArcMoves.{costs_more, with_between, IsKnownPiece};
-ghost use Rattle.vr_parts.specs.Bounds.{IsAddedByChange, IsAddedByList};
+ghost use Rattle.vr_parts.specs.Bounds.{IsAddedByList};
 
 use crate::costs::ArcCosts;
 use crate::gaps::Line;
@@ -20,7 +19,7 @@ use std::alloc::Global;
 use std::marker::Model;
 use vr_balance::strip;
 use vr_model::{Model as RoutingModel, NoMemory, Pair};
-use vr_parts::{CostPart, ListCost, added_by};
+use vr_parts::{InfallibleCost, ListCost, added_by};
 use vr_routes::{Change, Piece, Routes, Row};
 
 /// The arc costs of used vehicles (`SetArcCostEvaluatorOfVehicle` in OR-Tools). To tell what a change adds takes no
@@ -66,18 +65,6 @@ impl<'m> ArcCost<'m> {
             along,
             row: Row::new(),
         })
-    }
-
-    /// What a change of the committed lists adds, also where the lists after it are not valid.
-    #[inline]
-    pub fn added(&self, routes: &Routes, change: &Change) -> i64
-        requires stands { StandsAlong self.now routes.now }
-        requires made { IsMadeOn routes.now change.now }
-        ensures exact { result ≡ arcs_part self.now.model (changed routes.now.lists change.now)
-            -ℤ arcs_part self.now.model routes.now.lists }
-        ensures range { IsAddedByChange result }
-    {
-        added_by(self, routes, change)
     }
 
     /// What pieces add to the arc costs of a vehicle between the first `front` visits of its list and those from place
@@ -192,45 +179,19 @@ impl<'m> ListCost for ArcCost<'m> {
     }
 }
 
-impl<'m> CostPart for ArcCost<'m> {
-    ghost use Rattle.std.specs.Prelude.{ℕ, List};
-
-    ghost model = { λ part. part.model };
+impl<'m> InfallibleCost for ArcCost<'m> {
+    ghost model = { λ cost. cost.model };
 
     ghost value = { arcs_part };
 
     ghost stands_at = { StandsAlong };
 
-    ghost ready = { λ part tours parts. Unit {0} };
-
-    fn difference(&mut self, routes: &Routes, change: &Change) -> Result<i64, NoMemory>
-        requires stands { StandsAlong self.old routes.now }
-        requires made { IsMadeOn routes.now change.now }
-        requires valid { IsTrue (is_valid self.old.model (changed routes.now.lists change.now)) }
-        ensures exact { IfOk result (λ difference. difference
-            ≡ arcs_part self.old.model (changed routes.now.lists change.now)
-            -ℤ arcs_part self.old.model routes.now.lists) }
-        ensures stands { StandsAlong self.new routes.now }
-        ensures model { self.new.model ≡ self.old.model }
-        ensures range { IfOk result IsAddedByChange }
-        ensures memory { IsOk result }
-    {
-        let added = self.added(routes, change);
-        Ok(added)
+    #[inline]
+    fn added(&mut self, routes: &Routes, change: &Change) -> i64 {
+        added_by(self, routes, change)
     }
 
-    fn prepare(&mut self, _routes: &Routes, _change: &Change) -> Result<(), NoMemory>
-        requires stands { StandsAlong self.old _routes.now }
-        ensures ready { OnOk result (Unit {0}) }
-        ensures unready { OnErr result (NothingReady (λ tours parts. Unit {0})) }
-        ensures stands { StandsAlong self.new _routes.now }
-        ensures model { self.new.model ≡ self.old.model }
-        ensures memory { IsOk result }
-    {
-        Ok(())
-    }
-
-    fn commit(&mut self, routes: &Routes, change: &Change) {
+    fn commit_lists(&mut self, routes: &Routes, change: &Change) {
         for k in 0..change.parts() {
             let v = change.vehicle(k);
             routes.join_into(change.pieces(k), &mut self.row);

@@ -76,6 +76,8 @@ impl<'a, 'm> CrossRun<'a, 'm> {
             asked: asked.ending(n),
         };
         let b = left.first_left();
+        // With an empty front of `v`, the move at the end of `w` leaves `w` unused, which then costs nothing: it is
+        // asked alone.
         if b < n || self.lists.crossed(self.v, 0, self.w, n) < asked.bound {
             return b;
         }

@@ -16,6 +16,7 @@ ghost use Rattle.vr_parts.specs.Bounds.{IsAddedByChange, IsAddedByList};
 use crate::ArcCost;
 use crate::committed::Committed;
 use vr_model::Move;
+use vr_parts::added_by;
 use vr_routes::{Change, Piece, Routes};
 
 impl<'m> ArcCost<'m> {
@@ -31,7 +32,7 @@ impl<'m> ArcCost<'m> {
     {
         match self.added_by_numbers(routes, mv) {
             Some(added) => added,
-            None => self.added(routes, change),
+            None => added_by(self, routes, change),
         }
     }
 

@@ -20,7 +20,7 @@ impl<'m> ArcCost<'m> {
     /// `from` on, below `end`. Says from which number on some may add less than a bound, also where the lists after it
     /// are not valid: each move in front of it adds no less. The numbers of `mv`, of which the last is any, need not be
     /// those of a move: of a vehicle, a pair or a place that there is not it says `from` or `None`. `None` of kinds
-    /// that it does not go over (`MakeInactive` and `PairInactive`).
+    /// that it does not go over (`MakeInactive` and `PairInactive`); how near it comes to the first is not promised.
     #[inline(always)]
     pub fn first_below(
         &self,

@@ -1,69 +1,31 @@
--- What is kept of a tight vehicle's list, written place by place, and what a changed list makes of it.
+-- What is kept of a tight vehicle's list, and what a changed list makes of it.
 use Rattle.std.proofs.Common.{◌≡◌, ◌∙◌, ℕ, suc, ◌+◌, ◌-◌, ◌<◌, ◌≤◌, List, [], ◌∷◌, ◌++◌, length, length-append, take, drop, refl, ap, ap₂, sym, subst, arith}
 use Rattle.std.specs.Prelude.{pos, ◌≤ℤ◌, All, IsTrue, slice_index_or}
-use Rattle.std.proofs.Math.Seq.{drop-cons}
 use Rattle.std.proofs.lemmas.Int.{ints}
 use Rattle.std.proofs.lemmas.List.{get_or_default, length-drop}
 use Rattle.std.proofs.lemmas.List.Elements.{All-drop}
-use Rattle.std.proofs.lemmas.List.Sums.{fold_more}
 use Rattle.vr_spans.specs.declared.runs.Run.{Run}
 use Rattle.vr_model.specs.tables.Tables.{is_visit, transit, vehicle_at}
 use Rattle.vr_model.specs.schedules.Lines.{line}
 use Rattle.vr_model.specs.schedules.Schedules.{IsFeasible}
 use Rattle.vr_model.specs.declared.records.Model.{Model}
-use Rattle.vr_model.proofs.routes.Lists.{visit_below}
-use Rattle.vr_earliest.proofs.KeptLemmas.{HaveCome, come-on}
 use Rattle.vr_routes.proofs.JoinedPieces.{all_left, all_right}
 use Rattle.vr_reach.specs.Lists.{IsTour}
-use Rattle.vr_costfilter.specs.KeptWays.{AreRestsTo, AreWays, AreWaysTo, HasWays}
+use Rattle.vr_costfilter.specs.KeptWays.{AreWays, HasWaysBy}
 use Rattle.vr_costfilter.specs.GuideRuns.{runs_of}
-use Rattle.vr_costfilter.specs.Led.{AreFewVisits}
-use Rattle.vr_costfilter.specs.Rests.{rest_before, rest_by, rest_of, way_through, IsRestOf}
+use Rattle.vr_costfilter.specs.Rests.{rest_by, rest_of, way_through, IsRestOf}
 use Rattle.vr_costfilter.specs.Runs.{Runs, AllowsRuns, AreRuns, no_run, run_at, stop_runs}
-use Rattle.vr_costfilter.specs.Ways.{way_along, way_on, way_out, way_to_visit, whole_way, IsWayOf}
-use Rattle.vr_costfilter.specs.declared.kept_ways.KeptWays.{KeptWays}
+use Rattle.vr_costfilter.specs.Ways.{tight-more, way_along, way_on, way_out, way_to_visit, whole_way, IsWayOf}
+use Rattle.vr_costfilter.specs.KeptWays.{KeptWays}
 use Rattle.vr_costfilter.specs.declared.guides.Guide.{Guide}
 use Rattle.vr_costfilter.specs.declared.rests.Rest.{Rest}
 use Rattle.vr_costfilter.specs.declared.tight.Way.{Way}
 use Rattle.vr_costfilter.proofs.EndLemmas.{bounds}
 use Rattle.vr_costfilter.proofs.KeptCumulLemmas.{all-visits}
 use Rattle.vr_costfilter.proofs.LeastLemmas.{arcs-many}
-use Rattle.vr_costfilter.proofs.RestLemmas.{before-rest, end-way, rest-more, rest-range, whole-parts}
+use Rattle.vr_costfilter.proofs.RestLemmas.{end-way, rest-range, whole-parts}
 use Rattle.vr_costfilter.proofs.RunLemmas.{finish-run, line-allows, start-run, stop-last, stop-visit, visit-run}
-use Rattle.vr_costfilter.proofs.WayLemmas.{along-part, along-way, on-way, out-way, visit-ends, way-more}
-
--- ---- place by place
-
--- what is left from one place on, by what is left from the next one on
-pub rest-next : (model : Model) (d v : ℕ) (runs : Runs) (list : List ℕ) (k : ℕ) → k < length list
-    → rest_of model d v runs (drop (length list - (k + 1)) list) ≡ rest_before model d v runs (slice_index_or list (length list - 1 - k) 0) (rest_of model d v runs (drop (length list - k) list))
-rest-next model d v runs list k low =
-    let here : length list - (k + 1) ≡ length list - 1 - k = omega (arith, low) in
-    let next : suc (length list - (k + 1)) ≡ length list - k = omega (arith, low) in
-    ap (rest_of model d v runs) (drop-cons list (length list - (k + 1)) 0 (omega (arith, low)))
-    ∙ ap₂ (λ i n. rest_before model d v runs (slice_index_or list i 0) (rest_of model d v runs (drop n list))) here next
-
-module _ (g : Guide) (list : List ℕ) (are : AreFewVisits g.model.now list) (k : ℕ) (low : k < length list) where
-  -- one visit more
-  pub walked-on : {ways more : List Way} {way next : Way} → AreWaysTo g.model.now g.d g.v (runs_of g) list k ways → way ≡ way_along g.model.now g.d g.v (runs_of g) (way_out g.model.now g.v (runs_of g)) (take k list) → IsWayOf g.model.now k way
-      → next ≡ way_to_visit g.model.now g.d g.v (runs_of g) way (slice_index_or list k 0) → more ≡ ways ++ next ∷ []
-      → HaveCome (λ n. way_along g.model.now g.d g.v (runs_of g) (way_out g.model.now g.v (runs_of g)) (take n list)) (IsWayOf g.model.now) (k + 1) more next
-  walked-on {ways} {more} {way} {next} ways_are at range is pushed =
-      let node : ℕ = slice_index_or list k 0 in
-      let known = are.visits k 0 low in
-      let allowed = visit-ends g.model.now g.sound.well_formed g.d g.v g.sound.dimension g.sound.vehicle (runs_of g) g.sound.visits node no_run known in
-      come-on (λ n. way_along g.model.now g.d g.v (runs_of g) (way_out g.model.now g.v (runs_of g)) (take n list)) (IsWayOf g.model.now) (λ (w : Way). way_to_visit g.model.now g.d g.v (runs_of g) w node) k
-      (sym (fold_more (way_to_visit g.model.now g.d g.v (runs_of g)) (way_out g.model.now g.v (runs_of g)) list k 0 low)) ways_are at
-      (on-way g.model.now g.sound.well_formed g.d g.v g.sound.dimension g.sound.vehicle k way node (slice_index_or g.visits.now node no_run) range (visit_below g.model.now node known) allowed) is pushed
-
-  -- one visit more, from the end backwards
-  pub left-behind : {rests more : List Rest} {rest next : Rest} → AreRestsTo g.model.now g.d g.v (runs_of g) list k rests → rest ≡ rest_of g.model.now g.d g.v (runs_of g) (drop (length list - k) list) → IsRestOf g.model.now k rest
-      → next ≡ rest_before g.model.now g.d g.v (runs_of g) (slice_index_or list (length list - 1 - k) 0) rest → more ≡ rests ++ next ∷ []
-      → HaveCome (λ n. rest_of g.model.now g.d g.v (runs_of g) (drop (length list - n) list)) (IsRestOf g.model.now) (k + 1) more next
-  left-behind {rests} {more} {rest} {next} rests_are at range is pushed =
-      come-on (λ n. rest_of g.model.now g.d g.v (runs_of g) (drop (length list - n) list)) (IsRestOf g.model.now) (λ (r : Rest). rest_before g.model.now g.d g.v (runs_of g) (slice_index_or list (length list - 1 - k) 0) r) k
-      (sym (rest-next g.model.now g.d g.v (runs_of g) list k low)) rests_are at
-      (before-rest g.model.now g.sound.well_formed g.d g.v g.sound.dimension g.sound.vehicle (runs_of g) g.sound.visits k rest (slice_index_or list (length list - 1 - k) 0) range (are.visits (length list - 1 - k) 0 (omega (arith, low)))) is pushed
+use Rattle.vr_costfilter.proofs.WayLemmas.{along-part, along-way, out-way}
 
 -- ---- by whatever table the runs were looked up
 
@@ -104,17 +66,17 @@ module _ (model : Model) (d v : ℕ) (a b : Runs) (of_a : AreRuns model d v a) (
       (subst (λ (r : Run). r.lo ≤ℤ r.hi) (stop-visit a list k low) (some (suc k) (omega (arith, low)))))
 
 -- the numbers of what is kept
-module _ (g : Guide) (list : List ℕ) (few : length list ≤ 1000) (visits : All (λ node. IsTrue (is_visit g.model.now node)) list) (kept : KeptWays) (has : HasWays g.model.now g.d g.v (runs_of g) list kept) where
+module _ (g : Guide) (list : List ℕ) (few : length list ≤ 1000) (visits : All (λ node. IsTrue (is_visit g.model.now node)) list) (kept : KeptWays) (has : HasWaysBy g.model.now g.d g.v (runs_of g) list kept) where
   pub kept-way : (k : ℕ) (other : Way) → k ≤ length list → IsWayOf g.model.now 1000 (slice_index_or kept.ways.items k other)
   kept-way k other low =
-      subst (IsWayOf g.model.now 1000) (sym (has.ways.each k other low))
-      (way-more g.model.now (0 + k) 1000 _ (omega (arith, few, low))
+      subst (IsWayOf g.model.now 1000) (sym (has.keeps.ways.each k other low))
+      (tight-more (0 + k) 1000 (omega (arith, few, low))
       (along-part g.model.now g.sound.well_formed g.d g.v g.sound.dimension g.sound.vehicle (runs_of g) g.sound.visits list visits 0 (way_out g.model.now g.v (runs_of g)) (out-way g.model.now g.sound.well_formed g.d g.v g.sound.dimension g.sound.vehicle (runs_of g) g.sound.start) k low))
 
   pub kept-rest : (k : ℕ) (other : Rest) → k ≤ length list → IsRestOf g.model.now 1000 (slice_index_or kept.rests.items k other)
   kept-rest k other low =
-      subst (IsRestOf g.model.now 1000) (sym (has.rests.each k other low))
-      (rest-more g.model.now (length (drop (length list - k) list)) 1000 _ (let l = length-drop (length list - k) list in omega (arith, few, l))
+      subst (IsRestOf g.model.now 1000) (sym (has.keeps.rests.each k other low))
+      (tight-more (length (drop (length list - k) list)) 1000 (let l = length-drop (length list - k) list in omega (arith, few, l))
       (rest-range g.model.now g.sound.well_formed g.d g.v g.sound.dimension g.sound.vehicle (runs_of g) g.sound.visits g.sound.finish (drop (length list - k) list) (All-drop (λ node. IsTrue (is_visit g.model.now node)) (length list - k) list visits)))
 
 -- ---- a list keeps the front and the end of an old one
@@ -161,7 +123,7 @@ module _ {g : Guide} {old list : List ℕ} {front behind : ℕ} {middle : List �
   pub way-known : (way : Way) → front ≤ length old → ((other : Way) → way ≡ slice_index_or kept.ways.items front other)
       → way ≡ way_along g.model.now g.d g.v (runs_of g) (way_out g.model.now g.v (runs_of g)) (take front old)
   way-known way low read =
-      read way ∙ it.is.has.ways.each front way low
+      read way ∙ it.is.has.keeps.ways.each front way low
       ∙ same-way g.model.now g.d g.v it.is.runs (runs_of g) (take front old) (in-front (λ node. slice_index_or it.is.runs.visits node no_run ≡ slice_index_or g.visits.now node no_run) same-all) (way_out g.model.now g.v it.is.runs)
       ∙ ap (λ (r : Run). (let out : Way = record { at = (vehicle_at g.model.now g.v).start; time = r.lo; transits = pos 0; latest = r.hi } in way_along g.model.now g.d g.v (runs_of g) out (take front old)))
       (same-start g.model.now g.d g.v it.is.runs (runs_of g) it.is.has.runs_are it.are list it.tour it.feasible)
@@ -170,16 +132,16 @@ module _ {g : Guide} {old list : List ℕ} {front behind : ℕ} {middle : List �
   way-small way low read =
       let n = parts in
       subst (IsWayOf g.model.now 1000) (sym (way-known way low read))
-      (way-more g.model.now (0 + length (take front old)) 1000 _ (omega (arith, n, it.few))
+      (tight-more (0 + length (take front old)) 1000 (omega (arith, n, it.few))
       (along-way g.model.now g.sound.well_formed g.d g.v g.sound.dimension g.sound.vehicle (runs_of g) g.sound.visits (take front old) (in-front (λ node. IsTrue (is_visit g.model.now node)) visits) 0 (way_out g.model.now g.v (runs_of g)) (out-way g.model.now g.sound.well_formed g.d g.v g.sound.dimension g.sound.vehicle (runs_of g) g.sound.start)))
 
   -- what is kept behind
   pub rest-known : (rest : Rest) → behind ≤ length old → ((other : Rest) → rest ≡ slice_index_or kept.rests.items (length kept.rests.items - 1 - behind) other)
       → rest ≡ rest_of g.model.now g.d g.v (runs_of g) (drop behind old)
   rest-known rest low read =
-      let here : length kept.rests.items - 1 - behind ≡ length old - behind = omega (arith, it.is.has.rests.many) in
+      let here : length kept.rests.items - 1 - behind ≡ length old - behind = omega (arith, it.is.has.keeps.rests.many) in
       let back : length old - (length old - behind) ≡ behind = omega (arith, low) in
-      read rest ∙ ap (λ n. slice_index_or kept.rests.items n rest) here ∙ it.is.has.rests.each (length old - behind) rest (omega arith) ∙ ap (λ n. rest_of g.model.now g.d g.v it.is.runs (drop n old)) back
+      read rest ∙ ap (λ n. slice_index_or kept.rests.items n rest) here ∙ it.is.has.keeps.rests.each (length old - behind) rest (omega arith) ∙ ap (λ n. rest_of g.model.now g.d g.v it.is.runs (drop n old)) back
       ∙ same-rest g.model.now g.d g.v it.is.runs (runs_of g) (same-finish g.model.now g.d g.v it.is.runs (runs_of g) it.is.has.runs_are it.are list it.tour it.feasible)
       (drop behind old) (in-back (λ node. slice_index_or it.is.runs.visits node no_run ≡ slice_index_or g.visits.now node no_run) same-all)
 
@@ -187,7 +149,7 @@ module _ {g : Guide} {old list : List ℕ} {front behind : ℕ} {middle : List �
   rest-small rest low read =
       let n = parts in
       subst (IsRestOf g.model.now 1000) (sym (rest-known rest low read))
-      (rest-more g.model.now (length (drop behind old)) 1000 _ (omega (arith, n, it.few))
+      (tight-more (length (drop behind old)) 1000 (omega (arith, n, it.few))
       (rest-range g.model.now g.sound.well_formed g.d g.v g.sound.dimension g.sound.vehicle (runs_of g) g.sound.visits g.sound.finish (drop behind old) (in-back (λ node. IsTrue (is_visit g.model.now node)) visits)))
 
   -- the way along the front, on along the middle and through what is left is the whole one
@@ -199,7 +161,7 @@ module _ {g : Guide} {old list : List ℕ} {front behind : ℕ} {middle : List �
       ∙ ap₂ (λ (w : Way) (r : Rest). way_through g.model.now g.d g.v w r) (way_is ∙ ap (λ (w : Way). way_along g.model.now g.d g.v (runs_of g) w middle) (way-known first low way_read)) (rest-known rest high rest_read)
       ∙ whole-parts g.model.now g.d g.v (runs_of g) (take front old) middle (drop behind old) list it.joins
 
-  pub whole-small : (way whole : Way) (rest : Rest) → behind ≤ length old → IsWayOf g.model.now 2000 way → ((other : Rest) → rest ≡ slice_index_or kept.rests.items (length kept.rests.items - 1 - behind) other)
-      → whole ≡ way_through g.model.now g.d g.v way rest → IsWayOf g.model.now 3001 whole
+  pub whole-small : (way whole : Way) (rest : Rest) → behind ≤ length old → IsWayOf g.model.now 9000 way → ((other : Rest) → rest ≡ slice_index_or kept.rests.items (length kept.rests.items - 1 - behind) other)
+      → whole ≡ way_through g.model.now g.d g.v way rest → IsWayOf g.model.now 10001 whole
   whole-small way whole rest high range read whole_is =
-      subst (IsWayOf g.model.now 3001) (sym whole_is) (end-way g.model.now g.sound.well_formed g.d g.v g.sound.dimension g.sound.vehicle 2000 1000 way rest range (rest-small rest high read))
+      subst (IsWayOf g.model.now 10001) (sym whole_is) (end-way g.model.now g.sound.well_formed g.d g.v g.sound.dimension g.sound.vehicle 9000 1000 way rest range (rest-small rest high read))

@@ -23,9 +23,9 @@ use Rattle.vr_routes.specs.Pieces.{ListAfter, joined, no_part, part_at, changed}
 use Rattle.vr_routes.specs.Changes.{AreParts}
 use Rattle.vr_routes.specs.Tours.{Tours}
 use Rattle.vr_costfilter.specs.Kept.{AreAllKept}
-use Rattle.vr_costfilter.specs.Orders.{beside, extent_but, IsInRange, IsReach, IsTold}
-use Rattle.vr_costfilter.specs.Order.{names}
-use Rattle.vr_costfilter.specs.declared.orders.Orders.{Orders}
+use Rattle.vr_costfilter.specs.SortedEnds.{beside, extent_but, IsInRange, IsReach, IsTold}
+use Rattle.vr_costfilter.specs.SortedVehicles.{names}
+use Rattle.vr_costfilter.specs.declared.orders.SortedEnds.{SortedEnds}
 use Rattle.vr_costfilter.proofs.ReachLemmas.{is-not, extent-but-is, reach-all, reach-more, reach-same}
 use Rattle.vr_costfilter.specs.GlobalCosts.{extent_after, global_cost_of, has_global_span, is_some_spanned, orders_at, span_cost_after, spans_cost_after, told_in, vehicles_of, AreAllOrders, IsRow, AreLike, AreNextRows, AreRanged, AreRowsAfter, IsGlobalCost, KeptSpans, Pays, StandsSpans}
 use Rattle.vr_costfilter.specs.Known.{IsValidChange}
@@ -95,7 +95,7 @@ pub told-ranged : (model : Model) (d v : ℕ) (list : List ℕ) (timing : Option
 told-ranged model d v list None unused = tt
 told-ranged model d v list (Some timing) is = is.range
 
-module _ (model : Model) (lists : List (List ℕ)) (orders : List Orders) (are : AreAllOrders model lists orders) where
+module _ (model : Model) (lists : List (List ℕ)) (orders : List SortedEnds) (are : AreAllOrders model lists orders) where
   -- the cumuls of orders are in their range, without rows
   pub ranged-alone : AreRanged model orders []
   ranged-alone = record {
@@ -124,7 +124,7 @@ module _ (model : Model) (lists : List (List ℕ)) (orders : List Orders) (are :
         (extent_but (vehicles_of parts) (orders_at orders d)) (extent-but-is model d lists (orders_at orders d) (are.each d low pays) (vehicles_of parts)))
 
 -- what the global spans cost where the extents are those of lists
-cost-told : (model : Model) (lists : List (List ℕ)) (orders : List Orders) (vehicles : List ℕ) (next : List (List (Option Timing)))
+cost-told : (model : Model) (lists : List (List ℕ)) (orders : List SortedEnds) (vehicles : List ℕ) (next : List (List (Option Timing)))
     → ((d : ℕ) → d < length model.dimensions → Pays model d → IsReach model d lists (λ v. true) (extent_after d vehicles next (orders_at orders d)))
     → spans_cost_after model orders vehicles next ≡ global_cost_of model lists
 cost-told model lists orders vehicles next h =
@@ -133,12 +133,12 @@ cost-told model lists orders vehicles next h =
     global-cost model lists d low (extent_after d vehicles next (orders_at orders d)) (λ pays. reach-all model d lists (extent_after d vehicles next (orders_at orders d)) (h d low pays)))
 
 -- what they cost with lists
-pub cost-alone : (model : Model) (lists : List (List ℕ)) (orders : List Orders) → AreAllOrders model lists orders → spans_cost_after model orders [] [] ≡ global_cost_of model lists
+pub cost-alone : (model : Model) (lists : List (List ℕ)) (orders : List SortedEnds) → AreAllOrders model lists orders → spans_cost_after model orders [] [] ≡ global_cost_of model lists
 cost-alone model lists orders are =
     cost-told model lists orders [] [] (λ d low pays. extent-but-is model d lists (orders_at orders d) (are.each d low pays) [])
 
 -- what they cost after a change of lists
-pub cost-after : (model : Model) (lists : List (List ℕ)) (orders : List Orders) → AreAllOrders model lists orders → (parts : List ListAfter) → AreParts lists parts
+pub cost-after : (model : Model) (lists : List (List ℕ)) (orders : List SortedEnds) → AreAllOrders model lists orders → (parts : List ListAfter) → AreParts lists parts
     → (next : List (List (Option Timing))) → AreRowsAfter model lists parts (length parts) next → spans_cost_after model orders (vehicles_of parts) next ≡ global_cost_of model (changed lists parts)
 cost-after model lists orders are parts parts_are next rows =
     cost-told model (changed lists parts) orders (vehicles_of parts) next (reach-after model lists orders are parts next rows parts_are)
@@ -193,12 +193,12 @@ rows-after-push model lists parts k rows more row h new is = record {
 }
 
 -- the same orders and rows, as code reads them
-pub ranged-same : (m n : Model) (os os' : List Orders) (rows rows' : List (List (Option Timing))) → n ≡ m → os' ≡ os → rows' ≡ rows → AreRanged m os rows → AreRanged n os' rows'
+pub ranged-same : (m n : Model) (os os' : List SortedEnds) (rows rows' : List (List (Option Timing))) → n ≡ m → os' ≡ os → rows' ≡ rows → AreRanged m os rows → AreRanged n os' rows'
 ranged-same m n os os' rows rows' model_is orders_are rows_are h =
     subst (λ x. AreRanged x os' rows') (sym model_is) (subst (λ x. AreRanged m x rows') (sym orders_are) (subst (λ x. AreRanged m os x) (sym rows_are) h))
 
 -- and what they tell
-pub cost-same : (m n : Model) (os os' : List Orders) (us us' : List ℕ) (rows rows' : List (List (Option Timing))) → n ≡ m → os' ≡ os → us' ≡ us → rows' ≡ rows → spans_cost_after n os' us' rows' ≡ spans_cost_after m os us rows
+pub cost-same : (m n : Model) (os os' : List SortedEnds) (us us' : List ℕ) (rows rows' : List (List (Option Timing))) → n ≡ m → os' ≡ os → us' ≡ us → rows' ≡ rows → spans_cost_after n os' us' rows' ≡ spans_cost_after m os us rows
 cost-same m n os os' us us' rows rows' model_is orders_are vehicles_are rows_are =
     ap (λ x. spans_cost_after x os' us' rows') model_is ∙ ap (λ x. spans_cost_after m x us' rows') orders_are ∙ ap (λ x. spans_cost_after m os x rows') vehicles_are ∙ ap (λ x. spans_cost_after m os us x) rows_are
 

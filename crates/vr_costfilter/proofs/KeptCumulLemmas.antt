@@ -20,7 +20,7 @@ use Rattle.vr_costfilter.specs.Stages.{along, setting_out, standing, to_end, to_
 use Rattle.vr_costfilter.specs.KeptWays.{AreKeptWays, HaveKeptWays}
 use Rattle.vr_costfilter.specs.Kept.{AreAsMany, AreKept, HasRoom, IsKept}
 use Rattle.vr_costfilter.specs.Steps.{steps_of, AreAllStages, AreKnownSteps, AreStages, AreSteps, HasStages}
-use Rattle.vr_costfilter.specs.declared.kept_ways.KeptWays.{KeptWays}
+use Rattle.vr_costfilter.specs.KeptWays.{KeptWays}
 use Rattle.vr_costfilter.specs.declared.guides.Stage.{Stage}
 use Rattle.vr_costfilter.specs.declared.kept.KeptList.{KeptList}
 use Rattle.vr_costfilter.specs.declared.steps.KeptSteps.{KeptSteps}

@@ -8,8 +8,8 @@ use Rattle.vr_model.specs.declared.records.Model.{Model}
 use Rattle.vr_plan.specs.Timings.{last_with, start_with}
 use Rattle.vr_plan.specs.declared.extents.Extent.{Extent}
 use Rattle.vr_routes.specs.Pieces.{ListAfter}
-use Rattle.vr_costfilter.specs.Orders.{IsReach}
-use Rattle.vr_costfilter.specs.Order.{names}
+use Rattle.vr_costfilter.specs.SortedEnds.{IsReach}
+use Rattle.vr_costfilter.specs.SortedVehicles.{names}
 use Rattle.vr_costfilter.proofs.OrdersLemmas.{used-known}
 use Rattle.vr_costfilter.proofs.ReachLemmas.{is-not}
 use Rattle.vr_costfilter.specs.GlobalCosts.{vehicles_of}

@@ -13,9 +13,9 @@ use Rattle.vr_plan.specs.Extents.{used_below, IsExtent}
 use Rattle.vr_plan.specs.Timings.{last_with, start_with}
 use Rattle.vr_plan.specs.declared.extents.Extent.{Extent}
 use Rattle.vr_plan.specs.declared.timings.Timing.{Timing}
-use Rattle.vr_costfilter.specs.Order.{first_but, names}
-use Rattle.vr_costfilter.specs.Orders.{beside, extent_but, extent_of, left_with, number_if_used, AreOrders, IsReach, IsTold}
-use Rattle.vr_costfilter.specs.declared.orders.Orders.{Orders}
+use Rattle.vr_costfilter.specs.SortedVehicles.{first_but, names}
+use Rattle.vr_costfilter.specs.SortedEnds.{beside, extent_but, extent_of, left_with, number_if_used, AreOrders, IsReach, IsTold}
+use Rattle.vr_costfilter.specs.declared.orders.SortedEnds.{SortedEnds}
 use Rattle.vr_costfilter.proofs.OrderLemmas.{first-told, none-told}
 use Rattle.vr_costfilter.proofs.OrdersLemmas.{number-is, number-not, number-some, used-known}
 
@@ -39,7 +39,7 @@ max-is : (x y : ℤ) → (int_max x y ≡ x) ⊎ (int_max x y ≡ y)
 max-is x y = either (int_lt y x) x y
 
 -- the first entries of other vehicles tell it
-pub extent-but-is : (model : Model) (d : ℕ) (lists : List (List ℕ)) (orders : Orders) → AreOrders model d lists orders → (vehicles : List ℕ) → IsReach model d lists (λ v. not (names vehicles v)) (extent_but vehicles orders)
+pub extent-but-is : (model : Model) (d : ℕ) (lists : List (List ℕ)) (orders : SortedEnds) → AreOrders model d lists orders → (vehicles : List ℕ) → IsReach model d lists (λ v. not (names vehicles v)) (extent_but vehicles orders)
 extent-but-is model d lists orders are vehicles = go (first_but vehicles orders.starts) refl (first_but vehicles orders.ends) refl
   where
     go : (s : Option ℤ) → first_but vehicles orders.starts ≡ s → (l : Option ℤ) → first_but vehicles orders.ends ≡ l → IsReach model d lists (λ v. not (names vehicles v)) (extent_of s l)

@@ -27,17 +27,6 @@ rest-is node other transits r least_end f latest_cumul l at a b c =
     ap₂ (λ (n : ℕ) (x : ℤ). (let w : Rest = record { at = n; transits = x; least_end = least_end; latest_cumul = latest_cumul } in w)) at a
     ∙ ap₂ (λ (x y : ℤ). (let w : Rest = record { at = other; transits = r; least_end = x; latest_cumul = y } in w)) b c
 
-pub rest-more : (model : Model) (n m : ℕ) (rest : Rest) → n ≤ m → IsRestOf model n rest → IsRestOf model m rest
-rest-more model n m rest le h = record {
-  at = h.at;
-  low = omega (arith, ints, h.low, le);
-  high = omega (arith, ints, h.high, le);
-  early = h.early;
-  late = omega (arith, ints, h.late, le);
-  soonest = omega (arith, ints, h.soonest, le);
-  latest = h.latest;
-}
-
 -- what is read of what is left, r being the transit to it as it was read
 module _ {model : Model} {rest : Rest} {t r : ℤ} (h : IsRestOf model 1000 rest) (same : r ≡ t) (least : neg_ℤ (pos (2 ^ 31)) ≤ℤ r) (greatest : r ≤ℤ pos (2 ^ 31)) where
   left-read : to_z w64 (of_z w64 (to_z w64 (of_z w64 r) +ℤ to_z w64 (of_z w64 rest.transits))) ≡ t +ℤ rest.transits
@@ -80,7 +69,7 @@ module _ {model : Model} {rest : Rest} {t r : ℤ} (h : IsRestOf model 1000 rest
         rest-is node node _ _ _ _ _ _ refl left-read (floor-read least_end soon ∙ soon) (ceiling-read latest_cumul late ∙ late)
 
   -- through it behind a way
-  module _ {way : Way} (w : IsWayOf model 2000 way) where
+  module _ {way : Way} (w : IsWayOf model 9000 way) where
     sum-read : to_z w64 (of_z w64 (to_z w64 (of_z w64 way.time) +ℤ to_z w64 (of_z w64 (to_z w64 (of_z w64 r) +ℤ to_z w64 (of_z w64 rest.transits))))) ≡ way.time +ℤ (t +ℤ rest.transits)
     sum-read = omega (arith, ints, left-read, same, least, greatest, h.low, h.high, w.early, w.late)
 

@@ -31,7 +31,7 @@ use Rattle.vr_costfilter.specs.GlobalCosts.{global_cost_of, vehicles_of}
 use Rattle.vr_costfilter.proofs.GlobalLemmas.{away, NonePays}
 use Rattle.vr_costfilter.specs.Spreads.{first_start, gives, global_least, global_least_in, last_end, no_spread, spread_after, spread_of_kept, with_changed, with_chosen, with_kept}
 use Rattle.vr_costfilter.specs.Spreads.{IsSpread, IsSpreadInRange}
-use Rattle.vr_costfilter.specs.Order.{names}
+use Rattle.vr_costfilter.specs.SortedVehicles.{names}
 use Rattle.vr_costfilter.proofs.ReachLemmas.{greatest-in, least-in}
 use Rattle.vr_costfilter.specs.declared.spreads.Spread.{Spread}
 use Rattle.vr_costfilter.proofs.ChosenLemmas.{no-earlier, times-le}

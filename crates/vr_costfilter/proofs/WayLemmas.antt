@@ -20,7 +20,7 @@ use Rattle.vr_reach.specs.Lists.{node_at_stop}
 use Rattle.vr_reach.specs.VisitRuns.{AreVisitRuns, HasCumulEnds}
 use Rattle.vr_reach.proofs.LineParts.{end_node}
 use Rattle.vr_costfilter.specs.Runs.{Runs, AllowsRuns, no_run, run_at, stop_runs}
-use Rattle.vr_costfilter.specs.Ways.{last_start, latest_to, time_at, transits_to, way_along, way_by, way_on, way_out, way_to_visit, whole_way, IsWayOf}
+use Rattle.vr_costfilter.specs.Ways.{tight-more, last_start, latest_to, time_at, transits_to, way_along, way_by, way_on, way_out, way_to_visit, whole_way, IsWayOf}
 use Rattle.vr_costfilter.specs.declared.tight.Way.{Way}
 use Rattle.vr_costfilter.proofs.EndLemmas.{ends-told}
 use Rattle.vr_costfilter.proofs.LeastLemmas.{arc-transit, arcs-many, node-behind}
@@ -34,19 +34,8 @@ way-is node other time t transits r latest l at a b c =
     ap₂ (λ (n : ℕ) (x : ℤ). (let w : Way = record { at = n; time = x; transits = transits; latest = latest } in w)) at a
     ∙ ap₂ (λ (x y : ℤ). (let w : Way = record { at = other; time = t; transits = x; latest = y } in w)) b c
 
-pub way-more : (model : Model) (n m : ℕ) (way : Way) → n ≤ m → IsWayOf model n way → IsWayOf model m way
-way-more model n m way le h = record {
-  at = h.at;
-  early = h.early;
-  late = omega (arith, ints, h.late, le);
-  low = omega (arith, ints, h.low, le);
-  high = omega (arith, ints, h.high, le);
-  soonest = omega (arith, ints, h.soonest, le);
-  latest = h.latest;
-}
-
 -- what is read of a way that goes on, r being the transit as it was read
-module _ {model : Model} {way : Way} {allowed : Run} {t r : ℤ} (h : IsWayOf model 3000 way) (ends : HasCumulEnds allowed) (same : r ≡ t) (least : neg_ℤ (pos (2 ^ 31)) ≤ℤ r) (greatest : r ≤ℤ pos (2 ^ 31)) where
+module _ {model : Model} {way : Way} {allowed : Run} {t r : ℤ} (h : IsWayOf model 10000 way) (ends : HasCumulEnds allowed) (same : r ≡ t) (least : neg_ℤ (pos (2 ^ 31)) ≤ℤ r) (greatest : r ≤ℤ pos (2 ^ 31)) where
   sum-read : to_z w64 (of_z w64 (to_z w64 (of_z w64 way.time) +ℤ to_z w64 (of_z w64 r))) ≡ way.time +ℤ t
   sum-read = omega (arith, ints, same, least, greatest, h.early, h.late)
 
@@ -83,7 +72,7 @@ module _ {model : Model} {way : Way} {allowed : Run} {t r : ℤ} (h : IsWayOf mo
   left-fits = omega (arith, ints, transits-read, same, least, greatest, h.low, h.high, ends.hi.at_least, ends.hi.at_most)
 
 -- what is read of a whole way
-module _ {model : Model} {way : Way} (h : IsWayOf model 3001 way) where
+module _ {model : Model} {way : Way} (h : IsWayOf model 10001 way) where
   pub end-read : to_z w64 (of_z w64 way.time) ≡ way.time
   end-read = omega (arith, ints, h.early, h.late)
 
@@ -140,17 +129,17 @@ module _ (model : Model) (well : IsWellFormed model) (d v : ℕ) (dimension : d 
     visit-ends node other visit = (visits.each node other (let low = visit_below model node visit in omega (arith, visits.long, low)) visit).ends
 
     pub along-way : (nodes : List ℕ) → All (λ node. IsTrue (is_visit model node)) nodes → (n : ℕ) (way : Way) → IsWayOf model n way → IsWayOf model (n + length nodes) (way_along model d v runs way nodes)
-    along-way [] all n way h = way-more model n (n + 0) way (omega arith) h
+    along-way [] all n way h = tight-more n (n + 0) (omega arith) h
     along-way (x ∷ xs) all n way h =
         let visit = all 0 0 (omega arith) in
         let next = on-way n way x (slice_index_or runs.visits x no_run) h (visit_below model x visit) (visit-ends x no_run visit) in
         let rest = along-way xs (λ k d low. all (suc k) d (omega (arith, low))) (n + 1) (way_to_visit model d v runs way x) next in
-        way-more model (n + 1 + length xs) (n + suc (length xs)) _ (omega arith) rest
+        tight-more (n + 1 + length xs) (n + suc (length xs)) (omega arith) rest
 
     pub along-part : (nodes : List ℕ) → All (λ node. IsTrue (is_visit model node)) nodes → (n : ℕ) (way : Way) → IsWayOf model n way → (k : ℕ) → k ≤ length nodes
         → IsWayOf model (n + k) (way_along model d v runs way (take k nodes))
     along-part nodes all n way h k le =
-        way-more model (n + length (take k nodes)) (n + k) _ (let l = length-take-le k nodes le in omega (arith, l)) (along-way (take k nodes) (All-take (λ node. IsTrue (is_visit model node)) k nodes all) n way h)
+        tight-more (n + length (take k nodes)) (n + k) (let l = length-take-le k nodes le in omega (arith, l)) (along-way (take k nodes) (All-take (λ node. IsTrue (is_visit model node)) k nodes all) n way h)
 
 -- ---- a way along a list
 

@@ -1,4 +1,4 @@
--- What the global spans cost, by the orders of the used vehicles and what is told of the lists after a change.
+-- What the global spans cost, by the sorted ends of the used vehicles and what is told of the lists after a change.
 use Rattle.std.specs.Prelude.{◌≡◌, ◌<◌, ◌≤◌, ◌*◌, Bool, IsTrue, IfSome, ℕ, not, true, fold}
 use Rattle.std.specs.Prelude.{List, [], length, map, slice_index_or, ℤ, pos, ◌*ℤ◌, Option, None}
 use Rattle.std.specs.List.{list_any}
@@ -18,8 +18,8 @@ use Rattle.vr_costfilter.specs.declared.kept.KeptList.{KeptList}
 use Rattle.vr_routes.specs.Changes.{AreParts}
 use Rattle.vr_routes.specs.Tours.{Tours}
 use Rattle.vr_routes.specs.Pieces.{ListAfter, changed, joined, part_at}
-use Rattle.vr_costfilter.specs.Orders.{beside, extent_but, AreInRange, AreOrders, IsInRange, IsTold}
-use Rattle.vr_costfilter.specs.declared.orders.Orders.{Orders}
+use Rattle.vr_costfilter.specs.SortedEnds.{beside, extent_but, AreInRange, AreOrders, IsInRange, IsTold}
+use Rattle.vr_costfilter.specs.declared.orders.SortedEnds.{SortedEnds}
 
 -- what the global spans cost at the chosen schedules of lists
 abbrev pub global_cost_of : Model → List (List ℕ) → ℤ
@@ -48,16 +48,16 @@ pub record IsRow (model : Model) (v : ℕ) (list : List ℕ) (row : List (Option
   pub many : length row ≡ 4
   pub each : (d : ℕ) → d < length model.dimensions → IsToldIfPaid model d v list (slice_index_or row d None)
 
--- the orders that are read where there are none
-abbrev pub no_orders : Orders
+-- the sorted ends that are read where there are none
+abbrev pub no_orders : SortedEnds
 no_orders = record { starts = []; ends = [] }
 
--- the orders of dimension d
-abbrev pub orders_at : List Orders → ℕ → Orders
+-- the sorted ends of dimension d
+abbrev pub orders_at : List SortedEnds → ℕ → SortedEnds
 orders_at orders d = slice_index_or orders d no_orders
 
--- in each dimension that pays, the used vehicles of lists stand in the orders of their starts and ends
-pub record AreAllOrders (model : Model) (lists : List (List ℕ)) (orders : List Orders) : Type 0 where
+-- in each dimension that pays, the used vehicles of lists are sorted by their starts and by their ends
+pub record AreAllOrders (model : Model) (lists : List (List ℕ)) (orders : List SortedEnds) : Type 0 where
   pub many : length orders ≡ length model.dimensions
   pub each : (d : ℕ) → d < length model.dimensions → Pays model d → AreOrders model d lists (orders_at orders d)
 
@@ -66,17 +66,17 @@ abbrev pub told_in : ℕ → List (Option Timing) → Option Timing
 told_in d row = slice_index_or row d None
 
 -- from where to where lists reach where these vehicles get lists of which these rows tell
-abbrev pub extent_after : ℕ → List ℕ → List (List (Option Timing)) → Orders → Option Extent
+abbrev pub extent_after : ℕ → List ℕ → List (List (Option Timing)) → SortedEnds → Option Extent
 extent_after d vehicles next orders =
     fold (λ extent row. beside extent (told_in d row)) (extent_but vehicles orders) next
 
 -- what the global span of dimension d costs then
-abbrev pub span_cost_after : Model → List Orders → List ℕ → List (List (Option Timing)) → ℕ → ℤ
+abbrev pub span_cost_after : Model → List SortedEnds → List ℕ → List (List (Option Timing)) → ℕ → ℤ
 span_cost_after model orders vehicles next d =
     (dimension_at model d).global_span_cost *ℤ length_of (extent_after d vehicles next (orders_at orders d))
 
 -- what all of them cost then
-abbrev pub spans_cost_after : Model → List Orders → List ℕ → List (List (Option Timing)) → ℤ
+abbrev pub spans_cost_after : Model → List SortedEnds → List ℕ → List (List (Option Timing)) → ℤ
 spans_cost_after model orders vehicles next =
     total_by (span_cost_after model orders vehicles next) (below (length model.dimensions))
 
@@ -84,20 +84,20 @@ spans_cost_after model orders vehicles next =
 abbrev pub AreTold : ℕ → List (List (Option Timing)) → Type 0
 AreTold d next = (k : ℕ) → k < length next → IfSome (told_in d (slice_index_or next k [])) IsInRange
 
--- where a dimension pays, all cumuls that the orders and the rows tell are in their range
-pub record AreRanged (model : Model) (orders : List Orders) (next : List (List (Option Timing))) : Type 0 where
+-- where a dimension pays, all cumuls that the sorted ends and the rows tell are in their range
+pub record AreRanged (model : Model) (orders : List SortedEnds) (next : List (List (Option Timing))) : Type 0 where
   pub many : length orders ≡ length model.dimensions
   pub in_orders : (d : ℕ) → d < length model.dimensions → Pays model d → AreInRange (orders_at orders d)
   pub in_rows : (d : ℕ) → d < length model.dimensions → Pays model d → AreTold d next
 
 -- the same of one of its first four dimensions
-pub record AreRangedIn (d : ℕ) (orders : Orders) (next : List (List (Option Timing))) : Type 0 where
+pub record AreRangedIn (d : ℕ) (orders : SortedEnds) (next : List (List (Option Timing))) : Type 0 where
   pub dimension : d < 4
   pub in_orders : AreInRange orders
   pub in_rows : AreTold d next
 
 -- there are orders for each dimension, and no vehicle stands in them
-pub record AreBlank (model : Model) (orders : List Orders) : Type 0 where
+pub record AreBlank (model : Model) (orders : List SortedEnds) : Type 0 where
   pub many : length orders ≡ length model.dimensions
   pub starts : (d : ℕ) → (orders_at orders d).starts ≡ []
   pub ends : (d : ℕ) → (orders_at orders d).ends ≡ []
@@ -106,14 +106,14 @@ pub record AreBlank (model : Model) (orders : List Orders) : Type 0 where
 abbrev pub IsGlobalCost : ℤ → Type 0
 IsGlobalCost = IsAround (cumul_cost * 4)
 
--- what contracts see of what is kept: the orders and what all costs, the rows, the orders and the cost of a change that
--- is ready, and cumuls of the chosen schedules
+-- what contracts see of what is kept: the sorted ends and what all costs, the rows, the sorted ends and the cost of a
+-- change that is ready, and cumuls of the chosen schedules
 pub record KeptSpans : Type 0 where
   pub model : Model
-  pub orders : List Orders
+  pub orders : List SortedEnds
   pub cost : ℤ
   pub next : List (List (Option Timing))
-  pub next_orders : List Orders
+  pub next_orders : List SortedEnds
   pub next_cost : ℤ
   pub is_prepared : Bool
   pub cumuls : List (List KeptList)
@@ -146,8 +146,8 @@ abbrev pub AreToldOf : Model → ℕ → List (List ℕ) → List ListAfter → 
 AreToldOf model d lists parts next = (k : ℕ) → k < length parts → IsTold model d (part_at parts k).vehicle
     (joined lists (part_at parts k).pieces) (told_in d (slice_index_or next k []))
 
--- a change gives vehicles of a model lists; these are the orders of the lists before, and the rows of those after it
-pub record AreNextRows (model : Model) (lists : List (List ℕ)) (parts : List ListAfter) (orders : List Orders)
+-- a change gives vehicles of a model lists; these are the sorted ends of the lists before, and the rows of those after
+pub record AreNextRows (model : Model) (lists : List (List ℕ)) (parts : List ListAfter) (orders : List SortedEnds)
     (next : List (List (Option Timing))) : Type 0 where
   pub orders_are : AreAllOrders model lists orders
   pub as_many : length lists ≡ length model.vehicles
@@ -155,7 +155,7 @@ pub record AreNextRows (model : Model) (lists : List (List ℕ)) (parts : List L
   pub rows : AreRowsAfter model lists parts (length parts) next
 
 -- the same in one of its first four dimensions
-pub record AreNextRowsIn (model : Model) (d : ℕ) (lists : List (List ℕ)) (parts : List ListAfter) (orders : Orders)
+pub record AreNextRowsIn (model : Model) (d : ℕ) (lists : List (List ℕ)) (parts : List ListAfter) (orders : SortedEnds)
     (next : List (List (Option Timing))) : Type 0 where
   pub dimension : d < 4
   pub orders_are : AreOrders model d lists orders
@@ -177,7 +177,7 @@ pub record AreLike (before later : KeptSpans) : Type 0 where
   pub cost : later.cost ≡ before.cost
   pub cumuls : later.cumuls ≡ before.cumuls
 
--- the orders of the lists after a change are there, and what all cost then
+-- the sorted ends of the lists after a change are there, and what all cost then
 pub record AreSpansReady (kept : KeptSpans) (tours : Tours) (parts : List ListAfter) : Type 0 where
   pub prepared : kept.is_prepared ≡ true
   pub orders : AreAllOrders kept.model (changed tours.lists parts) kept.next_orders

@@ -11,12 +11,12 @@ use Rattle.vr_model.specs.declared.records.ScheduleRule.TheVariants.{Earliest, T
 use Rattle.vr_plan.specs.declared.tables.Table.{Table}
 use Rattle.vr_reach.specs.Lists.{IsTour}
 use Rattle.vr_reach.specs.VisitRuns.{have_stops_one_run}
-use Rattle.vr_costfilter.specs.KeptWays.{HasCumuls, HasWays, HaveKeptWays}
+use Rattle.vr_costfilter.specs.KeptWays.{HasCumuls, HasWaysBy, HaveKeptWays}
 use Rattle.vr_costfilter.specs.Runs.{between_runs, Runs, AreRuns}
 use Rattle.vr_costfilter.specs.Steps.{HasStages}
 use Rattle.vr_costfilter.specs.declared.dimensions.Paid.{Paid}
 use Rattle.vr_costfilter.specs.declared.dimensions.Paid.TheVariants.{Alone, Together}
-use Rattle.vr_costfilter.specs.declared.kept_ways.KeptWays.{KeptWays}
+use Rattle.vr_costfilter.specs.KeptWays.{KeptWays}
 use Rattle.vr_costfilter.specs.declared.kept.KeptList.{KeptList}
 
 -- the rule chooses the tight schedule
@@ -59,7 +59,7 @@ pub record IsKept (model : Model) (d v : ℕ) (list : List ℕ) (kept : KeptList
 -- of a list of vehicle v the ways to its ends are kept by these runs, and no stage between them yet
 pub record HasWaysAlone (model : Model) (d v : ℕ) (runs : Runs) (list : List ℕ) (kept : KeptList) : Type 0 where
   pub ends : 0 < length kept.ends.items
-  pub ways : (other : KeptWays) → HasWays model d v runs list (slice_index_or kept.ends.items 0 other)
+  pub ways : (other : KeptWays) → HasWaysBy model d v runs list (slice_index_or kept.ends.items 0 other)
   pub none : length kept.steps.stages.items ≡ 0
   pub between : HasCumuls kept.between
 

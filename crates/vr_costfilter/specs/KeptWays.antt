@@ -1,37 +1,31 @@
 -- What is kept of committed lists of vehicles that choose their tight schedules.
-use Rattle.std.specs.Prelude.{◌≡◌, ◌<◌, ◌-◌, ℕ, suc, pos, List, drop, length, slice_index_or, take}
+use Rattle.std.specs.Prelude.{◌≡◌, ◌<◌, ℕ, suc, pos, List, length, slice_index_or}
 use Rattle.vr_model.specs.tables.Numbers.{horizon}
 use Rattle.vr_model.specs.tables.WellFormed.{IsIn}
 use Rattle.vr_model.specs.declared.records.Model.{Model}
-use Rattle.vr_earliest.specs.Kept.{AreEntries}
+use Rattle.vr_earliest.specs.Entries.{KeepsWays}
+use Rattle.vr_earliest.specs.declared.kept_ways.KeptWays.{KeptWays as KeptPlaces}
 use Rattle.vr_costfilter.specs.Runs.{Runs, AreRuns}
-use Rattle.vr_costfilter.specs.Rests.{rest_of}
-use Rattle.vr_costfilter.specs.Ways.{last_by, nearest_cumul, start_by, way_along, way_out, whole_way}
-use Rattle.vr_costfilter.specs.declared.kept_ways.KeptWays.{KeptWays}
+use Rattle.vr_costfilter.specs.Rests.{rest_at_end, rest_before}
+use Rattle.vr_costfilter.specs.Ways.{last_by, nearest_cumul, start_by, way_out, way_to_visit, whole_way}
 use Rattle.vr_costfilter.specs.declared.rests.Rest.{Rest}
 use Rattle.vr_costfilter.specs.declared.tight.TightEnds.{TightEnds}
 use Rattle.vr_costfilter.specs.declared.tight.Way.{Way}
 
--- the ways of vehicle v along the first visits of a list, for each number of them up to n
-abbrev pub AreWaysTo : Model → ℕ → ℕ → Runs → List ℕ → ℕ → List Way → Type 0
-AreWaysTo model d v runs list n ways =
-    AreEntries (λ k. way_along model d v runs (way_out model v runs) (take k list)) n ways
-
--- what is left from each of the last stops of its line on, from the end backwards through n visits
-abbrev pub AreRestsTo : Model → ℕ → ℕ → Runs → List ℕ → ℕ → List Rest → Type 0
-AreRestsTo model d v runs list n rests =
-    AreEntries (λ k. rest_of model d v runs (drop (length list - k) list)) n rests
+-- what is kept of the list of a vehicle
+abbrev pub KeptWays : Type 0
+KeptWays = KeptPlaces Way Rest
 
 -- what is kept has the ways along a list of vehicle v, and what is left behind each of its places, by these runs
-pub record HasWays (model : Model) (d v : ℕ) (runs : Runs) (list : List ℕ) (ends : KeptWays) : Type 0 where
+pub record HasWaysBy (model : Model) (d v : ℕ) (runs : Runs) (list : List ℕ) (ends : KeptWays) : Type 0 where
   pub runs_are : AreRuns model d v runs
-  pub ways : AreWaysTo model d v runs list (length list) ends.ways.items
-  pub rests : AreRestsTo model d v runs list (length list) ends.rests.items
+  pub keeps : KeepsWays (way_out model v runs) (way_to_visit model d v runs) (rest_at_end model v runs)
+      (rest_before model d v runs) list ends
 
 -- the same by some runs
 pub record AreWays (model : Model) (d v : ℕ) (list : List ℕ) (ends : KeptWays) : Type 0 where
   pub runs : Runs
-  pub has : HasWays model d v runs list ends
+  pub has : HasWaysBy model d v runs list ends
 
 -- where as many ways are kept as there are numbers of first visits, they are those of a list of vehicle v
 pub record AreKeptWays (model : Model) (d v : ℕ) (list : List ℕ) (ends : KeptWays) : Type 0 where

@@ -1,6 +1,6 @@
 pub mod PlanCosts
-pub mod Order
-pub mod Orders
+pub mod SortedVehicles
+pub mod SortedEnds
 pub mod GlobalCosts
 pub mod Spreads
 pub mod Runs

@@ -1,11 +1,12 @@
 -- What is left of the line of a vehicle behind a way: how early it can end, and how late its first stop may be.
-use Rattle.std.specs.Prelude.{ℕ, List, [], ◌∷◌, ◌<◌, ◌*◌, ◌+◌, slice_index_or, ℤ, pos, neg_ℤ, ◌+ℤ◌, ◌-ℤ◌, ◌≤ℤ◌}
+use Rattle.std.specs.Prelude.{ℕ, List, slice_index_or, ℤ, pos, ◌+ℤ◌, ◌-ℤ◌}
 use Rattle.std.specs.Int.{int_max, int_min}
 use Rattle.vr_spans.specs.declared.runs.Run.{Run}
-use Rattle.vr_model.specs.tables.Numbers.{horizon}
 use Rattle.vr_model.specs.tables.Tables.{transit, vehicle_at}
 use Rattle.vr_model.specs.declared.records.Model.{Model}
+use Rattle.vr_earliest.specs.Entries.{back_from}
 use Rattle.vr_costfilter.specs.Runs.{Runs, no_run}
+use Rattle.vr_costfilter.specs.Ways.{AreTightArcs}
 use Rattle.vr_costfilter.specs.declared.rests.Rest.{Rest}
 use Rattle.vr_costfilter.specs.declared.tight.Way.{Way}
 
@@ -34,8 +35,7 @@ rest_before model d v runs node rest =
 
 -- what is left from the first of some visits on, through all of them to the end of vehicle v
 abbrev pub rest_of : Model → ℕ → ℕ → Runs → List ℕ → Rest
-rest_of model d v runs [] = rest_at_end model v runs
-rest_of model d v runs (x ∷ xs) = rest_before model d v runs x (rest_of model d v runs xs)
+rest_of model d v runs nodes = back_from (rest_at_end model v runs) (rest_before model d v runs) nodes
 
 -- a way goes on to a stop, over an arc that takes t, and through what is left from there to the end
 abbrev pub through_by : ℤ → ℕ → Rest → Way → Way
@@ -51,13 +51,6 @@ abbrev pub way_through : Model → ℕ → ℕ → Way → Rest → Way
 way_through model d v way rest =
     through_by (transit model d v way.at rest.at) (vehicle_at model v).end rest way
 
--- the numbers of what is left of n arcs: a node of the model, transits within theirs, an end of at most the horizon and
--- the greatest transits, and a cumul of at most the horizon
-pub record IsRestOf (model : Model) (n : ℕ) (rest : Rest) : Type 0 where
-  pub at : rest.at < model.nodes
-  pub low : neg_ℤ (pos (2147483648 * n)) ≤ℤ rest.transits
-  pub high : rest.transits ≤ℤ pos (2147483648 * n)
-  pub early : pos 0 ≤ℤ rest.least_end
-  pub late : rest.least_end ≤ℤ pos (68719476736 + 2147483648 * n)
-  pub soonest : neg_ℤ (pos (2147483648 * n)) ≤ℤ rest.latest_cumul
-  pub latest : rest.latest_cumul ≤ℤ horizon
+-- the numbers of what is left of n arcs
+abbrev pub IsRestOf : Model → ℕ → Rest → Type 0
+IsRestOf model n rest = AreTightArcs model n rest.at rest.least_end rest.transits rest.latest_cumul

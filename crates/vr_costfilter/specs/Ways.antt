@@ -1,5 +1,7 @@
 -- How early a vehicle can end a list, and how late it can then start, by the runs of its stops.
-use Rattle.std.specs.Prelude.{ℕ, zero, suc, ◌<◌, ◌*◌, ◌+◌, List, fold, length, slice_index_or}
+use Rattle.std.proofs.Common.{arith}
+use Rattle.std.proofs.lemmas.Int.{ints}
+use Rattle.std.specs.Prelude.{ℕ, zero, suc, ◌<◌, ◌≤◌, ◌*◌, ◌+◌, List, fold, length, slice_index_or}
 use Rattle.std.specs.Prelude.{ℤ, pos, neg_ℤ, ◌+ℤ◌, ◌-ℤ◌, ◌≤ℤ◌}
 use Rattle.std.specs.Int.{int_max, int_min}
 use Rattle.vr_spans.specs.declared.runs.Run.{Run}
@@ -83,13 +85,30 @@ start_by whole = int_min whole.latest (whole.time -ℤ whole.transits)
 abbrev pub nearest_cumul : ℤ → ℤ
 nearest_cumul x = int_min (int_max x (pos 0)) horizon
 
--- the numbers of a way of n arcs: a node of the model, a time of at most the horizon and the greatest transits,
--- transits within theirs, and a start that is no later than the horizon
-pub record IsWayOf (model : Model) (n : ℕ) (way : Way) : Type 0 where
-  pub at : way.at < model.nodes
-  pub early : pos 0 ≤ℤ way.time
-  pub late : way.time ≤ℤ pos (68719476736 + 2147483648 * n)
-  pub low : neg_ℤ (pos (2147483648 * n)) ≤ℤ way.transits
-  pub high : way.transits ≤ℤ pos (2147483648 * n)
-  pub soonest : neg_ℤ (pos (2147483648 * n)) ≤ℤ way.latest
-  pub latest : way.latest ≤ℤ horizon
+-- the numbers of n arcs: a node of the model, a time of at most the horizon and the greatest transits, transits within
+-- theirs, and a cumul that is no later than the horizon
+pub record AreTightArcs (model : Model) (n node : ℕ) (time transits cumul : ℤ) : Type 0 where
+  pub at : node < model.nodes
+  pub early : pos 0 ≤ℤ time
+  pub late : time ≤ℤ pos (68719476736 + 2147483648 * n)
+  pub low : neg_ℤ (pos (2147483648 * n)) ≤ℤ transits
+  pub high : transits ≤ℤ pos (2147483648 * n)
+  pub soonest : neg_ℤ (pos (2147483648 * n)) ≤ℤ cumul
+  pub latest : cumul ≤ℤ horizon
+
+-- of fewer arcs, they are those of more
+pub tight-more : {model : Model} {node : ℕ} {time transits cumul : ℤ} (n m : ℕ) → n ≤ m
+    → AreTightArcs model n node time transits cumul → AreTightArcs model m node time transits cumul
+tight-more n m le h = record {
+  at = h.at;
+  early = h.early;
+  late = omega (arith, ints, h.late, le);
+  low = omega (arith, ints, h.low, le);
+  high = omega (arith, ints, h.high, le);
+  soonest = omega (arith, ints, h.soonest, le);
+  latest = h.latest;
+}
+
+-- the numbers of a way of n arcs
+abbrev pub IsWayOf : Model → ℕ → Way → Type 0
+IsWayOf model n way = AreTightArcs model n way.at way.time way.transits way.latest

@@ -12,6 +12,7 @@ use crate::led::LedPieces;
 use crate::tight::TightEnds;
 use crate::trails::Trail;
 use vr_balance::strip;
+use vr_earliest::along_pieces;
 use vr_plan::Timing;
 use vr_routes::{Piece, Routes};
 
@@ -85,12 +86,7 @@ impl<'a, 'm> Asked<'a, 'm> {
         let ends = strip(self.routes, self.guide.v, self.pieces);
         let front = kept.way(ends.front);
         let left = kept.rest(ends.behind);
-        let led = LedPieces {
-            guide: self.guide,
-            routes: self.routes,
-            pieces: ends.middle,
-        };
-        let way = led.way_along(front);
+        let way = along_pieces(self.guide, self.routes, ends.middle, front);
         let whole = self.guide.way_through(way, left);
         self.guide.ends_by(whole)
     }

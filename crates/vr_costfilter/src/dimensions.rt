@@ -40,7 +40,7 @@ pub enum Paid {
 #[derive(Drop)]
 pub struct AllCumuls {
     dimensions: Vec<KeptCumuls>,
-    // room for a list that is committed
+    // scratch for a list that is committed
     row: Row,
 }
 
@@ -78,7 +78,7 @@ impl AllCumuls {
     }
 
     /// What the chosen schedule of the list comes to that a part of a change gives its vehicle, in dimension `d`.
-    /// Nothing exactly where what is kept does not tell; then it has to be looked for. The trail is room that the
+    /// Nothing exactly where what is kept does not tell; then it has to be looked for. The trail is scratch that the
     /// caller lends: it is written over.
     pub fn timing_after(
         &self,

@@ -35,6 +35,7 @@ use crate::tours::Tour;
 use crate::trails::Trail;
 use std::alloc::Global;
 use std::marker::Model;
+use vr_earliest::write_ways;
 use vr_model::{Closed, NoMemory, ScheduleRule};
 use vr_plan::{KnownDimension, Table, Timing};
 use vr_routes::{Piece, Routes};
@@ -104,7 +105,7 @@ impl KeptList {
         if self.ends.is_empty() {
             return;
         }
-        self.ends[0].write(led);
+        write_ways(&mut self.ends[0], led.guide, led.list);
         self.write_between(led);
     }
 
@@ -128,7 +129,7 @@ impl KeptList {
         if led.guide.table.is_hard {
             return;
         }
-        let ends = self.ends[0].ends(led);
+        let ends = led.ends(&self.ends[0]);
         self.between = ends;
         let between = led.guide.between(ends);
         self.steps.write(&LedList {

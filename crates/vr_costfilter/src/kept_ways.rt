@@ -1,139 +1,94 @@
 //! What is kept of committed lists of vehicles that choose their tight schedules, so that the two ends of a changed
 //! list are known by a walk along what the change puts into it alone.
 
-ghost use Rattle.std.specs.Prelude.{◌≡◌, ◌↔◌, ◌<◌, ◌≤◌, ◌+◌, ◌-◌, IsTrue, pos, length, slice_index_or};
+ghost use Rattle.std.specs.Prelude.{◌≡◌, IsTrue, pos};
 ghost use Rattle.vr_model.specs.tables.Numbers.{horizon};
+ghost use Rattle.vr_model.specs.tables.Tables.{is_visit};
 ghost use Rattle.vr_model.specs.tables.WellFormed.{IsIn};
-ghost use Rattle.vr_costfilter.specs.KeptWays.{AreEndsOf, AreRestsTo, AreWaysTo, HasCumuls, HasWays};
-ghost use Rattle.vr_costfilter.specs.GuideRuns.{runs_of, HasItsRuns};
-ghost use Rattle.vr_costfilter.specs.Ways.{nearest_cumul};
-ghost use Rattle.vr_costfilter.specs.declared.rests.Rest.{Rest as RestOf};
-ghost use Rattle.vr_costfilter.specs.declared.tight.Way.{Way as WayOf};
+ghost use Rattle.vr_costfilter.specs.KeptWays.{AreEndsOf, HasCumuls, HasWaysBy};
+ghost use Rattle.vr_costfilter.specs.GuideRuns.{runs_of};
+ghost use Rattle.vr_costfilter.specs.Rests.{rest_at_end, rest_before, IsRestOf};
+ghost use Rattle.vr_costfilter.specs.Ways.{nearest_cumul, tight-more, way_out, way_to_visit, IsWayOf};
 
+use crate::guides::Guide;
 use crate::led::LedList;
 use crate::rests::Rest;
 use crate::tight::{TightEnds, Way};
-use arrayvec::ArrayVec;
+use vr_earliest::Walk;
 use vr_model::limits::HORIZON;
 
-/// What is kept of the list of a vehicle.
-#[derive(Drop)]
-pub struct KeptWays {
-    // the way along the first visits, for each number of visits; none where the vehicle has breaks, or a stop allows
-    // several runs of cumuls
-    ways: ArrayVec<Way, 1001>,
-    // what is left from each visit on and from the end, from the end backwards
-    rests: ArrayVec<Rest, 1001>,
-}
+/// What is kept of the list of a vehicle; no way where the vehicle has breaks, or a stop allows several runs of cumuls.
+pub type KeptWays = vr_earliest::KeptWays<Way, Rest>;
 
-impl KeptWays {
-    /// Of no list.
-    pub fn new() -> KeptWays
-        ensures { length result.ways.items ≡ 0 }
-    {
-        KeptWays {
-            ways: ArrayVec::new(),
-            rests: ArrayVec::new(),
+impl<'m> Walk for Guide<'m> {
+    type Way = Way;
+
+    type Rest = Rest;
+
+    ghost can_visit = { λ guide node. IsTrue (is_visit guide.model.now node) };
+
+    ghost is_way = { λ guide n way. IsWayOf guide.model.now n way };
+
+    ghost is_rest = { λ guide n rest. IsRestOf guide.model.now n rest };
+
+    ghost start_way = { λ guide. way_out guide.model.now guide.v (runs_of guide) };
+
+    ghost way_on = { λ guide way node. way_to_visit guide.model.now guide.d guide.v (runs_of guide) way node };
+
+    ghost end_rest = { λ guide. rest_at_end guide.model.now guide.v (runs_of guide) };
+
+    ghost rest_from = { λ guide node rest. rest_before guide.model.now guide.d guide.v (runs_of guide) node rest };
+
+    ghost way_grows = { λ guide n m way more. tight-more n m more };
+
+    #[inline(always)]
+    fn way_out(&self) -> Way {
+        Way {
+            at: self.model.vehicles.get(self.v as usize).start,
+            time: self.start.lo,
+            transits: 0,
+            latest: self.start.hi,
         }
     }
 
-    /// Forgets the list.
-    pub fn forget(&mut self)
-        ensures { length self.new.ways.items ≡ 0 }
-    {
-        self.ways.clear();
-        self.rests.clear();
+    #[inline(always)]
+    fn way_to_visit(&self, way: Way, node: u32) -> Way {
+        self.way_on(way, node, self.visits[node as usize])
     }
 
-    /// Whether the ways along a list of `n` visits are kept.
     #[inline]
-    pub fn has_ways(&self, n: usize) -> bool
-        requires { n ≤ 1000 }
-        ensures { IsTrue result ↔ (length self.now.ways.items ≡ n + 1) }
-    {
-        self.ways.len() == n + 1
+    fn rest_at_end(&self) -> Rest {
+        Rest {
+            at: self.finish.node,
+            transits: 0,
+            least_end: self.finish.allowed.lo,
+            latest_cumul: self.finish.allowed.hi,
+        }
     }
 
-    /// The way along the first `place` visits of the list.
-    #[inline(always)]
-    pub fn way(&self, place: u32) -> Way
-        requires place { place < length self.now.ways.items }
-        ensures { (other : WayOf) → result ≡ slice_index_or self.now.ways.items place other }
-    {
-        self.ways[place as usize]
+    #[inline]
+    fn rest_before(&self, node: u32, rest: Rest) -> Rest {
+        self.rest_on(node, self.visits[node as usize], rest)
     }
+}
 
-    /// What is left from a place of the list on.
-    #[inline(always)]
-    pub fn rest(&self, place: u32) -> Rest
-        requires place { place < length self.now.rests.items }
-        ensures { (other : RestOf)
-            → result ≡ slice_index_or self.now.rests.items (length self.now.rests.items - 1 - place) other }
-    {
-        self.rests[self.rests.len() - 1 - place as usize]
-    }
-
+impl<'a, 'm> LedList<'a, 'm> {
     /// The ends of the tight schedule of a list whose ways are kept: those that its whole way tells, brought within the
     /// horizon, also where it has none.
-    pub fn ends(&self, led: &LedList) -> TightEnds
-        requires { HasWays led.now.guide.now.model.now led.now.guide.now.d led.now.guide.now.v
-            (runs_of led.now.guide.now) led.now.list.now self.now }
-        ensures ends { AreEndsOf led.now.guide.now.model.now led.now.guide.now.d led.now.guide.now.v
-            (runs_of led.now.guide.now) led.now.list.now result }
+    pub fn ends(&self, kept: &KeptWays) -> TightEnds
+        requires { HasWaysBy self.now.guide.now.model.now self.now.guide.now.d self.now.guide.now.v
+            (runs_of self.now.guide.now) self.now.list.now kept.now }
+        ensures ends { AreEndsOf self.now.guide.now.model.now self.now.guide.now.d self.now.guide.now.v
+            (runs_of self.now.guide.now) self.now.list.now result }
         ensures range { HasCumuls result }
     {
-        let way = self.ways[led.list.len()];
-        let rest = self.rests[0];
-        let whole = led.guide.way_through(way, rest);
-        let ends = led.guide.ends_by(whole);
+        let way = kept.way(0);
+        let rest = kept.rest(0);
+        let whole = self.guide.way_through(way, rest);
+        let ends = self.guide.ends_by(whole);
         TightEnds {
             start: within_horizon(ends.start),
             last: within_horizon(ends.last),
-        }
-    }
-
-    /// Writes what is kept of a list.
-    pub fn write(&mut self, led: &LedList)
-        requires { HasItsRuns led.now.guide.now }
-        ensures { HasWays led.now.guide.now.model.now led.now.guide.now.d led.now.guide.now.v
-            (runs_of led.now.guide.now) led.now.list.now self.new }
-    {
-        self.write_ways(led);
-        self.write_rests(led);
-    }
-
-    // Writes the ways along a list.
-    fn write_ways(&mut self, led: &LedList)
-        ensures { AreWaysTo led.now.guide.now.model.now led.now.guide.now.d led.now.guide.now.v
-            (runs_of led.now.guide.now) led.now.list.now
-            (length led.now.list.now) self.new.ways.items }
-    {
-        let guide = led.guide;
-        let list = led.list;
-        let mut way = guide.way_out();
-        self.ways.clear();
-        self.ways.push(way);
-        for k in 0..list.len() {
-            way = guide.way_to_visit(way, list[k]);
-            self.ways.push(way);
-        }
-    }
-
-    // Writes what is left from each stop of a list on.
-    fn write_rests(&mut self, led: &LedList)
-        ensures rests { AreRestsTo led.now.guide.now.model.now led.now.guide.now.d led.now.guide.now.v
-            (runs_of led.now.guide.now) led.now.list.now
-            (length led.now.list.now) self.new.rests.items }
-        ensures ways { self.new.ways ≡ self.old.ways }
-    {
-        let guide = led.guide;
-        let list = led.list;
-        let mut rest = guide.rest_at_end();
-        self.rests.clear();
-        self.rests.push(rest);
-        for k in 0..list.len() {
-            rest = guide.rest_before(list[list.len() - 1 - k], rest);
-            self.rests.push(rest);
         }
     }
 }

@@ -1,16 +1,14 @@
 //! Visits along which guides lead.
 
 ghost use Rattle.std.proofs.Props.{props};
-ghost use Rattle.std.specs.Prelude.{◌≡◌, ◌<◌, length, slice_index_or};
 ghost use Rattle.vr_routes.specs.Pieces.{joined, nodes_of};
-ghost use Rattle.vr_costfilter.specs.GuideRuns.{runs_of, CanWalkBack, HasWalkedBack};
+ghost use Rattle.vr_costfilter.specs.GuideRuns.{CanWalkBack, HasWalkedBack};
 ghost use Rattle.vr_costfilter.specs.Joined.{IsWithin-prop};
 ghost use Rattle.vr_costfilter.specs.Led.{in_order, AreFewVisits, ArePiecesOf, IsPieceOf};
-ghost use Rattle.vr_costfilter.specs.Ways.{way_along as along_by, IsWayOf};
 
 use crate::guides::Guide;
-use crate::tight::Way;
 use crate::trails::{Step, Trail};
+use vr_earliest::node_in;
 use vr_routes::{Piece, Routes};
 
 /// A list of the vehicle of a guide.
@@ -74,22 +72,6 @@ impl<'a, 'm> LedChain<'a, 'm> {
         }
         Some(first)
     }
-
-    /// A way goes on along them.
-    #[inline(always)]
-    pub fn way_along(&self, way: Way) -> Way
-        requires { IsWayOf self.now.guide.now.model.now 2000 way }
-        ensures { result ≡ along_by self.now.guide.now.model.now self.now.guide.now.d self.now.guide.now.v
-            (runs_of self.now.guide.now) way (in_order self.now.reversed self.now.nodes.now) }
-    {
-        let mut gone = way;
-        for k in 0..self.nodes.len() {
-            gone = self
-                .guide
-                .way_to_visit(gone, node_in(self.nodes, self.reversed, k));
-        }
-        gone
-    }
 }
 
 impl<'a, 'm> LedPiece<'a, 'm> {
@@ -121,32 +103,6 @@ impl<'a, 'm> LedPiece<'a, 'm> {
             }
         }
     }
-
-    /// A way goes on along its nodes.
-    #[inline(always)]
-    pub fn way_along(&self, way: Way) -> Way
-        requires { IsWayOf self.now.guide.now.model.now 2000 way }
-        ensures { result ≡ along_by self.now.guide.now.model.now self.now.guide.now.d self.now.guide.now.v
-            (runs_of self.now.guide.now) way (nodes_of self.now.routes.now.lists self.now.piece) }
-    {
-        match self.piece {
-            Piece::Node { node } => self.guide.way_to_visit(way, node),
-            Piece::Chain {
-                vehicle,
-                from,
-                to,
-                reversed,
-            } => {
-                let list = self.routes.list(vehicle);
-                let chain = LedChain {
-                    guide: self.guide,
-                    nodes: &list[from as usize..to as usize],
-                    reversed,
-                };
-                chain.way_along(way)
-            }
-        }
-    }
 }
 
 impl<'a, 'm> LedPieces<'a, 'm> {
@@ -173,38 +129,5 @@ impl<'a, 'm> LedPieces<'a, 'm> {
             }
         }
         Some(first)
-    }
-
-    /// A way goes on along them.
-    #[inline(always)]
-    pub fn way_along(&self, way: Way) -> Way
-        requires { IsWayOf self.now.guide.now.model.now 1000 way }
-        ensures value { result ≡ along_by self.now.guide.now.model.now self.now.guide.now.d self.now.guide.now.v
-            (runs_of self.now.guide.now) way (joined self.now.routes.now.lists self.now.pieces.now) }
-        ensures range { IsWayOf self.now.guide.now.model.now 2000 result }
-    {
-        let mut gone = way;
-        for k in 0..self.pieces.len() {
-            let one = LedPiece {
-                guide: self.guide,
-                routes: self.routes,
-                piece: self.pieces[k],
-            };
-            gone = one.way_along(gone);
-        }
-        gone
-    }
-}
-
-// Node `k` of a chain, or of the chain backwards.
-#[inline(always)]
-fn node_in(chain: &[u32], reversed: bool, k: usize) -> u32
-    requires { k < length chain.now }
-    ensures { result ≡ slice_index_or (in_order reversed chain.now) k 0 }
-{
-    if reversed {
-        chain[chain.len() - 1 - k]
-    } else {
-        chain[k]
     }
 }

@@ -1,13 +1,13 @@
-//! The parts of the cost of routes, each kept for the committed lists and told for a change of them.
+//! The parts of the cost of routes, each kept for the committed lists and known for a change of them.
 //!
 //! Arc costs, fixed costs and the penalties of groups come from `vr_arccosts` and `vr_usecosts`, the trait of a part
 //! from `vr_parts`. Here stand the two parts that ask schedules: `PlanCost` (soft upper bounds and spans, list by list)
-//! and `GlobalSpan` (from the least start to the greatest end of all used vehicles, which stand in two `Orders`). Each
-//! stands at the committed lists: what it keeps of each of them is what the definitions give its chosen schedule
-//! (`StandsPlans`, `StandsSpans`). `vr_judge` adds all parts up.
+//! and `GlobalSpan` (from the least start to the greatest end of all used vehicles, which `SortedEnds` has sorted by
+//! both). Each stands at the committed lists: what it keeps of each of them is what the definitions give its chosen
+//! schedule (`StandsPlans`, `StandsSpans`). `vr_judge` adds all parts up.
 //!
-//! What a change makes of the chosen schedule of a list is told by the cumuls that are kept (`AllCumuls`), without a
-//! line, where a vehicle has no breaks and each stop allows one run of cumuls; only where they do not tell it is a
+//! What a change makes of the chosen schedule of a list is known by the cumuls that are kept (`AllCumuls`), without a
+//! line, where a vehicle has no breaks and each stop allows one run of cumuls; only where they do not say it is a
 //! schedule built. A vehicle that chooses its earliest schedule goes, at each stop, to the least cumul that the stop
 //! before and a floor leave, and floors are found from the end backwards. Of its committed list floors and cumuls are
 //! kept: a change is walked along what it puts in, and before and behind that only until floors and cumuls are as they

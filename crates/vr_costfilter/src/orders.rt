@@ -1,33 +1,33 @@
-//! The used vehicles of lists by the starts and by the ends of their chosen schedules.
+//! The used vehicles of lists, sorted by the starts and by the ends of their chosen schedules.
 
 ghost use Rattle.std.specs.Prelude.{◌≡◌, [], IfSome};
 ghost use Rattle.vr_plan.specs.Extents.{IsExtentInRange};
-ghost use Rattle.vr_costfilter.specs.Orders as orders;
-ghost use Rattle.vr_costfilter.specs.Orders.{with_timing, AreInRange, HasRoomFor, IsInRange};
+ghost use Rattle.vr_costfilter.specs.SortedEnds as orders;
+ghost use Rattle.vr_costfilter.specs.SortedEnds.{with_timing, AreInRange, HasRoomFor, IsInRange};
 
-use crate::order::Order;
+use crate::order::SortedVehicles;
 use vr_model::limits::HORIZON;
 use vr_plan::{Extent, Timing, wider};
 
-/// The used vehicles of lists in one dimension: in the order of their starts, the least first, and in the order of
-/// their ends, the greatest first.
+/// The used vehicles of lists in one dimension, sorted by their starts, the least first, and by their ends, the
+/// greatest first.
 #[derive(Drop)]
-pub struct Orders {
+pub struct SortedEnds {
     /// By the cumul at the start.
-    pub starts: Order,
+    pub starts: SortedVehicles,
     /// By what is left of the horizon behind the cumul at the end.
-    pub ends: Order,
+    pub ends: SortedVehicles,
 }
 
-impl Orders {
+impl SortedEnds {
     /// Of no used vehicle.
-    pub fn new() -> Orders
+    pub fn new() -> SortedEnds
         ensures starts { result.starts ≡ [] }
         ensures ends { result.ends ≡ [] }
     {
-        Orders {
-            starts: Order::new(),
-            ends: Order::new(),
+        SortedEnds {
+            starts: SortedVehicles::new(),
+            ends: SortedVehicles::new(),
         }
     }
 
@@ -47,7 +47,7 @@ impl Orders {
     }
 
     /// Becomes a copy of others.
-    pub fn copy_from(&mut self, other: &Orders)
+    pub fn copy_from(&mut self, other: &SortedEnds)
         ensures { self.new ≡ other.now }
     {
         self.starts.copy_from(&other.starts);

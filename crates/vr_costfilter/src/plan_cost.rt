@@ -25,9 +25,9 @@ use vr_plan::Lookups;
 use vr_routes::{Change, Routes};
 
 /// What soft upper bounds and spans cost (`SetCumulVarSoftUpperBound` and `SetSpanCostCoefficientForVehicle` in
-/// OR-Tools). A change is told by the floors and cumuls that are kept of the committed lists: along what it puts in, in
-/// front of that until a floor is as it was, and behind it until a cumul is; and of tight vehicles along their whole
-/// lists. Only where they are not told so are the schedules of the changed lists built, in the dimensions where they
+/// OR-Tools). A change is known by the floors and cumuls that are kept of the committed lists: along what it puts in,
+/// in front of that until a floor is as it was, and behind it until a cumul is; and of tight vehicles along their whole
+/// lists. Only where they are not known so are the schedules of the changed lists built, in the dimensions where they
 /// may cost anything.
 #[derive(Drop)]
 pub struct PlanCost<'m> {
@@ -39,7 +39,7 @@ pub struct PlanCost<'m> {
     is_prepared: bool,
     // the cumuls of the committed lists
     cumuls: AllCumuls,
-    // room for a list that a change makes
+    // scratch for a list that a change makes
     scratch: Scratch,
 }
 
@@ -143,10 +143,8 @@ impl<'m> PlanCost<'m> {
         if self.rules.is_idle() {
             return Ok(0);
         }
-        let cost = self
-            .rules
-            .cost_after(&self.cumuls, routes, change, k, &mut self.scratch)?;
-        Ok(cost)
+        self.rules
+            .cost_after(&self.cumuls, routes, change, k, &mut self.scratch)
     }
 
     // Writes the costs of the lists after a change, and makes none ready.
@@ -190,17 +188,9 @@ impl<'m> CostPart for PlanCost<'m> {
 
     ghost ready = { ArePlansReady };
 
-    fn difference(&mut self, routes: &Routes, change: &Change) -> Result<i64, NoMemory>
-        requires stands { StandsPlans self.old routes.now }
-        requires made { IsMadeOn routes.now change.now }
-        requires valid { IsTrue (is_valid self.old.model (changed routes.now.lists change.now)) }
-        ensures exact { IfOk result (λ difference. difference
-            ≡ soft_and_span self.old.model (changed routes.now.lists change.now)
-            -ℤ soft_and_span self.old.model routes.now.lists) }
-        ensures stands { StandsPlans self.new routes.now }
-        ensures model { self.new.model ≡ self.old.model }
-        ensures range { IfOk result IsPlanChange }
-    {
+    ghost range = { IsPlanChange };
+
+    fn difference(&mut self, routes: &Routes, change: &Change) -> Result<i64, NoMemory> {
         if self.is_idle() {
             return Ok(0);
         }
@@ -213,8 +203,7 @@ impl<'m> CostPart for PlanCost<'m> {
     }
 
     fn prepare(&mut self, routes: &Routes, change: &Change) -> Result<(), NoMemory> {
-        let made = self.make_ready(routes, change)?;
-        Ok(made)
+        self.make_ready(routes, change)
     }
 
     fn commit(&mut self, routes: &Routes, change: &Change) {

@@ -12,7 +12,7 @@ ghost use Rattle.vr_costfilter.specs.EarlyParts.{AreEarlyParts};
 ghost use Rattle.vr_costfilter.specs.LookedUp.{IsLookedUp};
 ghost use Rattle.vr_costfilter.specs.Known.{AreCumulsAt, IsValidChange};
 ghost use Rattle.vr_costfilter.specs.Kept.{AreAllKept};
-ghost use Rattle.vr_costfilter.specs.Orders.{AreOrders};
+ghost use Rattle.vr_costfilter.specs.SortedEnds.{AreOrders};
 ghost use Rattle.vr_costfilter.specs.GlobalCosts as reaches;
 ghost use Rattle.vr_costfilter.specs.GlobalCosts.{extent_after, spans_cost_after, AreAllOrders, AreBlank, IsRow};
 ghost use Rattle.vr_costfilter.specs.GlobalCosts.{AreNextRows, AreNextRowsIn, AreRanged, AreRangedIn, IsGlobalCost};
@@ -22,7 +22,7 @@ ghost use Rattle.vr_costfilter.specs.PartsAfter.{list_after, vehicle_after};
 
 use crate::dimensions::{AllCumuls, Paid};
 use crate::early_change::EarlyChange;
-use crate::orders::{Orders, beside};
+use crate::orders::{SortedEnds, beside};
 use crate::parts_after::PartAfter;
 use crate::scratch::Scratch;
 use crate::spreads::least_of_global_spans;
@@ -76,14 +76,14 @@ impl<'m> SpanRules<'m> {
         self.idle
     }
 
-    /// What is kept of the lists of routes: the orders of the used vehicles in each dimension that pays, orders for
-    /// those after a change, and the cumuls of their schedules.
+    /// What is kept of the lists of routes: the sorted ends of the used vehicles in each dimension that pays, scratch
+    /// for those after a change, and the cumuls of their schedules.
     pub fn kept(
         &self,
         alloc: Global,
         routes: &Routes,
         timer: &mut Timer,
-    ) -> Result<(Vec<Orders>, Vec<Orders>, AllCumuls), NoMemory>
+    ) -> Result<(Vec<SortedEnds>, Vec<SortedEnds>, AllCumuls), NoMemory>
         requires { IsTrue (is_valid self.now routes.now.lists) }
         ensures orders { IfOk result (λ kept. AreAllOrders self.now routes.now.lists kept.0.items) }
         ensures room { IfOk result (λ kept. length kept.1.items ≡ length self.now.dimensions) }
@@ -101,24 +101,24 @@ impl<'m> SpanRules<'m> {
         Ok((orders, next_orders, cumuls))
     }
 
-    // The orders of no used vehicle, in each dimension.
-    fn no_orders(&self, alloc: Global) -> Result<Vec<Orders>, NoMemory>
+    // The sorted ends of no used vehicle, in each dimension.
+    fn no_orders(&self, alloc: Global) -> Result<Vec<SortedEnds>, NoMemory>
         ensures { IfOk result (λ orders. AreBlank self.now orders.items) }
     {
         let mut orders = Vec::with_capacity(alloc, self.lookups.closed.model.dimensions.len())?;
         for _d in 0..self.lookups.closed.model.dimensions.len() {
-            orders.push(Orders::new())?;
+            orders.push(SortedEnds::new())?;
         }
         Ok(orders)
     }
 
-    // The orders of the used vehicles of routes, in each dimension that pays.
+    // The sorted ends of the used vehicles of routes, in each dimension that pays.
     fn orders(
         &self,
         alloc: Global,
         routes: &Routes,
         timer: &mut Timer,
-    ) -> Result<Vec<Orders>, NoMemory>
+    ) -> Result<Vec<SortedEnds>, NoMemory>
         requires valid { IsTrue (is_valid self.now routes.now.lists) }
         ensures { IfOk result (λ orders. AreAllOrders self.now routes.now.lists orders.items) }
     {
@@ -171,7 +171,7 @@ impl<'m> SpanRules<'m> {
     }
 
     /// What the global spans cost, where these vehicles get lists of which these rows tell.
-    pub fn cost(&self, orders: &[Orders], vehicles: &[u32], next: &[ListTimings]) -> i64
+    pub fn cost(&self, orders: &[SortedEnds], vehicles: &[u32], next: &[ListTimings]) -> i64
         requires ranged { AreRanged self.now orders.now next.now }
         ensures value { result ≡ spans_cost_after self.now orders.now vehicles.now next.now }
         ensures range { IsGlobalCost result }
@@ -179,14 +179,14 @@ impl<'m> SpanRules<'m> {
         cost_of_spans(self.lookups.closed, orders, vehicles, next)
     }
 
-    /// Writes the orders of the lists after a change. It takes no memory.
+    /// Writes the sorted ends of the lists after a change. It takes no memory.
     pub fn write_orders(
         &self,
-        orders: &[Orders],
+        orders: &[SortedEnds],
         routes: &Routes,
         change: &Change,
         next: &[ListTimings],
-        out: &mut [Orders],
+        out: &mut [SortedEnds],
     )
         requires rows { AreNextRows self.now routes.now.lists change.now orders.now next.now }
         requires room { length out.old ≡ length self.now.dimensions }
@@ -199,7 +199,7 @@ impl<'m> SpanRules<'m> {
     pub fn least(
         &self,
         earlies: &Earlies,
-        orders: &[Orders],
+        orders: &[SortedEnds],
         routes: &Routes,
         change: &Change,
     ) -> i64
@@ -327,7 +327,7 @@ fn kept_after(
 // What the global spans cost in all dimensions.
 fn cost_of_spans(
     closed: Closed<'_>,
-    orders: &[Orders],
+    orders: &[SortedEnds],
     vehicles: &[u32],
     next: &[ListTimings],
 ) -> i64
@@ -345,7 +345,7 @@ fn cost_of_spans(
 // What the global span costs in dimension `d`.
 fn cost_of_span(
     closed: Closed<'_>,
-    orders: &Orders,
+    orders: &SortedEnds,
     vehicles: &[u32],
     next: &[ListTimings],
     d: u32,
@@ -364,7 +364,7 @@ fn cost_of_span(
 }
 
 // From where to where all lists reach in dimension `d`, `None` where none is used.
-fn reach(orders: &Orders, vehicles: &[u32], next: &[ListTimings], d: u32) -> Option<Extent>
+fn reach(orders: &SortedEnds, vehicles: &[u32], next: &[ListTimings], d: u32) -> Option<Extent>
     requires { AreRangedIn d orders.now next.now }
     ensures value { result ≡ extent_after d vehicles.now next.now orders.now }
     ensures range { IfSome result IsExtentInRange }
@@ -377,7 +377,13 @@ fn reach(orders: &Orders, vehicles: &[u32], next: &[ListTimings], d: u32) -> Opt
 }
 
 // Vehicle `v` gets its list, where those before it have theirs, in the dimensions that pay.
-fn set_list(closed: Closed<'_>, orders: &mut [Orders], _routes: &Routes, v: u32, row: &ListTimings)
+fn set_list(
+    closed: Closed<'_>,
+    orders: &mut [SortedEnds],
+    _routes: &Routes,
+    v: u32,
+    row: &ListTimings,
+)
     requires before { AreAllOrders closed.model.now (take v _routes.now.lists) orders.old }
     requires few { length _routes.now.lists ≤ 100 }
     requires vehicle { v < length _routes.now.lists }
@@ -391,14 +397,14 @@ fn set_list(closed: Closed<'_>, orders: &mut [Orders], _routes: &Routes, v: u32,
     }
 }
 
-// Writes the orders of the lists after a change in the dimensions that pay.
+// Writes the sorted ends of the lists after a change in the dimensions that pay.
 fn write_all(
     closed: Closed<'_>,
-    orders: &[Orders],
+    orders: &[SortedEnds],
     routes: &Routes,
     change: &Change,
     next: &[ListTimings],
-    out: &mut [Orders],
+    out: &mut [SortedEnds],
 )
     requires rows { AreNextRows closed.model.now routes.now.lists change.now orders.now next.now }
     requires room { length out.old ≡ length closed.model.now.dimensions }
@@ -422,12 +428,12 @@ fn write_all(
 // The same in one dimension.
 fn write_in(
     _model: &RoutingModel,
-    orders: &Orders,
+    orders: &SortedEnds,
     _routes: &Routes,
     change: &Change,
     next: &[ListTimings],
     d: u32,
-    out: &mut Orders,
+    out: &mut SortedEnds,
 )
     requires { AreNextRowsIn _model.now d _routes.now.lists change.now orders.now next.now }
     ensures { AreOrders _model.now d (changed _routes.now.lists change.now) out.new }

@@ -1,10 +1,8 @@
 //! What is left of the line of a vehicle behind a stop.
 
-ghost use Rattle.std.specs.Prelude.{◌≡◌, IsTrue};
-ghost use Rattle.vr_model.specs.tables.Tables.{is_visit, transit as transit_of};
-ghost use Rattle.vr_costfilter.specs.GuideRuns.{runs_of};
+ghost use Rattle.std.specs.Prelude.{◌≡◌};
+ghost use Rattle.vr_model.specs.tables.Tables.{transit as transit_of};
 ghost use Rattle.vr_costfilter.specs.Guides.{IsStopAt};
-ghost use Rattle.vr_costfilter.specs.Rests.{rest_at_end as at_end_of, rest_before as before_by};
 ghost use Rattle.vr_costfilter.specs.Rests.{rest_by, way_through as through_rest, IsRestOf};
 ghost use Rattle.vr_costfilter.specs.Ways.{IsWayOf};
 
@@ -24,33 +22,9 @@ pub struct Rest {
 }
 
 impl<'m> Guide<'m> {
-    /// What is left from the end on.
+    /// What is left from a node on that allows a run of cumuls.
     #[inline]
-    pub fn rest_at_end(&self) -> Rest
-        ensures value { result ≡ at_end_of self.now.model.now self.now.v (runs_of self.now) }
-        ensures range { IsRestOf self.now.model.now 0 result }
-    {
-        Rest {
-            at: self.finish.node,
-            transits: 0,
-            least_end: self.finish.allowed.lo,
-            latest_cumul: self.finish.allowed.hi,
-        }
-    }
-
-    /// What is left from a visit on, which comes before what is left from the next stop on.
-    #[inline]
-    pub fn rest_before(&self, node: u32, rest: Rest) -> Rest
-        requires node { IsTrue (is_visit self.now.model.now node) }
-        requires rest { IsRestOf self.now.model.now 1000 rest }
-        ensures { result ≡ before_by self.now.model.now self.now.d self.now.v (runs_of self.now) node rest }
-    {
-        self.rest_on(node, self.visits[node as usize], rest)
-    }
-
-    // What is left from a node on that allows a run of cumuls.
-    #[inline]
-    fn rest_on(&self, node: u32, allowed: Run, rest: Rest) -> Rest
+    pub fn rest_on(&self, node: u32, allowed: Run, rest: Rest) -> Rest
         requires stop { IsStopAt self.now.model.now node allowed }
         requires rest { IsRestOf self.now.model.now 1000 rest }
         ensures { result ≡ rest_by (transit_of self.now.model.now self.now.d self.now.v node rest.at) node allowed
@@ -71,7 +45,7 @@ impl<'m> Guide<'m> {
     /// A way goes on to a stop and through what is left from there to the end.
     #[inline(always)]
     pub fn way_through(&self, way: Way, rest: Rest) -> Way
-        requires way { IsWayOf self.now.model.now 2000 way }
+        requires way { IsWayOf self.now.model.now 9000 way }
         requires rest { IsRestOf self.now.model.now 1000 rest }
         ensures { result ≡ through_rest self.now.model.now self.now.d self.now.v way rest }
     {

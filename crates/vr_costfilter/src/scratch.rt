@@ -5,7 +5,7 @@ use std::alloc::Global;
 use vr_plan::Timer;
 use vr_routes::Row;
 
-/// Scratch for a list that a change makes, and for its schedule, whether it is told by what is kept or built.
+/// Scratch for a list that a change makes, and for its schedule, whether it is known by what is kept or built.
 #[derive(Drop)]
 pub struct Scratch {
     /// The stops of it that kept cumuls do not tell.

@@ -1,15 +1,15 @@
-//! What global spans cost at least after a change, told without a schedule of the changed lists.
+//! What global spans cost at least after a change, known without a schedule of the changed lists.
 
 ghost use Rattle.std.specs.Prelude.{◌≡◌, ◌<◌, length};
 ghost use Rattle.vr_plan.specs.Bounds.{cumul_cost, IsAround};
 ghost use Rattle.vr_routes.specs.Pieces.{part_at};
-ghost use Rattle.vr_costfilter.specs.Orders.{extent_but, AreInRange, AreOrders};
+ghost use Rattle.vr_costfilter.specs.SortedEnds.{extent_but, AreInRange, AreOrders};
 ghost use Rattle.vr_costfilter.specs.GlobalCosts.{AreAllOrders, IsGlobalCost, Pays};
 ghost use Rattle.vr_costfilter.specs.Spreads as spreads;
 ghost use Rattle.vr_costfilter.specs.Spreads.{global_least, global_least_in, spread_of, IsSpreadInRange};
 
 use crate::early_change::{EarlyChange, EarlyIn};
-use crate::orders::Orders;
+use crate::orders::SortedEnds;
 use crate::reaches::vehicles_of;
 use vr_model::limits::HORIZON;
 use vr_plan::times;
@@ -18,16 +18,16 @@ use vr_routes::Piece;
 /// How far lists reach at least in one dimension.
 #[derive(Clone, Copy)]
 pub struct Spread {
-    /// The greatest end that is told of them, in `0..=2^36`.
+    /// The greatest end that is known of them, in `0..=2^36`.
     pub last: i64,
-    /// The least start that is told of them, in `0..=2^36`.
+    /// The least start that is known of them, in `0..=2^36`.
     pub start: i64,
-    /// The greatest span that is told of one of them, in `-2^36..=2^36`.
+    /// The greatest span that is known of one of them, in `-2^36..=2^36`.
     pub span: i64,
 }
 
 /// What the global spans cost at least after a change.
-pub fn least_of_global_spans(early: &EarlyChange, orders: &[Orders]) -> i64
+pub fn least_of_global_spans(early: &EarlyChange, orders: &[SortedEnds]) -> i64
     requires { AreAllOrders early.now.model.now early.now.routes.now.lists orders.now }
     ensures value { result ≡ global_least early.now.model.now early.now.routes.now.lists early.now.change.now }
     ensures range { IsGlobalCost result }
@@ -40,7 +40,7 @@ pub fn least_of_global_spans(early: &EarlyChange, orders: &[Orders]) -> i64
 }
 
 // The same in dimension `d`.
-fn least_of_global_span(early: &EarlyChange, orders: &Orders, d: u32) -> i64
+fn least_of_global_span(early: &EarlyChange, orders: &SortedEnds, d: u32) -> i64
     requires dimension { d < length early.now.model.now.dimensions }
     requires orders { Pays early.now.model.now d
         → AreOrders early.now.model.now d early.now.routes.now.lists orders.now }
@@ -58,7 +58,7 @@ fn least_of_global_span(early: &EarlyChange, orders: &Orders, d: u32) -> i64
 }
 
 // How far the lists after a change reach at least.
-fn spread_after(paid: &EarlyIn, orders: &Orders) -> Spread
+fn spread_after(paid: &EarlyIn, orders: &SortedEnds) -> Spread
     requires { AreOrders paid.now.early.now.model.now paid.now.d paid.now.early.now.routes.now.lists orders.now }
     ensures value { result ≡ spreads.spread_after paid.now.early.now.model.now paid.now.early.now.routes.now.lists
         paid.now.early.now.change.now paid.now.d }
@@ -74,7 +74,7 @@ fn spread_after(paid: &EarlyIn, orders: &Orders) -> Spread
 }
 
 // How far the lists reach of the used vehicles that are none of these.
-fn spread_but(orders: &Orders, vehicles: &[u32]) -> Spread
+fn spread_but(orders: &SortedEnds, vehicles: &[u32]) -> Spread
     requires range { AreInRange orders.now }
     ensures value { result ≡ spread_of (extent_but vehicles.now orders.now) }
     ensures range { IsSpreadInRange result }

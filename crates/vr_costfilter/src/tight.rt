@@ -3,18 +3,15 @@
 //! cumuls the tight schedule is the earliest one, and is found as that is: by floors from the end backwards, and along
 //! them.
 
-ghost use Rattle.std.specs.Prelude.{◌≡◌, IsTrue, pos};
+ghost use Rattle.std.specs.Prelude.{◌≡◌, pos};
 ghost use Rattle.vr_model.specs.tables.Numbers.{horizon};
-ghost use Rattle.vr_model.specs.tables.Tables.{is_visit};
 ghost use Rattle.vr_model.specs.tables.WellFormed.{IsIn};
 ghost use Rattle.vr_reach.specs.VisitRuns.{HasCumulEnds};
 ghost use Rattle.vr_costfilter.specs.KeptWays.{HasCumuls};
 ghost use Rattle.vr_costfilter.specs.Guides.{IsStopAt};
 ghost use Rattle.vr_costfilter.specs.GuideRuns.{runs_of};
 ghost use Rattle.vr_costfilter.specs.Runs.{between_runs, only as only_of};
-ghost use Rattle.vr_costfilter.specs.Ways.{last_by, start_by, way_on as way_on_by};
-ghost use Rattle.vr_costfilter.specs.Ways.{way_out as way_out_by};
-ghost use Rattle.vr_costfilter.specs.Ways.{way_to_visit as way_to_visit_by, IsWayOf};
+ghost use Rattle.vr_costfilter.specs.Ways.{last_by, start_by, way_on as way_on_by, IsWayOf};
 
 use crate::guides::Guide;
 use vr_reach::Ahead;
@@ -68,7 +65,7 @@ impl<'m> Guide<'m> {
     /// The ends that a whole way tells.
     #[inline]
     pub fn ends_by(&self, whole: Way) -> TightEnds
-        requires { IsWayOf self.now.model.now 3001 whole }
+        requires { IsWayOf self.now.model.now 10001 whole }
         ensures last { result.last ≡ last_by whole }
         ensures start { result.start ≡ start_by whole }
     {
@@ -78,36 +75,11 @@ impl<'m> Guide<'m> {
         }
     }
 
-    /// The vehicle stands at its start.
+    /// A way goes on to a node that allows a run of cumuls.
     #[inline(always)]
-    pub fn way_out(&self) -> Way
-        ensures value { result ≡ way_out_by self.now.model.now self.now.v (runs_of self.now) }
-        ensures range { IsWayOf self.now.model.now 0 result }
-    {
-        Way {
-            at: self.model.vehicles.get(self.v as usize).start,
-            time: self.start.lo,
-            transits: 0,
-            latest: self.start.hi,
-        }
-    }
-
-    /// A way goes on to a visit.
-    #[inline(always)]
-    pub fn way_to_visit(&self, way: Way, node: u32) -> Way
-        requires node { IsTrue (is_visit self.now.model.now node) }
-        requires way { IsWayOf self.now.model.now 3000 way }
-        ensures { result
-            ≡ way_to_visit_by self.now.model.now self.now.d self.now.v (runs_of self.now) way node }
-    {
-        self.way_on(way, node, self.visits[node as usize])
-    }
-
-    // It goes on to a node that allows a run of cumuls.
-    #[inline(always)]
-    fn way_on(&self, way: Way, node: u32, allowed: Run) -> Way
+    pub fn way_on(&self, way: Way, node: u32, allowed: Run) -> Way
         requires stop { IsStopAt self.now.model.now node allowed }
-        requires way { IsWayOf self.now.model.now 3000 way }
+        requires way { IsWayOf self.now.model.now 10000 way }
         ensures { result ≡ way_on_by self.now.model.now self.now.d self.now.v way node allowed }
     {
         let transit = self

@@ -10,8 +10,8 @@ pub struct Step {
     pub floor: i64,
 }
 
-/// Room for the steps to visits of a list, from the last one to the first. A caller lends it, so that a walk from the
-/// end backwards takes no memory; what is on it before a call does not matter.
+/// A stack of the steps to visits of a list, which has the last one at its bottom. A caller lends it as scratch, so
+/// that a walk from the end backwards takes no memory; what is on it before a call does not matter.
 #[derive(Drop)]
 pub struct Trail {
     pub steps: ArrayVec<Step, 1000>,

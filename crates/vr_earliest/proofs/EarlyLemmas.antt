@@ -7,7 +7,7 @@ use Rattle.vr_model.specs.tables.Tables.{dimension_at}
 use Rattle.vr_model.specs.declared.records.Model.{Model}
 use Rattle.vr_routes.specs.Pieces.{ListAfter}
 use Rattle.vr_earliest.specs.declared.earlies.Early.{Early}
-use Rattle.vr_earliest.specs.declared.kept.KeptWays.{KeptWays}
+use Rattle.vr_earliest.specs.Kept.{KeptWays}
 use Rattle.vr_earliest.specs.Earlies.{IsEarlyRow}
 use Rattle.vr_earliest.specs.Kept.{HaveWays, IsUnpaid}
 

@@ -1,16 +1,20 @@
 -- Ways and what is left behind them, and their numbers.
-use Rattle.std.proofs.Common.{◌≡◌, ◌∙◌, ℕ, suc, ◌+◌, ◌<◌, ◌≤◌, Bool, true, false, cond, List, [], ◌∷◌, ◌++◌, length, reverse, take, drop, refl, ap, ap₂, sym, subst, arith}
+use Rattle.std.proofs.Common.{◌≡◌, ◌∙◌, ℕ, suc, ◌+◌, ◌<◌, ◌≤◌, Bool, true, false, cond, List, [], ◌∷◌, ◌++◌, ◌-◌, ◌*◌, length, length-append, reverse, take, drop, refl, ap, ap₂, sym, subst, arith}
 use Rattle.std.specs.Prelude.{ℤ, pos, ◌+ℤ◌, All}
 use Rattle.std.specs.Int.{int_max}
 use Rattle.std.proofs.lemmas.List.Sums.{fold-append}
 use Rattle.std.proofs.lemmas.Int.{ints, int_max_is}
-use Rattle.std.proofs.lemmas.List.{length-drop, length-reverse, length-take-le}
+use Rattle.std.proofs.lemmas.List.{length-drop, length-reverse, length-take-le, take-append-drop}
 use Rattle.std.proofs.lemmas.List.Elements.{All-drop, All-take}
 use Rattle.vr_model.specs.tables.Numbers.{horizon}
 use Rattle.vr_model.specs.tables.Tables.{dimension_at, no_vehicle, row_of, transit, vehicle_at}
 use Rattle.vr_model.specs.tables.WellFormed.{IsIn, IsWellFormed}
+use Rattle.vr_model.specs.routes.Routes.{route}
 use Rattle.vr_model.specs.declared.records.Model.{Model}
 use Rattle.vr_model.proofs.tables.Bounds.{transit_in_range}
+use Rattle.vr_routes.specs.Pieces.{joined, nodes_of}
+use Rattle.vr_routes.specs.declared.pieces.Piece.{Piece}
+use Rattle.vr_routes.specs.declared.pieces.Piece.TheVariants.{Chain, Node}
 use Rattle.vr_earliest.specs.declared.ways.Way.{Way}
 use Rattle.vr_earliest.specs.declared.floors.Floors.{Floors}
 use Rattle.vr_earliest.specs.declared.ways.Guide.{Guide}
@@ -18,25 +22,7 @@ use Rattle.vr_earliest.specs.declared.ways.Rest.{Rest}
 use Rattle.vr_earliest.specs.Floors.{end_floor, floor_of, start_floor, visit_floor, AreFloors, HaveFloors}
 use Rattle.vr_earliest.proofs.FloorLemmas.{floor-range}
 use Rattle.vr_earliest.specs.Rests.{at_end, before, rest_of, to_end, IsRestOf}
-use Rattle.vr_earliest.specs.Ways.{along, setting_out, to_node, to_visit, way_along, whole_way, IsWayOf}
-
-pub way-more : (model : Model) (n m : ℕ) (way : Way) → n ≤ m → IsWayOf model n way → IsWayOf model m way
-way-more model n m way le h = record {
-  at = h.at;
-  early = h.early;
-  late = omega (arith, ints, h.late, le);
-  low = omega (arith, ints, h.low, le);
-  high = omega (arith, ints, h.high, le);
-}
-
-pub rest-more : (model : Model) (n m : ℕ) (rest : Rest) → n ≤ m → IsRestOf model n rest → IsRestOf model m rest
-rest-more model n m rest le h = record {
-  at = h.at;
-  low = omega (arith, ints, h.low, le);
-  high = omega (arith, ints, h.high, le);
-  early = h.early;
-  late = omega (arith, ints, h.late, le);
-}
+use Rattle.vr_earliest.specs.Ways.{arcs-more, along, setting_out, to_node, to_visit, way_along, whole_way, IsWayOf}
 
 module _ (model : Model) (well : IsWellFormed model) (d v : ℕ) (dimension : d < length model.dimensions) (vehicle : v < length model.vehicles) where
   pub node-way : (n : ℕ) (way : Way) (node : ℕ) (floor : ℤ) → IsWayOf model n way → node < model.nodes → IsIn (pos 0) horizon floor → IsWayOf model (n + 1) (to_node model d v way node floor)
@@ -53,18 +39,18 @@ module _ (model : Model) (well : IsWellFormed model) (d v : ℕ) (dimension : d 
 
   pub along-way : (floors : List ℤ) → HaveFloors (dimension_at model d).nodes model.nodes floors → (nodes : List ℕ) → All (λ node. node < model.nodes) nodes → (n : ℕ) (way : Way) → IsWayOf model n way
       → IsWayOf model (n + length nodes) (along model d v way nodes)
-  along-way floors have [] all n way h = way-more model n (n + 0) way (omega arith) h
+  along-way floors have [] all n way h = arcs-more n (n + 0) (omega arith) h
   along-way floors have (x ∷ xs) all n way h =
       let low : x < model.nodes = all 0 0 (omega arith) in
       let range = floor-range _ _ floors have x low in
       let next = node-way n way x (floor_of (row_of (dimension_at model d).nodes x)) h low range in
       let rest = along-way floors have xs (λ k d low. all (suc k) d (omega (arith, low))) (n + 1) (to_visit model d v way x) next in
-      way-more model (n + 1 + length xs) (n + suc (length xs)) _ (omega arith) rest
+      arcs-more (n + 1 + length xs) (n + suc (length xs)) (omega arith) rest
 
   pub along-part : (floors : List ℤ) → HaveFloors (dimension_at model d).nodes model.nodes floors → (nodes : List ℕ) → All (λ node. node < model.nodes) nodes → (n : ℕ) (way : Way) → IsWayOf model n way → (k : ℕ) → k ≤ length nodes
       → IsWayOf model (n + k) (along model d v way (take k nodes))
   along-part floors have nodes all n way h k le =
-      way-more model (n + length (take k nodes)) (n + k) _ (let l = length-take-le k nodes le in omega (arith, l)) (along-way floors have (take k nodes) (All-take (λ node. node < model.nodes) k nodes all) n way h)
+      arcs-more (n + length (take k nodes)) (n + k) (let l = length-take-le k nodes le in omega (arith, l)) (along-way floors have (take k nodes) (All-take (λ node. node < model.nodes) k nodes all) n way h)
 
   pub start-way : IsIn (pos 0) horizon (start_floor model d v) → IsWayOf model 0 (setting_out model d v)
   start-way range = record {
@@ -125,13 +111,13 @@ module _ (model : Model) (well : IsWellFormed model) (d v : ℕ) (dimension : d 
     -- the way along the first visits of a list
     pub way-front : (k : ℕ) → k ≤ length list → IsWayOf model 1000 (way_along model d v (take k list))
     way-front k low =
-        way-more model (0 + k) 1000 (way_along model d v (take k list)) (omega (arith, few, low))
+        arcs-more (0 + k) 1000 (omega (arith, few, low))
         (along-part floors.visits.items have.visits list nodes 0 (setting_out model d v) (start-way (floor-range _ _ floors.starts.items have.starts v vehicle)) k low)
 
     -- what is left behind a place of it
     pub rest-behind : (k : ℕ) → IsRestOf model 1000 (rest_of model d v (drop k list))
     rest-behind k =
-        rest-more model (length (drop k list)) 1000 (rest_of model d v (drop k list)) (let l = length-drop k list in omega (arith, few, l))
+        arcs-more (length (drop k list)) 1000 (let l = length-drop k list in omega (arith, few, l))
         (rest-range floors.visits.items floors.ends.items have.visits have.ends (drop k list) (All-drop (λ node. node < model.nodes) k list nodes))
 
 module _ (model : Model) (d v : ℕ) where
@@ -179,3 +165,25 @@ by-guide guide {model} {d} {v} m n w P is = subst (P model d) w (subst (λ e. P 
 -- what a guide tells is of its model, its dimension and its vehicle
 pub guided : {A : Type 0} (f : Model → ℕ → ℕ → A) (guide : Guide) (model : Model) (d v : ℕ) → guide.model.now ≡ model → guide.d ≡ d → guide.v ≡ v → f guide.model.now guide.d guide.v ≡ f model d v
 guided f guide model d v m n w = ap (λ x. f x guide.d guide.v) m ∙ (ap (λ x. f model x guide.v) n ∙ ap (f model d) w)
+
+-- ---- how many nodes pieces have
+
+-- at most 1000 each, where each list has no more
+piece-few : (lists : List (List ℕ)) → ((v : ℕ) → length (route lists v) ≤ 1000) → (piece : Piece) → length (nodes_of lists piece) ≤ 1000
+piece-few lists few (Node node) = omega arith
+piece-few lists few (Chain v from to reversed) =
+    let left : List ℕ = drop from (route lists v) in
+    let long = ordered-long reversed (take (to - from) left) in
+    let two = length-append (take (to - from) left) (drop (to - from) left) in
+    let all = ap length (take-append-drop (to - from) left) in
+    let behind = length-drop from (route lists v) in
+    let most = few v in
+    omega (arith, long, two, all, behind, most)
+
+pub joined-few : (lists : List (List ℕ)) → ((v : ℕ) → length (route lists v) ≤ 1000) → (pieces : List Piece) → length (joined lists pieces) ≤ 1000 * length pieces
+joined-few lists few [] = omega arith
+joined-few lists few (x ∷ xs) =
+    let two = length-append (nodes_of lists x) (joined lists xs) in
+    let one = piece-few lists few x in
+    let rest = joined-few lists few xs in
+    omega (arith, two, one, rest)

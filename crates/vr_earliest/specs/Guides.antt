@@ -1,16 +1,11 @@
 -- What is looked up of a vehicle in a dimension.
-use Rattle.std.specs.Prelude.{◌≡◌, ◌<◌, ◌≤◌, ℕ, All, List, length}
+use Rattle.std.specs.Prelude.{◌≡◌, ◌<◌, ℕ, length}
 use Rattle.vr_model.specs.tables.Tables.{dimension_at, evaluator_of}
 use Rattle.vr_model.specs.tables.WellFormed.{IsWellFormed}
 use Rattle.vr_model.specs.declared.records.Evaluator.{Evaluator}
 use Rattle.vr_model.specs.declared.records.Model.{Model}
 use Rattle.vr_earliest.specs.Floors.{AreFloors}
 use Rattle.vr_earliest.specs.declared.floors.Floors.{Floors}
-
--- at most 1000 nodes of a model
-pub record AreFewNodes (model : Model) (nodes : List ℕ) : Type 0 where
-  pub few : length nodes ≤ 1000
-  pub nodes_are : All (λ node. node < model.nodes) nodes
 
 -- these are the floors of dimension d of a well formed model, and the evaluator of vehicle v there
 pub record IsGuide (model : Model) (d v : ℕ) (floors : Floors) (evaluator : Evaluator) : Type 0 where

@@ -1,35 +1,26 @@
 -- What is kept of committed lists.
-use Rattle.std.specs.Prelude.{◌≡◌, ◌<◌, ◌≤◌, ◌-◌, ◌⊎◌, ℕ, suc, IsTrue, List, drop, length, slice_index_or, take, pos}
+use Rattle.std.specs.Prelude.{◌≡◌, ◌<◌, ◌⊎◌, ℕ, IsTrue, List, length, slice_index_or, pos}
 use Rattle.vr_model.specs.tables.Numbers.{number_at}
 use Rattle.vr_model.specs.tables.Tables.{dimension_at}
 use Rattle.vr_model.specs.routes.Routes.{route}
 use Rattle.vr_model.specs.routes.Rules.{is_valid}
 use Rattle.vr_model.specs.declared.records.Dimension.{Dimension}
 use Rattle.vr_model.specs.declared.records.Model.{Model}
-use Rattle.vr_earliest.specs.declared.kept.KeptWays.{KeptWays}
+use Rattle.vr_earliest.specs.declared.kept_ways.KeptWays.{KeptWays as KeptPlaces}
 use Rattle.vr_earliest.specs.declared.ways.Rest.{Rest}
 use Rattle.vr_earliest.specs.declared.ways.Way.{Way}
-use Rattle.vr_earliest.specs.Rests.{rest_of}
-use Rattle.vr_earliest.specs.Ways.{way_along}
+use Rattle.vr_earliest.specs.Entries.{KeepsWays}
+use Rattle.vr_earliest.specs.Rests.{at_end, before}
+use Rattle.vr_earliest.specs.Ways.{setting_out, to_visit}
 
--- entry k is f k, for each number k up to n
-pub record AreEntries {A : Type 0} (f : ℕ → A) (n : ℕ) (entries : List A) : Type 0 where
-  pub many : length entries ≡ suc n
-  pub each : (k : ℕ) (other : A) → k ≤ n → slice_index_or entries k other ≡ f k
-
--- the ways of vehicle v along the first visits of a list, for each number of them up to n
-abbrev pub AreWaysTo : Model → ℕ → ℕ → List ℕ → ℕ → List Way → Type 0
-AreWaysTo model d v list n ways = AreEntries (λ k. way_along model d v (take k list)) n ways
-
--- what is left from each of the last stops of its line on, from the end backwards through n visits
-abbrev pub AreRestsTo : Model → ℕ → ℕ → List ℕ → ℕ → List Rest → Type 0
-AreRestsTo model d v list n rests = AreEntries (λ k. rest_of model d v (drop (length list - k) list)) n rests
+-- what is kept of the list of a vehicle
+abbrev pub KeptWays : Type 0
+KeptWays = KeptPlaces Way Rest
 
 -- what is kept has the ways along a list of vehicle v, and what is left behind each of its places
-pub record HasWays (model : Model) (d v : ℕ) (list : List ℕ) (kept : KeptWays) : Type 0 where
-  pub few : length list ≤ 1000
-  pub ways : AreWaysTo model d v list (length list) kept.ways.items
-  pub rests : AreRestsTo model d v list (length list) kept.rests.items
+abbrev pub HasWays : Model → ℕ → ℕ → List ℕ → KeptWays → Type 0
+HasWays model d v list kept =
+    KeepsWays (setting_out model d v) (to_visit model d v) (at_end model d v) (before model d v) list kept
 
 -- nothing is paid for spans in a dimension
 pub record IsUnpaid (dimension : Dimension) : Type 0 where

@@ -1,9 +1,11 @@
 -- What is left of the line of a vehicle behind a way.
-use Rattle.std.specs.Prelude.{ℕ, List, [], ◌∷◌, ◌<◌, ◌+◌, ◌*◌, pos, neg_ℤ, ◌+ℤ◌, ◌≤ℤ◌}
+use Rattle.std.specs.Prelude.{ℕ, List, pos, ◌+ℤ◌}
 use Rattle.std.specs.Int.{int_max}
 use Rattle.vr_model.specs.tables.Tables.{transit, vehicle_at}
 use Rattle.vr_model.specs.declared.records.Model.{Model}
+use Rattle.vr_earliest.specs.Entries.{back_from}
 use Rattle.vr_earliest.specs.Floors.{end_floor, visit_floor}
+use Rattle.vr_earliest.specs.Ways.{AreArcs}
 use Rattle.vr_earliest.specs.declared.ways.Rest.{Rest}
 use Rattle.vr_earliest.specs.declared.ways.Way.{Way}
 
@@ -23,8 +25,7 @@ before model d v node rest =
 
 -- what is left from the first of some visits on, through all of them to the end of vehicle v
 abbrev pub rest_of : Model → ℕ → ℕ → List ℕ → Rest
-rest_of model d v [] = at_end model d v
-rest_of model d v (x ∷ xs) = before model d v x (rest_of model d v xs)
+rest_of model d v nodes = back_from (at_end model d v) (before model d v) nodes
 
 -- a way goes on to a stop and through what is left from there to the end
 abbrev pub to_end : Model → ℕ → ℕ → Way → Rest → Way
@@ -37,12 +38,8 @@ to_end model d v way rest =
     }
 
 -- the numbers of what is left of n arcs
-pub record IsRestOf (model : Model) (n : ℕ) (rest : Rest) : Type 0 where
-  pub at : rest.at < model.nodes
-  pub low : neg_ℤ (pos (2147483648 * n)) ≤ℤ rest.transits
-  pub high : rest.transits ≤ℤ pos (2147483648 * n)
-  pub early : pos 0 ≤ℤ rest.least_end
-  pub late : rest.least_end ≤ℤ pos (68719476736 + 2147483648 * n)
+abbrev pub IsRestOf : Model → ℕ → Rest → Type 0
+IsRestOf model n rest = AreArcs model n rest.at rest.least_end rest.transits
 
 -- what is left of a list, of 1000 nodes at most
 abbrev pub IsListRest : Model → Rest → Type 0

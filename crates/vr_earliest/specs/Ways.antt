@@ -1,5 +1,7 @@
 -- How early a vehicle can be on its way along a list.
-use Rattle.std.specs.Prelude.{ℕ, List, ◌<◌, ◌*◌, ◌+◌, fold, cond, ℤ, pos, neg_ℤ, ◌+ℤ◌, ◌-ℤ◌, ◌≤ℤ◌}
+use Rattle.std.proofs.Common.{arith}
+use Rattle.std.proofs.lemmas.Int.{ints}
+use Rattle.std.specs.Prelude.{ℕ, List, ◌<◌, ◌≤◌, ◌*◌, ◌+◌, fold, cond, ℤ, pos, neg_ℤ, ◌+ℤ◌, ◌-ℤ◌, ◌≤ℤ◌}
 use Rattle.std.specs.Int.{int_max, int_min}
 use Rattle.vr_model.specs.tables.Numbers.{horizon}
 use Rattle.vr_model.specs.tables.Tables.{dimension_at, transit, vehicle_at}
@@ -52,20 +54,31 @@ abbrev pub least_span : Model → ℕ → ℕ → List ℕ → ℤ
 least_span model d v list =
     int_max (neg_ℤ horizon) (int_min horizon (span_by model d v (whole_way model d v list)))
 
--- the numbers of a way of n arcs: a node of the model, a time of at most the horizon and the greatest transits, and
--- transits within theirs
-pub record IsWayOf (model : Model) (n : ℕ) (way : Way) : Type 0 where
-  pub at : way.at < model.nodes
-  pub early : pos 0 ≤ℤ way.time
-  pub late : way.time ≤ℤ pos (68719476736 + 2147483648 * n)
-  pub low : neg_ℤ (pos (2147483648 * n)) ≤ℤ way.transits
-  pub high : way.transits ≤ℤ pos (2147483648 * n)
+-- the numbers of n arcs: a node of the model, a time of at most the horizon and the greatest transits, and transits
+-- within theirs
+pub record AreArcs (model : Model) (n node : ℕ) (time transits : ℤ) : Type 0 where
+  pub at : node < model.nodes
+  pub early : pos 0 ≤ℤ time
+  pub late : time ≤ℤ pos (68719476736 + 2147483648 * n)
+  pub low : neg_ℤ (pos (2147483648 * n)) ≤ℤ transits
+  pub high : transits ≤ℤ pos (2147483648 * n)
 
--- a way along the front of a list, of 1000 nodes at most
-abbrev pub IsFrontWay : Model → Way → Type 0
-IsFrontWay model = IsWayOf model 1000
+-- of fewer arcs, they are those of more
+pub arcs-more : {model : Model} {node : ℕ} {time transits : ℤ} (n m : ℕ) → n ≤ m → AreArcs model n node time transits
+    → AreArcs model m node time transits
+arcs-more n m le h = record {
+  at = h.at;
+  early = h.early;
+  late = omega (arith, ints, h.late, le);
+  low = omega (arith, ints, h.low, le);
+  high = omega (arith, ints, h.high, le);
+}
 
--- a way on from there along eight pieces at most, of 1000 nodes at most each
+-- the numbers of a way of n arcs
+abbrev pub IsWayOf : Model → ℕ → Way → Type 0
+IsWayOf model n way = AreArcs model n way.at way.time way.transits
+
+-- a way along the front of a list, of 1000 nodes at most, and on along pieces of 8000 at most
 abbrev pub IsMiddleWay : Model → Way → Type 0
 IsMiddleWay model = IsWayOf model 9000
 

@@ -16,6 +16,7 @@ ghost use Rattle.vr_earliest.specs.Ways.{earliest_end, least_span, whole_way, Is
 use crate::earlies::{Earlies, Early};
 use crate::floors::Floors;
 use crate::kept::KeptLists;
+use crate::walks::{Walk, along_pieces};
 use crate::ways::{Guide, Way};
 use std::alloc::Global;
 use std::marker::Model;
@@ -202,7 +203,7 @@ fn way_after(guide: &Guide, kept: &KeptLists, routes: &Routes, pieces: &[Piece])
     requires kept { HaveWays guide.now.model.now guide.now.d routes.now.lists kept.now }
     requires nodes_before { All (λ node. node < guide.now.model.now.nodes) (route routes.now.lists guide.now.v) }
     requires within { All (IsWithin routes.now.lists) pieces.now }
-    requires few { length pieces.now ≤ 8 }
+    requires few { length (joined routes.now.lists pieces.now) ≤ 8000 }
     requires nodes { All (λ node. node < guide.now.model.now.nodes) (joined routes.now.lists pieces.now) }
     ensures value { result
         ≡ whole_way guide.now.model.now guide.now.d guide.now.v (joined routes.now.lists pieces.now) }
@@ -212,9 +213,9 @@ fn way_after(guide: &Guide, kept: &KeptLists, routes: &Routes, pieces: &[Piece])
     if (v as usize) < kept.lists.len() {
         let list = &kept.lists[v as usize];
         let ends = strip(routes, v, pieces);
-        let way = guide.along_pieces(routes, ends.middle, list.way(ends.front));
+        let way = along_pieces(guide, routes, ends.middle, list.way(ends.front));
         return guide.to_end(way, list.rest(ends.behind));
     }
-    let way = guide.along_pieces(routes, pieces, guide.setting_out());
-    guide.to_end(way, guide.at_end())
+    let way = along_pieces(guide, routes, pieces, guide.way_out());
+    guide.to_end(way, guide.rest_at_end())
 }

@@ -143,7 +143,8 @@ fn behind_all(intervals: &[Interval], from: i64) -> i64
     x
 }
 
-// A number, or the one behind an interval in which it lies.
+// A number, or the one behind an interval in which it lies. Taken of intervals in turn it is a bound from below, also
+// where they do not ascend.
 fn behind(x: i64, interval: Interval) -> i64
     requires { IsInterval interval }
     ensures { result ≡ behind_interval x interval }

@@ -1,112 +1,29 @@
 //! What is kept of committed lists, so that a change is told by what it changes alone.
 
-ghost use Rattle.std.specs.Prelude.{◌≡◌, ◌≢◌, ◌<◌, ◌≤◌, ◌-◌, All, ℕ, List, IfOk, IsTrue, false, length};
-ghost use Rattle.std.specs.Prelude.{slice_index_or};
+ghost use Rattle.std.specs.Prelude.{◌≡◌, ◌≢◌, ◌<◌, ◌≤◌, All, ℕ, List, IfOk, IsTrue, false, length};
 ghost use Rattle.vr_model.specs.moves.Moves.{with_route};
 ghost use Rattle.vr_model.specs.routes.Rules.{is_valid};
 ghost use Rattle.vr_earliest.specs.Floors.{AreFloors};
-ghost use Rattle.vr_earliest.specs.declared.ways.Rest.{Rest as RestOf};
-ghost use Rattle.vr_earliest.specs.declared.ways.Way.{Way as WayOf};
-ghost use Rattle.vr_earliest.specs.Kept.{AreRestsTo, AreWaysTo, HasWays, HaveWays, IsUnpaid};
+ghost use Rattle.vr_earliest.specs.Kept.{HaveWays, IsUnpaid};
 
 use crate::floors::Floors;
-use crate::ways::{Guide, LedList, Rest, Way};
-use arrayvec::ArrayVec;
+use crate::kept_ways::{KeptWays, write_ways};
+use crate::ways::{Guide, Rest, Way};
 use std::alloc::Global;
 use std::marker::Model;
 use vr_model::{Closed, Dimension, NoMemory};
 use vr_routes::Routes;
 
-/// What is kept of the list of a vehicle in one dimension.
-#[derive(Drop)]
-pub struct KeptWays {
-    // the way along the first visits, of each number of visits
-    ways: ArrayVec<Way, 1002>,
-    // what is left from each visit on and from the end, from the end backwards
-    rests: ArrayVec<Rest, 1002>,
-}
-
-impl KeptWays {
-    // Of no list.
-    fn new() -> KeptWays {
-        KeptWays {
-            ways: ArrayVec::new(),
-            rests: ArrayVec::new(),
-        }
-    }
-
-    /// The way along the first `place` visits of the list.
-    #[inline(always)]
-    pub fn way(&self, place: u32) -> Way
-        requires place { place < length self.now.ways.items }
-        ensures { (other : WayOf) → result ≡ slice_index_or self.now.ways.items place other }
-    {
-        self.ways[place as usize]
-    }
-
-    /// What is left from a place of the list on.
-    #[inline(always)]
-    pub fn rest(&self, place: u32) -> Rest
-        requires place { place < length self.now.rests.items }
-        ensures { (other : RestOf)
-            → result ≡ slice_index_or self.now.rests.items (length self.now.rests.items - 1 - place) other }
-    {
-        self.rests[self.rests.len() - 1 - place as usize]
-    }
-
-    // Writes what is kept of a list.
-    fn write(&mut self, led: &LedList)
-        ensures { HasWays led.now.guide.now.model.now led.now.guide.now.d led.now.guide.now.v led.now.list.now
-            self.new }
-    {
-        self.write_ways(led);
-        self.write_rests(led);
-    }
-
-    // Writes the ways along a list.
-    fn write_ways(&mut self, led: &LedList)
-        ensures { AreWaysTo led.now.guide.now.model.now led.now.guide.now.d led.now.guide.now.v led.now.list.now
-            (length led.now.list.now) self.new.ways.items }
-    {
-        let guide = led.guide;
-        let list = led.list;
-        let mut way = guide.setting_out();
-        self.ways.clear();
-        self.ways.push(way);
-        for k in 0..list.len() {
-            way = guide.to_visit(way, list[k]);
-            self.ways.push(way);
-        }
-    }
-
-    // Writes what is left from each stop of a list on.
-    fn write_rests(&mut self, led: &LedList)
-        ensures rests { AreRestsTo led.now.guide.now.model.now led.now.guide.now.d led.now.guide.now.v led.now.list.now
-            (length led.now.list.now) self.new.rests.items }
-        ensures ways { self.new.ways ≡ self.old.ways }
-    {
-        let guide = led.guide;
-        let list = led.list;
-        let mut rest = guide.at_end();
-        self.rests.clear();
-        self.rests.push(rest);
-        for k in 0..list.len() {
-            rest = guide.before(list[list.len() - 1 - k], rest);
-            self.rests.push(rest);
-        }
-    }
-}
-
 /// What is kept of the lists of all vehicles in one dimension; of none where nothing is paid for spans. Contracts see
 /// what is kept of each.
 #[derive(Drop)]
 pub struct KeptLists {
-    pub lists: Vec<KeptWays>,
+    pub lists: Vec<KeptWays<Way, Rest>>,
 }
 
 impl Model for KeptLists {
     ghost use Rattle.std.specs.Prelude.{List};
-    ghost use Rattle.vr_earliest.specs.declared.kept.KeptWays.{KeptWays as KeptOf};
+    ghost use Rattle.vr_earliest.specs.Kept.{KeptWays as KeptOf};
 
     ghost Value = { List KeptOf };
 
@@ -132,11 +49,7 @@ impl KeptLists {
         for v in 0..many {
             let mut kept = KeptWays::new();
             let guide = Guide::of(closed, floors, d, v);
-            let led = LedList {
-                guide: &guide,
-                list: routes.list(v),
-            };
-            kept.write(&led);
+            write_ways(&mut kept, &guide, routes.list(v));
             lists.push(kept)?;
         }
         Ok(KeptLists { lists })
@@ -154,11 +67,7 @@ impl KeptLists {
     {
         if (v as usize) < self.lists.len() {
             let guide = Guide::of(closed, floors, d, v);
-            let led = LedList {
-                guide: &guide,
-                list,
-            };
-            self.lists[v as usize].write(&led);
+            write_ways(&mut self.lists[v as usize], &guide, list);
         }
     }
 }

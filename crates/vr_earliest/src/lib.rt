@@ -7,16 +7,21 @@
 //! behind each place, where anything is paid for spans; so what a change keeps of a list is not walked.
 //!
 //! What is kept is always of the committed lists, which are valid (`StandsEarliest`): who changes them commits the
-//! change here first. `vr_costfilter` asks before it looks for a schedule, and passes over a change that these bounds
-//! refuse; the law of `laws` says that they are bounds, whatever the rule of the vehicle is.
+//! change here first. `vr_judge` asks once for each change and lends the answer to the cost terms of `vr_costfilter`,
+//! which takes the walk along a list and what is kept of it from here ([`Walk`], [`KeptWays`]); the law of `laws` says
+//! that they are bounds, whatever the rule of the vehicle is.
 #![tactic(auto)]
 
 mod earlies;
 mod earliest;
 mod floors;
 mod kept;
+mod kept_ways;
 pub mod laws;
+mod walks;
 mod ways;
 
 pub use earlies::{Earlies, Early};
 pub use earliest::Earliest;
+pub use kept_ways::{KeptWays, write_ways};
+pub use walks::{Walk, along_pieces, node_in};

@@ -18,7 +18,7 @@ use Rattle.vr_usecosts.specs.Groups.{SavesAtMost}
 use Rattle.vr_judge.proofs.PairLemmas.{stay_active}
 use Rattle.vr_arccosts.specs.ArcMoves.{arcs_added, is_of_pair}
 use Rattle.vr_arccosts.specs.Runs.{AddsNoLess}
-use Rattle.vr_judge.specs.Costs.{AddArcsAtLeast, AddArcsBut, IsToldByNumbers, PaysArcsAndGroups, is_least_by_arcs, pays_arcs_and_groups}
+use Rattle.vr_judge.specs.Costs.{AddArcsAtLeast, AddArcsBut, IsKnownByNumbers, PaysArcsAndGroups, is_least_by_arcs, pays_arcs_and_groups}
 
 -- penalties, by which visits are active
 abbrev penalties : Model → (ℕ → Bool) → ℤ
@@ -90,7 +90,7 @@ by_penalties model lists kind none pays is =
 
 -- what is told of the arcs is told by the numbers of a move
 pub numbers_tell : (model : Model) (lists : List (List ℕ)) (mv : Move) (known : Option ℤ) → is_least_by_arcs model lists (kind_of mv) ≡ true
-    → MatchOption known (is_of_pair mv ≡ true) (λ added. added ≡ arcs_added model lists mv) → IsToldByNumbers model lists mv known
+    → MatchOption known (is_of_pair mv ≡ true) (λ added. added ≡ arcs_added model lists mv) → IsKnownByNumbers model lists mv known
 numbers_tell model lists mv None least pair = ap (λ b. b && not (is_of_pair mv)) least ∙ ap not pair
 numbers_tell model lists mv (Some added) least is = is
 
@@ -101,5 +101,5 @@ known_least model lists mv None P exact least = cc
 known_least model lists mv (Some added) P exact least = subst (IsLeast model lists mv) (sym exact) least
 
 -- what is told of the arcs of a model that is the same
-pub told_of : (m model : Model) (lists : List (List ℕ)) (mv : Move) (bound : ℤ) → m ≡ model → AddsNoLess m lists mv bound → AddsNoLess model lists mv bound
-told_of m model lists mv bound same less = subst (λ (m : Model). AddsNoLess m lists mv bound) same less
+pub known_of : (m model : Model) (lists : List (List ℕ)) (mv : Move) (bound : ℤ) → m ≡ model → AddsNoLess m lists mv bound → AddsNoLess model lists mv bound
+known_of m model lists mv bound same less = subst (λ (m : Model). AddsNoLess m lists mv bound) same less

@@ -1,5 +1,5 @@
--- Where parts of the cost stand at the lists that they stood at, so do all together.
-use Rattle.std.proofs.Common.{◌≡◌, ◌∙◌}
+-- Where plans and spans stand at the lists that they stood at, so do all parts of the cost.
+use Rattle.std.proofs.Common.{◌≡◌, ◌∙◌, ap, subst, sym}
 use Rattle.vr_routes.specs.Tours.{Tours}
 use Rattle.vr_arccosts.specs.Along.{KeptAlong, StandsAlong}
 use Rattle.vr_usecosts.specs.Fixed.{KeptFixed, StandsFixed}
@@ -9,20 +9,20 @@ use Rattle.vr_costfilter.specs.GlobalCosts.{KeptSpans, StandsSpans}
 use Rattle.vr_judge.specs.Costs.{KeptCosts, StandsCosts}
 
 pub stands-like : (kept : KeptCosts) (tours : Tours) → StandsCosts kept tours
-    → (arcs : KeptAlong) (fixed : KeptFixed) (groups : KeptGroups) (plans : KeptPlans) (spans : KeptSpans)
-    → arcs.model ≡ kept.arcs.model → fixed.model ≡ kept.fixed.model → groups.model ≡ kept.groups.model → plans.model ≡ kept.plans.model → spans.model ≡ kept.spans.model
-    → StandsAlong arcs tours → StandsFixed fixed tours → StandsGroups groups tours → StandsPlans plans tours → StandsSpans spans tours
+    → {arcs : KeptAlong} {fixed : KeptFixed} {groups : KeptGroups} {plans : KeptPlans} {spans : KeptSpans}
+    → arcs ≡ kept.arcs → fixed ≡ kept.fixed → groups ≡ kept.groups
+    → plans.model ≡ kept.plans.model → StandsPlans plans tours → spans.model ≡ kept.spans.model → StandsSpans spans tours
     → StandsCosts (record { model = kept.model; arcs = arcs; fixed = fixed; groups = groups; plans = plans; spans = spans; earliest = kept.earliest; arcs_and_groups = kept.arcs_and_groups }) tours
-stands-like kept tours h arcs fixed groups plans spans arcs_like fixed_like groups_like plans_like spans_like arcs_stand fixed_stand groups_stand plans_stand spans_stand = record {
-  arcs_model = arcs_like ∙ h.arcs_model;
-  fixed_model = fixed_like ∙ h.fixed_model;
-  groups_model = groups_like ∙ h.groups_model;
+stands-like kept tours h arcs_stay fixed_stay groups_stay plans_like plans_stand spans_like spans_stand = record {
+  arcs_model = ap (λ k. k.model) arcs_stay ∙ h.arcs_model;
+  fixed_model = ap (λ k. k.model) fixed_stay ∙ h.fixed_model;
+  groups_model = ap (λ k. k.model) groups_stay ∙ h.groups_model;
   plans_model = plans_like ∙ h.plans_model;
   spans_model = spans_like ∙ h.spans_model;
   earliest_model = h.earliest_model;
-  arcs = arcs_stand;
-  fixed = fixed_stand;
-  groups = groups_stand;
+  arcs = subst (λ k. StandsAlong k tours) (sym arcs_stay) h.arcs;
+  fixed = subst (λ k. StandsFixed k tours) (sym fixed_stay) h.fixed;
+  groups = subst (λ k. StandsGroups k tours) (sym groups_stay) h.groups;
   plans = plans_stand;
   spans = spans_stand;
   earliest = h.earliest;

@@ -1,27 +1,18 @@
 -- What parts of the cost add, added up: each sum fits 64 bits, and the whole is what the cost adds.
-use Rattle.std.proofs.Common.{◌≡◌, ◌+ℤ◌, ◌*◌, ℕ, List, ℤ, pos, refl, to_z, of_z, w64, arith}
-use Rattle.std.specs.Prelude.{◌-ℤ◌, ◌≤ℤ◌}
+use Rattle.std.proofs.Common.{◌≡◌, ◌∙◌, ◌+ℤ◌, ℕ, List, ℤ, pos, refl, ap, subst, to_z, of_z, w64, arith}
+use Rattle.std.specs.Prelude.{◌-ℤ◌, ◌≤ℤ◌, IsTrue}
 use Rattle.std.proofs.lemmas.Int.{ints}
 use Rattle.vr_model.specs.routes.Costs.{arcs_part, assigned, cost, fixed_part, global_part, penalty_part, soft_part, span_part}
 use Rattle.vr_model.specs.declared.records.Model.{Model}
-use Rattle.vr_plan.specs.Bounds.{IsAround, cumul_cost}
-use Rattle.vr_parts.specs.Bounds.{IsAddedByChange}
+use Rattle.vr_model.specs.routes.Rules.{is_valid}
 use Rattle.vr_costfilter.specs.GlobalCosts.{global_cost_of}
 use Rattle.vr_parts.specs.Parts.{CostAlike}
-use Rattle.vr_costfilter.specs.PlanCosts.{soft_and_span, IsPlanChange}
-use Rattle.vr_judge.specs.Costs.{PaysArcsAndGroups}
+use Rattle.vr_costfilter.specs.PlanCosts.{soft_and_span}
+use Rattle.vr_judge.specs.Costs.{AreBounded, PaysArcsAndGroups}
 
 -- a number as code reads it
 abbrev pub read : ℤ → ℤ
 read x = to_z w64 (of_z w64 x)
-
--- what arcs, fixed costs, groups, plans and global spans add, as far as their parts promise
-pub record AreBounded (arcs fixed groups plans spans : ℤ) : Type 0 where
-  pub arcs_are : IsAddedByChange arcs
-  pub fixed_are : IsAddedByChange fixed
-  pub groups_are : IsAddedByChange groups
-  pub plans_are : IsPlanChange plans
-  pub spans_are : IsAround (cumul_cost * 8) spans
 
 -- each, and the sum of the first two, three, four and five, is read as it is
 pub record AreRead (arcs fixed groups plans spans : ℤ) : Type 0 where
@@ -55,6 +46,16 @@ module _ (arcs fixed groups plans spans : ℤ) (h : AreBounded arcs fixed groups
         five = omega (arith, ints, a.low, a.high, f.low, f.high, g.low, g.high, p.low, p.high, s.low, s.high);
       }
 
+  -- so all of them may be added up as they are read
+  pub read_bounded : AreBounded (read arcs) (read fixed) (read groups) (read plans) (read spans)
+  read_bounded = let r = are_read in rw (r.arcs_are, r.fixed_are, r.groups_are, r.plans_are, r.spans_are) h
+
+  pub read_sum : (sum : ℤ) → sum ≡ read arcs +ℤ read fixed +ℤ read groups +ℤ read plans +ℤ read spans → read sum ≡ arcs +ℤ fixed +ℤ groups +ℤ plans +ℤ spans
+  read_sum sum is =
+      let r = are_read in
+      let exact : sum ≡ arcs +ℤ fixed +ℤ groups +ℤ plans +ℤ spans = is ∙ rw (r.arcs_are, r.fixed_are, r.groups_are, r.plans_are, r.spans_are) refl in
+      ap read exact ∙ r.five
+
 -- the cost is the sum of what the parts keep
 pub cost_of_parts : (model : Model) (lists : List (List ℕ)) → cost model lists
     ≡ arcs_part model lists +ℤ fixed_part model lists +ℤ penalty_part model lists +ℤ soft_and_span model lists +ℤ global_cost_of model lists
@@ -64,17 +65,35 @@ cost_of_parts model lists =
     let sum : cost model lists ≡ arcs_part model lists +ℤ (fixed_part model lists +ℤ (global_part model plan +ℤ (penalty_part model lists +ℤ (soft_part model plan +ℤ (span_part model plan +ℤ pos 0))))) = refl in
     omega (arith, ints, sum)
 
--- what the parts add is what their sum adds
-pub adds_whole : (a f g p s a0 f0 g0 p0 s0 a1 f1 g1 p1 s1 old new : ℤ) → a ≡ a1 -ℤ a0 → f ≡ f1 -ℤ f0 → g ≡ g1 -ℤ g0 → p ≡ p1 -ℤ p0 → s ≡ s1 -ℤ s0
-    → old ≡ a0 +ℤ f0 +ℤ g0 +ℤ p0 +ℤ s0 → new ≡ a1 +ℤ f1 +ℤ g1 +ℤ p1 +ℤ s1 → a +ℤ f +ℤ g +ℤ p +ℤ s ≡ new -ℤ old
-adds_whole a f g p s a0 f0 g0 p0 s0 a1 f1 g1 p1 s1 old new arcs fixed groups plans spans before behind =
-    omega (arith, ints, arcs, fixed, groups, plans, spans, before, behind)
+-- what cost terms add to lists that become others
+module _ (model : Model) (lists later : List (List ℕ)) {arcs fixed groups plans spans : ℤ} where
+  -- their sum is what the cost gets more
+  pub adds_whole : arcs ≡ arcs_part model later -ℤ arcs_part model lists → fixed ≡ fixed_part model later -ℤ fixed_part model lists
+      → groups ≡ penalty_part model later -ℤ penalty_part model lists → plans ≡ soft_and_span model later -ℤ soft_and_span model lists
+      → spans ≡ global_cost_of model later -ℤ global_cost_of model lists
+      → arcs +ℤ fixed +ℤ groups +ℤ plans +ℤ spans ≡ cost model later -ℤ cost model lists
+  adds_whole of_arcs of_fixed of_groups of_plans of_spans =
+      let before = cost_of_parts model lists in
+      let behind = cost_of_parts model later in
+      omega (arith, ints, of_arcs, of_fixed, of_groups, of_plans, of_spans, before, behind)
 
--- where three parts add no less than is told, the cost adds no less than these and the others
-pub adds_least : (a f g p s a0 f0 g0 p0 s0 a1 f1 g1 p1 s1 old new : ℤ) → a ≡ a1 -ℤ a0 → f ≡ f1 -ℤ f0 → g ≤ℤ (g1 -ℤ g0) → p ≤ℤ (p1 -ℤ p0) → s ≤ℤ (s1 -ℤ s0)
-    → old ≡ a0 +ℤ f0 +ℤ g0 +ℤ p0 +ℤ s0 → new ≡ a1 +ℤ f1 +ℤ g1 +ℤ p1 +ℤ s1 → (a +ℤ f +ℤ g +ℤ p +ℤ s) ≤ℤ (new -ℤ old)
-adds_least a f g p s a0 f0 g0 p0 s0 a1 f1 g1 p1 s1 old new arcs fixed groups plans spans before behind =
-    omega (arith, ints, arcs, fixed, groups, plans, spans, before, behind)
+  -- where three of them add no less than is known, neither does the cost
+  pub adds_least : arcs ≡ arcs_part model later -ℤ arcs_part model lists → fixed ≡ fixed_part model later -ℤ fixed_part model lists
+      → groups ≤ℤ (penalty_part model later -ℤ penalty_part model lists) → plans ≤ℤ (soft_and_span model later -ℤ soft_and_span model lists)
+      → spans ≤ℤ (global_cost_of model later -ℤ global_cost_of model lists)
+      → (arcs +ℤ fixed +ℤ groups +ℤ plans +ℤ spans) ≤ℤ (cost model later -ℤ cost model lists)
+  adds_least of_arcs of_fixed of_groups of_plans of_spans =
+      let before = cost_of_parts model lists in
+      let behind = cost_of_parts model later in
+      omega (arith, ints, of_arcs, of_fixed, of_groups, of_plans, of_spans, before, behind)
+
+-- what a cost term of a model adds, and what it adds at least, is so of the same model by another name
+module _ (value : Model → List (List ℕ) → ℤ) {of model : Model} (lists later : List (List ℕ)) {added : ℤ} (same : of ≡ model) where
+  pub adds_as : added ≡ value of later -ℤ value of lists → added ≡ value model later -ℤ value model lists
+  adds_as exact = exact ∙ ap (λ m. value m later -ℤ value m lists) same
+
+  pub adds_least_as : (IsTrue (is_valid of later) → added ≤ℤ (value of later -ℤ value of lists)) → IsTrue (is_valid model later) → added ≤ℤ (value model later -ℤ value model lists)
+  adds_least_as = subst (λ m. IsTrue (is_valid m later) → added ≤ℤ (value m later -ℤ value m lists)) same
 
 -- where no other part tells two lists apart, they differ in cost by their arcs and the penalties of their groups
 pub arcs-and-groups : (model : Model) → CostAlike fixed_part model → CostAlike soft_and_span model → CostAlike global_cost_of model → PaysArcsAndGroups model

@@ -1,6 +1,6 @@
 -- Where the parts of the cost stand.
 use Rattle.std.specs.Prelude.{◌≡◌, ℕ, ℤ, Bool, false, not, ◌&&◌, ◌||◌, nat_lt, IsTrue, List, Option, MatchOption}
-use Rattle.std.specs.Prelude.{pos, ◌+ℤ◌, ◌-ℤ◌}
+use Rattle.std.specs.Prelude.{pos, ◌*◌, ◌+ℤ◌, ◌-ℤ◌}
 use Rattle.vr_model.specs.tables.Numbers.{is_same_number}
 use Rattle.vr_model.specs.routes.Costs.{arcs_part, cost, penalty_part}
 use Rattle.vr_model.specs.moves.MoveTests.{is_move}
@@ -16,7 +16,9 @@ use Rattle.vr_arccosts.specs.ArcMoves.{arcs_added, is_of_pair}
 use Rattle.vr_usecosts.specs.Fixed.{is_some_fixed, KeptFixed, StandsFixed}
 use Rattle.vr_costfilter.specs.GlobalCosts.{is_some_spanned, KeptSpans, StandsSpans}
 use Rattle.vr_usecosts.specs.Groups.{KeptGroups, StandsGroups}
-use Rattle.vr_costfilter.specs.PlanCosts.{pays_no_plan, KeptPlans, StandsPlans}
+use Rattle.vr_costfilter.specs.PlanCosts.{pays_no_plan, IsPlanChange, KeptPlans, StandsPlans}
+use Rattle.vr_plan.specs.Bounds.{cumul_cost, IsAround}
+use Rattle.vr_parts.specs.Bounds.{IsAddedByChange}
 use Rattle.vr_earliest.specs.Kept.{KeptEarly, StandsEarliest}
 
 -- what valid lists of the model differ by in cost is what their arcs and the penalties of their groups differ by
@@ -36,14 +38,14 @@ abbrev pub is_least_by_arcs : Model → List (List ℕ) → ℕ → Bool
 is_least_by_arcs model lists kind =
     pays_arcs_and_groups model && (is_same_number (penalty_part model lists) (pos 0) || nat_lt kind 6)
 
--- the numbers of a move tell what it adds at least: it adds no less than to the cost of arcs, and is no move of a pair
-abbrev pub is_told_by_numbers : Model → List (List ℕ) → Move → Bool
-is_told_by_numbers model lists mv = is_least_by_arcs model lists (kind_of mv) && not (is_of_pair mv)
+-- the numbers of a move say what it adds at least: it adds no less than to the cost of arcs, and is no move of a pair
+abbrev pub is_known_by_numbers : Model → List (List ℕ) → Move → Bool
+is_known_by_numbers model lists mv = is_least_by_arcs model lists (kind_of mv) && not (is_of_pair mv)
 
--- what a move adds to the cost of arcs is told, and nothing only where its numbers do not tell what it adds at least
-abbrev pub IsToldByNumbers : Model → List (List ℕ) → Move → Option ℤ → Type 0
-IsToldByNumbers model lists mv least =
-    MatchOption least (is_told_by_numbers model lists mv ≡ false) (λ added. added ≡ arcs_added model lists mv)
+-- what a move adds to the cost of arcs is known, and nothing only where its numbers do not say what it adds at least
+abbrev pub IsKnownByNumbers : Model → List (List ℕ) → Move → Option ℤ → Type 0
+IsKnownByNumbers model lists mv least =
+    MatchOption least (is_known_by_numbers model lists mv ≡ false) (λ added. added ≡ arcs_added model lists mv)
 
 -- each move of a kind adds no less to the cost of lists than it adds to the cost of their arcs
 abbrev pub AddArcsAtLeast : Model → List (List ℕ) → ℕ → Type 0
@@ -57,6 +59,14 @@ abbrev pub AddArcsBut : Model → List (List ℕ) → Move → ℤ → Type 0
 AddArcsBut model lists mv saved =
     (k : ℕ) → IsTrue (is_move model lists (with_last mv k))
     → IsLeast model lists (with_last mv k) (arcs_added model lists (with_last mv k) -ℤ saved)
+
+-- what arcs, fixed costs, groups, plans and global spans add is within the ranges of these cost terms
+pub record AreBounded (arcs fixed groups plans spans : ℤ) : Type 0 where
+  pub arcs_are : IsAddedByChange arcs
+  pub fixed_are : IsAddedByChange fixed
+  pub groups_are : IsAddedByChange groups
+  pub plans_are : IsPlanChange plans
+  pub spans_are : IsAround (cumul_cost * 8) spans
 
 -- what contracts see of the parts of the cost, and whether arcs and groups alone are paid
 pub record KeptCosts : Type 0 where

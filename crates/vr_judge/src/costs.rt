@@ -1,6 +1,7 @@
 //! The parts of the cost together.
 
-ghost use Rattle.std.specs.Prelude.{◌≡◌, ℕ, ◌<◌, ◌≤◌, ◌-ℤ◌, ◌≤ℤ◌, true, nat_lt, IsTrue, IfOk, IfSome, OnOk, OnErr};
+ghost use Rattle.std.specs.Prelude.{◌≡◌, ℕ, ◌<◌, ◌≤◌, ◌+ℤ◌, ◌-ℤ◌, ◌≤ℤ◌, true, nat_lt, IsTrue};
+ghost use Rattle.std.specs.Prelude.{IfOk, IfSome, OnOk, OnErr};
 ghost use Rattle.vr_model.specs.moves.MoveTests.{is_move};
 ghost use Rattle.vr_model.specs.routes.Costs.{cost};
 ghost use Rattle.vr_model.specs.routes.Rules.{is_valid};
@@ -13,14 +14,15 @@ ghost use Rattle.vr_known.specs.Blocks.{kind_of};
 ghost use Rattle.vr_usecosts.specs.Fixed.{StandsFixed};
 ghost use Rattle.vr_parts.specs.Bounds.{IsAddedByChange};
 ghost use Rattle.vr_judge.specs.Costs.{AddArcsAtLeast, AddArcsBut, PaysArcsAndGroups, StandsCosts};
-ghost use Rattle.vr_judge.specs.Costs.{is_least_by_arcs, pays_arcs_and_groups, IsToldByNumbers};
+ghost use Rattle.vr_judge.specs.Costs.{is_least_by_arcs, pays_arcs_and_groups, AreBounded, IsKnownByNumbers};
 
-use crate::both::both;
+use crate::try_both::try_both;
 use std::alloc::Global;
 use std::marker::Model;
 use vr_costfilter::{ArcCost, CostPart, FixedCost, GlobalSpan, GroupCost, PlanCost};
 use vr_earliest::{Earlies, Earliest};
 use vr_model::{Model as RoutingModel, Move, NoMemory};
+use vr_parts::InfallibleCost;
 use vr_plan::Lookups;
 use vr_routes::{Change, Routes};
 
@@ -89,6 +91,15 @@ fn keeps_activity(mv: Move) -> bool
     }
 }
 
+// What all cost terms add together.
+#[inline(always)]
+fn sum(arcs: i64, fixed: i64, groups: i64, plans: i64, spans: i64) -> i64
+    requires { AreBounded arcs fixed groups plans spans }
+    ensures { result ≡ arcs +ℤ fixed +ℤ groups +ℤ plans +ℤ spans }
+{
+    arcs + fixed + groups + plans + spans
+}
+
 impl<'m> Costs<'m> {
     /// What valid routes of a model cost, over what was looked up of it. The only refusal is want of memory.
     pub fn over(
@@ -108,10 +119,10 @@ impl<'m> Costs<'m> {
         let plans = PlanCost::over(alloc, lookups, routes);
         let spans = GlobalSpan::over(alloc, lookups, routes);
         let earliest = Earliest::open(alloc, model, routes);
-        let used = both(fixed, groups);
-        let driven = both(arcs, earliest);
-        let scheduled = both(plans, spans);
-        let (first, (second, third)) = both(used, both(driven, scheduled))?;
+        let used = try_both(fixed, groups);
+        let driven = try_both(arcs, earliest);
+        let scheduled = try_both(plans, spans);
+        let (first, (second, third)) = try_both(used, try_both(driven, scheduled))?;
         let (fixed, groups) = first;
         let (arcs, earliest) = second;
         let (plans, spans) = third;
@@ -134,7 +145,7 @@ impl<'m> Costs<'m> {
     #[inline(always)]
     fn adds_arcs_at_least(&self, _routes: &Routes, mv: Move) -> bool
         requires stands { StandsCosts self.now _routes.now }
-        ensures told { result ≡ is_least_by_arcs self.now.model _routes.now.lists (kind_of mv) }
+        ensures known { result ≡ is_least_by_arcs self.now.model _routes.now.lists (kind_of mv) }
         ensures least { IsTrue result → AddArcsAtLeast self.now.model _routes.now.lists (kind_of mv) }
     {
         if !self.arcs_and_groups {
@@ -146,14 +157,14 @@ impl<'m> Costs<'m> {
         keeps_activity(mv)
     }
 
-    /// What a move of the committed lists adds to the cost of arcs, told by the numbers of the move alone; where the
-    /// lists after it are valid, it adds no less to their cost. `None` only where a fixed cost, a soft bound or a span
+    /// What a move of the committed lists adds to the cost of arcs, by the numbers of the move alone; where the lists
+    /// after it are valid, it adds no less to their cost. `None` only where a fixed cost, a soft bound or a span
     /// may be paid, where a penalty is paid and moves of the kind change activity, and for a move of a pair.
     #[inline(always)]
     pub fn least_by_numbers(&self, routes: &Routes, mv: Move) -> Option<i64>
         requires stands { StandsCosts self.now routes.now }
         requires is_one { is_move self.now.model routes.now.lists mv ≡ true }
-        ensures told { IsToldByNumbers self.now.model routes.now.lists mv result }
+        ensures known { IsKnownByNumbers self.now.model routes.now.lists mv result }
         ensures least { IfSome result (IsLeast self.now.model routes.now.lists mv) }
     {
         if !self.adds_arcs_at_least(routes, mv) {
@@ -163,8 +174,8 @@ impl<'m> Costs<'m> {
     }
 
     // What each move of a run saves at most beside what it adds to the cost of arcs: the penalties of what it puts into
-    // a list, less those of what it takes out. The moves of a run differ in their last number. `None` where it cannot
-    // be told of all at once.
+    // a list, less those of what it takes out. The moves of a run differ in their last number. `None` where it is not
+    // known of all at once.
     #[inline(always)]
     fn saved_by_run(&self, routes: &Routes, mv: Move) -> Option<i64>
         requires stands { StandsCosts self.now routes.now }
@@ -181,8 +192,8 @@ impl<'m> Costs<'m> {
     }
 
     /// Goes over a run of moves of the committed lists, which differ in their last number: those of the numbers from
-    /// `from` on, below `end`. Says from which number on some may make a difference below a bound, told by the cost of
-    /// arcs, less the most of the penalties that any of them saves. `None` where more may be paid than these, and of a
+    /// `from` on, below `end`. Says from which number on some may make a difference below a bound, by the cost of arcs,
+    /// less the most of the penalties that any of them saves. `None` where more may be paid than these, and of a
     /// kind of which no run is gone over.
     #[inline(always)]
     pub fn first_below(
@@ -216,12 +227,12 @@ impl<'m> Costs<'m> {
         ensures stands { StandsCosts self.new routes.now }
         ensures model { self.new.model ≡ self.old.model }
     {
-        let arcs = self.arcs.difference(routes, change)?;
-        let fixed = self.fixed.difference(routes, change)?;
-        let groups = self.groups.difference(routes, change)?;
+        let arcs = self.arcs.added(routes, change);
+        let fixed = self.fixed.added(routes, change);
+        let groups = self.groups.added(routes, change);
         let plans = self.plans.difference(routes, change)?;
         let spans = self.spans.difference(routes, change)?;
-        Ok(arcs + fixed + groups + plans + spans)
+        Ok(sum(arcs, fixed, groups, plans, spans))
     }
 
     /// What a move of the committed lists adds to their cost at least, where the lists after it are valid: what arcs
@@ -243,10 +254,11 @@ impl<'m> Costs<'m> {
         self.earliest.write_after(routes, change, &mut self.earlies);
         let plans = self.plans.least(&self.earlies, routes, change);
         let spans = self.spans.least(&self.earlies, routes, change);
-        arcs + fixed + groups + plans + spans
+        sum(arcs, fixed, groups, plans, spans)
     }
 
-    /// Commits the lists after a change. Each part is made ready first, so all stay as before where memory is wanting.
+    /// Commits the lists after a change. Plans and spans are made ready first, so all stay as before where memory is
+    /// wanting; the other cost terms take none.
     pub fn commit(&mut self, routes: &Routes, change: &Change) -> Result<(), NoMemory>
         requires stands { StandsCosts self.old routes.now }
         requires made { IsMadeOn routes.now change.now }
@@ -255,14 +267,11 @@ impl<'m> Costs<'m> {
         ensures stays { OnErr result (StandsCosts self.new routes.now) }
         ensures model { self.new.model ≡ self.old.model }
     {
-        self.arcs.prepare(routes, change)?;
-        self.fixed.prepare(routes, change)?;
-        self.groups.prepare(routes, change)?;
         self.plans.prepare(routes, change)?;
         self.spans.prepare(routes, change)?;
-        self.arcs.commit(routes, change);
-        self.fixed.commit(routes, change);
-        self.groups.commit(routes, change);
+        self.arcs.commit_lists(routes, change);
+        self.fixed.commit_lists(routes, change);
+        self.groups.commit_lists(routes, change);
         self.plans.commit(routes, change);
         self.spans.commit(routes, change);
         self.earliest.commit(routes, change);

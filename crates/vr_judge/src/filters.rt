@@ -6,8 +6,8 @@ ghost use Rattle.vr_model.specs.routes.Rules.{is_valid};
 ghost use Rattle.vr_model.specs.tables.Tables.{visits};
 ghost use Rattle.vr_judge.specs.Rules.{are_feasible, keeps_rules, total_weight};
 
-use crate::both::both;
 use crate::ranks::ranked_dimensions;
+use crate::try_both::try_both;
 use std::alloc::Global;
 use vr_filter::{Both, Each, PathFilter};
 use vr_model::NoMemory;
@@ -41,9 +41,9 @@ pub fn filters_of<'m>(
     let vehicles = VehicleFilter::over(lookups, routes);
     let pairs = PairFilter::over(lookups, routes);
     let dimensions = filters_of_dimensions(alloc, lookups, routes);
-    let front = both(groups, vehicles);
-    let end = both(pairs, dimensions);
-    let (front, end) = both(front, end)?;
+    let front = try_both(groups, vehicles);
+    let end = try_both(pairs, dimensions);
+    let (front, end) = try_both(front, end)?;
     let (groups, vehicles) = front;
     let (pairs, dimensions) = end;
     Ok(Both {

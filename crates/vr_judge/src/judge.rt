@@ -8,13 +8,13 @@ ghost use Rattle.vr_model.specs.tables.Tables.{visits};
 ghost use Rattle.vr_model.specs.tables.WellFormed.{IsWellFormed};
 ghost use Rattle.vr_routes.specs.Changes.{IsChange};
 ghost use Rattle.vr_routes.specs.Judging.{HoldSame, IsLeast, moved, verdict_of};
-ghost use Rattle.vr_judge.specs.Costs.{IsToldByNumbers};
+ghost use Rattle.vr_judge.specs.Costs.{IsKnownByNumbers};
 ghost use Rattle.vr_judge.specs.Rules.{total_weight};
 
-use crate::both::both;
 use crate::costs::Costs;
 use crate::filters::{Filters, filters_of};
 use crate::judging::Judging;
+use crate::try_both::try_both;
 use std::alloc::Global;
 use std::marker::Model;
 use std::sync::ledger::Ledger;
@@ -73,8 +73,8 @@ impl<'m> FilterJudge<'m> {
         let filters = filters_of(alloc, lookups, routes);
         let costs = Costs::over(alloc, lookups, routes);
         let held = routes.copy(alloc);
-        let kept = both(costs, held);
-        let (filters, kept) = both(filters, kept)?;
+        let kept = try_both(costs, held);
+        let (filters, kept) = try_both(filters, kept)?;
         let (costs, held) = kept;
         let judging = Judging::new(lookups.closed.model, routes, held, filters, costs);
         Ok(FilterJudge {
@@ -129,7 +129,7 @@ impl<'m> Judge for FilterJudge<'m> {
         requires well_formed { IsWellFormed self.old.model }
         requires holds { HoldSame self.old.model self.old.lists routes.now }
         requires mv { IsTrue (is_move self.old.model routes.now.lists mv) }
-        ensures told { IsToldByNumbers self.old.model routes.now.lists mv result }
+        ensures known { IsKnownByNumbers self.old.model routes.now.lists mv result }
         ensures least { IfSome result (IsLeast self.old.model routes.now.lists mv) }
         ensures model { self.new.model ≡ self.old.model }
         ensures committed { self.new.lists ≡ self.old.lists }

@@ -7,7 +7,7 @@ ghost use Rattle.vr_model.specs.moves.MoveTests.{is_move};
 ghost use Rattle.vr_model.specs.routes.Rules.{is_valid};
 ghost use Rattle.vr_model.specs.tables.Tables.{visits};
 ghost use Rattle.vr_model.specs.tables.WellFormed.{IsWellFormed};
-ghost use Rattle.vr_judge.specs.Costs.{IsToldByNumbers, StandsCosts};
+ghost use Rattle.vr_judge.specs.Costs.{IsKnownByNumbers, StandsCosts};
 ghost use Rattle.vr_judge.specs.Verdicts.{verdict_by};
 ghost use Rattle.vr_routes.specs.Changes.{IsChange, IsMadeOn};
 ghost use Rattle.vr_routes.specs.Pieces.{changed};
@@ -25,7 +25,7 @@ use vr_routes::{Change, Judge, Routes, Verdict};
 #[derive(Drop)]
 pub(crate) struct Judging<'m, F: PathFilter + Drop> {
     model: &'m RoutingModel,
-    // the lists that are committed
+    // The lists that are committed, for contracts alone: what a move makes is told by filters and costs.
     held: Routes,
     filter: F,
     costs: Costs<'m>,
@@ -77,7 +77,7 @@ impl<'m, F: PathFilter + Drop> Judging<'m, F> {
     }
 }
 
-// Judges a change of lists at which a filter and costs stand: the filter tells whether they are valid after it.
+// Judges a change of lists at which a filter and costs stand: the filter says whether they are valid after it.
 fn judge_by<F: PathFilter, L: Ledger>(
     filter: &mut F,
     costs: &mut Costs<'_>,
@@ -157,7 +157,7 @@ impl<'m, F: PathFilter + Drop> Judge for Judging<'m, F> {
         requires well_formed { IsWellFormed self.old.model }
         requires holds { HoldSame self.old.model self.old.lists routes.now }
         requires mv { IsTrue (is_move self.old.model routes.now.lists mv) }
-        ensures told { IsToldByNumbers self.old.model routes.now.lists mv result }
+        ensures known { IsKnownByNumbers self.old.model routes.now.lists mv result }
         ensures least { IfSome result (IsLeast self.old.model routes.now.lists mv) }
         ensures model { self.new.model ≡ self.old.model }
         ensures committed { self.new.lists ≡ self.old.lists }

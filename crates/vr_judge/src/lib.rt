@@ -2,19 +2,20 @@
 //!
 //! `filters` makes one filter of all those of a model, those first that ask least (`ranks`); its rule is that lists of
 //! the model are valid. `costs` adds up the parts of the cost. `judging` judges by any filter of that rule and by the
-//! costs, and `judge` is that over the filters of a model, in one box. Filters and costs are opened together (`both`).
+//! costs, and `judge` is that over the filters of a model, in one box. Filters and costs are opened together
+//! (`try_both`).
 //!
 //! Filters, costs and the lists that the judge holds stand at the same valid lists of the model (`IsJudging`), and a
-//! commit makes all of them ready before it changes one. `vr_app` opens a judge for each search, and the descents and
-//! guided searches of `vr_descent` and `vr_guided` ask it about each move.
+//! commit makes all of them ready before it changes one. `vr_app` opens a judge for each search, and searches ask it,
+//! through the trait `Judge`, about runs of moves and about moves.
 #![tactic(auto)]
 
-mod both;
 mod costs;
 mod filters;
 mod judge;
 mod judging;
 mod ranks;
+mod try_both;
 
 pub use filters::{Filters, filters_of};
 pub use judge::FilterJudge;

@@ -25,6 +25,9 @@ pub trait CostPart {
     /// The part has made this change of these lists ready.
     ghost ready: { Self → Tours → List ListAfter → Type 0 };
 
+    /// What each difference lies within.
+    ghost range: { ℤ → Type 0 };
+
     /// What a change of the committed lists adds to the part.
     fn difference(&mut self, routes: &Routes, change: &Change) -> Result<i64, NoMemory>
         requires stands { stands_at self.old routes.now }
@@ -32,6 +35,7 @@ pub trait CostPart {
         requires valid { IsTrue (is_valid (model self.old) (changed routes.now.lists change.now)) }
         ensures exact { IfOk result (λ difference. difference
             ≡ value (model self.old) (changed routes.now.lists change.now) -ℤ value (model self.old) routes.now.lists) }
+        ensures range { IfOk result range }
         ensures stands { stands_at self.new routes.now }
         ensures model { model self.new ≡ model self.old };
 

@@ -1,23 +1,18 @@
 //! The fixed costs of used vehicles.
 
-ghost use Rattle.std.specs.Prelude.{◌≡◌, ◌<◌, ◌≤◌, ◌-ℤ◌, All, IsTrue, IfOk, IsOk};
-ghost use Rattle.std.specs.Prelude.{OnOk, OnErr, ℕ, List, nat_lt, not, length};
+ghost use Rattle.std.specs.Prelude.{◌≡◌, ◌<◌, IsTrue, IfOk, ℕ, List, nat_lt, not, length};
 ghost use Rattle.vr_model.specs.routes.Costs.{fixed_part};
-ghost use Rattle.vr_model.specs.routes.Routes.{route};
 ghost use Rattle.vr_model.specs.tables.Tables.{visits};
 ghost use Rattle.vr_model.specs.routes.Rules.{is_valid};
 ghost use Rattle.vr_model.specs.tables.WellFormed.{IsWellFormed};
-ghost use Rattle.vr_routes.specs.Pieces.{changed, joined, nodes_of, IsWithin};
-ghost use Rattle.vr_routes.specs.Changes.{IsMadeOn, NothingReady};
 ghost use Rattle.vr_parts.specs.Parts.{CostAlike};
 ghost use Rattle.vr_usecosts.specs.Fixed as fixed_costs;
 ghost use Rattle.vr_usecosts.specs.Fixed.{fixed_with, StandsFixed};
-ghost use Rattle.vr_parts.specs.Bounds.{IsAddedByChange};
 ghost use Rattle.vr_balance.specs.Sums.{IsUpTo};
 
 use std::marker::Model;
 use vr_model::{Model as RoutingModel, NoMemory};
-use vr_parts::{CostPart, ListCost, added_by};
+use vr_parts::{InfallibleCost, ListCost, added_by};
 use vr_routes::{Change, Piece, Routes};
 
 /// The fixed costs of used vehicles (`SetFixedCostOfVehicle` in OR-Tools).
@@ -75,21 +70,6 @@ impl<'m> ListCost for FixedCost<'m> {
 }
 
 impl<'m> FixedCost<'m> {
-    /// What a change of the committed lists adds, also where the lists after it are not valid.
-    #[inline]
-    pub fn added(&self, routes: &Routes, change: &Change) -> i64
-        requires stands { StandsFixed self.now routes.now }
-        requires made { IsMadeOn routes.now change.now }
-        ensures exact { result ≡ fixed_part self.now.model (changed routes.now.lists change.now)
-            -ℤ fixed_part self.now.model routes.now.lists }
-        ensures range { IsAddedByChange result }
-    {
-        if !self.pays {
-            return 0;
-        }
-        added_by(self, routes, change)
-    }
-
     /// Whether no vehicle has a fixed cost: all lists cost the same then.
     pub fn is_idle(&self, _routes: &Routes) -> bool
         requires stands { StandsFixed self.now _routes.now }
@@ -114,43 +94,20 @@ impl<'m> FixedCost<'m> {
     }
 }
 
-impl<'m> CostPart for FixedCost<'m> {
-    ghost use Rattle.std.specs.Prelude.{ℕ, List};
-
-    ghost model = { λ part. part.model };
+impl<'m> InfallibleCost for FixedCost<'m> {
+    ghost model = { λ cost. cost.model };
 
     ghost value = { fixed_part };
 
     ghost stands_at = { StandsFixed };
 
-    ghost ready = { λ part tours parts. Unit {0} };
-
-    fn difference(&mut self, routes: &Routes, change: &Change) -> Result<i64, NoMemory>
-        requires stands { StandsFixed self.old routes.now }
-        requires made { IsMadeOn routes.now change.now }
-        requires valid { IsTrue (is_valid self.old.model (changed routes.now.lists change.now)) }
-        ensures exact { IfOk result (λ difference. difference
-            ≡ fixed_part self.old.model (changed routes.now.lists change.now)
-            -ℤ fixed_part self.old.model routes.now.lists) }
-        ensures stands { StandsFixed self.new routes.now }
-        ensures model { self.new.model ≡ self.old.model }
-        ensures memory { IsOk result }
-        ensures range { IfOk result IsAddedByChange }
-    {
-        let added = self.added(routes, change);
-        Ok(added)
+    #[inline]
+    fn added(&mut self, routes: &Routes, change: &Change) -> i64 {
+        if !self.pays {
+            return 0;
+        }
+        added_by(self, routes, change)
     }
 
-    fn prepare(&mut self, _routes: &Routes, _change: &Change) -> Result<(), NoMemory>
-        requires stands { StandsFixed self.old _routes.now }
-        ensures ready { OnOk result (Unit {0}) }
-        ensures unready { OnErr result (NothingReady (λ tours parts. Unit {0})) }
-        ensures stands { StandsFixed self.new _routes.now }
-        ensures model { self.new.model ≡ self.old.model }
-        ensures memory { IsOk result }
-    {
-        Ok(())
-    }
-
-    fn commit(&mut self, _routes: &Routes, _change: &Change) {}
+    fn commit_lists(&mut self, _routes: &Routes, _change: &Change) {}
 }

@@ -1,7 +1,7 @@
 //! The penalties of groups.
 
 ghost use Rattle.std.specs.Prelude.{◌≡◌, ◌≢◌, ◌<◌, ◌≤◌, ◌-ℤ◌, ◌*ℤ◌, ◌≤ℤ◌, ℕ, ℤ, not, pos};
-ghost use Rattle.std.specs.Prelude.{All, IsTrue, IfOk, IfSome, IsOk, OnOk, OnErr, length};
+ghost use Rattle.std.specs.Prelude.{All, IsTrue, IfOk, IfSome, length};
 ghost use Rattle.vr_model.specs.tables.Numbers.{is_same_number, number_at, total_by};
 ghost use Rattle.vr_model.specs.tables.Tables.{visits};
 ghost use Rattle.vr_model.specs.tables.Limits.{greatest_cost};
@@ -10,7 +10,7 @@ ghost use Rattle.vr_model.specs.routes.Routes.{holds};
 ghost use Rattle.vr_model.specs.routes.Costs.{penalty_for, penalty_part};
 ghost use Rattle.vr_model.specs.routes.Rules.{active_in as active_in_of, fits_group, is_valid};
 ghost use Rattle.vr_model.specs.declared.neighbours.Move.TheVariants.{MakeActive, PairActive, SwapActive};
-ghost use Rattle.vr_routes.specs.Changes.{IsMadeOn, NothingReady};
+ghost use Rattle.vr_routes.specs.Changes.{IsMadeOn};
 ghost use Rattle.vr_routes.specs.Pieces.{changed, nodes_of, IsWithin};
 ghost use Rattle.vr_routes.specs.Runs.{with_last};
 ghost use Rattle.vr_parts.specs.Bounds.{IsAddedByChange};
@@ -24,7 +24,7 @@ use std::alloc::Global;
 use std::marker::Model;
 use vr_balance::{Balance, active_in};
 use vr_model::{Closed, Group, Model as RoutingModel, Move, NoMemory, Seq};
-use vr_parts::CostPart;
+use vr_parts::InfallibleCost;
 use vr_routes::{Change, Piece, Routes};
 
 /// The penalties of groups that have fewer active nodes than they may have (`AddDisjunction` in OR-Tools). For a change
@@ -279,24 +279,6 @@ impl<'m> GroupCost<'m> {
         self.total == 0
     }
 
-    /// What a change of the committed lists adds, also where the lists after it are not valid.
-    pub fn added(&mut self, routes: &Routes, change: &Change) -> i64
-        requires stands { StandsGroups self.old routes.now }
-        requires made { IsMadeOn routes.now change.now }
-        ensures exact { result ≡ penalty_part self.old.model (changed routes.now.lists change.now)
-            -ℤ penalty_part self.old.model routes.now.lists }
-        ensures range { IsAddedByChange result }
-        ensures stays { self.new ≡ self.old }
-    {
-        if !self.pays {
-            return 0;
-        }
-        self.balance.write(routes, change);
-        let gone = saved_in(&self.saved, routes, self.balance.gone());
-        let come = saved_in(&self.saved, routes, self.balance.come());
-        gone - come
-    }
-
     /// What a change of the committed lists adds at least, where the lists after it are valid: 0, without a look at the
     /// change, where the committed ones have no penalty to pay, and else what it adds.
     #[inline]
@@ -321,7 +303,8 @@ impl<'m> GroupCost<'m> {
     }
 
     /// What each move of a run saves of the penalties, where the lists after it are valid: what a visit or a pair saves
-    /// that is put into a list. The moves of a run differ in their last number. `None` of moves of other kinds.
+    /// that is put into a list. The moves of a run differ in their last number. `None` of moves of other kinds
+    /// (that it is given of these alone is not promised).
     #[inline]
     pub fn saved_by_run(&self, routes: &Routes, mv: Move) -> Option<i64>
         requires stands { StandsGroups self.now routes.now }
@@ -396,45 +379,24 @@ impl<'m> GroupCost<'m> {
     }
 }
 
-impl<'m> CostPart for GroupCost<'m> {
-    ghost use Rattle.std.specs.Prelude.{List};
-
-    ghost model = { λ part. part.model };
+impl<'m> InfallibleCost for GroupCost<'m> {
+    ghost model = { λ cost. cost.model };
 
     ghost value = { penalty_part };
 
     ghost stands_at = { StandsGroups };
 
-    ghost ready = { λ part tours parts. Unit {0} };
-
-    fn difference(&mut self, routes: &Routes, change: &Change) -> Result<i64, NoMemory>
-        requires stands { StandsGroups self.old routes.now }
-        requires made { IsMadeOn routes.now change.now }
-        requires valid { IsTrue (is_valid self.old.model (changed routes.now.lists change.now)) }
-        ensures exact { IfOk result (λ difference. difference
-            ≡ penalty_part self.old.model (changed routes.now.lists change.now)
-            -ℤ penalty_part self.old.model routes.now.lists) }
-        ensures stands { StandsGroups self.new routes.now }
-        ensures model { self.new.model ≡ self.old.model }
-        ensures memory { IsOk result }
-        ensures range { IfOk result IsAddedByChange }
-    {
-        let added = self.added(routes, change);
-        Ok(added)
+    fn added(&mut self, routes: &Routes, change: &Change) -> i64 {
+        if !self.pays {
+            return 0;
+        }
+        self.balance.write(routes, change);
+        let gone = saved_in(&self.saved, routes, self.balance.gone());
+        let come = saved_in(&self.saved, routes, self.balance.come());
+        gone - come
     }
 
-    fn prepare(&mut self, _routes: &Routes, _change: &Change) -> Result<(), NoMemory>
-        requires stands { StandsGroups self.old _routes.now }
-        ensures ready { OnOk result (Unit {0}) }
-        ensures unready { OnErr result (NothingReady (λ tours parts. Unit {0})) }
-        ensures stands { StandsGroups self.new _routes.now }
-        ensures model { self.new.model ≡ self.old.model }
-        ensures memory { IsOk result }
-    {
-        Ok(())
-    }
-
-    fn commit(&mut self, routes: &Routes, change: &Change) {
+    fn commit_lists(&mut self, routes: &Routes, change: &Change) {
         let added = self.added(routes, change);
         self.total += added;
     }

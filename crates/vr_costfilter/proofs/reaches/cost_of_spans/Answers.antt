@@ -5,8 +5,8 @@ use Rattle.std.specs.Prelude.{◌*ℤ◌}
 use Rattle.vr_model.specs.tables.Tables.{dimension_at}
 use Rattle.vr_model.proofs.tables.Totals.{total_by-more}
 use Rattle.vr_plan.specs.Extents.{length_of}
-use Rattle.vr_costfilter.specs.declared.orders.Orders.{Orders}
-use Rattle.vr_costfilter.specs.Orders.{AreInRange}
+use Rattle.vr_costfilter.specs.declared.orders.SortedEnds.{SortedEnds}
+use Rattle.vr_costfilter.specs.SortedEnds.{AreInRange}
 use Rattle.vr_costfilter.specs.GlobalCosts.{extent_after, no_orders, span_cost_after}
 use Rattle.vr_costfilter.proofs.reaches.cost_of_spans.Goals as goal
 
@@ -32,7 +32,7 @@ loop-d-preserved c =
     let many = c.requires.ranged.many in
     let few = c.args.closed.well_formed.number_of_dimensions in
     let value : c.cost_of_span-cost.result ≡ span_cost_after m c.args.orders.now c.args.vehicles.now c.args.next.now d = e.value
-    ∙ ap (λ (o : Orders). (dimension_at m d).global_span_cost *ℤ length_of (extent_after d c.args.vehicles.now c.args.next.now o)) (c.index-orders-d.is ∙ get_or_default c.args.orders.now d c.index-orders-d.result no_orders low) in
+    ∙ ap (λ (o : SortedEnds). (dimension_at m d).global_span_cost *ℤ length_of (extent_after d c.args.vehicles.now c.args.next.now o)) (c.index-orders-d.is ∙ get_or_default c.args.orders.now d c.index-orders-d.result no_orders low) in
     let next = total_by-more (span_cost_after m c.args.orders.now c.args.vehicles.now c.args.next.now) d in
     record {
       sum = omega (arith, ints, next, i.sum, value, c.loop-d.cost-is, i.range.low, i.range.high, e.range.low, e.range.high, few, many, low);

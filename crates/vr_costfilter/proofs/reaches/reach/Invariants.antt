@@ -1,7 +1,7 @@
 use Rattle.std.proofs.Common.{◌≡◌, take}
 use Rattle.std.specs.Prelude.{fold, IfSome}
 use Rattle.vr_plan.specs.Extents.{IsExtentInRange}
-use Rattle.vr_costfilter.specs.Orders.{beside, extent_but}
+use Rattle.vr_costfilter.specs.SortedEnds.{beside, extent_but}
 use Rattle.vr_costfilter.specs.GlobalCosts.{told_in}
 use Rattle.vr_costfilter.proofs.reaches.reach.Given as goal
 

@@ -5,8 +5,8 @@ use Rattle.std.proofs.lemmas.List.{get_or_default}
 use Rattle.std.specs.Prelude.{slice_index_or}
 use Rattle.vr_model.specs.routes.Routes.{route}
 use Rattle.vr_model.specs.tables.Tables.{no_dimension}
-use Rattle.vr_costfilter.specs.declared.orders.Orders.{Orders}
-use Rattle.vr_costfilter.specs.Orders.{AreOrders, IsTold}
+use Rattle.vr_costfilter.specs.declared.orders.SortedEnds.{SortedEnds}
+use Rattle.vr_costfilter.specs.SortedEnds.{AreOrders, IsTold}
 use Rattle.vr_costfilter.proofs.OrdersLemmas.{orders-room, orders-set}
 use Rattle.vr_costfilter.specs.GlobalCosts.{no_orders, orders_at, told_in, Pays}
 use Rattle.vr_costfilter.proofs.AllOrdersLemmas.{left-at, route-first, route-more, used-first, written-at}
@@ -17,7 +17,7 @@ pub set-requires-clause-room : goal.set-requires-clause-room
 set-requires-clause-room c =
     let m = c.args.closed.model.now in
     let d = c.loop-d.d in
-    let os : List Orders = c.loop-d.orders in
+    let os : List SortedEnds = c.loop-d.orders in
     let low : d < length m.dimensions = omega (arith, c.loop-d.invariant.many, c.loop-d.auto.orders, c.loop-d-test.true) in
     let inside : d < length os = omega (arith, c.loop-d.auto.orders, c.loop-d-test.true) in
     let some = c.if-get-ne0.true in
@@ -35,7 +35,7 @@ loop-d-preserved c =
     let all : List (List ℕ) = c.args._routes.now.lists in
     let m = c.args.closed.model.now in
     let d = c.loop-d.d in
-    let os : List Orders = c.loop-d.orders in
+    let os : List SortedEnds = c.loop-d.orders in
     let i = c.loop-d.invariant in
     let low : d < length m.dimensions = omega (arith, c.loop-d.invariant.many, c.loop-d.auto.orders, c.loop-d-test.true) in
     let inside : d < length os = omega (arith, c.loop-d.auto.orders, c.loop-d-test.true) in
@@ -49,9 +49,9 @@ loop-d-preserved c =
             let are = subst (AreOrders m d (take v all)) (sym read) (i.left d (omega arith) low pay) in
             let told : IsTold m d v (route (take (v + 1) all) v) (told_in d c.args.row.now) = subst (λ l. IsTold m d v l (told_in d c.args.row.now)) (sym (route-first all (v + 1) v (omega arith))) ((c.requires.row.each d low).told pay) in
             subst (AreOrders m d (take (v + 1) all)) (sym w.set.ensures) (orders-set m d (take v all) (slice_index_or os d w.index-orders-d.result) are v (take (v + 1) all) (λ u apart. route-more all v u apart) (told_in d c.args.row.now) told)) in
-            subst (λ (xs : List Orders). AreOrders m e (take (v + 1) all) (orders_at xs e)) (sym w.orders-is)
+            subst (λ (xs : List SortedEnds). AreOrders m e (take (v + 1) all) (orders_at xs e)) (sym w.orders-is)
             (written-at (λ k x. Pays m k → AreOrders m k (take (v + 1) all) x) os d w.set.new.self inside here e under (λ before pay. i.done e before there pay) pays))
-        | else-get-ne0 w ↦ subst (λ (xs : List Orders). AreOrders m e (take (v + 1) all) (orders_at xs e)) (sym w.orders-is) (elim (cases_lt e d) [
+        | else-get-ne0 w ↦ subst (λ (xs : List SortedEnds). AreOrders m e (take (v + 1) all) (orders_at xs e)) (sym w.orders-is) (elim (cases_lt e d) [
           | inl before ↦ i.done e before there pays
           | inr past ↦ (
               let at : d ≡ e = omega (arith, under, past) in
@@ -60,8 +60,8 @@ loop-d-preserved c =
         ])
       ];
       left = λ e past there pays. elim c.if-get-ne0.branch [
-        | then-get-ne0 w ↦ subst (λ (xs : List Orders). AreOrders m e (take v all) (orders_at xs e)) (sym w.orders-is)
+        | then-get-ne0 w ↦ subst (λ (xs : List SortedEnds). AreOrders m e (take v all) (orders_at xs e)) (sym w.orders-is)
             (left-at (λ k x. AreOrders m k (take v all) x) os d w.set.new.self e past (i.left e (omega (arith, past)) there pays))
-        | else-get-ne0 w ↦ subst (λ (xs : List Orders). AreOrders m e (take v all) (orders_at xs e)) (sym w.orders-is) (i.left e (omega (arith, past)) there pays)
+        | else-get-ne0 w ↦ subst (λ (xs : List SortedEnds). AreOrders m e (take v all) (orders_at xs e)) (sym w.orders-is) (i.left e (omega (arith, past)) there pays)
       ];
     }

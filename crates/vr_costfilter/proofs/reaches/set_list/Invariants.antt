@@ -1,5 +1,5 @@
 use Rattle.std.proofs.Common.{◌≡◌, ◌<◌, ◌≤◌, ◌+◌, ℕ, length, take}
-use Rattle.vr_costfilter.specs.Orders.{AreOrders}
+use Rattle.vr_costfilter.specs.SortedEnds.{AreOrders}
 use Rattle.vr_costfilter.specs.GlobalCosts.{orders_at, Pays}
 use Rattle.vr_costfilter.proofs.reaches.set_list.Given as goal
 

@@ -4,8 +4,8 @@ use Rattle.std.proofs.lemmas.Int.{ints}
 use Rattle.std.proofs.lemmas.List.{get_or_default}
 use Rattle.vr_model.specs.tables.Tables.{no_dimension}
 use Rattle.vr_routes.specs.Pieces.{changed}
-use Rattle.vr_costfilter.specs.declared.orders.Orders.{Orders}
-use Rattle.vr_costfilter.specs.Orders.{AreOrders}
+use Rattle.vr_costfilter.specs.declared.orders.SortedEnds.{SortedEnds}
+use Rattle.vr_costfilter.specs.SortedEnds.{AreOrders}
 use Rattle.vr_costfilter.specs.GlobalCosts.{no_orders, orders_at, Pays}
 use Rattle.vr_costfilter.proofs.AllOrdersLemmas.{written-at}
 use Rattle.vr_costfilter.proofs.reaches.write_all.Goals as goal
@@ -35,16 +35,16 @@ loop-d-preserved c =
     let lists : List (List ℕ) = changed c.args.routes.now.lists c.args.change.now in
     let m = c.args.closed.model.now in
     let d = c.loop-d.d in
-    let os : List Orders = c.loop-d.out in
+    let os : List SortedEnds = c.loop-d.out in
     let i = c.loop-d.invariant in
     let inside : d < length os = omega (arith, c.loop-d-test.true, c.requires.rows.orders_are.many, i.many) in
     let same = ap (λ x. x.global_span_cost) (c.get.ensures.value no_dimension) in
     record {
       many = c.if-get-ne0.auto.out ∙ i.many;
       done = λ e under known pays. elim c.if-get-ne0.branch [
-        | then-get-ne0 w ↦ subst (λ (xs : List Orders). AreOrders m e lists (orders_at xs e)) (sym w.out-is)
+        | then-get-ne0 w ↦ subst (λ (xs : List SortedEnds). AreOrders m e lists (orders_at xs e)) (sym w.out-is)
             (written-at (λ k x. Pays m k → AreOrders m k lists x) os d w.write_in.new.out inside (λ pay. w.write_in.ensures) e under (λ before pay. i.done e before known pay) pays)
-        | else-get-ne0 w ↦ subst (λ (xs : List Orders). AreOrders m e lists (orders_at xs e)) (sym w.out-is) (elim (cases_lt e d) [
+        | else-get-ne0 w ↦ subst (λ (xs : List SortedEnds). AreOrders m e lists (orders_at xs e)) (sym w.out-is) (elim (cases_lt e d) [
           | inl before ↦ i.done e before known pays
           | inr past ↦ (
               let at : d ≡ e = omega (arith, under, past) in

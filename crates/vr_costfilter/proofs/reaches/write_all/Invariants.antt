@@ -1,6 +1,6 @@
 use Rattle.std.proofs.Common.{◌≡◌, ◌<◌, ℕ, length}
 use Rattle.vr_routes.specs.Pieces.{changed}
-use Rattle.vr_costfilter.specs.Orders.{AreOrders}
+use Rattle.vr_costfilter.specs.SortedEnds.{AreOrders}
 use Rattle.vr_costfilter.specs.GlobalCosts.{orders_at, Pays}
 use Rattle.vr_costfilter.proofs.reaches.write_all.Given as goal
 

@@ -4,7 +4,7 @@ use Rattle.vr_model.specs.moves.Moves.{with_route}
 use Rattle.vr_model.specs.routes.Routes.{route}
 use Rattle.vr_model.proofs.routes.Lists.{route_set_other, route_set_same}
 use Rattle.vr_routes.specs.Pieces.{joined, part_at}
-use Rattle.vr_costfilter.specs.Orders.{AreOrders, IsTold}
+use Rattle.vr_costfilter.specs.SortedEnds.{AreOrders, IsTold}
 use Rattle.vr_costfilter.proofs.OrdersLemmas.{orders-room, orders-set, used-known}
 use Rattle.vr_parts.proofs.SumLemmas.{upto, upto-many}
 use Rattle.vr_earliest.proofs.WritingLemmas.{upto-put, upto-within}

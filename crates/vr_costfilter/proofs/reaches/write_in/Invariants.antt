@@ -1,4 +1,4 @@
-use Rattle.vr_costfilter.specs.Orders.{AreOrders}
+use Rattle.vr_costfilter.specs.SortedEnds.{AreOrders}
 use Rattle.vr_parts.proofs.SumLemmas.{upto}
 use Rattle.vr_costfilter.proofs.reaches.write_in.Given as goal
 

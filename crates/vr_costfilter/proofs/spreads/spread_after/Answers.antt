@@ -3,7 +3,7 @@ use Rattle.std.specs.Prelude.{fold}
 use Rattle.std.proofs.lemmas.List.{take_all}
 use Rattle.std.proofs.lemmas.List.Sums.{fold_more}
 use Rattle.vr_routes.specs.Pieces.{no_part, part_at}
-use Rattle.vr_costfilter.specs.Orders.{extent_but}
+use Rattle.vr_costfilter.specs.SortedEnds.{extent_but}
 use Rattle.vr_costfilter.proofs.ReachLemmas.{extent-but-is}
 use Rattle.vr_costfilter.specs.GlobalCosts.{vehicles_of}
 use Rattle.vr_costfilter.specs.Spreads.{spread_of, spread_of_kept, with_changed, IsSpreadInRange}

@@ -1,5 +1,5 @@
 use Rattle.std.proofs.Common.{◌∙◌, ℕ, ◌+◌, List, length-append, ap, subst, sym}
-use Rattle.vr_earliest.specs.declared.kept.KeptWays.{KeptWays}
+use Rattle.vr_earliest.specs.Kept.{KeptWays}
 use Rattle.vr_earliest.specs.Kept.{HaveWays}
 use Rattle.vr_parts.proofs.RowLemmas.{each-push}
 use Rattle.vr_earliest.proofs.earliest.kept_of.Goals as goal

@@ -1,7 +1,7 @@
 use Rattle.std.proofs.Common.{◌≡◌, ◌<◌, ℕ, List, length}
 use Rattle.std.specs.Prelude.{slice_index_or}
 use Rattle.vr_earliest.specs.Kept.{HaveWays}
-use Rattle.vr_earliest.specs.declared.kept.KeptWays.{KeptWays}
+use Rattle.vr_earliest.specs.Kept.{KeptWays}
 use Rattle.vr_earliest.proofs.earliest.kept_of.Given as goal
 
 abbrev pub invariant-loop-d : goal.invariant-loop-d

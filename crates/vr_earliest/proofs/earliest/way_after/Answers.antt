@@ -69,5 +69,5 @@ returns-clause-value c =
     let g = c.args.guide.now in
     let list : List ℕ = joined c.args.routes.now.lists c.args.pieces.now in
     c.to_end-2.ensures.value
-    ∙ ap₂ (λ way rest. to_end g.model.now g.d g.v way rest) (c.along_pieces-way-2.ensures.value ∙ ap (λ way. along g.model.now g.d g.v way list) c.setting_out.ensures.value) c.at_end.ensures.value
+    ∙ ap₂ (λ way rest. to_end g.model.now g.d g.v way rest) (c.along_pieces-way-2.ensures.value ∙ ap (λ way. along g.model.now g.d g.v way list) c.way_out.ensures.value) c.rest_at_end.ensures.value
     ∙ through-rest g.model.now g.d g.v [] (way_along g.model.now g.d g.v list)

@@ -1,7 +1,7 @@
 use Rattle.std.proofs.Common.{◌∙◌, ◌<◌, List, length, length-set, arith}
 use Rattle.vr_model.specs.moves.Moves.{with_route}
 use Rattle.vr_earliest.proofs.WritingLemmas.{written-more}
-use Rattle.vr_earliest.specs.declared.kept.KeptWays.{KeptWays}
+use Rattle.vr_earliest.specs.Kept.{KeptWays}
 use Rattle.vr_earliest.specs.Kept.{HaveWays}
 use Rattle.vr_earliest.proofs.earliest.write_list.Goals as goal
 

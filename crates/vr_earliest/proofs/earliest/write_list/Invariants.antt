@@ -2,7 +2,7 @@ use Rattle.std.proofs.Common.{◌≡◌, ◌<◌, ℕ, List, length}
 use Rattle.vr_model.specs.moves.Moves.{with_route}
 use Rattle.vr_earliest.proofs.WritingLemmas.{AreWrittenTo}
 use Rattle.vr_earliest.specs.Kept.{HaveAllWays, HaveWays}
-use Rattle.vr_earliest.specs.declared.kept.KeptWays.{KeptWays}
+use Rattle.vr_earliest.specs.Kept.{KeptWays}
 use Rattle.vr_earliest.proofs.earliest.write_list.Given as goal
 
 abbrev pub invariant-loop-d : goal.invariant-loop-d

@@ -52,10 +52,10 @@ filters_of_dimensions-dimensions-requires-clause-feasible c = and_right (holds_o
 pub returns-clause-rules : goal.returns-clause-rules
 returns-clause-rules c = λ lists.
     let all = c.in_ok-front.ensures in
-    let groups = of_value (λ two. c.open-groups.result ≡ Ok two.0) _ _ all.first c.both-front.ensures.first in
-    let vehicles = of_value (λ two. c.over-vehicles.result ≡ Ok two.1) _ _ all.first c.both-front.ensures.second in
-    let pairs = of_value (λ two. c.over-pairs.result ≡ Ok two.0) _ _ all.second c.both-end.ensures.first in
-    let dimensions = of_value (λ two. c.filters_of_dimensions-dimensions.result ≡ Ok two.1) _ _ all.second c.both-end.ensures.second in
+    let groups = of_value (λ two. c.open-groups.result ≡ Ok two.0) _ _ all.first c.try_both-front.ensures.first in
+    let vehicles = of_value (λ two. c.over-vehicles.result ≡ Ok two.1) _ _ all.first c.try_both-front.ensures.second in
+    let pairs = of_value (λ two. c.over-pairs.result ≡ Ok two.0) _ _ all.second c.try_both-end.ensures.first in
+    let dimensions = of_value (λ two. c.filters_of_dimensions-dimensions.result ≡ Ok two.1) _ _ all.second c.try_both-end.ensures.second in
     ap₂ (λ a b. a && b) (ap (λ h. h lists) (of_value _ _ _ groups c.open-groups.ensures.holds))
     (ap₂ (λ a b. a && b) (ap (λ h. h lists) (of_value _ _ _ vehicles c.over-vehicles.ensures.holds))
     (ap₂ (λ a b. a && b) (ap (λ h. h lists) (of_value _ _ _ pairs c.over-pairs.ensures.holds))
@@ -64,17 +64,17 @@ returns-clause-rules c = λ lists.
 pub returns-clause-weights : goal.returns-clause-weights
 returns-clause-weights c = λ before later.
     let all = c.in_ok-front.ensures in
-    let dimensions = of_value (λ two. c.filters_of_dimensions-dimensions.result ≡ Ok two.1) _ _ all.second c.both-end.ensures.second in
+    let dimensions = of_value (λ two. c.filters_of_dimensions-dimensions.result ≡ Ok two.1) _ _ all.second c.try_both-end.ensures.second in
     let sum = of_value _ _ _ dimensions c.filters_of_dimensions-dimensions.ensures.weight before later in
     omega (arith, sum)
 
 pub returns-clause-stands : goal.returns-clause-stands
 returns-clause-stands c =
     let all = c.in_ok-front.ensures in
-    let groups = of_value (λ two. c.open-groups.result ≡ Ok two.0) _ _ all.first c.both-front.ensures.first in
-    let vehicles = of_value (λ two. c.over-vehicles.result ≡ Ok two.1) _ _ all.first c.both-front.ensures.second in
-    let pairs = of_value (λ two. c.over-pairs.result ≡ Ok two.0) _ _ all.second c.both-end.ensures.first in
-    let dimensions = of_value (λ two. c.filters_of_dimensions-dimensions.result ≡ Ok two.1) _ _ all.second c.both-end.ensures.second in (
+    let groups = of_value (λ two. c.open-groups.result ≡ Ok two.0) _ _ all.first c.try_both-front.ensures.first in
+    let vehicles = of_value (λ two. c.over-vehicles.result ≡ Ok two.1) _ _ all.first c.try_both-front.ensures.second in
+    let pairs = of_value (λ two. c.over-pairs.result ≡ Ok two.0) _ _ all.second c.try_both-end.ensures.first in
+    let dimensions = of_value (λ two. c.filters_of_dimensions-dimensions.result ≡ Ok two.1) _ _ all.second c.try_both-end.ensures.second in (
       of_value _ _ _ groups c.open-groups.ensures.stands,
       (
         of_value _ _ _ vehicles c.over-vehicles.ensures.stands,

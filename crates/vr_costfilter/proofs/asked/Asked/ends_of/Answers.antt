@@ -8,29 +8,34 @@ use Rattle.vr_balance.specs.declared.ends.Ends.{Ends}
 use Rattle.vr_costfilter.specs.Asked.{new_list, old_list}
 use Rattle.vr_costfilter.specs.GuideRuns.{runs_of}
 use Rattle.vr_costfilter.specs.declared.asked.Asked.{Asked}
-use Rattle.vr_costfilter.specs.declared.kept_ways.KeptWays.{KeptWays}
+use Rattle.vr_costfilter.specs.KeptWays.{KeptWays}
 use Rattle.vr_costfilter.proofs.EndsLemmas.{middle-few, middle-visits, rest-small, way-small, whole-known, whole-small, IsKeptAt}
 use Rattle.vr_costfilter.proofs.RunLemmas.{line-allows}
 use Rattle.vr_costfilter.proofs.WayLemmas.{latest-start, least-end}
 use Rattle.vr_costfilter.proofs.asked.Asked.ends_of.Goals as goal
 
 pub way-front-requires : goal.way-front-requires
-way-front-requires c = omega (arith, c.requires.kept.has.ways.many, c.strip-ends.ensures.order, c.strip-ends.ensures.high)
+way-front-requires c = omega (arith, c.requires.kept.has.keeps.ways.many, c.strip-ends.ensures.order, c.strip-ends.ensures.high)
 
 pub rest-left-requires : goal.rest-left-requires
-rest-left-requires c = omega (arith, c.requires.kept.has.rests.many, c.strip-ends.ensures.high)
+rest-left-requires c = omega (arith, c.requires.kept.has.keeps.rests.many, c.strip-ends.ensures.high)
 
 -- what the list that is asked of keeps of the old one
 abbrev Around : Asked → Ends → KeptWays → Type 0
 Around asked ends kept = IsKeptAt asked.guide.now (old_list asked) (new_list asked) ends.front ends.behind (joined asked.routes.now.lists ends.middle.now) kept
 
-pub invariant_of-led : goal.invariant_of-led
-invariant_of-led c =
+pub along_pieces-way-requires-clause-few : goal.along_pieces-way-requires-clause-few
+along_pieces-way-requires-clause-few c =
     let it : Around c.args.self.now c.strip-ends.result c.args.kept.now = record { are = c.requires.runs; joins = c.strip-ends.ensures.joins; tour = c.args.self.now.sound.used.tour; few = c.args.self.now.sound.few; feasible = c.requires.feasible; is = c.requires.kept } in
-    record { sound = record { within = c.strip-ends.ensures.within; nodes = record { few = middle-few it; visits = middle-visits it } } }
+    let few = middle-few it in omega (arith, few)
 
-pub way_along-way-requires : goal.way_along-way-requires
-way_along-way-requires c =
+pub along_pieces-way-requires-clause-nodes : goal.along_pieces-way-requires-clause-nodes
+along_pieces-way-requires-clause-nodes c =
+    let it : Around c.args.self.now c.strip-ends.result c.args.kept.now = record { are = c.requires.runs; joins = c.strip-ends.ensures.joins; tour = c.args.self.now.sound.used.tour; few = c.args.self.now.sound.few; feasible = c.requires.feasible; is = c.requires.kept } in
+    middle-visits it
+
+pub along_pieces-way-requires-clause-way : goal.along_pieces-way-requires-clause-way
+along_pieces-way-requires-clause-way c =
     let it : Around c.args.self.now c.strip-ends.result c.args.kept.now = record { are = c.requires.runs; joins = c.strip-ends.ensures.joins; tour = c.args.self.now.sound.used.tour; few = c.args.self.now.sound.few; feasible = c.requires.feasible; is = c.requires.kept } in
     way-small it c.way-front.result (omega (arith, c.strip-ends.ensures.order, c.strip-ends.ensures.high)) c.way-front.ensures
 
@@ -42,14 +47,14 @@ way_through-whole-requires-clause-rest c =
 pub ends_by-requires : goal.ends_by-requires
 ends_by-requires c =
     let it : Around c.args.self.now c.strip-ends.result c.args.kept.now = record { are = c.requires.runs; joins = c.strip-ends.ensures.joins; tour = c.args.self.now.sound.used.tour; few = c.args.self.now.sound.few; feasible = c.requires.feasible; is = c.requires.kept } in
-    whole-small it c.way_along-way.result c.way_through-whole.result c.rest-left.result c.strip-ends.ensures.high c.way_along-way.ensures.range c.rest-left.ensures c.way_through-whole.ensures
+    whole-small it c.along_pieces-way.result c.way_through-whole.result c.rest-left.result c.strip-ends.ensures.high c.along_pieces-way.ensures.range c.rest-left.ensures c.way_through-whole.ensures
 
 pub returns-clause-last : goal.returns-clause-last
 returns-clause-last c =
     let g = c.args.self.now.guide.now in
     let list : List ℕ = new_list c.args.self.now in
     let it : Around c.args.self.now c.strip-ends.result c.args.kept.now = record { are = c.requires.runs; joins = c.strip-ends.ensures.joins; tour = c.args.self.now.sound.used.tour; few = c.args.self.now.sound.few; feasible = c.requires.feasible; is = c.requires.kept } in
-    let is = whole-known it c.way-front.result c.way_along-way.result c.way_through-whole.result c.rest-left.result (omega (arith, c.strip-ends.ensures.order, c.strip-ends.ensures.high)) c.strip-ends.ensures.high c.way-front.ensures c.rest-left.ensures c.way_along-way.ensures.value c.way_through-whole.ensures in
+    let is = whole-known it c.way-front.result c.along_pieces-way.result c.way_through-whole.result c.rest-left.result (omega (arith, c.strip-ends.ensures.order, c.strip-ends.ensures.high)) c.strip-ends.ensures.high c.way-front.ensures c.rest-left.ensures c.along_pieces-way.ensures.value c.way_through-whole.ensures in
     let by = line-allows g.model.now g.d g.v (runs_of g) c.requires.runs list c.args.self.now.sound.used.tour in
     subst (IsLeastEnd (line g.model.now g.d g.v list)) (sym c.ends_by.ensures.last) (least-end g.model.now g.d g.v (runs_of g) list (line g.model.now g.d g.v list) by c.requires.feasible c.way_through-whole.result is)
 
@@ -59,7 +64,7 @@ returns-clause-start c =
     let list : List ℕ = new_list c.args.self.now in
     let whole = c.way_through-whole.result in
     let it : Around c.args.self.now c.strip-ends.result c.args.kept.now = record { are = c.requires.runs; joins = c.strip-ends.ensures.joins; tour = c.args.self.now.sound.used.tour; few = c.args.self.now.sound.few; feasible = c.requires.feasible; is = c.requires.kept } in
-    let is = whole-known it c.way-front.result c.way_along-way.result c.way_through-whole.result c.rest-left.result (omega (arith, c.strip-ends.ensures.order, c.strip-ends.ensures.high)) c.strip-ends.ensures.high c.way-front.ensures c.rest-left.ensures c.way_along-way.ensures.value c.way_through-whole.ensures in
+    let is = whole-known it c.way-front.result c.along_pieces-way.result c.way_through-whole.result c.rest-left.result (omega (arith, c.strip-ends.ensures.order, c.strip-ends.ensures.high)) c.strip-ends.ensures.high c.way-front.ensures c.rest-left.ensures c.along_pieces-way.ensures.value c.way_through-whole.ensures in
     let start = latest-start g.model.now g.d g.v (runs_of g) list (line g.model.now g.d g.v list) (line-allows g.model.now g.d g.v (runs_of g) c.requires.runs list c.args.self.now.sound.used.tour) c.requires.feasible whole is in
     subst (λ s. IsLatestStart (line g.model.now g.d g.v list) c.ends_by.result.last s) (sym c.ends_by.ensures.start)
     (subst (λ e. IsLatestStart (line g.model.now g.d g.v list) e (int_min whole.latest (whole.time -ℤ whole.transits))) (sym c.ends_by.ensures.last) start)

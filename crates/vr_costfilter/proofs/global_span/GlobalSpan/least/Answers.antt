@@ -3,7 +3,7 @@ use Rattle.std.proofs.lemmas.Int.{ints}
 use Rattle.vr_model.specs.declared.records.Model.{Model}
 use Rattle.vr_routes.specs.Pieces.{changed}
 use Rattle.vr_costfilter.specs.EarlyParts.{AreEarlyParts}
-use Rattle.vr_costfilter.specs.declared.orders.Orders.{Orders}
+use Rattle.vr_costfilter.specs.declared.orders.SortedEnds.{SortedEnds}
 use Rattle.vr_costfilter.specs.GlobalCosts.{AreAllOrders}
 use Rattle.vr_costfilter.specs.Spreads.{global_least}
 use Rattle.vr_costfilter.proofs.GlobalLemmas.{none-costs, none-pays}
@@ -26,7 +26,7 @@ pub least-requires-clause-orders : goal.least-requires-clause-orders
 least-requires-clause-orders c =
     let lists : List (List ℕ) = c.args.routes.now.lists in
     subst (λ (m : Model). AreAllOrders m lists c.deref.result.now) (sym (ap (λ s. s.model) c.self.view_is))
-    (subst (λ (os : List Orders). AreAllOrders c.args.self.now.model lists os) (sym (c.deref.ensures.value ∙ ap (λ s. s.orders) c.self.view_is)) c.requires.stands.orders)
+    (subst (λ (os : List SortedEnds). AreAllOrders c.args.self.now.model lists os) (sym (c.deref.ensures.value ∙ ap (λ s. s.orders) c.self.view_is)) c.requires.stands.orders)
 
 pub returns-then-is_idle-clause-value : goal.returns-then-is_idle-clause-value
 returns-then-is_idle-clause-value c =

@@ -4,7 +4,7 @@ use Rattle.vr_plan.specs.Bounds.{cumul_cost}
 use Rattle.vr_plan.proofs.BoundLemmas.{read-around}
 use Rattle.vr_routes.specs.Pieces.{changed}
 use Rattle.vr_parts.proofs.RowLemmas.{written}
-use Rattle.vr_costfilter.specs.declared.orders.Orders.{Orders}
+use Rattle.vr_costfilter.specs.declared.orders.SortedEnds.{SortedEnds}
 use Rattle.vr_costfilter.specs.GlobalCosts.{global_cost_of, AreAllOrders, AreNextRows, IsGlobalCost, KeptSpans}
 use Rattle.vr_costfilter.proofs.GlobalLemmas.{rows-like}
 use Rattle.vr_costfilter.proofs.global_span.GlobalSpan.make_ready.Goals as goal
@@ -19,8 +19,8 @@ returns-clause-ready c =
     let h = c.requires.change.stands in
     let r = c.cost_after-self-inside.ensures in
     let read = read-around c.cost_after-self-inside.result (cumul_cost * 4) r.range (omega arith) in
-    let old : List Orders = c.self.inside.next_orders.items in
-    let new : List Orders = c.write_orders.new.out in
+    let old : List SortedEnds = c.self.inside.next_orders.items in
+    let new : List SortedEnds = c.write_orders.new.out in
     let rules : Model = c.self.inside.rules in
     let model : rules ≡ c.args.self.now.model = ap (λ s. s.model) c.self.view_is ∙ like.model in
     let room : length old ≡ length rules.dimensions = ap (λ (s : KeptSpans). length s.next_orders) c.self.view_is ∙ like.room ∙ h.room ∙ ap (λ (m : Model). length m.dimensions) (sym model) in
@@ -37,5 +37,5 @@ write_orders-requires-clause-rows c =
     let parts = c.args.change.now in
     let now = rows-like c.args.self.now c.write_next.new.self c.args.routes.now parts c.requires.change c.in_ok-write_next.ensures.like c.in_ok-write_next.ensures.next in
     let inside = subst (λ (s : KeptSpans). AreNextRows s.model lists parts s.orders s.next) (sym c.self.view_is) now in
-    subst (λ (os : List Orders). AreNextRows c.self.inside.rules lists parts os c.deref-2.result.now) (sym c.deref.ensures.value)
+    subst (λ (os : List SortedEnds). AreNextRows c.self.inside.rules lists parts os c.deref-2.result.now) (sym c.deref.ensures.value)
     (subst (λ rows. AreNextRows c.self.inside.rules lists parts c.self.inside.orders.items rows) (sym c.deref-2.ensures.0) inside)

@@ -8,7 +8,7 @@ use Rattle.vr_plan.specs.Bounds.{cumul_cost}
 use Rattle.vr_plan.proofs.BoundLemmas.{read-around}
 use Rattle.vr_routes.specs.Pieces.{changed}
 use Rattle.vr_routes.proofs.CommitLemmas.{as_many_lists}
-use Rattle.vr_costfilter.specs.declared.orders.Orders.{Orders}
+use Rattle.vr_costfilter.specs.declared.orders.SortedEnds.{SortedEnds}
 use Rattle.vr_costfilter.specs.GlobalCosts.{global_cost_of, AreAllOrders, IsGlobalCost, KeptSpans}
 use Rattle.vr_costfilter.specs.Known.{AreCumulsAt, IsValidChange}
 use Rattle.vr_costfilter.proofs.KnownLemmas.{spans-cumuls}
@@ -32,8 +32,8 @@ returns-clause-stands c =
       of_model = h.of_model ∙ ap visits same;
       valid = subst (λ m. IsTrue (is_valid m lists)) same c.requires.valid;
       as_many = as_many_lists before parts ∙ h.as_many ∙ ap (λ (m : Model). length m.vehicles) same;
-      orders = subst (λ (m : Model). AreAllOrders m lists c.swap.new.x.items) same (subst (λ (os : List Orders). AreAllOrders c.args.self.now.model lists os) (sym orders) ready.orders);
-      room = ap (λ (os : List Orders). length os) room ∙ h.orders.many ∙ ap (λ (m : Model). length m.dimensions) same;
+      orders = subst (λ (m : Model). AreAllOrders m lists c.swap.new.x.items) same (subst (λ (os : List SortedEnds). AreAllOrders c.args.self.now.model lists os) (sym orders) ready.orders);
+      room = ap (λ (os : List SortedEnds). length os) room ∙ h.orders.many ∙ ap (λ (m : Model). length m.dimensions) same;
       cost = read ∙ ap (λ (s : KeptSpans). s.next_cost) view ∙ ready.cost ∙ ap (λ (m : Model). global_cost_of m lists) same;
       range = subst IsGlobalCost (sym read) range;
       cumuls = c.commit.ensures;

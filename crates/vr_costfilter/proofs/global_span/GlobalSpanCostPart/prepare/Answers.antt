@@ -1,9 +1,6 @@
 use Rattle.vr_costfilter.proofs.GlobalLemmas.{stands-like}
 use Rattle.vr_costfilter.proofs.global_span.GlobalSpanCostPart.prepare.Goals as goal
 
-pub returns-in_err-made-clause-stands : goal.returns-in_err-made-clause-stands
-returns-in_err-made-clause-stands c = stands-like c.args.self.now c.make_ready.new.self c.args.routes.now c.requires.stands c.make_ready.ensures.like
-
 pub returns-clause-stands : goal.returns-clause-stands
 returns-clause-stands c = stands-like c.args.self.now c.make_ready.new.self c.args.routes.now c.requires.stands c.make_ready.ensures.like
 

@@ -11,7 +11,7 @@ use Rattle.vr_plan.proofs.BoundLemmas.{read-cumul}
 use Rattle.vr_spans.proofs.RunsLemmas.{none_from_test, some_from_test}
 use Rattle.vr_costfilter.specs.KeptWays.{AreKeptWays}
 use Rattle.vr_costfilter.specs.GuideRuns.{runs_of}
-use Rattle.vr_costfilter.specs.declared.kept_ways.KeptWays.{KeptWays}
+use Rattle.vr_costfilter.specs.KeptWays.{KeptWays}
 use Rattle.vr_costfilter.specs.Runs.{AllowsRuns, between_runs}
 use Rattle.vr_costfilter.proofs.BetweenLemmas.{between-allows, end-in, start-in}
 use Rattle.vr_costfilter.proofs.RunLemmas.{line-allows}

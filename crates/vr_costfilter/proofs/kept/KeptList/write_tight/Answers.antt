@@ -5,23 +5,26 @@ use Rattle.vr_model.specs.tables.Tables.{vehicle_at}
 use Rattle.vr_model.specs.declared.records.ScheduleRule.{ScheduleRule}
 use Rattle.vr_model.specs.declared.records.ScheduleRule.TheVariants.{Tight}
 use Rattle.vr_spans.proofs.RunsLemmas.{none_from_test, some_from_test}
-use Rattle.vr_costfilter.specs.KeptWays.{AreKeptWays, HasWays, HaveKeptWays}
+use Rattle.vr_costfilter.specs.KeptWays.{AreKeptWays, HasWaysBy, HaveKeptWays}
 use Rattle.vr_costfilter.specs.GuideRuns.{runs_of}
 use Rattle.vr_costfilter.specs.Kept.{is_tight, HasAllAsked, HasAllWays}
-use Rattle.vr_costfilter.specs.declared.kept_ways.KeptWays.{KeptWays}
+use Rattle.vr_costfilter.specs.KeptWays.{KeptWays}
 use Rattle.vr_costfilter.specs.declared.kept.KeptList.{KeptList}
 use Rattle.vr_costfilter.proofs.KeptCumulLemmas.{ends-set, other-rule, stages-between, stages-none}
 use Rattle.vr_costfilter.proofs.kept.KeptList.write_tight.Goals as goal
+
+pub write_ways-requires : goal.write_ways-requires
+write_ways-requires c = (omega arith, (c.args.led.now.sound.few, c.args.led.now.sound.visits))
 
 pub write_between-requires : goal.write_between-requires
 write_between-requires c =
     let g = c.args.led.now.guide.now in
     let items : List KeptWays = c.forget.new.self.ends.items in
-    let many = length-set items 0 c.write.new.self in
+    let many = length-set items 0 c.write_ways.new.kept in
     let some = some_from_test _ _ c.if-is_empty.false c.is_empty.ensures in
     record {
       ends = omega (arith, many, some);
-      ways = λ other. subst (HasWays g.model.now g.d g.v (runs_of g) c.args.led.now.list.now) (sym (get_or-set_same items 0 c.write.new.self other (omega (arith, some)))) c.write.ensures;
+      ways = λ other. subst (HasWaysBy g.model.now g.d g.v (runs_of g) c.args.led.now.list.now) (sym (get_or-set_same items 0 c.write_ways.new.kept other (omega (arith, some)))) (record { runs_are = c.requires.runs; keeps = c.write_ways.ensures });
       none = c.forget.ensures.none;
       between = c.forget.ensures.between;
     }
@@ -45,8 +48,8 @@ returns-clause-kept c =
     let g = c.args.led.now.guide.now in
     let list = c.args.led.now.list.now in
     let items : List KeptWays = c.forget.new.self.ends.items in
-    let new : KeptWays = c.write.new.self in
-    let is : AreKeptWays g.model.now g.d g.v list new = record { ways = λ _. record { runs = runs_of g; has = c.write.ensures } } in
+    let new : KeptWays = c.write_ways.new.kept in
+    let is : AreKeptWays g.model.now g.d g.v list new = record { ways = λ _. record { runs = runs_of g; has = record { runs_are = c.requires.runs; keeps = c.write_ways.ensures } } } in
     record {
       earliest = λ rule runs are. absurd (other-rule (sym rule ∙ c.requires.rule_is));
       tight = λ rule runs are. stages-between g.model.now g.d g.v (runs_of g) runs c.requires.runs are _ _ list _ c.write_between.ensures.stages;
@@ -56,7 +59,7 @@ returns-clause-kept c =
         room = (let many = length-set items 0 new in let same = ap length c.write_between.ensures.ends in let some = some_from_test _ _ c.if-is_empty.false c.is_empty.ensures in omega (arith, many, same, some));
         ways = λ other. subst (λ (l : List KeptWays). length (slice_index_or l 0 other).ways.items ≡ length list + 1) (sym c.write_between.ensures.ends)
             (subst (λ (k : KeptWays). length k.ways.items ≡ length list + 1) (sym (get_or-set_same items 0 new other (let some = some_from_test _ _ c.if-is_empty.false c.is_empty.ensures in omega (arith, some))))
-            (omega (arith, c.write.ensures.ways.many)));
+            (omega (arith, c.write_ways.ensures.ways.many)));
       });
     }
   where
@@ -65,4 +68,4 @@ returns-clause-kept c =
 
 pub returns-clause-room : goal.returns-clause-room
 returns-clause-room c =
-    ap length c.write_between.ensures.ends ∙ length-set c.forget.new.self.ends.items 0 c.write.new.self ∙ c.forget.ensures.room
+    ap length c.write_between.ensures.ends ∙ length-set c.forget.new.self.ends.items 0 c.write_ways.new.kept ∙ c.forget.ensures.room

@@ -8,7 +8,7 @@ use Rattle.vr_routes.specs.Pieces.{joined}
 use Rattle.vr_earliest.specs.declared.ways.Way.{Way}
 use Rattle.vr_earliest.specs.Ways.{span_by, whole_way}
 use Rattle.vr_parts.proofs.PartLemmas.{small}
-use Rattle.vr_earliest.proofs.WayLemmas.{guided}
+use Rattle.vr_earliest.proofs.WayLemmas.{guided, joined-few}
 use Rattle.vr_earliest.proofs.earliest.Earliest.after.Goals as goal
 
 pub way_after-way-requires-clause-vehicle : goal.way_after-way-requires-clause-vehicle
@@ -26,6 +26,14 @@ way_after-way-requires-clause-nodes_before c =
     let well = subst IsWellFormed (ap (λ s. s.model) c.self.view_is) c.self.invariant.well_formed in
     let few = small m well c.args.routes.now.lists h.valid in
     subst (λ model. All (λ node. node < model.nodes) (route c.args.routes.now.lists c.of-guide.result.v)) (sym (c.of-guide.ensures.model ∙ ap (λ s. s.model) c.self.view_is)) (few.below c.of-guide.result.v)
+
+pub way_after-way-requires-clause-few : goal.way_after-way-requires-clause-few
+way_after-way-requires-clause-few c =
+    let m = c.args.self.now.model in
+    let well = subst IsWellFormed (ap (λ s. s.model) c.self.view_is) c.self.invariant.well_formed in
+    let few = small m well c.args.routes.now.lists c.requires.stands.valid in
+    let all = joined-few c.args.routes.now.lists few.few c.args.pieces.now in
+    omega (arith, all, c.requires.few)
 
 pub returns-clause-last : goal.returns-clause-last
 returns-clause-last c =

@@ -4,7 +4,7 @@ use Rattle.vr_model.specs.tables.WellFormed.{IsWellFormed}
 use Rattle.vr_model.proofs.tables.Tests.{none_from_test}
 use Rattle.vr_routes.specs.Pieces.{no_part}
 use Rattle.vr_earliest.specs.declared.earlies.Early.{Early}
-use Rattle.vr_earliest.specs.declared.kept.KeptWays.{KeptWays}
+use Rattle.vr_earliest.specs.Kept.{KeptWays}
 use Rattle.vr_earliest.specs.Kept.{HaveWays}
 use Rattle.vr_earliest.proofs.EarlyLemmas.{AreTold, told-more, told-unpaid, unpaid-where-none}
 use Rattle.vr_earliest.proofs.earliest.Earliest.write_after.Goals as goal

@@ -7,16 +7,16 @@ use Rattle.vr_earliest.proofs.KeptLemmas.{kept-set, kept-stays}
 use Rattle.vr_earliest.proofs.WayLemmas.{by-guide}
 use Rattle.vr_earliest.proofs.kept.KeptLists.write.Goals as goal
 
-pub invariant_of-led : goal.invariant_of-led
-invariant_of-led c = record { sound = record { few = c.requires.few; nodes_are = subst (λ (m : Model). All (λ node. node < m.nodes) c.args.list.now) (sym c.of-guide.ensures.model) c.requires.nodes } }
+pub write_ways-requires : goal.write_ways-requires
+write_ways-requires c = (omega arith, (c.requires.few, subst (λ (m : Model). All (λ node. node < m.nodes) c.args.list.now) (sym c.of-guide.ensures.model) c.requires.nodes))
 
 pub returns-then-v-len : goal.returns-then-v-len
 returns-then-v-len c lists h known =
     let m = c.args.closed.model.now in
     let e = c.of-guide.ensures in
     let list = c.args.list.now in
-    let new = c.write.new.self in
-    let is = by-guide c.of-guide.result e.model e.dimension e.vehicle (λ model d v. HasWays model d v list new) c.write.ensures in
+    let new = c.write_ways.new.kept in
+    let is = by-guide c.of-guide.result e.model e.dimension e.vehicle (λ model d v. HasWays model d v list new) c.write_ways.ensures in
     let old = subst (HaveWays m c.args.d lists) (sym c.self.view_is) h in
     kept-set m c.args.d lists c.self.inside.lists.items c.args.v list new old known (omega (arith, c.len.ensures, c.if-v-len.true)) is
 

@@ -31,14 +31,14 @@ returns-clause-least c kept =
     let low = lt_of_test (kind_of c.args.mv) 6 (sym c.keeps_activity.ensures ∙ kept) in
     same_to_pay c.args.self.now.model pays lists valid (kind_of c.args.mv) low
 
-pub returns-then-not-self-clause-told : goal.returns-then-not-self-clause-told
-returns-then-not-self-clause-told c =
+pub returns-then-not-self-clause-known : goal.returns-then-not-self-clause-known
+returns-then-not-self-clause-known c =
     let h = c.requires.stands in
     unpaid c.args.self.now.model c.args._routes.now.lists (kind_of c.args.mv)
     (sym h.arcs_and_groups_is ∙ ap (λ k. k.arcs_and_groups) (sym c.self.view_is) ∙ c.if-not-self.true)
 
-pub returns-then-pays_none-clause-told : goal.returns-then-pays_none-clause-told
-returns-then-pays_none-clause-told c =
+pub returns-then-pays_none-clause-known : goal.returns-then-pays_none-clause-known
+returns-then-pays_none-clause-known c =
     let h = c.requires.stands in
     let lists = c.args._routes.now.lists in
     let total = ap (λ (m : Model). penalty_part m lists) (sym h.groups_model) ∙ sym h.groups.total_is ∙ ap (λ k. k.groups.total) (sym c.self.view_is) in
@@ -46,8 +46,8 @@ returns-then-pays_none-clause-told c =
     (sym h.arcs_and_groups_is ∙ ap (λ k. k.arcs_and_groups) (sym c.self.view_is) ∙ c.if-not-self.false)
     (ap (λ x. is_same_number x (pos 0)) total ∙ sym c.pays_none.ensures ∙ c.if-pays_none.true)
 
-pub returns-clause-told : goal.returns-clause-told
-returns-clause-told c =
+pub returns-clause-known : goal.returns-clause-known
+returns-clause-known c =
     let h = c.requires.stands in
     let lists = c.args._routes.now.lists in
     let total = ap (λ (m : Model). penalty_part m lists) (sym h.groups_model) ∙ sym h.groups.total_is ∙ ap (λ k. k.groups.total) (sym c.self.view_is) in

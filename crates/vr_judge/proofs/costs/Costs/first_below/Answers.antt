@@ -5,7 +5,7 @@ use Rattle.vr_model.specs.declared.records.Model.{Model}
 use Rattle.vr_routes.specs.Judging.{cost_change}
 use Rattle.vr_routes.specs.Runs.{with_last}
 use Rattle.vr_arccosts.specs.ArcMoves.{arcs_added}
-use Rattle.vr_judge.proofs.LeastLemmas.{told_of}
+use Rattle.vr_judge.proofs.LeastLemmas.{known_of}
 use Rattle.vr_judge.proofs.costs.Costs.first_below.Goals as goal
 
 pub returns-clause-no_less : goal.returns-clause-no_less
@@ -19,6 +19,6 @@ returns-clause-no_less c k low high one valid =
     let sum = c.in_ok-enough.ensures in
     let fits = sum.0 in
     let is = sum.1 in
-    let least = told_of c.self.inside.arcs.model model lists mv _ same (c.in_ok-first.ensures.no_less k low high) one in
+    let least = known_of c.self.inside.arcs.model model lists mv _ same (c.in_ok-first.ensures.no_less k low high) one in
     let more : (arcs_added model lists mv -ℤ c.in_ok-saved.saved) ≤ℤ cost_change model lists mv = saved.least k one valid in
     omega (arith, ints, range, fits, is, least, more, saved.range.low, saved.range.high)

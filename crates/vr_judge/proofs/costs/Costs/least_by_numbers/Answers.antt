@@ -23,9 +23,9 @@ returns-clause-least c =
     known_least c.args.self.now.model c.args.routes.now.lists c.args.mv c.added_by_numbers.result (is_of_pair c.args.mv ≡ true) (exact c)
     (c.adds_arcs_at_least.ensures.least c.if-not-adds_arcs_at_least.false c.args.mv refl c.requires.is_one)
 
-pub returns-then-not-adds_arcs_at_least-clause-told : goal.returns-then-not-adds_arcs_at_least-clause-told
-returns-then-not-adds_arcs_at_least-clause-told c = ap (λ b. b && not (is_of_pair c.args.mv)) (sym c.adds_arcs_at_least.ensures.told ∙ c.if-not-adds_arcs_at_least.true)
+pub returns-then-not-adds_arcs_at_least-clause-known : goal.returns-then-not-adds_arcs_at_least-clause-known
+returns-then-not-adds_arcs_at_least-clause-known c = ap (λ b. b && not (is_of_pair c.args.mv)) (sym c.adds_arcs_at_least.ensures.known ∙ c.if-not-adds_arcs_at_least.true)
 
-pub returns-clause-told : goal.returns-clause-told
-returns-clause-told c =
-    numbers_tell c.args.self.now.model c.args.routes.now.lists c.args.mv c.added_by_numbers.result (sym c.adds_arcs_at_least.ensures.told ∙ c.if-not-adds_arcs_at_least.false) (exact c)
+pub returns-clause-known : goal.returns-clause-known
+returns-clause-known c =
+    numbers_tell c.args.self.now.model c.args.routes.now.lists c.args.mv c.added_by_numbers.result (sym c.adds_arcs_at_least.ensures.known ∙ c.if-not-adds_arcs_at_least.false) (exact c)
