@@ -16,6 +16,8 @@ use Rattle.vr_model.specs.declared.neighbours.Move.{Move}
 use Rattle.vr_model.proofs.tables.Tests.{apart}
 use Rattle.vr_routes.specs.Tours.{Tours}
 use Rattle.vr_watch.specs.Told.{Told, ToldInPart}
+use Rattle.vr_routes.specs.Judging.{HoldSame}
+use Rattle.vr_descent.specs.Ending.{HasEnded, report_of}
 use Rattle.vr_descent.specs.Scanned.{takes_less}
 use Rattle.vr_descent.specs.Searching.{behind, events_after, scan_of}
 use Rattle.vr_descent.specs.declared.progress.Progress.{Progress}
@@ -33,43 +35,30 @@ pub record Descends {W : Type 0} (after : W → List Event → List ℕ) (model 
   pub found : at.found ≤ limit.solutions
   pub goes : Goes after (descent model first limit) (from_here model limit routes.lists at.used at.found) old new
 
--- the report of a search that ends where it stands
-abbrev pub report_of : Progress → End → Report
-report_of at stop = record { tries = at.used; solutions = at.found; «end» = stop }
-
--- the whole descent ends here, and each watcher was told all of it
-pub record Ends {W : Type 0} (after : W → List Event → List ℕ) (model : Model) (limit : Limit) (first : List (List ℕ)) (old new : List W) (routes : Tours) (at : Progress) (stop : End) : Type 0 where
-  pub report : report_of at stop ≡ (descent model first limit).report
-  pub last : routes.lists ≡ (descent model first limit).last
-  pub best : routes.lists ≡ (descent model first limit).best
-  pub told : Told after old new (descent model first limit).events
-  pub used : at.used ≤ limit.tries
-  pub some : 1 ≤ at.found
-  pub found : at.found ≤ limit.solutions
-  pub no_dearer : cost model routes.lists ≤ℤ cost model first
-
-module _ {W : Type 0} (after : W → List Event → List ℕ) (model : Model) (limit : Limit) (first : List (List ℕ)) (old new : List W) (routes : Tours) (at : Progress) (stands : Descends after model limit first old new routes at) where
+module _ {W : Type 0} (after : W → List Event → List ℕ) (model : Model) (limit : Limit) (from : Tours) (held : List (List ℕ)) (begun : HoldSame model held from) (old new : List W) (routes : Tours) (at : Progress) (stands : Descends after model limit from.lists old new routes at) where
   abbrev whole : Outcome
-  whole = descent model first limit
+  whole = descent model from.lists limit
 
-  -- it ends with so many tries
+  -- it ends with so many tries, where the routes are still the same, and with this report
   ends_at : (later : List W) (tours : Tours) (now : Progress) (used : ℕ) (stop : End) → Goes after whole (ended (standing model limit routes.lists used at.found) stop) old later → now ≡ record { used = used; found = at.found; cost = at.cost } → tours ≡ routes → used ≤ limit.tries
-      → Ends after model limit first old later tours now stop
-  ends_at later tours now used stop goes at_is routes_are low =
-      let ends : Ends after model limit first old later routes (record { used = used; found = at.found; cost = at.cost }) stop = record {
-        report = sym (ap (λ o. o.report) goes.outcome);
-        last = sym (ap (λ o. o.last) goes.outcome);
-        best = sym (ap (λ o. o.best) goes.outcome);
+      → (judged : List (List ℕ)) → HoldSame model judged tours → (stated : Report) → stated ≡ report_of now stop → HasEnded after model limit whole from tours old later stated tours
+  ends_at later tours now used stop goes at_is routes_are low judged holds stated stated_is =
+      let reported : stated ≡ record { tries = used; solutions = at.found; «end» = stop } = stated_is ∙ ap (λ p. report_of p stop) at_is in
+      record {
+        report = reported ∙ sym (ap (λ o. o.report) goes.outcome);
+        last = ap (λ r. r.lists) routes_are ∙ sym (ap (λ o. o.last) goes.outcome);
+        best = ap (λ r. r.lists) routes_are ∙ sym (ap (λ o. o.best) goes.outcome);
         told = goes_to_end after whole (standing model limit routes.lists used at.found) stop old later goes;
-        used = low;
-        some = stands.some;
-        found = stands.found;
-        no_dearer = stands.no_dearer;
-      } in
-      subst (λ r. Ends after model limit first old later r now stop) (sym routes_are) (subst (λ p. Ends after model limit first old later routes p stop) (sym at_is) ends)
+        no_more_tries = subst (λ r. r.tries ≤ limit.tries) (sym reported) low;
+        some_solution = subst (λ r. 1 ≤ r.solutions) (sym reported) stands.some;
+        no_more_solutions = subst (λ r. r.solutions ≤ limit.solutions) (sym reported) stands.found;
+        best_is_valid = holds.valid;
+        same_visits = holds.of_model ∙ sym begun.of_model;
+        no_dearer = subst (λ r. cost model r.lists ≤ℤ cost model from.lists) (sym routes_are) stands.no_dearer;
+      }
 
   -- enough solutions were found
-  pub ends_enough : at.found ≡ limit.solutions → Ends after model limit first old new routes at Solutions
+  pub ends_enough : at.found ≡ limit.solutions → (judged : List (List ℕ)) → HoldSame model judged routes → (stated : Report) → stated ≡ report_of at Solutions → HasEnded after model limit whole from routes old new stated routes
   ends_enough all = ends_at new routes at at.used Solutions
       (goes_as after whole _ _ old new (enough model limit routes.lists at.used at.found (same_count at.found limit.solutions all)) stands.goes) refl refl stands.used
 
@@ -92,14 +81,14 @@ module _ {W : Type 0} (after : W → List Event → List ℕ) (model : Model) (l
       after_scan s e = subst (λ x. Goes after whole (left x) old later) e (goes_more after whole (left scan) (events_after model routes.lists at.used scan) old new later on told)
 
       -- a move was made
-      pub descends_on : (place : ℕ) (mv : Move) → Moved model takes_less limit routes tours at now place mv → Descends after model limit first old later tours now
+      pub descends_on : (place : ℕ) (mv : Move) → Moved model takes_less limit routes tours at now place mv → Descends after model limit from.lists old later tours now
       descends_on place mv gave =
           let used_new = ap (λ p. p.used) gave.at_is in
           let found_new = ap (λ p. p.found) gave.at_is in
           let within = gave.within in
           record {
             costs = ap (λ p. p.cost) gave.at_is ∙ sym (ap (λ r. cost model r.lists) gave.routes_are);
-            no_dearer = subst (λ r. cost model r.lists ≤ℤ cost model first) (sym gave.routes_are) (no_dearer _ _ _ gave.takes_it stands.no_dearer);
+            no_dearer = subst (λ r. cost model r.lists ≤ℤ cost model from.lists) (sym gave.routes_are) (no_dearer _ _ _ gave.takes_it stands.no_dearer);
             used = omega (arith, used_new, within, stands.used);
             some = omega (arith, found_new);
             found = omega (arith, found_new, stands.found, more);
@@ -108,11 +97,11 @@ module _ {W : Type 0} (after : W → List Event → List ℕ) (model : Model) (l
           }
 
       -- all moves were tried
-      pub ends_complete : (n : ℕ) → TriedAll model takes_less limit routes tours at now n → Ends after model limit first old later tours now Optimum
+      pub ends_complete : (n : ℕ) → TriedAll model takes_less limit routes tours at now n → (judged : List (List ℕ)) → HoldSame model judged tours → (stated : Report) → stated ≡ report_of now Optimum → HasEnded after model limit whole from tours old later stated tours
       ends_complete n gave = ends_at later tours now (at.used + n) Optimum (after_scan (complete n) gave.scanned) gave.at_is gave.routes_are (let within = gave.within in omega (arith, within, stands.used))
 
       -- the tries ran out
-      pub ends_cut : RanOut model takes_less limit routes tours at now → Ends after model limit first old later tours now Tries
+      pub ends_cut : RanOut model takes_less limit routes tours at now → (judged : List (List ℕ)) → HoldSame model judged tours → (stated : Report) → stated ≡ report_of now Tries → HasEnded after model limit whole from tours old later stated tours
       ends_cut gave =
           let all : at.used + (limit.tries - at.used) ≡ limit.tries = omega (arith, stands.used) in
           ends_at later tours now limit.tries Tries (goes_as after whole _ _ old later (ap (λ k. ended (standing model limit routes.lists k at.found) Tries) all) (after_scan cut gave.scanned)) gave.at_is gave.routes_are (omega arith)

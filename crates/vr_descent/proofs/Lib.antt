@@ -12,3 +12,5 @@ pub mod IncumbentLemmas
 pub mod Beginnings
 pub mod ScanGave
 pub mod DescentStands
+pub mod AskingLemmas
+pub mod EndingLemmas

@@ -4,3 +4,5 @@ pub mod Scanned
 pub mod Refused
 pub mod Searching
 pub mod Incumbents
+pub mod Asking
+pub mod Ending

@@ -1,11 +1,11 @@
 //! The trait of what a search accepts.
 
 ghost use Rattle.std.specs.Prelude.{◌≡◌, ℕ, ℤ, Bool, false, List, IfSome, IsTrue};
+ghost use Rattle.vr_descent.specs.Refused.{CanAsk};
 ghost use Rattle.vr_descent.specs.Scanned.{IsEnough, IsPassedOver};
 ghost use Rattle.vr_model.specs.moves.Moves.{apply};
 ghost use Rattle.vr_model.specs.moves.MoveTests.{is_move};
 ghost use Rattle.vr_model.specs.routes.Rules.{is_valid};
-ghost use Rattle.vr_model.specs.tables.Tables.{visits};
 ghost use Rattle.vr_model.specs.tables.WellFormed.{IsWellFormed};
 ghost use Rattle.vr_model.specs.declared.neighbours.Move.{Move as Step};
 ghost use Rattle.vr_model.specs.declared.records.Model.{Model as RoutingModel};
@@ -29,11 +29,7 @@ pub trait Accept {
 
     /// Whether the move is taken. Takes no memory.
     fn accepts(&self, routes: &Routes, mv: Move, difference: i64) -> bool
-        requires well_formed { IsWellFormed (model self.now) }
-        requires of_model { routes.now.visits ≡ visits (model self.now) }
-        requires stands { stands_at self.now routes.now.lists }
-        requires valid { IsTrue (is_valid (model self.now) routes.now.lists) }
-        requires mv { IsTrue (is_move (model self.now) routes.now.lists mv) }
+        requires asks { CanAsk (model self.now) (stands_at self.now routes.now.lists) routes.now mv }
         requires after { IsTrue (is_valid (model self.now) (apply (model self.now) routes.now.lists mv)) }
         requires difference { difference ≡ cost_change (model self.now) routes.now.lists mv }
         ensures { result ≡ takes self.now routes.now.lists mv difference };
@@ -42,11 +38,7 @@ pub trait Accept {
     /// need not be written again. Takes no memory.
     #[inline]
     fn accepts_change(&self, routes: &Routes, mv: Move, change: &Change, difference: i64) -> bool
-        requires well_formed { IsWellFormed (model self.now) }
-        requires of_model { routes.now.visits ≡ visits (model self.now) }
-        requires stands { stands_at self.now routes.now.lists }
-        requires valid { IsTrue (is_valid (model self.now) routes.now.lists) }
-        requires mv { IsTrue (is_move (model self.now) routes.now.lists mv) }
+        requires asks { CanAsk (model self.now) (stands_at self.now routes.now.lists) routes.now mv }
         requires after { IsTrue (is_valid (model self.now) (apply (model self.now) routes.now.lists mv)) }
         requires difference { difference ≡ cost_change (model self.now) routes.now.lists mv }
         requires change { IsChange (model self.now) routes.now.lists mv change.now }
@@ -85,11 +77,7 @@ pub trait Accept {
     /// Whether the move may be taken where it makes a difference of `least` or more: false only where it is not. A
     /// search asks this before it has a move judged, and hands in the change that the move makes. Takes no memory.
     fn may_accept(&self, routes: &Routes, mv: Move, change: &Change, least: i64) -> bool
-        requires well_formed { IsWellFormed (model self.now) }
-        requires of_model { routes.now.visits ≡ visits (model self.now) }
-        requires stands { stands_at self.now routes.now.lists }
-        requires valid { IsTrue (is_valid (model self.now) routes.now.lists) }
-        requires mv { IsTrue (is_move (model self.now) routes.now.lists mv) }
+        requires asks { CanAsk (model self.now) (stands_at self.now routes.now.lists) routes.now mv }
         requires change { IsChange (model self.now) routes.now.lists mv change.now }
         ensures passed { result ≡ false → IsPassedOver (model self.now) (takes self.now) routes.now.lists mv least }
     {

@@ -1,12 +1,13 @@
 //! Greedy descent.
 
-ghost use Rattle.std.specs.Prelude.{◌≡◌, ◌+◌, ◌*◌, ◌≤◌, ◌≤ℤ◌, false, int_lt, pos, Some, IfOk, IfSome, OnOk, OnErr};
+ghost use Rattle.std.specs.Prelude.{◌≡◌, false, int_lt, pos, Some, IfOk, IfSome, OnErr};
+ghost use Rattle.vr_descent.specs.Asking.{AsksFor};
+ghost use Rattle.vr_descent.specs.Ending.{CanBegin, HasEnded};
 ghost use Rattle.vr_descent.specs.Scanned.{takes_less, IsEnough, IsPassedOver};
-ghost use Rattle.vr_model.specs.routes.Costs.{cost};
 ghost use Rattle.vr_model.specs.search.Descents.{descent};
 ghost use Rattle.vr_model.specs.tables.WellFormed.{IsWellFormed};
 ghost use Rattle.vr_routes.specs.Judging.{HoldSame};
-ghost use Rattle.vr_watch.specs.Told.{Told, ToldInPart};
+ghost use Rattle.vr_watch.specs.Told.{ToldInPart};
 
 use crate::{Accept, Progress, ScanEnd};
 use std::sync::ledger::Ledger;
@@ -85,31 +86,17 @@ pub fn descend<J: Judge, L: Ledger>(
     steps: &mut Steps<L>,
 ) -> Result<Report, NoMemory>
     requires well_formed { IsWellFormed model.now }
-    requires judge_model { J.model judge.old ≡ model.now }
-    requires holds { HoldSame model.now (J.committed judge.old) routes.old }
-    requires first_cost { first_cost ≡ cost model.now routes.old.lists }
-    requires tries { limit.tries ≤ 1000000000 }
-    requires one_solution { 1 ≤ limit.solutions }
-    requires solutions { limit.solutions ≤ 1000000000 }
-    ensures report { IfOk result (λ report. report ≡ (descent model.now routes.old.lists limit).report) }
-    ensures last { OnOk result (routes.new.lists ≡ (descent model.now routes.old.lists limit).last) }
-    ensures best { OnOk result (routes.new.lists ≡ (descent model.now routes.old.lists limit).best) }
-    ensures told { OnOk result (Told (λ w later. after w later) watch.old.items watch.new.items
-        (descent model.now routes.old.lists limit).events) }
-    ensures asked { IfOk result (λ report. J.asked judge.new ≤ J.asked judge.old + report.tries) }
-
-    ensures no_more_tries { IfOk result (λ report. report.tries ≤ limit.tries) }
-    ensures some_solution { IfOk result (λ report. 1 ≤ report.solutions) }
-    ensures no_more_solutions { IfOk result (λ report. report.solutions ≤ limit.solutions) }
-    ensures no_dearer { OnOk result (cost model.now routes.new.lists ≤ℤ cost model.now routes.old.lists) }
+    requires begins { CanBegin model.now routes.old first_cost limit (J.model judge.old) (J.committed judge.old) }
+    ensures ended { IfOk result (λ report. HasEnded (λ w later. after w later) model.now limit
+        (descent model.now routes.old.lists limit) routes.old routes.new watch.old.items watch.new.items report
+        routes.new) }
+    ensures asked { IfOk result (λ report. AsksFor J.asked J.looked judge.old judge.new report.tries) }
 
     ensures judge_model { J.model judge.new ≡ model.now }
     ensures holds { HoldSame model.now (J.committed judge.new) routes.new }
     ensures told_in_part { OnErr result (ToldInPart (λ w later. after w later) watch.old.items watch.new.items
         (descent model.now routes.old.lists limit).events) }
-    ensures asked_at_most { OnErr result (J.asked judge.new ≤ J.asked judge.old + limit.tries) }
-    ensures looked { IfOk result (λ report. J.looked judge.new ≤ J.looked judge.old + 3 * report.tries) }
-    ensures looked_at_most { OnErr result (J.looked judge.new ≤ J.looked judge.old + 3 * limit.tries) }
+    ensures asked_at_most { OnErr result (AsksFor J.asked J.looked judge.old judge.new limit.tries) }
 {
     let cheaper = Cheaper { model };
     let mut known = Known::of(model);

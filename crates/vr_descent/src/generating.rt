@@ -1,7 +1,7 @@
 //! The moves of the neighbourhoods of a model, one neighbourhood after the other.
 
 ghost use Rattle.std.specs.Prelude.{◌≡◌, ◌+◌, ◌++◌};
-ghost use Rattle.vr_descent.specs.Listing.{left_of};
+ghost use Rattle.vr_descent.specs.Listing.{left_in};
 ghost use Rattle.vr_known.specs.Passing.{Looked, Takes, tried};
 ghost use Rattle.vr_model.specs.moves.Moves.{moves, moves_in};
 ghost use Rattle.vr_model.specs.tables.Tables.{visits};
@@ -19,13 +19,13 @@ pub(crate) struct Generating<'a> {
     model: &'a RoutingModel,
     routes: &'a Routes,
     // the neighbourhood in hand, and those behind it
-    current: Option<Generator<'a>>,
+    current: Generator<'a>,
     behind: &'a [Neighbourhood],
 }
 
 impl<'a> Model for Generating<'a> {
     ghost use Rattle.std.specs.Prelude.{◌≡◌, ◌++◌, List};
-    ghost use Rattle.vr_descent.specs.Listing.{left_of};
+    ghost use Rattle.vr_descent.specs.Listing.{left_in};
     ghost use Rattle.vr_model.specs.moves.Moves.{moves_over};
     ghost use Rattle.vr_model.specs.tables.Tables.{visits};
     ghost use Rattle.vr_model.specs.tables.WellFormed.{IsWellFormed};
@@ -33,7 +33,7 @@ impl<'a> Model for Generating<'a> {
 
     ghost Value = { List Step };
 
-    ghost view = { λ list. left_of list.current ++ moves_over list.model.now list.behind.now list.routes.now.lists };
+    ghost view = { λ list. left_in list.current ++ moves_over list.model.now list.behind.now list.routes.now.lists };
 
     ghost invariant = { λ list. IsWellFormed list.model.now × (list.routes.now.visits ≡ visits list.model.now) };
 }
@@ -47,7 +47,7 @@ impl<'a> Generating<'a> {
         Generating {
             model: closed.model,
             routes,
-            current: None,
+            current: Generator::Nothing,
             behind: closed.model.search.neighbourhoods.as_slice(),
         }
     }
@@ -69,7 +69,7 @@ impl<'a> Generating<'a> {
     {
         let _count = *passed;
         loop {
-            if let Some(mv) = step_in(&mut self.current, sieve, judge, passed) {
+            if let Some(mv) = self.current.step(sieve, judge, passed) {
                 return Some(mv);
             }
             match self.behind.split_first() {
@@ -93,52 +93,19 @@ impl<'a> Generating<'a> {
     pub(crate) fn stretch(&mut self) -> Stretch
         ensures { self.old ≡ result ++ self.new }
     {
-        stretch_in(&mut self.current)
-    }
-}
-
-// Takes the first of the moves that are left of a neighbourhood, where there is one in hand.
-#[inline(always)]
-fn step_in<S: Sieve>(
-    current: &mut Option<Generator>,
-    sieve: &S,
-    judge: &mut S::Judge,
-    passed: &mut u64,
-) -> Option<Move>
-    requires ready { S.is_ready sieve.now }
-    requires can_ask { S.can_ask sieve.now judge.old }
-    ensures takes { Takes (S.covers sieve.now) (left_of current.old) passed.old result
-        (left_of current.new) passed.new }
-    ensures looked { Looked (S.can_ask sieve.now) S.judged S.looked (S.tries sieve.now)
-        judge.old passed.old judge.new (passed.new + tried result) }
-{
-    let _count = *passed;
-    match current {
-        Some(current) => current.step(sieve, judge, passed),
-        None => None,
-    }
-}
-
-// Takes the stretch at the front of the moves that are left of a neighbourhood, where there is one in hand.
-#[inline(always)]
-fn stretch_in(current: &mut Option<Generator>) -> Stretch
-    ensures { left_of current.old ≡ result ++ left_of current.new }
-{
-    match current {
-        Some(current) => current.stretch(),
-        None => Stretch::none(),
+        self.current.stretch()
     }
 }
 
 // Takes a neighbourhood in hand.
 fn open_in<'a>(
-    current: &mut Option<Generator<'a>>,
+    current: &mut Generator<'a>,
     neighbourhood: Neighbourhood,
     closed: Closed<'a>,
     routes: &'a Routes,
 )
     requires of_model { routes.now.visits ≡ visits closed.model.now }
-    ensures { left_of current.new ≡ moves_in closed.entry.model.now routes.now.lists neighbourhood }
+    ensures { left_in current.new ≡ moves_in closed.entry.model.now routes.now.lists neighbourhood }
 {
-    *current = Some(Generator::open(neighbourhood, closed.model, routes));
+    *current = Generator::open(neighbourhood, closed.model, routes);
 }

@@ -23,6 +23,8 @@ use vr_routes::Routes;
 /// The moves of one neighbourhood that are left to try.
 #[derive(Drop)]
 pub enum Generator<'a> {
+    /// No neighbourhood was taken in hand yet.
+    Nothing,
     TwoOpt(TwoOptMoves<'a>),
     OrOpt(OrOptMoves<'a>),
     Relocate(RelocateMoves<'a>),
@@ -74,7 +76,10 @@ impl<'a> Generator<'a> {
         ensures looked { Looked (S.can_ask sieve.now) S.judged S.looked (S.tries sieve.now)
             judge.old passed.old judge.new (passed.new + tried result) }
     {
+        // To read the count is to know that it fits.
+        let _count = *passed;
         match self {
+            Generator::Nothing => None,
             Generator::TwoOpt(moves) => moves.step(sieve, judge, passed),
             Generator::OrOpt(moves) => moves.step(sieve, judge, passed),
             Generator::Relocate(moves) => moves.step(sieve, judge, passed),
@@ -96,6 +101,7 @@ impl<'a> Generator<'a> {
         ensures { left_in self.old ≡ result ++ left_in self.new }
     {
         match self {
+            Generator::Nothing => Stretch::none(),
             Generator::TwoOpt(moves) => moves.stretch(),
             Generator::OrOpt(moves) => moves.stretch(),
             Generator::Relocate(moves) => moves.stretch(),

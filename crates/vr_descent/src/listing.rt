@@ -71,7 +71,10 @@ impl<'a> MoveList<'a> {
         if let Some(mv) = self.run.take() {
             return Some(mv);
         }
-        go_on(&mut self.run, &mut self.behind, sieve, judge, passed)
+        // Then the first behind the run, and the run that begins with it, where nothing could be told of that.
+        let found = self.behind.step(sieve, judge, passed);
+        self.run = self.behind.stretch();
+        found
     }
 }
 
@@ -89,25 +92,4 @@ impl<'a> Iterator for MoveList<'a> {
         let mut passed = 0;
         self.step(&Known::none(), &mut (), &mut passed)
     }
-}
-
-// Takes the first of the moves behind a run that is at its end, and then the run that begins with it, where nothing
-// could be told of that.
-#[inline(always)]
-fn go_on<S: Sieve>(
-    run: &mut Stretch,
-    behind: &mut Generating,
-    sieve: &S,
-    judge: &mut S::Judge,
-    passed: &mut u64,
-) -> Option<Move>
-    requires ready { S.is_ready sieve.now }
-    requires can_ask { S.can_ask sieve.now judge.old }
-    ensures takes { Takes (S.covers sieve.now) behind.old passed.old result (run.new ++ behind.new) passed.new }
-    ensures looked { Looked (S.can_ask sieve.now) S.judged S.looked (S.tries sieve.now)
-        judge.old passed.old judge.new (passed.new + tried result) }
-{
-    let found = behind.step(sieve, judge, passed);
-    *run = behind.stretch();
-    found
 }

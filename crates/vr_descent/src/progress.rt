@@ -1,18 +1,20 @@
 //! Where a search stands.
 
-ghost use Rattle.std.specs.Prelude.{◌≡◌, ◌+◌, ◌*◌, ◌≤◌, ◌<◌, ◌^◌, [], ◌∷◌, IsTrue, IfOk, OnOk, OnErr};
-ghost use Rattle.vr_descent.specs.Refused.{AreRefused, StaysRefused};
+ghost use Rattle.std.specs.Prelude.{◌≡◌, ◌+◌, ◌≤◌, ◌<◌, ◌^◌, [], ◌∷◌, IsTrue, IfOk, OnOk, OnErr};
+ghost use Rattle.vr_descent.specs.Asking.{AsksOn};
+ghost use Rattle.vr_descent.specs.Ending.{report_of};
+ghost use Rattle.vr_descent.specs.Refused.{AreRefused, CanJudge, StaysRefused};
 ghost use Rattle.vr_descent.specs.Scanned.{scan_end};
 ghost use Rattle.vr_descent.specs.Searching.{after_move, event_of, events_after, move_event};
 ghost use Rattle.vr_descent.specs.Searching.{progress_after, routes_after, scan_of};
 ghost use Rattle.vr_known.specs.Blocks.{Learns};
 ghost use Rattle.vr_model.specs.routes.CostLaws.{HasBoundedCost};
 ghost use Rattle.vr_model.specs.routes.Costs.{cost};
+ghost use Rattle.vr_routes.specs.Judging.{HoldSame, cost_change, moved};
 ghost use Rattle.vr_model.specs.moves.Moves.{apply};
 ghost use Rattle.vr_model.specs.moves.MoveTests.{is_move};
 ghost use Rattle.vr_model.specs.routes.Rules.{is_valid};
 ghost use Rattle.vr_model.specs.tables.WellFormed.{IsWellFormed};
-ghost use Rattle.vr_routes.specs.Judging.{HoldSame, cost_change, moved};
 ghost use Rattle.vr_watch.specs.Told.{Told, ToldInPart};
 
 use crate::{Accept, ScanEnd, scan};
@@ -48,10 +50,9 @@ impl Progress {
         known: &mut Known,
     ) -> Result<ScanEnd, NoMemory>
         requires well_formed { IsWellFormed model.now }
-        requires judge_model { J.model judge.old ≡ model.now }
+        requires judge { CanJudge model.now routes.old (J.model judge.old) (J.committed judge.old) }
         requires accept_model { A.model accept.now ≡ model.now }
         requires accept_stands { A.stands_at accept.now routes.old.lists }
-        requires holds { HoldSame model.now (J.committed judge.old) routes.old }
         requires cost { self.old.cost ≡ cost model.now routes.old.lists }
         requires tries { limit.tries ≤ 1000000000 }
         requires used { self.old.used ≤ limit.tries }
@@ -67,20 +68,15 @@ impl Progress {
         ensures told { OnOk result (Told (λ w later. after w later) watch.old.items watch.new.items
             (events_after model.now routes.old.lists self.old.used
             (scan_of model.now (A.takes accept.now) limit routes.old.lists self.old.used))) }
-        ensures asked { OnOk result (J.asked judge.new + self.old.used ≤ J.asked judge.old + self.new.used) }
-        ensures looked { OnOk result (J.looked judge.new + 3 * self.old.used
-            ≤ J.looked judge.old + 3 * self.new.used) }
+        ensures asked { OnOk result (AsksOn J.asked J.looked judge.old judge.new self.old.used self.new.used) }
         ensures known { OnOk result (AreRefused model.now (A.takes accept.now) routes.new.lists known.new) }
         ensures learns { OnOk result (Learns known.new → Learns known.old) }
 
-        ensures judge_model { J.model judge.new ≡ model.now }
-        ensures holds { HoldSame model.now (J.committed judge.new) routes.new }
+        ensures judge { CanJudge model.now routes.new (J.model judge.new) (J.committed judge.new) }
         ensures told_in_part { OnErr result (ToldInPart (λ w later. after w later) watch.old.items watch.new.items
             (events_after model.now routes.old.lists self.old.used
             (scan_of model.now (A.takes accept.now) limit routes.old.lists self.old.used))) }
-        ensures asked_at_most { OnErr result (J.asked judge.new + self.old.used ≤ J.asked judge.old + limit.tries) }
-        ensures looked_at_most { OnErr result (J.looked judge.new + 3 * self.old.used
-            ≤ J.looked judge.old + 3 * limit.tries) }
+        ensures asked_at_most { OnErr result (AsksOn J.asked J.looked judge.old judge.new self.old.used limit.tries) }
     {
         let ended = scan(
             model,
@@ -167,7 +163,7 @@ impl Progress {
 
     /// The report of a search that ends here.
     pub fn report(&self, end: End) -> Report
-        ensures { result ≡ record { tries = self.now.used; solutions = self.now.found; «end» = end } }
+        ensures { result ≡ report_of self.now end }
     {
         Report {
             tries: self.used,

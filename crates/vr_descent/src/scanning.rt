@@ -1,6 +1,7 @@
 //! The scan of a list of moves for the first that is acceptable.
 
-ghost use Rattle.std.specs.Prelude.{◌≡◌, ◌+◌, ◌*◌, ◌≤◌, false, IsTrue, IfOk, OnErr};
+ghost use Rattle.std.specs.Prelude.{◌≡◌, ◌+◌, ◌≤◌, false, IsTrue, IfOk, OnErr};
+ghost use Rattle.vr_descent.specs.Asking.{AsksFor, Keeps};
 ghost use Rattle.vr_descent.specs.Refused.{AreRefused, CanJudge, CanSift, IsPassed};
 ghost use Rattle.vr_descent.specs.Scanned.{is_acceptable, scan_end, taken, tries_of};
 ghost use Rattle.vr_known.specs.Passing.{Takes, tried, within};
@@ -111,20 +112,16 @@ pub fn scan<J: Judge, A: Accept, L: Ledger>(
     known: &Known,
 ) -> Result<ScanEnd, NoMemory>
     requires well_formed { IsWellFormed model.now }
-    requires judge_model { J.model judge.old ≡ model.now }
+    requires judge { CanJudge model.now routes.now (J.model judge.old) (J.committed judge.old) }
     requires accept_model { A.model accept.now ≡ model.now }
     requires accept_stands { A.stands_at accept.now routes.now.lists }
-    requires holds { HoldSame model.now (J.committed judge.old) routes.now }
     requires known { AreRefused model.now (A.takes accept.now) routes.now.lists known.now }
     ensures ends { IfOk result (λ ended. ended ≡ scan_end model.now routes.now.lists
         (scan (moves model.now routes.now.lists)
         (is_acceptable model.now (A.takes accept.now) routes.now.lists) rest)) }
-    ensures model { J.model judge.new ≡ J.model judge.old }
-    ensures committed { J.committed judge.new ≡ J.committed judge.old }
-    ensures asked { IfOk result (λ ended. J.asked judge.new ≤ J.asked judge.old + tries_of rest ended) }
-    ensures asked_at_most { OnErr result (J.asked judge.new ≤ J.asked judge.old + rest) }
-    ensures looked { IfOk result (λ ended. J.looked judge.new ≤ J.looked judge.old + 3 * tries_of rest ended) }
-    ensures looked_at_most { OnErr result (J.looked judge.new ≤ J.looked judge.old + 3 * rest) }
+    ensures keeps { Keeps J.model J.committed judge.old judge.new }
+    ensures asked { IfOk result (λ ended. AsksFor J.asked J.looked judge.old judge.new (tries_of rest ended)) }
+    ensures asked_at_most { OnErr result (AsksFor J.asked J.looked judge.old judge.new rest) }
 {
     let mut list = moves(model, routes);
     let mut change = Change::blank();

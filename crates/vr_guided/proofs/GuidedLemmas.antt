@@ -2,7 +2,6 @@
 use Rattle.std.proofs.Common.{◌≡◌, ◌∙◌, ℕ, zero, suc, ◌+◌, ◌-◌, ◌≤◌, Bool, true, false, cond, List, [], ◌∷◌, length, refl, sym, ap, arith}
 use Rattle.std.specs.Prelude.{◌==◌, ◌||◌, not, IsTrue}
 use Rattle.vr_model.specs.routes.Rules.{is_valid}
-use Rattle.vr_model.specs.declared.records.End.{End}
 use Rattle.vr_model.specs.moves.Moves.{apply}
 use Rattle.vr_model.specs.search.Scans.{Scan}
 use Rattle.vr_model.specs.search.Scans.Scan.{Accepted as accepted_as, Complete as complete, Cut as cut}
@@ -129,11 +128,6 @@ module _ (model : Model) (limit : Limit) (lambda : Lambda) (penalties : Penaltie
 
     pub scan_in_part : ToldInPart after b c told_by → ToldInPart after a c whole.events
     scan_in_part told = breaks_off after whole _ told_by a b c on told
-
--- where a search has ended, its outcome is where it stands
-pub ends_so : (whole : Outcome) (told : List Event) (last best : List (List ℕ)) (used found : ℕ) (stop : End) → whole ≡ behind told (ended (standing last best used found) stop)
-    → record (ended (standing last best used found) stop) { events = whole.events } ≡ whole
-ends_so whole told last best used found stop e = ap (λ es. record (ended (standing last best used found) stop) { events = es }) (ap (λ o. o.events) e) ∙ sym e
 
 pub few_more : (p : Penalties) (used more : ℕ) → used ≤ more → AtMost used p → AtMost more p
 few_more p used more low few = record { each = λ origin target. (let k = few.each origin target in omega (arith, k, low)) }

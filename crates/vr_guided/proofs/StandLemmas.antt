@@ -1,5 +1,5 @@
 -- What guided local search goes on to after a scan, by the end of the scan.
-use Rattle.std.proofs.Common.{◌≡◌, ◌∙◌, ℕ, ◌+◌, ◌-◌, ◌≤◌, Bool, true, false, List, [], ◌∷◌, sym, ap, arith}
+use Rattle.std.proofs.Common.{◌≡◌, ◌∙◌, ℕ, ◌+◌, ◌-◌, ◌≤◌, Bool, true, false, List, [], ◌∷◌, sym, ap, subst, arith}
 use Rattle.std.specs.Prelude.{ℤ}
 use Rattle.vr_model.specs.routes.Costs.{cost}
 use Rattle.vr_model.specs.search.GuidedSearches.{Penalties, is_at_end, raised}
@@ -18,13 +18,15 @@ use Rattle.vr_routes.specs.Judging.{HoldSame}
 use Rattle.vr_routes.specs.Tours.{Tours}
 use Rattle.vr_descent.specs.Searching.{behind, event_of, scan_of, standing}
 use Rattle.vr_descent.specs.declared.progress.Progress.{Progress}
+use Rattle.vr_descent.specs.Ending.{HasStopped}
+use Rattle.vr_descent.proofs.EndingLemmas.{stops}
 use Rattle.vr_descent.proofs.GoingOn.{Goes, goes_as}
 use Rattle.vr_descent.proofs.ScanGave.{Moved, RanOut, TriedAll, under_way_still}
 use Rattle.vr_guided.specs.Counts.{AtMost, counted}
 use Rattle.vr_guided.specs.Guides.{makes_less}
-use Rattle.vr_guided.specs.Standing.{Stands, from_here, outcome_of}
+use Rattle.vr_guided.specs.Standing.{Stands, from_here}
 use Rattle.vr_guided.specs.declared.searching.State.{State}
-use Rattle.vr_guided.proofs.GuidedLemmas.{at_end, at_round, ends_so, few_more, left_after}
+use Rattle.vr_guided.proofs.GuidedLemmas.{at_end, at_round, few_more, left_after}
 
 module _ (model : Model) (limit : Limit) (lambda : Lambda) (penalties : Penalties) (best : List (List ℕ)) (routes tours : Tours) (at now : Progress) where
   abbrev takes : List (List ℕ) → Move → ℤ → Bool
@@ -80,13 +82,12 @@ module _ (model : Model) (limit : Limit) (routes tours : Tours) (state : State) 
         route_sums = stands.route_sums;
       }
 
-  -- where the whole search ends
-  pub ends_still : {W : Type 0} (after : W → List Event → List ℕ) (whole : Outcome) (stop : End) (old new : List W) → Goes after whole (ended (standing routes.lists state.best.routes.lists used state.at.found) stop) old new
-      → outcome_of tours.lists (record state { at = now }) stop whole.events ≡ whole
-  ends_still after whole stop old new goes =
-      ap (λ r. outcome_of r.lists (record state { at = now }) stop whole.events) routes_are
-      ∙ (ap (λ p. outcome_of routes.lists (record state { at = p }) stop whole.events) at_is
-      ∙ ends_so whole goes.told routes.lists state.best.routes.lists used state.at.found stop goes.outcome)
+  -- where what was left of the search ends, it has stopped here
+  pub stops_still : {W : Type 0} (after : W → List Event → List ℕ) (whole : Outcome) (stop : End) (old new : List W) → Goes after whole (ended (standing routes.lists state.best.routes.lists used state.at.found) stop) old new
+      → HasStopped after whole tours.lists now state.best old new stop
+  stops_still after whole stop old new goes =
+      subst (λ r. HasStopped after whole r.lists now state.best old new stop) (sym routes_are)
+      (subst (λ p. HasStopped after whole routes.lists p state.best old new stop) (sym at_is) (stops after whole routes.lists (record { used = used; found = state.at.found; cost = state.at.cost }) state.best old new stop goes))
 
 -- no arc was penalised more often than there may be tries
 pub few_stand : (model : Model) (limit : Limit) (committed : List (List ℕ)) (routes : Tours) (state : State) → Stands model limit committed routes state → limit.tries ≤ 1000000000 → AtMost 1000000000 (counted state.penalties)

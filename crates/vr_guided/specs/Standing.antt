@@ -3,8 +3,6 @@ use Rattle.std.specs.Prelude.{◌≡◌, ℕ, suc, ◌-◌, ◌≤◌, List, len
 use Rattle.vr_model.specs.search.Outcomes.{Outcome}
 use Rattle.vr_model.specs.search.GuidedSearches.{Penalties, guided_from, no_penalties}
 use Rattle.vr_model.specs.declared.records.Model.{Model}
-use Rattle.vr_model.specs.declared.records.End.{End}
-use Rattle.vr_model.specs.declared.search.Event.{Event}
 use Rattle.vr_model.specs.declared.search.Limit.{Limit}
 use Rattle.vr_model.specs.declared.search.Lambda.{Lambda}
 use Rattle.vr_descent.specs.Incumbents.{IsUnderWay}
@@ -49,12 +47,3 @@ from_here model limit lambda penalties lists best used found =
 abbrev pub from_state : Model → Limit → Lambda → List (List ℕ) → State → Outcome
 from_state model limit lambda lists state =
     from_here model limit lambda (counted state.penalties) lists state.best.routes.lists state.at.used state.at.found
-
--- the outcome of a search that ends where it stands, with these events
-abbrev pub outcome_of : List (List ℕ) → State → End → List Event → Outcome
-outcome_of lists state stop events = record {
-  last = lists;
-  best = state.best.routes.lists;
-  report = record { tries = state.at.used; solutions = state.at.found; «end» = stop };
-  events = events;
-}

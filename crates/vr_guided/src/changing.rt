@@ -203,8 +203,9 @@ impl<'m, 'p, 's, 'r> WeighedRoutes<'m, 'p, 's, 'r> {
         };
         let list = self.routes.list(v);
         let ends = strip(self.routes, v, pieces);
-        let start = node_before(list, ends.front, arcs.start());
-        let next = node_from(list, ends.behind, arcs.end());
+        let own = arcs.ends();
+        let start = node_before(list, ends.front, own.start);
+        let next = node_from(list, ends.behind, own.end);
         let new = stretches.new_stretch(start, ends.middle, next);
         let old = stretches.old_stretch(ends.front, ends.behind);
         let len = ends.front + new.nodes + (list.len() as u32 - ends.behind);

@@ -1,10 +1,12 @@
 //! What guided search takes.
 
-ghost use Rattle.std.specs.Prelude.{◌≡◌, ◌≤◌, ◌*◌, ◌^◌, ◌*ℤ◌, ◌-ℤ◌, ◌≤ℤ◌, false, pos, IfSome, IsTrue, unsigned_abs};
+ghost use Rattle.std.specs.Prelude.{◌≡◌, ◌<◌, ◌≤◌, ◌*◌, ◌^◌, ◌*ℤ◌, ◌-ℤ◌, ◌≤ℤ◌, false, pos, IfSome, IsTrue};
+ghost use Rattle.std.specs.Prelude.{length, unsigned_abs};
 ghost use Rattle.vr_guided.specs.Bounding.{IsLambda};
 ghost use Rattle.vr_guided.specs.Counts.{counted};
 ghost use Rattle.vr_guided.specs.RouteSums.{AreAllRouteSums};
 ghost use Rattle.vr_guided.specs.Guides.{is_gain, makes_less, penalised_change};
+ghost use Rattle.vr_guided.specs.Savings.{named_weight};
 ghost use Rattle.vr_model.specs.moves.MoveTests.{is_move};
 ghost use Rattle.vr_model.specs.routes.Rules.{is_valid};
 ghost use Rattle.vr_model.specs.tables.WellFormed.{IsIn};
@@ -12,7 +14,7 @@ ghost use Rattle.vr_routes.specs.Changes.{IsChange};
 
 use crate::changing::{WeighedChange, WeighedRoutes};
 use crate::route_sums::AllRouteSums;
-use crate::two_vehicles::vehicles_changed;
+use crate::two_vehicles::{TwoVehicles, vehicles_changed};
 use crate::weights::Weights;
 use vr_descent::Accept;
 use vr_model::{Lambda, Move};
@@ -51,12 +53,7 @@ impl<'m, 'p, 's> Accept for Guiding<'m, 'p, 's> {
         let Some(changed) = vehicles_changed(self.weights.closed.model, routes, mv) else {
             return true;
         };
-        let weighed = WeighedRoutes {
-            on: self.weights,
-            routes,
-            route_sums: self.route_sums,
-        };
-        let saved = weighed.saved_by_lists(changed);
+        let saved = self.saved_by_lists(routes, changed);
         self.gains(least, -saved)
     }
 
@@ -72,24 +69,17 @@ impl<'m, 'p, 's> Accept for Guiding<'m, 'p, 's> {
         if changed.w >= vehicles {
             return None;
         }
-        let weighed = WeighedRoutes {
-            on: self.weights,
-            routes,
-            route_sums: self.route_sums,
-        };
-        let saved = weighed.saved_by_lists(changed);
+        let saved = self.saved_by_lists(routes, changed);
         self.enough_against(saved)
     }
 
     fn may_accept(&self, routes: &Routes, _mv: Move, change: &Change, least: i64) -> bool {
-        let weighed = WeighedChange {
-            of: WeighedRoutes {
-                on: self.weights,
-                routes,
-                route_sums: self.route_sums,
-            },
-            change,
+        let of = WeighedRoutes {
+            on: self.weights,
+            routes,
+            route_sums: self.route_sums,
         };
+        let weighed = WeighedChange { of, change };
         let saved = weighed.saved_at_most();
         if self.is_no_gain(least, saved) {
             return false;
@@ -99,6 +89,27 @@ impl<'m, 'p, 's> Accept for Guiding<'m, 'p, 's> {
 }
 
 impl<'m, 'p, 's> Guiding<'m, 'p, 's> {
+    // What new lists of these vehicles take of the penalised arc costs at most.
+    #[inline]
+    fn saved_by_lists(&self, routes: &Routes, changed: TwoVehicles) -> i128
+        requires stands { AreAllRouteSums self.now.weights.closed.model.now (counted self.now.weights.penalties.now)
+            routes.now.lists self.now.route_sums.now }
+        requires valid { IsTrue (is_valid self.now.weights.closed.model.now routes.now.lists) }
+        requires v { changed.v < length routes.now.lists }
+        requires w { changed.w < length routes.now.lists }
+        ensures low { pos 0 ≤ℤ result }
+        ensures high { result ≤ℤ pos (2 ^ 90) }
+        ensures most { named_weight self.now.weights.closed.model.now (counted self.now.weights.penalties.now)
+            routes.now.lists changed ≤ℤ result }
+    {
+        let weighed = WeighedRoutes {
+            on: self.weights,
+            routes,
+            route_sums: self.route_sums,
+        };
+        weighed.saved_by_lists(changed)
+    }
+
     // A difference in cost that is no gain where so much of the penalised arc costs is saved: what this weighs over the
     // weight of a cost, rounded up. `None` where it might not fit 64 bits.
     #[inline]

@@ -1,13 +1,14 @@
 //! Guided local search.
 
-ghost use Rattle.std.specs.Prelude.{◌≡◌, ◌+◌, ◌*◌, ◌≤◌, ◌==◌, ◌||◌, not, ◌≤ℤ◌, pos, IsTrue, IfOk, OnOk, OnErr};
-ghost use Rattle.vr_guided.specs.Standing.{AreLimits, IsBegun, Stands, from_state, outcome_of};
-ghost use Rattle.vr_model.specs.routes.Costs.{cost};
+ghost use Rattle.std.specs.Prelude.{◌≡◌, ◌==◌, ◌||◌, not, ◌≤ℤ◌, pos, IsTrue, IfOk, OnOk, OnErr};
+ghost use Rattle.vr_descent.specs.Asking.{AsksFor, AsksOn};
+ghost use Rattle.vr_descent.specs.Ending.{CanBegin, HasEnded, HasStopped};
+ghost use Rattle.vr_guided.specs.Standing.{AreLimits, IsBegun, Stands, from_state};
 ghost use Rattle.vr_model.specs.search.GuidedSearches.{guided, has_costly_arc};
 ghost use Rattle.vr_model.specs.routes.Rules.{is_valid};
 ghost use Rattle.vr_model.specs.tables.WellFormed.{IsWellFormed};
 ghost use Rattle.vr_routes.specs.Judging.{HoldSame};
-ghost use Rattle.vr_watch.specs.Told.{Told, ToldInPart};
+ghost use Rattle.vr_watch.specs.Told.{ToldInPart};
 
 use crate::costly::has_costly_arc;
 use crate::guiding::Guiding;
@@ -59,38 +60,22 @@ pub fn guide<J: Judge, L: Ledger>(
     watch: &mut Vec<Box<dyn Watch>>,
     steps: &mut Steps<L>,
 ) -> Result<Guided, NoMemory>
-    requires well_formed { IsWellFormed model.now }
-    requires judge_model { J.model judge.old ≡ model.now }
-    requires holds { HoldSame model.now (J.committed judge.old) routes.old }
-    requires first_cost { first_cost ≡ cost model.now routes.old.lists }
-    requires tries { limit.tries ≤ 1000000000 }
-    requires one_solution { 1 ≤ limit.solutions }
-    requires solutions { limit.solutions ≤ 1000000000 }
     requires p_from_one { pos 1 ≤ℤ lambda.p }
     requires p_to_1000 { lambda.p ≤ℤ pos 1000 }
     requires q_from_one { pos 1 ≤ℤ lambda.q }
     requires q_to_1000 { lambda.q ≤ℤ pos 1000 }
-    ensures report { IfOk result (λ answer. answer.report ≡ (guided model.now routes.old.lists limit lambda).report) }
-    ensures last { OnOk result (routes.new.lists ≡ (guided model.now routes.old.lists limit lambda).last) }
-    ensures best { IfOk result (λ answer. answer.best.lists ≡ (guided model.now routes.old.lists limit lambda).best) }
-    ensures told { OnOk result (Told (λ w later. after w later) watch.old.items watch.new.items
-        (guided model.now routes.old.lists limit lambda).events) }
-    ensures asked { IfOk result (λ answer. J.asked judge.new ≤ J.asked judge.old + answer.report.tries) }
-
-    ensures no_more_tries { IfOk result (λ answer. answer.report.tries ≤ limit.tries) }
-    ensures some_solution { IfOk result (λ answer. 1 ≤ answer.report.solutions) }
-    ensures no_more_solutions { IfOk result (λ answer. answer.report.solutions ≤ limit.solutions) }
-    ensures best_is_valid { IfOk result (λ answer. IsTrue (is_valid model.now answer.best.lists)) }
-    ensures same_visits { IfOk result (λ answer. answer.best.visits ≡ routes.old.visits) }
-    ensures no_dearer { IfOk result (λ answer. cost model.now answer.best.lists ≤ℤ cost model.now routes.old.lists) }
+    requires well_formed { IsWellFormed model.now }
+    requires begins { CanBegin model.now routes.old first_cost limit (J.model judge.old) (J.committed judge.old) }
+    ensures ended { IfOk result (λ answer. HasEnded (λ w later. after w later) model.now limit
+        (guided model.now routes.old.lists limit lambda) routes.old routes.new watch.old.items watch.new.items
+        answer.report answer.best) }
+    ensures asked { IfOk result (λ answer. AsksFor J.asked J.looked judge.old judge.new answer.report.tries) }
 
     ensures judge_model { J.model judge.new ≡ model.now }
     ensures holds { HoldSame model.now (J.committed judge.new) routes.new }
     ensures told_in_part { OnErr result (ToldInPart (λ w later. after w later) watch.old.items watch.new.items
         (guided model.now routes.old.lists limit lambda).events) }
-    ensures asked_at_most { OnErr result (J.asked judge.new ≤ J.asked judge.old + limit.tries) }
-    ensures looked { IfOk result (λ answer. J.looked judge.new ≤ J.looked judge.old + 3 * answer.report.tries) }
-    ensures looked_at_most { OnErr result (J.looked judge.new ≤ J.looked judge.old + 3 * limit.tries) }
+    ensures asked_at_most { OnErr result (AsksFor J.asked J.looked judge.old judge.new limit.tries) }
 {
     let closed = Closed { model };
     let at = Progress {
@@ -163,14 +148,10 @@ fn improve<J: Judge, L: Ledger>(
     requires judge_model { J.model judge.old ≡ closed.model.now }
     requires limits { AreLimits bounds.limit bounds.lambda }
     requires stands { Stands closed.model.now bounds.limit (J.committed judge.old) routes.old state.old }
-    ensures outcome { IfOk result (λ stop. outcome_of routes.new.lists state.new stop
-        (from_state closed.entry.model.now bounds.limit bounds.lambda routes.old.lists state.old).events
-        ≡ from_state closed.entry.model.now bounds.limit bounds.lambda routes.old.lists state.old) }
-    ensures told { OnOk result (Told (λ w later. after w later) watch.old.items watch.new.items
-        (from_state closed.entry.model.now bounds.limit bounds.lambda routes.old.lists state.old).events) }
-    ensures asked { OnOk result (J.asked judge.new + state.old.at.used ≤ J.asked judge.old + state.new.at.used) }
-    ensures looked { OnOk result (J.looked judge.new + 3 * state.old.at.used
-        ≤ J.looked judge.old + 3 * state.new.at.used) }
+    ensures stopped { IfOk result (HasStopped (λ w later. after w later)
+        (from_state closed.entry.model.now bounds.limit bounds.lambda routes.old.lists state.old)
+        routes.new.lists state.new.at state.new.best watch.old.items watch.new.items) }
+    ensures asked { OnOk result (AsksOn J.asked J.looked judge.old judge.new state.old.at.used state.new.at.used) }
     ensures stands { OnOk result (Stands closed.entry.model.now bounds.limit
         (J.committed judge.new) routes.new state.new) }
     ensures no_dearer { OnOk result (state.new.best.cost ≤ℤ state.old.best.cost) }
@@ -179,10 +160,8 @@ fn improve<J: Judge, L: Ledger>(
     ensures holds { HoldSame closed.entry.model.now (J.committed judge.new) routes.new }
     ensures told_in_part { OnErr result (ToldInPart (λ w later. after w later) watch.old.items watch.new.items
         (from_state closed.entry.model.now bounds.limit bounds.lambda routes.old.lists state.old).events) }
-    ensures asked_at_most { OnErr result (J.asked judge.new + state.old.at.used
-        ≤ J.asked judge.old + bounds.limit.tries) }
-    ensures looked_at_most { OnErr result (J.looked judge.new + 3 * state.old.at.used
-        ≤ J.looked judge.old + 3 * bounds.limit.tries) }
+    ensures asked_at_most { OnErr result (AsksOn J.asked J.looked judge.old judge.new state.old.at.used
+        bounds.limit.tries) }
 {
     let mut known = Known::of(closed.model);
     let penalties = &state.penalties;

@@ -51,12 +51,13 @@ impl Sums {
         let arcs = list.arcs;
         let nodes = list.nodes;
         self.begin();
-        let mut at = arcs.start();
+        let ends = arcs.ends();
+        let mut at = ends.start;
         for &node in nodes {
             self.add(arcs.weight_by(at, node, back));
             at = node;
         }
-        self.add(arcs.weight_by(at, arcs.end(), back));
+        self.add(arcs.weight_by(at, ends.end, back));
     }
 
     // Begins: before the first stop nothing was added.

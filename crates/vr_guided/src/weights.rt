@@ -31,6 +31,13 @@ pub struct VehicleWeights<'m, 'p> {
     pub ghost there: { vehicle < length on.closed.model.now.vehicles },
 }
 
+/// The nodes where a vehicle starts and ends.
+#[derive(Clone, Copy)]
+pub struct VehicleEnds {
+    pub start: u32,
+    pub end: u32,
+}
+
 /// Those of a vehicle with a list, of at most 1000 nodes.
 #[derive(Clone, Copy)]
 pub struct ListWeights<'m, 'p, 'r> {
@@ -41,24 +48,20 @@ pub struct ListWeights<'m, 'p, 'r> {
 }
 
 impl<'m, 'p> VehicleWeights<'m, 'p> {
-    /// Where the vehicle starts.
+    /// Where the vehicle starts and ends.
     #[inline]
-    pub fn start(&self) -> u32
-        ensures value { result ≡ (vehicle_at self.now.on.closed.model.now self.now.vehicle).start }
-        ensures below { result < self.now.on.closed.model.now.nodes }
+    pub fn ends(&self) -> VehicleEnds
+        ensures start { result.start ≡ (vehicle_at self.now.on.closed.model.now self.now.vehicle).start }
+        ensures end { result.end ≡ (vehicle_at self.now.on.closed.model.now self.now.vehicle).end }
+        ensures start_below { result.start < self.now.on.closed.model.now.nodes }
+        ensures end_below { result.end < self.now.on.closed.model.now.nodes }
     {
         let model = self.on.closed.model;
-        model.vehicles.get(self.vehicle as usize).start
-    }
-
-    /// Where it ends.
-    #[inline]
-    pub fn end(&self) -> u32
-        ensures value { result ≡ (vehicle_at self.now.on.closed.model.now self.now.vehicle).end }
-        ensures below { result < self.now.on.closed.model.now.nodes }
-    {
-        let model = self.on.closed.model;
-        model.vehicles.get(self.vehicle as usize).end
+        let vehicle = model.vehicles.get(self.vehicle as usize);
+        VehicleEnds {
+            start: vehicle.start,
+            end: vehicle.end,
+        }
     }
 
     /// Whether another vehicle has the same arc costs.

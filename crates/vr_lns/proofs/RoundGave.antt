@@ -11,6 +11,7 @@ use Rattle.vr_model.specs.declared.search.Limit.{Limit}
 use Rattle.vr_descent.specs.declared.progress.Progress.{Progress}
 use Rattle.vr_descent.proofs.GoingOn.{Goes, goes_as}
 use Rattle.vr_lns.specs.Cuts.{improves}
+use Rattle.vr_descent.specs.Ending.{report_of}
 use Rattle.vr_lns.specs.Ending.{EndsAs}
 use Rattle.vr_lns.specs.Rounds.{Round}
 use Rattle.vr_lns.specs.Rounds.Round.{Accepted, Complete, Short}
@@ -26,10 +27,6 @@ pub record RoundGave {W : Type 0} (after : W → List Event → List ℕ) (whole
   pub at_is : now ≡ standing_after model limit at r
   pub lists_are : later ≡ lists_after_round lists r
   pub goes : Goes after whole (left_after model most limit lists at.used at.found r) old new
-
--- the report of a search that ends where it stands
-abbrev pub report_of : Progress → End → Report
-report_of at stop = record { tries = at.used; solutions = at.found; «end» = stop }
 
 -- a cut was made within the tries that were left, and the search goes on from there
 pub record CutMade {W : Type 0} (after : W → List Event → List ℕ) (whole : Outcome) (model : Model) (most : ℕ) (limit : Limit) (later : List (List ℕ)) (at now : Progress) (old new : List W) : Type 0 where

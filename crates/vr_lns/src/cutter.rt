@@ -64,8 +64,7 @@ impl<'m> Cutter<'m> {
         ensures value { IfOk result (λ total. total ≡ cost self.old.model routes.now.lists) }
         ensures cutter { self.new ≡ self.old }
     {
-        let total = self.rules.total(routes)?;
-        Ok(total)
+        self.rules.total(routes)
     }
 
     /// Lets what rebuilds routes know the model. The only refusal is want of memory.
@@ -73,8 +72,7 @@ impl<'m> Cutter<'m> {
         ensures knows { OnOk result (R.knows rebuild.new self.now.model) }
         ensures made { R.made rebuild.new ≡ R.made rebuild.old }
     {
-        rebuild.know(&self.lookups)?;
-        Ok(())
+        rebuild.know(&self.lookups)
     }
 
     /// Makes routes of the model the result of a cut: what it leaves, rebuilt. Answers whether there is one, which is

@@ -63,8 +63,7 @@ impl<'m> Cutting<'m> {
         ensures value { IfOk result (λ total. total ≡ cost self.old.model routes.now.lists) }
         ensures cutter { self.new ≡ self.old }
     {
-        let total = self.cutter.total(routes)?;
-        Ok(total)
+        self.cutter.total(routes)
     }
 
     /// Lets what rebuilds routes know the model. The only refusal is want of memory.

@@ -1,14 +1,14 @@
 //! The search by cuts.
 
-ghost use Rattle.std.specs.Prelude.{◌≡◌, ◌+◌, ◌≤◌, ◌≤ℤ◌, IsTrue, IfOk, OnOk, OnErr};
+ghost use Rattle.std.specs.Prelude.{◌≡◌, ◌+◌, ◌≤◌, IsTrue, IfOk, OnErr};
+ghost use Rattle.vr_descent.specs.Ending.{HasEnded, IsSearchLimit};
 ghost use Rattle.vr_lns.specs.Ending.{EndsAs};
 ghost use Rattle.vr_lns.specs.PathLns.{path_lns};
 ghost use Rattle.vr_lns.specs.Standing.{HoldValid};
-ghost use Rattle.vr_model.specs.routes.Costs.{cost};
 ghost use Rattle.vr_model.specs.routes.Rules.{is_valid};
 ghost use Rattle.vr_model.specs.tables.Tables.{visits};
 ghost use Rattle.vr_model.specs.tables.WellFormed.{IsWellFormed};
-ghost use Rattle.vr_watch.specs.Told.{Told, ToldInPart};
+ghost use Rattle.vr_watch.specs.Told.{ToldInPart};
 
 use crate::Rebuild;
 use crate::cutting::Cutting;
@@ -44,22 +44,13 @@ pub fn lns<R: Rebuild>(
     requires well_formed { IsWellFormed model.now }
     requires of_model { routes.old.visits ≡ visits model.now }
     requires valid { IsTrue (is_valid model.now routes.old.lists) }
-    requires tries { limit.tries ≤ 1000000000 }
-    requires one_solution { 1 ≤ limit.solutions }
-    requires solutions { limit.solutions ≤ 1000000000 }
+    requires limit { IsSearchLimit limit }
     requires one_visit { 1 ≤ cut }
     requires few_visits { cut ≤ 100 }
-    ensures report { IfOk result (λ report. report ≡ (path_lns model.now routes.old.lists limit cut).report) }
-    ensures last { OnOk result (routes.new.lists ≡ (path_lns model.now routes.old.lists limit cut).last) }
-    ensures best { OnOk result (routes.new.lists ≡ (path_lns model.now routes.old.lists limit cut).best) }
-    ensures told { OnOk result (Told (λ w later. after w later) watch.old.items watch.new.items
-        (path_lns model.now routes.old.lists limit cut).events) }
+    ensures ended { IfOk result (λ report. HasEnded (λ w later. after w later) model.now limit
+        (path_lns model.now routes.old.lists limit cut) routes.old routes.new watch.old.items watch.new.items report
+        routes.new) }
     ensures made { IfOk result (λ report. R.made rebuild.new ≤ R.made rebuild.old + report.tries) }
-
-    ensures no_more_tries { IfOk result (λ report. report.tries ≤ limit.tries) }
-    ensures some_solution { IfOk result (λ report. 1 ≤ report.solutions) }
-    ensures no_more_solutions { IfOk result (λ report. report.solutions ≤ limit.solutions) }
-    ensures no_dearer { OnOk result (cost model.now routes.new.lists ≤ℤ cost model.now routes.old.lists) }
 
     ensures of_model { routes.new.visits ≡ routes.old.visits }
     ensures valid { IsTrue (is_valid model.now routes.new.lists) }
@@ -83,26 +74,13 @@ pub fn lns_over<R: Rebuild>(
 ) -> Result<Report, NoMemory>
     requires of_model { routes.old.visits ≡ visits lookups.now.closed.model.now }
     requires valid { IsTrue (is_valid lookups.now.closed.model.now routes.old.lists) }
-    requires tries { limit.tries ≤ 1000000000 }
-    requires one_solution { 1 ≤ limit.solutions }
-    requires solutions { limit.solutions ≤ 1000000000 }
+    requires limit { IsSearchLimit limit }
     requires one_visit { 1 ≤ cut }
     requires few_visits { cut ≤ 100 }
-    ensures report { IfOk result (λ report. report
-        ≡ (path_lns lookups.now.closed.model.now routes.old.lists limit cut).report) }
-    ensures last { OnOk result (routes.new.lists
-        ≡ (path_lns lookups.now.closed.model.now routes.old.lists limit cut).last) }
-    ensures best { OnOk result (routes.new.lists
-        ≡ (path_lns lookups.now.closed.model.now routes.old.lists limit cut).best) }
-    ensures told { OnOk result (Told (λ w later. after w later) watch.old.items watch.new.items
-        (path_lns lookups.now.closed.model.now routes.old.lists limit cut).events) }
+    ensures ended { IfOk result (λ report. HasEnded (λ w later. after w later) lookups.now.closed.model.now limit
+        (path_lns lookups.now.closed.model.now routes.old.lists limit cut) routes.old routes.new watch.old.items
+        watch.new.items report routes.new) }
     ensures made { IfOk result (λ report. R.made rebuild.new ≤ R.made rebuild.old + report.tries) }
-
-    ensures no_more_tries { IfOk result (λ report. report.tries ≤ limit.tries) }
-    ensures some_solution { IfOk result (λ report. 1 ≤ report.solutions) }
-    ensures no_more_solutions { IfOk result (λ report. report.solutions ≤ limit.solutions) }
-    ensures no_dearer { OnOk result (cost lookups.now.closed.model.now routes.new.lists
-        ≤ℤ cost lookups.now.closed.model.now routes.old.lists) }
 
     ensures of_model { routes.new.visits ≡ routes.old.visits }
     ensures valid { IsTrue (is_valid lookups.now.closed.model.now routes.new.lists) }
@@ -125,9 +103,7 @@ fn search<R: Rebuild>(
     requires well_formed { IsWellFormed cutting.old.model }
     requires of_model { routes.old.visits ≡ visits cutting.old.model }
     requires valid { IsTrue (is_valid cutting.old.model routes.old.lists) }
-    requires tries { limit.tries ≤ 1000000000 }
-    requires one_solution { 1 ≤ limit.solutions }
-    requires solutions { limit.solutions ≤ 1000000000 }
+    requires limit { IsSearchLimit limit }
     ensures ends { IfOk result (EndsAs (λ w later. after w later)
         (path_lns cutting.old.model routes.old.lists limit cutting.old.most) routes.new.lists
         watch.old.items watch.new.items) }

@@ -31,8 +31,7 @@ module _ (model : Model) (first : List (List ℕ)) (limit : Limit) (tenure : ℕ
   sound_from : (rounds : ℕ) → IsSoundBy rounds
   unfolding tabu_from
   sound_from = sound_by_rounds model first limit (tabu_from model limit tenure)
-      (λ tabus state sound. sound_end model first limit state _ sound)
-      (λ rounds tabus state sound e. rw (e, tabu_from) (sound_end model first limit state _ sound))
+      (λ tabus state sound. sound_end model first limit state _ sound) (λ rounds tabus state sound e. rw (e, tabu_from) (sound_end model first limit state _ sound))
       (λ rounds tabus state sound e again. rw (e, tabu_from) (goes_on rounds tabus state sound e again _ refl))
 
 pub tabu_is_sound : TabuIsSound

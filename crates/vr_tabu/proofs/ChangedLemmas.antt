@@ -13,7 +13,7 @@ use Rattle.vr_routes.specs.Changes.{AreParts}
 use Rattle.vr_routes.specs.Pieces.{ListAfter, changed, joined, no_part, part_at}
 use Rattle.vr_routes.proofs.PartLemmas.{part_is, part_or_before}
 use Rattle.vr_tabu.specs.Changed.{changed_visits, is_changed, is_changed_in}
-use Rattle.vr_tabu.specs.Parts.{OldAndNew, changes, frees, is_freed}
+use Rattle.vr_tabu.specs.Parts.{OldAndNew, change_of, changes, frees, is_freed}
 use Rattle.vr_tabu.specs.TabuSearches.{TabuList, is_tabu, is_tabu_visit}
 use Rattle.vr_tabu.proofs.BeforeLemmas.{unchanged_where_absent, unchanged_where_same}
 
@@ -91,14 +91,6 @@ freed_where tabus list h = elim (or_cases (list_any (is_freed tabus list) list.n
     }
 
 -- ---- the parts of a change
-
--- what part k of a change makes of the list of its vehicle
-abbrev pub change_of : Model → List (List ℕ) → List ListAfter → ℕ → OldAndNew
-change_of model lists parts k = record {
-  start = (vehicle_at model (part_at parts k).vehicle).start;
-  old = route lists (part_at parts k).vehicle;
-  new = joined lists (part_at parts k).pieces;
-}
 
 module _ (model : Model) (lists : List (List ℕ)) (parts : List ListAfter) (are : AreParts lists parts) where
   abbrev after : List (List ℕ)

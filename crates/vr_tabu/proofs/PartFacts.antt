@@ -18,9 +18,9 @@ use Rattle.vr_routes.proofs.PartLemmas.{part_is}
 use Rattle.vr_routes.proofs.CommitLemmas.{as_many_lists}
 use Rattle.vr_routes.proofs.SeatLemmas.{active_at}
 use Rattle.vr_routes.proofs.TourLemmas.{visit_held}
-use Rattle.vr_tabu.specs.Parts.{IsListChange, OldAndNew, frees}
+use Rattle.vr_tabu.specs.Parts.{IsListChange, OldAndNew, change_of, frees}
 use Rattle.vr_tabu.specs.TabuSearches.{TabuList, is_tabu}
-use Rattle.vr_tabu.proofs.ChangedLemmas.{change_of, in_of_held, tabu_by_parts}
+use Rattle.vr_tabu.proofs.ChangedLemmas.{in_of_held, tabu_by_parts}
 
 module _ (model : Model) (lists : List (List ℕ)) (parts : List ListAfter) (are : AreParts lists parts)
     (before : IsTrue (are_lists model lists)) (later : IsTrue (are_lists model (changed lists parts))) (well : IsWellFormed model) where

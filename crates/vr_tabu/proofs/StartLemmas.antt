@@ -1,14 +1,10 @@
 -- How tabu search begins: what is left behind its first event is the search from there.
-use Rattle.std.proofs.Common.{◌≡◌, ◌∙◌, ℕ, ◌≤◌, List, sym, ap, arith}
-use Rattle.std.proofs.lemmas.List.{append-nil}
-use Rattle.vr_model.specs.search.Outcomes.{Outcome, SearchState, ended}
+use Rattle.std.proofs.Common.{◌≡◌, ◌∙◌, ℕ, ◌≤◌, List, ap, arith}
+use Rattle.vr_model.specs.search.Outcomes.{Outcome}
 use Rattle.vr_model.specs.declared.records.Model.{Model}
-use Rattle.vr_model.specs.declared.records.End.{End}
-use Rattle.vr_model.specs.declared.search.Event.{Event}
 use Rattle.vr_routes.specs.Judging.{HoldSame}
 use Rattle.vr_routes.specs.Tours.{Tours}
 use Rattle.vr_descent.proofs.Beginnings.{at_first, under_way}
-use Rattle.vr_descent.specs.Searching.{behind}
 use Rattle.vr_tabu.specs.Standing.{IsBegun, Stands, from_here, from_state}
 use Rattle.vr_tabu.specs.TabuSearches.{none_tabu}
 use Rattle.vr_tabu.specs.declared.searching.Bounds.{Bounds}
@@ -37,7 +33,3 @@ module _ (model : Model) (bounds : Bounds) (routes : Tours) (state : State) (beg
       ap (λ t. from_here model bounds t routes.lists state.best.routes.lists state.at.used state.at.found) begins.none
       ∙ (ap (λ b. from_here model bounds none_tabu routes.lists b.routes.lists state.at.used state.at.found) begins.best_is
       ∙ ap (λ p. from_here model bounds none_tabu routes.lists routes.lists p.used p.found) begins.at_is)
-
--- where a search has ended, its outcome is where it stands
-pub ends_so : (all : Outcome) (told : List Event) (state : SearchState) (stop : End) → all ≡ behind told (ended state stop) → all ≡ behind all.events (ended state stop)
-ends_so all told state stop e = e ∙ ap (λ es. behind es (ended state stop)) (sym (ap (λ o. o.events) e ∙ append-nil told))

@@ -2,6 +2,9 @@
 use Rattle.std.specs.Prelude.{◌≡◌, ℕ, ◌<◌, Bool, not, ◌&&◌, ◌||◌, List, length, slice_index, IsTrue}
 use Rattle.std.specs.List.{list_any}
 use Rattle.vr_model.specs.routes.Routes.{route, holds, is_distinct}
+use Rattle.vr_model.specs.tables.Tables.{vehicle_at}
+use Rattle.vr_model.specs.declared.records.Model.{Model}
+use Rattle.vr_routes.specs.Pieces.{ListAfter, joined, part_at}
 use Rattle.vr_tabu.specs.Changed.{is_changed_in}
 use Rattle.vr_tabu.specs.TabuSearches.{TabuList, is_tabu_visit}
 
@@ -37,3 +40,11 @@ pub record IsPlaced (list places : List ℕ) (visit : ℕ) : Type 0 where
 -- of each visit of a list its place is kept
 abbrev pub ArePlaced : List ℕ → List ℕ → Type 0
 ArePlaced list places = (visit : ℕ) → IsTrue (holds list visit) → IsPlaced list places visit
+
+-- what part k of a change makes of the list of its vehicle
+abbrev pub change_of : Model → List (List ℕ) → List ListAfter → ℕ → OldAndNew
+change_of model lists parts k = record {
+  start = (vehicle_at model (part_at parts k).vehicle).start;
+  old = route lists (part_at parts k).vehicle;
+  new = joined lists (part_at parts k).pieces;
+}

@@ -6,10 +6,10 @@
 //! lists that its change makes (`new_list`, `list_change`), without memory.
 //!
 //! Between rounds routes and judge hold the same valid lists of known cost, the best lists so far are valid and of
-//! known cost, and what the definition tells of the whole search is what was told already, and behind that what it
-//! tells of the search from here.
+//! known cost, and what the definition says of the whole search is what was reported already, and behind that what
+//! it says of the search from here.
 //!
-//! Who improves a first solution as its model asks calls [`tabu`] for `TABU_SEARCH`.
+//! `vr_app` calls [`tabu`] for `TABU_SEARCH`.
 #![tactic(auto)]
 
 mod laws;

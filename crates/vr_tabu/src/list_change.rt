@@ -10,14 +10,14 @@ use vr_routes::Routes;
 
 /// The list of a vehicle before and after a change. Contracts see both, and the start of the vehicle.
 #[derive(Drop)]
-pub struct ListChange<'a> {
-    pub routes: &'a Routes,
+pub struct ListChange<'r, 'a> {
+    pub routes: &'r Routes,
     pub vehicle: u32,
     pub start: u32,
     pub after: &'a NewList,
 }
 
-impl<'a> Model for ListChange<'a> {
+impl<'r, 'a> Model for ListChange<'r, 'a> {
     ghost use Rattle.vr_model.specs.routes.Routes.{route};
     ghost use Rattle.vr_tabu.specs.Parts.{IsListChange, OldAndNew};
 
@@ -28,7 +28,7 @@ impl<'a> Model for ListChange<'a> {
     ghost invariant = { λ c. IsListChange c.routes.now.lists c.vehicle c.after.now };
 }
 
-impl<'a> ListChange<'a> {
+impl<'r, 'a> ListChange<'r, 'a> {
     /// Whether a visit is changed in the list.
     #[inline]
     pub fn changes(&self, visit: u32) -> bool

@@ -1,10 +1,11 @@
 //! One round: the best candidate among all moves.
 
 ghost use Rattle.std.proofs.Props.{props};
-ghost use Rattle.std.specs.Prelude.{◌≡◌, ◌+◌, ◌*◌, ◌≤◌, ◌&&◌, int_le, IsTrue, IfOk, IfSome, OnErr};
+ghost use Rattle.std.specs.Prelude.{◌≡◌, ◌+◌, ◌≤◌, ◌&&◌, int_le, IsTrue, IfOk, IfSome, OnErr};
 ghost use Rattle.vr_model.specs.moves.MoveTests.{is_move};
 ghost use Rattle.vr_model.specs.moves.Moves.{apply, moves};
 ghost use Rattle.vr_model.specs.tables.WellFormedOnce.{IsWellFormed-prop};
+ghost use Rattle.vr_descent.specs.Asking.{AsksFor, Keeps};
 ghost use Rattle.vr_known.specs.Passing.{Takes, tried, within};
 ghost use Rattle.vr_routes.specs.Changes.{IsChange};
 ghost use Rattle.vr_tabu.specs.Rounds.{IsCeiling, IsJudgeOf, IsKnown, IsNoBetter, IsPassed, aspiration, better_with};
@@ -93,12 +94,9 @@ impl<'a> Round<'a> {
         ensures ends { IfOk result (λ ended. ended ≡ round_end self.now.model.now self.now.routes.now.lists
             (round_of self.now.model.now (tabus_of self.now.state.now.tabus) self.now.state.now.best.routes.lists
             self.now.routes.now.lists rest)) }
-        ensures model { J.model judge.new ≡ J.model judge.old }
-        ensures committed { J.committed judge.new ≡ J.committed judge.old }
-        ensures asked { IfOk result (λ ended. J.asked judge.new ≤ J.asked judge.old + tries_of rest ended) }
-        ensures asked_at_most { OnErr result (J.asked judge.new ≤ J.asked judge.old + rest) }
-        ensures looked { IfOk result (λ ended. J.looked judge.new ≤ J.looked judge.old + 3 * tries_of rest ended) }
-        ensures looked_at_most { OnErr result (J.looked judge.new ≤ J.looked judge.old + 3 * rest) }
+        ensures keeps { Keeps J.model J.committed judge.old judge.new }
+        ensures asked { IfOk result (λ ended. AsksFor J.asked J.looked judge.old judge.new (tries_of rest ended)) }
+        ensures asked_at_most { OnErr result (AsksFor J.asked J.looked judge.old judge.new rest) }
     {
         let mut list = moves(self.model, self.routes);
         self.run_over(judge, rest, &mut list, steps)
@@ -120,12 +118,9 @@ impl<'a> Round<'a> {
         ensures ends { IfOk result (λ ended. ended ≡ round_end self.now.model.now self.now.routes.now.lists
             (round_of self.now.model.now (tabus_of self.now.state.now.tabus) self.now.state.now.best.routes.lists
             self.now.routes.now.lists rest)) }
-        ensures model { J.model judge.new ≡ J.model judge.old }
-        ensures committed { J.committed judge.new ≡ J.committed judge.old }
-        ensures asked { IfOk result (λ ended. J.asked judge.new ≤ J.asked judge.old + tries_of rest ended) }
-        ensures asked_at_most { OnErr result (J.asked judge.new ≤ J.asked judge.old + rest) }
-        ensures looked { IfOk result (λ ended. J.looked judge.new ≤ J.looked judge.old + 3 * tries_of rest ended) }
-        ensures looked_at_most { OnErr result (J.looked judge.new ≤ J.looked judge.old + 3 * rest) }
+        ensures keeps { Keeps J.model J.committed judge.old judge.new }
+        ensures asked { IfOk result (λ ended. AsksFor J.asked J.looked judge.old judge.new (tries_of rest ended)) }
+        ensures asked_at_most { OnErr result (AsksFor J.asked J.looked judge.old judge.new rest) }
     {
         let mut change = Change::blank();
         let mut after = NewList::new();

@@ -1,6 +1,6 @@
 //! Tabu search.
 
-ghost use Rattle.std.specs.Prelude.{◌≡◌, ◌≢◌, ◌+◌, ◌*◌, ◌-◌, ◌<◌, ◌≤◌, ◌^◌, ◌+ℤ◌, ◌≤ℤ◌, pos, ◌∷◌, [], length};
+ghost use Rattle.std.specs.Prelude.{◌≡◌, ◌≢◌, ◌+◌, ◌-◌, ◌<◌, ◌≤◌, ◌^◌, ◌+ℤ◌, ◌≤ℤ◌, pos, ◌∷◌, [], length};
 ghost use Rattle.std.specs.Prelude.{Some, None, IsTrue, IfOk, OnOk, OnErr};
 ghost use Rattle.vr_model.specs.moves.MoveTests.{is_move};
 ghost use Rattle.vr_model.specs.moves.Moves.{apply};
@@ -8,6 +8,8 @@ ghost use Rattle.vr_model.specs.routes.Costs.{cost};
 ghost use Rattle.vr_model.specs.routes.Rules.{is_valid};
 ghost use Rattle.vr_model.specs.tables.Tables.{visits};
 ghost use Rattle.vr_model.specs.tables.WellFormed.{IsIn, IsWellFormed};
+ghost use Rattle.vr_descent.specs.Asking.{AsksFor, AsksOn, Keeps};
+ghost use Rattle.vr_descent.specs.Ending.{CanBegin, HasEnded, HasStopped};
 ghost use Rattle.vr_descent.specs.Searching.{after_move, move_event, behind};
 ghost use Rattle.vr_routes.specs.Judging.{HoldSame, moved};
 ghost use Rattle.vr_watch.specs.Told.{Told, ToldInPart};
@@ -70,38 +72,20 @@ pub fn tabu<J: Judge, L: Ledger>(
     watch: &mut Vec<Box<dyn Watch>>,
     steps: &mut Steps<L>,
 ) -> Result<TabuAnswer, NoMemory>
-    requires well_formed { IsWellFormed model.now }
-    requires judge_model { J.model judge.old ≡ model.now }
-    requires holds { HoldSame model.now (J.committed judge.old) routes.old }
-    requires first_cost { first_cost ≡ cost model.now routes.old.lists }
-    requires tries { limit.tries ≤ 1000000000 }
-    requires one_solution { 1 ≤ limit.solutions }
-    requires solutions { limit.solutions ≤ 1000000000 }
     requires tenure_from_one { 1 ≤ tenure }
     requires tenure_to_1000 { tenure ≤ 1000 }
-    ensures report { IfOk result (λ answer. answer.report
-        ≡ (tabu_search model.now routes.old.lists limit tenure).report) }
-    ensures last { OnOk result (routes.new.lists ≡ (tabu_search model.now routes.old.lists limit tenure).last) }
-    ensures best { IfOk result (λ answer. answer.best.lists
-        ≡ (tabu_search model.now routes.old.lists limit tenure).best) }
-    ensures told { OnOk result (Told (λ w later. after w later) watch.old.items watch.new.items
-        (tabu_search model.now routes.old.lists limit tenure).events) }
-    ensures asked { IfOk result (λ answer. J.asked judge.new ≤ J.asked judge.old + answer.report.tries) }
-
-    ensures no_more_tries { IfOk result (λ answer. answer.report.tries ≤ limit.tries) }
-    ensures some_solution { IfOk result (λ answer. 1 ≤ answer.report.solutions) }
-    ensures no_more_solutions { IfOk result (λ answer. answer.report.solutions ≤ limit.solutions) }
-    ensures best_is_valid { IfOk result (λ answer. IsTrue (is_valid model.now answer.best.lists)) }
-    ensures same_visits { IfOk result (λ answer. answer.best.visits ≡ routes.old.visits) }
-    ensures no_dearer { IfOk result (λ answer. cost model.now answer.best.lists ≤ℤ cost model.now routes.old.lists) }
+    requires well_formed { IsWellFormed model.now }
+    requires begins { CanBegin model.now routes.old first_cost limit (J.model judge.old) (J.committed judge.old) }
+    ensures ended { IfOk result (λ answer. HasEnded (λ w later. after w later) model.now limit
+        (tabu_search model.now routes.old.lists limit tenure) routes.old routes.new watch.old.items watch.new.items
+        answer.report answer.best) }
+    ensures asked { IfOk result (λ answer. AsksFor J.asked J.looked judge.old judge.new answer.report.tries) }
 
     ensures judge_model { J.model judge.new ≡ model.now }
     ensures holds { HoldSame model.now (J.committed judge.new) routes.new }
     ensures told_in_part { OnErr result (ToldInPart (λ w later. after w later) watch.old.items watch.new.items
         (tabu_search model.now routes.old.lists limit tenure).events) }
-    ensures asked_at_most { OnErr result (J.asked judge.new ≤ J.asked judge.old + limit.tries) }
-    ensures looked { IfOk result (λ answer. J.looked judge.new ≤ J.looked judge.old + 3 * answer.report.tries) }
-    ensures looked_at_most { OnErr result (J.looked judge.new ≤ J.looked judge.old + 3 * limit.tries) }
+    ensures asked_at_most { OnErr result (AsksFor J.asked J.looked judge.old judge.new limit.tries) }
 {
     let at = Progress {
         used: 0,
@@ -168,9 +152,7 @@ impl State {
             (left_of closed.entry.model.now bounds routes.new.lists self.new stop)) }
         ensures told { OnOk result (Told (λ w later. after w later) watch.old.items watch.new.items
             (next_events closed.entry.model.now bounds routes.old.lists self.old)) }
-        ensures asked { OnOk result (J.asked judge.new + self.old.at.used ≤ J.asked judge.old + self.new.at.used) }
-        ensures looked { OnOk result (J.looked judge.new + 3 * self.old.at.used
-            ≤ J.looked judge.old + 3 * self.new.at.used) }
+        ensures asked { OnOk result (AsksOn J.asked J.looked judge.old judge.new self.old.at.used self.new.at.used) }
         ensures stands { OnOk result (Stands closed.entry.model.now bounds
             (J.committed judge.new) routes.new self.new) }
         ensures no_dearer { OnOk result (self.new.best.cost ≤ℤ self.old.best.cost) }
@@ -180,10 +162,8 @@ impl State {
         ensures holds { HoldSame closed.entry.model.now (J.committed judge.new) routes.new }
         ensures told_in_part { OnErr result (ToldInPart (λ w later. after w later) watch.old.items watch.new.items
             (next_events closed.entry.model.now bounds routes.old.lists self.old)) }
-        ensures asked_at_most { OnErr result (J.asked judge.new + self.old.at.used
-            ≤ J.asked judge.old + bounds.limit.tries) }
-        ensures looked_at_most { OnErr result (J.looked judge.new + 3 * self.old.at.used
-            ≤ J.looked judge.old + 3 * bounds.limit.tries) }
+        ensures asked_at_most { OnErr result (AsksOn J.asked J.looked judge.old judge.new self.old.at.used
+            bounds.limit.tries) }
     {
         let rest = bounds.limit.tries - self.at.used;
         let ended = run_round(closed.model, judge, routes, self, rest, steps)?;
@@ -305,12 +285,9 @@ fn run_round<J: Judge, L: Ledger>(
     requires rest { rest ≤ 1000000000 }
     ensures ends { IfOk result (λ ended. ended ≡ round_end model.now routes.now.lists
         (round_of model.now (tabus_of state.now.tabus) state.now.best.routes.lists routes.now.lists rest)) }
-    ensures model { J.model judge.new ≡ J.model judge.old }
-    ensures committed { J.committed judge.new ≡ J.committed judge.old }
-    ensures asked { IfOk result (λ ended. J.asked judge.new ≤ J.asked judge.old + tries_of rest ended) }
-    ensures asked_at_most { OnErr result (J.asked judge.new ≤ J.asked judge.old + rest) }
-    ensures looked { IfOk result (λ ended. J.looked judge.new ≤ J.looked judge.old + 3 * tries_of rest ended) }
-    ensures looked_at_most { OnErr result (J.looked judge.new ≤ J.looked judge.old + 3 * rest) }
+    ensures keeps { Keeps J.model J.committed judge.old judge.new }
+    ensures asked { IfOk result (λ ended. AsksFor J.asked J.looked judge.old judge.new (tries_of rest ended)) }
+    ensures asked_at_most { OnErr result (AsksFor J.asked J.looked judge.old judge.new rest) }
 {
     let round = Round::open(model, routes, state);
     round.run(judge, rest, steps)
@@ -329,14 +306,10 @@ fn search<J: Judge, L: Ledger>(
     requires judge_model { J.model judge.old ≡ closed.model.now }
     requires bounds { AreBounds bounds }
     requires stands { Stands closed.model.now bounds (J.committed judge.old) routes.old state.old }
-    ensures outcome { IfOk result (λ stop. from_state closed.entry.model.now bounds routes.old.lists state.old
-        ≡ behind (from_state closed.entry.model.now bounds routes.old.lists state.old).events
-        (left_of closed.entry.model.now bounds routes.new.lists state.new (Some stop))) }
-    ensures told { OnOk result (Told (λ w later. after w later) watch.old.items watch.new.items
-        (from_state closed.entry.model.now bounds routes.old.lists state.old).events) }
-    ensures asked { OnOk result (J.asked judge.new + state.old.at.used ≤ J.asked judge.old + state.new.at.used) }
-    ensures looked { OnOk result (J.looked judge.new + 3 * state.old.at.used
-        ≤ J.looked judge.old + 3 * state.new.at.used) }
+    ensures stopped { IfOk result (HasStopped (λ w later. after w later)
+        (from_state closed.entry.model.now bounds routes.old.lists state.old) routes.new.lists state.new.at
+        state.new.best watch.old.items watch.new.items) }
+    ensures asked { OnOk result (AsksOn J.asked J.looked judge.old judge.new state.old.at.used state.new.at.used) }
     ensures stands { OnOk result (Stands closed.entry.model.now bounds (J.committed judge.new) routes.new state.new) }
     ensures no_dearer { OnOk result (state.new.best.cost ≤ℤ state.old.best.cost) }
 
@@ -344,10 +317,8 @@ fn search<J: Judge, L: Ledger>(
     ensures holds { HoldSame closed.entry.model.now (J.committed judge.new) routes.new }
     ensures told_in_part { OnErr result (ToldInPart (λ w later. after w later) watch.old.items watch.new.items
         (from_state closed.entry.model.now bounds routes.old.lists state.old).events) }
-    ensures asked_at_most { OnErr result (J.asked judge.new + state.old.at.used
-        ≤ J.asked judge.old + bounds.limit.tries) }
-    ensures looked_at_most { OnErr result (J.looked judge.new + 3 * state.old.at.used
-        ≤ J.looked judge.old + 3 * bounds.limit.tries) }
+    ensures asked_at_most { OnErr result (AsksOn J.asked J.looked judge.old judge.new state.old.at.used
+        bounds.limit.tries) }
 {
     'rounds: while state.at.found != bounds.limit.solutions {
         let stop = state.advance(closed, judge, routes, bounds, watch, steps)?;

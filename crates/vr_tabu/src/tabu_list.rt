@@ -6,7 +6,7 @@ ghost use Rattle.vr_model.specs.routes.Routes.{are_lists, holds};
 ghost use Rattle.vr_model.specs.tables.Tables.{vehicle_at};
 ghost use Rattle.vr_routes.specs.Changes.{IsMadeOn};
 ghost use Rattle.vr_routes.specs.Pieces.{changed, joined, part_at};
-ghost use Rattle.vr_tabu.specs.Parts.{changes, frees, is_freed};
+ghost use Rattle.vr_tabu.specs.Parts.{change_of, changes, frees, is_freed};
 ghost use Rattle.vr_tabu.specs.Tabus.{AreAllTabu, tabus_of, until_at};
 ghost use Rattle.vr_tabu.specs.TabuSearches.{is_tabu, is_tabu_visit, next_round, none_tabu};
 
@@ -34,6 +34,25 @@ pub struct WholeChange<'m, 'r, 'c> {
     pub ghost before: { IsTrue (are_lists closed.model.now routes.now.lists) },
     /// So are those after it.
     pub ghost after: { IsTrue (are_lists closed.model.now (changed routes.now.lists change.now)) },
+}
+
+impl<'m, 'r, 'c> WholeChange<'m, 'r, 'c> {
+    // What part `k` makes of the list of its vehicle, which was written out.
+    #[inline]
+    fn list_change<'a>(self, k: usize, after: &'a NewList) -> ListChange<'r, 'a>
+        requires made { IsMadeOn self.routes.now self.change.now }
+        requires part { k < length self.change.now }
+        requires written { after.now ≡ joined self.routes.now.lists (part_at self.change.now k).pieces }
+        ensures { result ≡ change_of self.entry.closed.model.now self.entry.routes.now.lists self.entry.change.now k }
+    {
+        let vehicle = self.change.vehicle(k);
+        ListChange {
+            routes: self.routes,
+            vehicle,
+            start: start_of(self.closed.model, vehicle),
+            after,
+        }
+    }
 }
 
 impl TabuList {
@@ -71,7 +90,7 @@ impl TabuList {
 
     // Whether a change of a list changes one of some visits that is not tabu.
     #[inline]
-    fn frees_one(&self, list: &ListChange<'_>, visits: &[u32]) -> bool
+    fn frees_one(&self, list: &ListChange<'_, '_>, visits: &[u32]) -> bool
         ensures { result ≡ list_any (is_freed (tabus_of self.now) list.now) visits.now }
     {
         visits
@@ -81,7 +100,7 @@ impl TabuList {
 
     // Whether a part of a change changes a visit that is not tabu.
     #[inline]
-    fn frees(&self, list: &ListChange<'_>) -> bool
+    fn frees(&self, list: &ListChange<'_, '_>) -> bool
         ensures { result ≡ frees (tabus_of self.now) list.now }
     {
         self.frees_one(list, list.new_visits()) || self.frees_one(list, list.old_visits())
@@ -98,13 +117,7 @@ impl TabuList {
         let change = lists.change;
         for k in 0..change.parts() {
             after.write(lists.routes, change, k);
-            let vehicle = change.vehicle(k);
-            let list = ListChange {
-                routes: lists.routes,
-                vehicle,
-                start: start_of(lists.closed.model, vehicle),
-                after,
-            };
+            let list = lists.list_change(k, after);
             if self.frees(&list) {
                 return false;
             }
@@ -113,7 +126,7 @@ impl TabuList {
     }
 
     // Those of some visits that a change of a list changes are tabu before a round.
-    fn forbid_some(&mut self, list: &ListChange<'_>, visits: &[u32], until: u64)
+    fn forbid_some(&mut self, list: &ListChange<'_, '_>, visits: &[u32], until: u64)
         requires visits { All (λ visit. visit < length self.old.until.items) visits.now }
         ensures until { (visit : ℕ) → until_at self.new visit
             ≡ cond (holds visits.now visit && changes list.now visit) until (until_at self.old visit) }
@@ -127,7 +140,7 @@ impl TabuList {
 
     // A visit that a change of a list changes is tabu before a round.
     #[inline]
-    fn forbid_one(&mut self, list: &ListChange<'_>, visit: u32, until: u64)
+    fn forbid_one(&mut self, list: &ListChange<'_, '_>, visit: u32, until: u64)
         requires visit { visit < length self.old.until.items }
         ensures until { (other : ℕ) → until_at self.new other
             ≡ cond ((other == visit) && changes list.now visit) until (until_at self.old other) }
@@ -140,7 +153,7 @@ impl TabuList {
     }
 
     // The visits that a part of a change changes are tabu before a round.
-    fn forbid(&mut self, list: &ListChange<'_>, until: u64)
+    fn forbid(&mut self, list: &ListChange<'_, '_>, until: u64)
         requires old_visits { All (λ visit. visit < length self.old.until.items) list.now.old }
         requires new_visits { All (λ visit. visit < length self.old.until.items) list.now.new }
         ensures until { (visit : ℕ) → until_at self.new visit
@@ -167,13 +180,7 @@ impl TabuList {
         let change = lists.change;
         for k in 0..change.parts() {
             after.write(lists.routes, change, k);
-            let vehicle = change.vehicle(k);
-            let list = ListChange {
-                routes: lists.routes,
-                vehicle,
-                start: start_of(lists.closed.model, vehicle),
-                after,
-            };
+            let list = lists.list_change(k, after);
             self.forbid(&list, until);
         }
         self.round += 1;

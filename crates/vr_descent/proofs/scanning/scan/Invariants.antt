@@ -1,19 +1,18 @@
-use Rattle.std.proofs.Common.{◌≡◌, ◌≤◌, ◌+◌, ◌*◌, length}
+use Rattle.std.proofs.Common.{◌≡◌, ◌≤◌, length}
 use Rattle.std.specs.Prelude.{true}
 use Rattle.std.specs.List.{list_all}
 use Rattle.vr_model.specs.moves.Moves.{moves}
 use Rattle.vr_model.specs.moves.MoveTests.{is_move}
 use Rattle.vr_model.specs.search.Scans.{scan_from, scan}
+use Rattle.vr_descent.specs.Asking.{AsksFor, Keeps}
 use Rattle.vr_descent.specs.Scanned.{is_acceptable}
 use Rattle.vr_descent.proofs.scanning.scan.Given as goal
 
 -- the scan of the moves that are left, behind those tried, ends as the scan of all
 abbrev pub invariant-loop-mv : goal.invariant-loop-mv
 invariant-loop-mv g l = record {
-  model : g.J.Judge.model l.judge ≡ g.J.Judge.model l.initial.judge;
-  committed : g.J.Judge.committed l.judge ≡ g.J.Judge.committed l.initial.judge;
-  asked : g.J.Judge.asked l.judge ≤ g.J.Judge.asked l.initial.judge + l.place;
-  looked : g.J.Judge.looked l.judge ≤ g.J.Judge.looked l.initial.judge + 3 * l.place;
+  keeps : Keeps g.J.Judge.model g.J.Judge.committed l.initial.judge l.judge;
+  asked : AsksFor g.J.Judge.asked g.J.Judge.looked l.initial.judge l.judge l.place;
   within : l.place ≤ l.rest;
   ends : scan_from l.place (is_acceptable l.model (g.A.Accept.takes l.accept) l.routes.lists) l.rest l.list
       ≡ scan (moves l.model l.routes.lists) (is_acceptable l.model (g.A.Accept.takes l.accept) l.routes.lists) l.rest;

@@ -16,15 +16,6 @@ pub loop-vehicle-init : goal.loop-vehicle-init
 loop-vehicle-init c =
     ap (λ k. list_any (is_costly c.args.closed.model.now) (each (range_with_len 0 k) (λ v. arcs_of c.args.closed.model.now v (route c.args.routes.now.lists v)))) (vehicles_left c.args.closed.model.now c.args.routes.now.lists c.requires.valid)
 
-pub list-requires : goal.list-requires
-list-requires c = record { vehicle = has_list c.args.closed.model.now c.args.routes.now.lists c.requires.valid c.loop-vehicle-test.true c.len-vehicle-end.ensures }
-
-pub invariant_of-list : goal.invariant_of-list
-invariant_of-list c = record {
-  there = omega (arith, c.loop-vehicle-test.true, c.len-vehicle-end.ensures);
-  few = few_nodes c.args.closed.model.now c.args.routes.now.lists c.requires.valid c.args.closed.well_formed c.loop-vehicle.vehicle c.list.ensures.value;
-}
-
 pub returns-then-is_route_costly : goal.returns-then-is_route_costly
 returns-then-is_route_costly c =
     sym (some_of_this (is_costly c.args.closed.model.now) (λ v. arcs_of c.args.closed.model.now v (route c.args.routes.now.lists v)) c.loop-vehicle.vehicle (length c.args.closed.model.now.vehicles)
@@ -38,3 +29,9 @@ loop-vehicle-preserved c =
 pub returns : goal.returns
 returns c = sym (none_left (is_costly c.args.closed.model.now) (λ v. arcs_of c.args.closed.model.now v (route c.args.routes.now.lists v)) c.loop-vehicle.vehicle (length c.args.closed.model.now.vehicles)
     (omega (arith, c.loop-vehicle-test.false, c.len-vehicle-end.ensures, c.args.closed.well_formed.number_of_vehicles.at_most))) ∙ c.loop-vehicle.invariant
+
+pub list-requires : goal.list-requires
+list-requires c = record { vehicle = has_list c.args.closed.model.now c.args.routes.now.lists c.requires.valid c.loop-vehicle-test.true c.len-vehicle-end.ensures }
+
+pub invariant_of-list : goal.invariant_of-list
+invariant_of-list c = record { there = omega (arith, c.loop-vehicle-test.true, c.len-vehicle-end.ensures); few = few_nodes c.args.closed.model.now c.args.routes.now.lists c.requires.valid c.args.closed.well_formed c.loop-vehicle.vehicle c.list.ensures.value }

@@ -10,8 +10,10 @@ use Rattle.vr_model.proofs.tables.Refusals.{on_err}
 use Rattle.vr_model.proofs.tables.Tests.{apart}
 use Rattle.vr_watch.proofs.ToldLemmas.{told_nothing}
 use Rattle.vr_descent.specs.Searching.{scan_of, standing}
+use Rattle.vr_descent.proofs.AskingLemmas.{on_more, on_none, on_then}
 use Rattle.vr_descent.proofs.DescentLemmas.{same_count}
-use Rattle.vr_descent.proofs.GoingOn.{Goes, breaks_off, goes_as, goes_more, goes_to_end}
+use Rattle.vr_descent.proofs.EndingLemmas.{stops}
+use Rattle.vr_descent.proofs.GoingOn.{Goes, breaks_off, goes_as, goes_more}
 use Rattle.vr_descent.proofs.IncumbentLemmas.{kept_lists, kept_no_dearer}
 use Rattle.vr_descent.proofs.RefusedLemmas.{nothing_refused}
 use Rattle.vr_descent.proofs.ScanGave.{Moved, RanOut, TriedAll, has_moved, has_run_out, has_tried_all, under_way_moved}
@@ -19,10 +21,10 @@ use Rattle.vr_guided.specs.Counts.{AtMost, counted}
 use Rattle.vr_guided.specs.Guides.{makes_less}
 use Rattle.vr_guided.specs.RouteSums.{AreAllRouteSums}
 use Rattle.vr_guided.specs.Standing.{from_here, from_state}
-use Rattle.vr_guided.proofs.GuidedLemmas.{after_scan, as_many, costly_of, ends_so, enough, few_more, few_raised, left_after, scan_in_part, some_moves}
+use Rattle.vr_guided.proofs.GuidedLemmas.{after_scan, as_many, costly_of, enough, few_more, few_raised, left_after, scan_in_part, some_moves}
 use Rattle.vr_guided.proofs.GuidedStay.{guided_stays}
 use Rattle.vr_guided.proofs.SpareLemmas.{still_refused}
-use Rattle.vr_guided.proofs.StandLemmas.{ends_still, few_stand, goes_moved, goes_to_cut, goes_to_optimum, goes_to_round, round_event, stands_still}
+use Rattle.vr_guided.proofs.StandLemmas.{few_stand, goes_moved, goes_to_cut, goes_to_optimum, goes_to_round, round_event, stands_still, stops_still}
 use Rattle.vr_guided.proofs.searching.improve.Given.{Over}
 use Rattle.vr_guided.proofs.searching.improve.Goals.{After-is_stuck, In-Accepted, In-Cut, In_ok-ended}
 use Rattle.vr_guided.proofs.searching.improve.Goals as goal
@@ -78,8 +80,7 @@ scans-init g c =
         route_sums = c.write.ensures.many;
       };
       route_sums = c.write.ensures;
-      asked = omega arith;
-      looked = omega arith;
+      asked = on_none _ _;
       no_dearer = omega (arith, ints);
       goes = record { told = []; outcome = refl; heard = told_nothing (λ w. (goal.Watch-dyn g (w.vtable, w.value)).after w.value) _ };
       known = nothing_refused c.args.closed.model.now (makes_less c.args.closed.model.now c.args.bounds.lambda (counted c.args.state.now.penalties)) c.args.routes.now.lists c.of-known.result c.of-known.ensures.none;
@@ -90,10 +91,9 @@ pub advance-requires : goal.advance-requires
 advance-requires g c =
     record {
       well_formed = c.args.closed.well_formed;
-      judge_model = c.scans.invariant.model;
+      judge = record { judge_model = c.scans.invariant.model; holds = c.scans.invariant.stands.going.holds };
       accept_model = search rules;
       accept_stands = c.scans.invariant.route_sums;
-      holds = c.scans.invariant.stands.going.holds;
       cost = c.scans.invariant.stands.going.costs;
       tries = c.requires.limits.tries;
       used = c.scans.invariant.stands.going.used;
@@ -109,11 +109,7 @@ returns-in_err-ended-clause-told_in_part g c =
 
 pub returns-in_err-ended-clause-asked_at_most : goal.returns-in_err-ended-clause-asked_at_most
 returns-in_err-ended-clause-asked_at_most g c =
-    on_err c.from_residual.result (omega (arith, c.in_err-ended.ensures.asked_at_most, c.scans.invariant.asked))
-
-pub returns-in_err-ended-clause-looked_at_most : goal.returns-in_err-ended-clause-looked_at_most
-returns-in_err-ended-clause-looked_at_most g c =
-    on_err c.from_residual.result (omega (arith, c.in_err-ended.ensures.looked_at_most, c.scans.invariant.looked))
+    on_err c.from_residual.result (on_then _ _ _ _ _ _ c.scans.invariant.asked c.in_err-ended.ensures.asked_at_most)
 
 pub offer-requires-clause-visits : goal.offer-requires-clause-visits
 offer-requires-clause-visits g c =
@@ -121,7 +117,7 @@ offer-requires-clause-visits g c =
 
 pub offer-requires-clause-many : goal.offer-requires-clause-many
 offer-requires-clause-many g c =
-    as_many c.args.closed.model.now c.scans.state.best.routes.lists c.advance.new.routes.lists c.scans.invariant.stands.going.best.valid c.in_ok-ended.ensures.holds.valid
+    as_many c.args.closed.model.now c.scans.state.best.routes.lists c.advance.new.routes.lists c.scans.invariant.stands.going.best.valid c.in_ok-ended.ensures.judge.holds.valid
 
 pub scans-smaller-in-Accepted : goal.scans-smaller-in-Accepted
 scans-smaller-in-Accepted g c =
@@ -136,11 +132,11 @@ scans-preserved-in-Accepted g c =
     let at = goal.at.scans-preserved-in-Accepted g c in
     let made = moved g at.In-Accepted in
     let used_new = ap (λ p. p.used) made.at_is in
-    let on = under_way_moved c.args.closed.model.now c.args.bounds.limit c.scans.routes c.advance.new.routes c.scans.state.at c.advance.new.self _ _ _ _ _ c.scans.state.best c.offer.new.self made c.scans.invariant.stands.going c.in_ok-ended.ensures.holds c.offer.ensures c.scans-test.true in
+    let on = under_way_moved c.args.closed.model.now c.args.bounds.limit c.scans.routes c.advance.new.routes c.scans.state.at c.advance.new.self _ _ _ _ _ c.scans.state.best c.offer.new.self made c.scans.invariant.stands.going c.in_ok-ended.ensures.judge.holds c.offer.ensures c.scans-test.true in
     let followed : AreAllRouteSums c.args.closed.model.now (counted c.scans.state.penalties) c.advance.new.routes.lists c.follow.new.self
     = c.follow.ensures c.scans.routes.lists c.scans.invariant.route_sums (ap (λ r. r.lists) made.routes_are) in
     record {
-      model = c.in_ok-ended.ensures.judge_model;
+      model = c.in_ok-ended.ensures.judge.judge_model;
       stands = record {
         going = on;
         few = few_more (counted c.scans.state.penalties) c.scans.state.at.used c.advance.new.self.used (omega (arith, used_new)) c.scans.invariant.stands.few;
@@ -148,8 +144,7 @@ scans-preserved-in-Accepted g c =
         route_sums = followed.many;
       };
       route_sums = followed;
-      asked = omega (arith, c.in_ok-ended.ensures.asked, c.scans.invariant.asked);
-      looked = omega (arith, c.in_ok-ended.ensures.looked, c.scans.invariant.looked);
+      asked = on_then _ _ _ _ _ _ c.scans.invariant.asked c.in_ok-ended.ensures.asked;
       no_dearer = subst (λ b. b.cost ≤ℤ c.args.state.now.best.cost) (sym c.offer.ensures) (kept_no_dearer c.scans.state.best c.advance.new.routes c.advance.new.self.cost c.args.state.now.best.cost c.scans.invariant.no_dearer);
       goes = goes_moved c.args.closed.model.now c.args.bounds.limit c.args.bounds.lambda (counted c.scans.state.penalties) c.scans.state.best.routes.lists c.scans.routes c.advance.new.routes c.scans.state.at c.advance.new.self (λ w. (goal.Watch-dyn g (w.vtable, w.value)).after w.value) (from_state c.args.closed.model.now c.args.bounds.limit c.args.bounds.lambda c.args.routes.now.lists c.args.state.now) _ _ (left g at.In_ok-ended) c.in-Accepted.place c.in-Accepted.mv c.offer.new.self.routes.lists made
           (ap (λ b. b.routes.lists) c.offer.ensures ∙ kept_lists c.args.closed.model.now c.scans.state.best c.advance.new.routes c.advance.new.self.cost c.scans.invariant.stands.going.best.costs on.costs);
@@ -159,11 +154,11 @@ scans-preserved-in-Accepted g c =
 
 pub is_stuck-requires : goal.is_stuck-requires
 is_stuck-requires g c =
-    c.in_ok-ended.ensures.holds.valid
+    c.in_ok-ended.ensures.judge.holds.valid
 
 pub raise-requires-clause-valid : goal.raise-requires-clause-valid
 raise-requires-clause-valid g c =
-    c.in_ok-ended.ensures.holds.valid
+    c.in_ok-ended.ensures.judge.holds.valid
 
 pub raise-requires-clause-costly : goal.raise-requires-clause-costly
 raise-requires-clause-costly g c =
@@ -191,14 +186,6 @@ scans-smaller g c =
     let one = (some_moves c.args.closed.model.now c.args.bounds.limit c.args.bounds.lambda (counted c.scans.state.penalties) c.scans.routes.lists c.scans.state.best.routes.lists c.scans.state.at.used c.scans.state.at.found c.in-Complete.length ends) in
     omega (arith, used_new, one, low, c.scans.invariant.stands.going.used)
 
-pub returns-in_err-note_all-in-Complete-clause-judge_model : goal.returns-in_err-note_all-in-Complete-clause-judge_model
-returns-in_err-note_all-in-Complete-clause-judge_model g c =
-    c.in_ok-ended.ensures.judge_model
-
-pub returns-in_err-note_all-in-Complete-clause-holds : goal.returns-in_err-note_all-in-Complete-clause-holds
-returns-in_err-note_all-in-Complete-clause-holds g c =
-    c.in_ok-ended.ensures.holds
-
 pub returns-in_err-note_all-in-Complete-clause-told_in_part : goal.returns-in_err-note_all-in-Complete-clause-told_in_part
 returns-in_err-note_all-in-Complete-clause-told_in_part g c =
     let at = goal.at.returns-in_err-note_all-in-Complete-clause-told_in_part g c in
@@ -212,14 +199,7 @@ returns-in_err-note_all-in-Complete-clause-asked_at_most g c =
     let done = tried_all g (goal.at.returns-in_err-note_all-in-Complete-clause-asked_at_most g c).After-is_stuck in
     let low = done.within in
     let used_new = ap (λ p. p.used) done.at_is in
-    on_err c.from_residual-in_err-note_all-in-Complete.result (omega (arith, c.in_ok-ended.ensures.asked, c.scans.invariant.asked, used_new, low, c.scans.invariant.stands.going.used))
-
-pub returns-in_err-note_all-in-Complete-clause-looked_at_most : goal.returns-in_err-note_all-in-Complete-clause-looked_at_most
-returns-in_err-note_all-in-Complete-clause-looked_at_most g c =
-    let done = tried_all g (goal.at.returns-in_err-note_all-in-Complete-clause-looked_at_most g c).After-is_stuck in
-    let low = done.within in
-    let used_new = ap (λ p. p.used) done.at_is in
-    on_err c.from_residual-in_err-note_all-in-Complete.result (omega (arith, c.in_ok-ended.ensures.looked, c.scans.invariant.looked, used_new, low, c.scans.invariant.stands.going.used))
+    on_err c.from_residual-in_err-note_all-in-Complete.result (on_more _ _ _ _ _ (on_then _ _ _ _ _ _ c.scans.invariant.asked c.in_ok-ended.ensures.asked) (omega (arith, used_new, low, c.scans.invariant.stands.going.used)))
 
 pub scans-preserved : goal.scans-preserved
 scans-preserved g c =
@@ -229,11 +209,11 @@ scans-preserved g c =
     let ends = stuck g at.After-is_stuck false c.if-is_stuck.false in
     let raised_new : counted c.raise.new.self ≡ (raised c.args.closed.model.now (counted c.scans.state.penalties) c.scans.routes.lists) = c.raise.ensures.raised ∙ ap (λ r. raised c.args.closed.model.now (counted c.scans.state.penalties) r.lists) done.routes_are in
     let used_new = ap (λ p. p.used) done.at_is in
-    let still = stands_still c.args.closed.model.now c.args.bounds.limit c.scans.routes c.advance.new.routes c.scans.state c.advance.new.self (c.scans.state.at.used + c.in-Complete.length) done.routes_are done.at_is _ _ c.scans.invariant.stands c.in_ok-ended.ensures.holds (omega arith) (omega (arith, low, c.scans.invariant.stands.going.used)) in
+    let still = stands_still c.args.closed.model.now c.args.bounds.limit c.scans.routes c.advance.new.routes c.scans.state c.advance.new.self (c.scans.state.at.used + c.in-Complete.length) done.routes_are done.at_is _ _ c.scans.invariant.stands c.in_ok-ended.ensures.judge.holds (omega arith) (omega (arith, low, c.scans.invariant.stands.going.used)) in
     let there = ap (λ r. from_here c.args.closed.model.now c.args.bounds.limit c.args.bounds.lambda (raised c.args.closed.model.now (counted c.scans.state.penalties) c.scans.routes.lists) r.lists c.scans.state.best.routes.lists (c.scans.state.at.used + c.in-Complete.length) c.scans.state.at.found) (sym done.routes_are)
     ∙ (ap (λ p. from_here c.args.closed.model.now c.args.bounds.limit c.args.bounds.lambda (raised c.args.closed.model.now (counted c.scans.state.penalties) c.scans.routes.lists) c.advance.new.routes.lists c.scans.state.best.routes.lists p.used p.found) (sym done.at_is) ∙ ap (λ q. from_here c.args.closed.model.now c.args.bounds.limit c.args.bounds.lambda q c.advance.new.routes.lists c.scans.state.best.routes.lists c.advance.new.self.used c.advance.new.self.found) (sym raised_new)) in
     record {
-      model = c.in_ok-ended.ensures.judge_model;
+      model = c.in_ok-ended.ensures.judge.judge_model;
       stands = record {
         going = still.going;
         few = subst (λ k. AtMost k (counted c.raise.new.self)) (sym used_new) (subst (λ p. AtMost (c.scans.state.at.used + c.in-Complete.length) p) (sym raised_new) (few_raised c.args.closed.model.now (counted c.scans.state.penalties) c.scans.routes.lists c.scans.state.at.used c.in-Complete.length (some_moves c.args.closed.model.now c.args.bounds.limit c.args.bounds.lambda (counted c.scans.state.penalties) c.scans.routes.lists c.scans.state.best.routes.lists c.scans.state.at.used c.scans.state.at.found c.in-Complete.length ends) c.scans.invariant.stands.few));
@@ -241,118 +221,49 @@ scans-preserved g c =
         route_sums = c.write-in-Complete.ensures.many;
       };
       route_sums = c.write-in-Complete.ensures;
-      asked = omega (arith, c.in_ok-ended.ensures.asked, c.scans.invariant.asked);
-      looked = omega (arith, c.in_ok-ended.ensures.looked, c.scans.invariant.looked);
+      asked = on_then _ _ _ _ _ _ c.scans.invariant.asked c.in_ok-ended.ensures.asked;
       no_dearer = c.scans.invariant.no_dearer;
       goes = goes_as (λ w. (goal.Watch-dyn g (w.vtable, w.value)).after w.value) (from_state c.args.closed.model.now c.args.bounds.limit c.args.bounds.lambda c.args.routes.now.lists c.args.state.now) _ _ _ _ there (goes_more (λ w. (goal.Watch-dyn g (w.vtable, w.value)).after w.value) (from_state c.args.closed.model.now c.args.bounds.limit c.args.bounds.lambda c.args.routes.now.lists c.args.state.now) (from_here c.args.closed.model.now c.args.bounds.limit c.args.bounds.lambda (raised c.args.closed.model.now (counted c.scans.state.penalties) c.scans.routes.lists) c.scans.routes.lists c.scans.state.best.routes.lists (c.scans.state.at.used + c.in-Complete.length) c.scans.state.at.found) ((event_at c.args.closed.model.now (tried (standing c.scans.routes.lists c.scans.state.best.routes.lists c.scans.state.at.used c.scans.state.at.found) c.in-Complete.length) kind.Round) ∷ []) _ _ _ (goes_to_round c.args.closed.model.now c.args.bounds.limit c.args.bounds.lambda (counted c.scans.state.penalties) c.scans.state.best.routes.lists c.scans.routes c.advance.new.routes c.scans.state.at c.advance.new.self (λ w. (goal.Watch-dyn g (w.vtable, w.value)).after w.value) (from_state c.args.closed.model.now c.args.bounds.limit c.args.bounds.lambda c.args.routes.now.lists c.args.state.now) _ _ (left g at.In_ok-ended) c.in-Complete.length done ends)
           (subst (λ event. Told (λ w. (goal.Watch-dyn g (w.vtable, w.value)).after w.value) c.advance.new.watch.items c.note_all.new.watch.items (event ∷ [])) (round_event c.args.closed.model.now c.args.bounds.limit c.args.bounds.lambda (counted c.scans.state.penalties) c.scans.state.best.routes.lists c.scans.routes c.advance.new.routes c.scans.state.at c.advance.new.self c.in-Complete.length c.event.result done c.scans.invariant.stands.going.costs c.event.ensures) c.in_ok-note_all-in-Complete.ensures.told));
-      known = still_refused c.args.closed.model.now c.args.closed.well_formed c.args.bounds.lambda (counted c.scans.state.penalties) (counted c.raise.new.self) c.advance.new.routes.lists c.in_ok-ended.ensures.holds.valid
+      known = still_refused c.args.closed.model.now c.args.closed.well_formed c.args.bounds.lambda (counted c.scans.state.penalties) (counted c.raise.new.self) c.advance.new.routes.lists c.in_ok-ended.ensures.judge.holds.valid
           c.advance.new.known c.raise.new.known c.raise.ensures.fewer c.raise.ensures.spares c.raise.ensures.settled c.in_ok-ended.ensures.known;
       learns = λ h. c.scans.invariant.learns (c.in_ok-ended.ensures.learns (c.raise.ensures.learns h));
     }
 
-pub returns-then-is_stuck-clause-outcome : goal.returns-then-is_stuck-clause-outcome
-returns-then-is_stuck-clause-outcome g c =
-    let at = goal.at.returns-then-is_stuck-clause-outcome g c in
+pub returns-then-is_stuck-clause-stopped : goal.returns-then-is_stuck-clause-stopped
+returns-then-is_stuck-clause-stopped g c =
+    let at = goal.at.returns-then-is_stuck-clause-stopped g c in
     let done = tried_all g at.After-is_stuck in
-    ends_still c.args.closed.model.now c.args.bounds.limit c.scans.routes c.advance.new.routes c.scans.state c.advance.new.self (c.scans.state.at.used + c.in-Complete.length) done.routes_are done.at_is (λ w. (goal.Watch-dyn g (w.vtable, w.value)).after w.value) (from_state c.args.closed.model.now c.args.bounds.limit c.args.bounds.lambda c.args.routes.now.lists c.args.state.now) Optimum _ _ (goes_to_optimum c.args.closed.model.now c.args.bounds.limit c.args.bounds.lambda (counted c.scans.state.penalties) c.scans.state.best.routes.lists c.scans.routes c.advance.new.routes c.scans.state.at c.advance.new.self (λ w. (goal.Watch-dyn g (w.vtable, w.value)).after w.value) (from_state c.args.closed.model.now c.args.bounds.limit c.args.bounds.lambda c.args.routes.now.lists c.args.state.now) _ _ (left g at.In_ok-ended) c.in-Complete.length (tried_all g at.After-is_stuck) (stuck g at.After-is_stuck true c.if-is_stuck.true))
-
-pub returns-then-is_stuck-clause-told : goal.returns-then-is_stuck-clause-told
-returns-then-is_stuck-clause-told g c =
-    let at = goal.at.returns-then-is_stuck-clause-told g c in
-    goes_to_end (λ w. (goal.Watch-dyn g (w.vtable, w.value)).after w.value) (from_state c.args.closed.model.now c.args.bounds.limit c.args.bounds.lambda c.args.routes.now.lists c.args.state.now) (standing c.scans.routes.lists c.scans.state.best.routes.lists (c.scans.state.at.used + c.in-Complete.length) c.scans.state.at.found) Optimum _ _ (goes_to_optimum c.args.closed.model.now c.args.bounds.limit c.args.bounds.lambda (counted c.scans.state.penalties) c.scans.state.best.routes.lists c.scans.routes c.advance.new.routes c.scans.state.at c.advance.new.self (λ w. (goal.Watch-dyn g (w.vtable, w.value)).after w.value) (from_state c.args.closed.model.now c.args.bounds.limit c.args.bounds.lambda c.args.routes.now.lists c.args.state.now) _ _ (left g at.In_ok-ended) c.in-Complete.length (tried_all g at.After-is_stuck) (stuck g at.After-is_stuck true c.if-is_stuck.true))
+    stops_still c.args.closed.model.now c.args.bounds.limit c.scans.routes c.advance.new.routes c.scans.state c.advance.new.self (c.scans.state.at.used + c.in-Complete.length) done.routes_are done.at_is (λ w. (goal.Watch-dyn g (w.vtable, w.value)).after w.value) (from_state c.args.closed.model.now c.args.bounds.limit c.args.bounds.lambda c.args.routes.now.lists c.args.state.now) Optimum _ _ (goes_to_optimum c.args.closed.model.now c.args.bounds.limit c.args.bounds.lambda (counted c.scans.state.penalties) c.scans.state.best.routes.lists c.scans.routes c.advance.new.routes c.scans.state.at c.advance.new.self (λ w. (goal.Watch-dyn g (w.vtable, w.value)).after w.value) (from_state c.args.closed.model.now c.args.bounds.limit c.args.bounds.lambda c.args.routes.now.lists c.args.state.now) _ _ (left g at.In_ok-ended) c.in-Complete.length (tried_all g at.After-is_stuck) (stuck g at.After-is_stuck true c.if-is_stuck.true))
 
 pub returns-then-is_stuck-clause-asked : goal.returns-then-is_stuck-clause-asked
 returns-then-is_stuck-clause-asked g c =
-    omega (arith, c.in_ok-ended.ensures.asked, c.scans.invariant.asked)
-
-pub returns-then-is_stuck-clause-looked : goal.returns-then-is_stuck-clause-looked
-returns-then-is_stuck-clause-looked g c =
-    omega (arith, c.in_ok-ended.ensures.looked, c.scans.invariant.looked)
+    on_then _ _ _ _ _ _ c.scans.invariant.asked c.in_ok-ended.ensures.asked
 
 pub returns-then-is_stuck-clause-stands : goal.returns-then-is_stuck-clause-stands
 returns-then-is_stuck-clause-stands g c =
     let done = tried_all g (goal.at.returns-then-is_stuck-clause-stands g c).After-is_stuck in
     let low = done.within in
-    stands_still c.args.closed.model.now c.args.bounds.limit c.scans.routes c.advance.new.routes c.scans.state c.advance.new.self (c.scans.state.at.used + c.in-Complete.length) done.routes_are done.at_is _ _ c.scans.invariant.stands c.in_ok-ended.ensures.holds (omega arith) (omega (arith, low, c.scans.invariant.stands.going.used))
+    stands_still c.args.closed.model.now c.args.bounds.limit c.scans.routes c.advance.new.routes c.scans.state c.advance.new.self (c.scans.state.at.used + c.in-Complete.length) done.routes_are done.at_is _ _ c.scans.invariant.stands c.in_ok-ended.ensures.judge.holds (omega arith) (omega (arith, low, c.scans.invariant.stands.going.used))
 
-pub returns-then-is_stuck-clause-no_dearer : goal.returns-then-is_stuck-clause-no_dearer
-returns-then-is_stuck-clause-no_dearer g c =
-    c.scans.invariant.no_dearer
-
-pub returns-then-is_stuck-clause-judge_model : goal.returns-then-is_stuck-clause-judge_model
-returns-then-is_stuck-clause-judge_model g c =
-    c.in_ok-ended.ensures.judge_model
-
-pub returns-then-is_stuck-clause-holds : goal.returns-then-is_stuck-clause-holds
-returns-then-is_stuck-clause-holds g c =
-    c.in_ok-ended.ensures.holds
-
-pub returns-in-Cut-clause-outcome : goal.returns-in-Cut-clause-outcome
-returns-in-Cut-clause-outcome g c =
-    let at = goal.at.returns-in-Cut-clause-outcome g c in
+pub returns-in-Cut-clause-stopped : goal.returns-in-Cut-clause-stopped
+returns-in-Cut-clause-stopped g c =
+    let at = goal.at.returns-in-Cut-clause-stopped g c in
     let done = ran_out g at.In-Cut in
-    ends_still c.args.closed.model.now c.args.bounds.limit c.scans.routes c.advance.new.routes c.scans.state c.advance.new.self c.args.bounds.limit.tries done.routes_are done.at_is (λ w. (goal.Watch-dyn g (w.vtable, w.value)).after w.value) (from_state c.args.closed.model.now c.args.bounds.limit c.args.bounds.lambda c.args.routes.now.lists c.args.state.now) Tries _ _ (goes_to_cut c.args.closed.model.now c.args.bounds.limit c.args.bounds.lambda (counted c.scans.state.penalties) c.scans.state.best.routes.lists c.scans.routes c.advance.new.routes c.scans.state.at c.advance.new.self (λ w. (goal.Watch-dyn g (w.vtable, w.value)).after w.value) (from_state c.args.closed.model.now c.args.bounds.limit c.args.bounds.lambda c.args.routes.now.lists c.args.state.now) _ _ (left g at.In_ok-ended) (ran_out g at.In-Cut) c.scans.invariant.stands.going.used)
-
-pub returns-in-Cut-clause-told : goal.returns-in-Cut-clause-told
-returns-in-Cut-clause-told g c =
-    let at = goal.at.returns-in-Cut-clause-told g c in
-    goes_to_end (λ w. (goal.Watch-dyn g (w.vtable, w.value)).after w.value) (from_state c.args.closed.model.now c.args.bounds.limit c.args.bounds.lambda c.args.routes.now.lists c.args.state.now) (standing c.scans.routes.lists c.scans.state.best.routes.lists c.args.bounds.limit.tries c.scans.state.at.found) Tries _ _ (goes_to_cut c.args.closed.model.now c.args.bounds.limit c.args.bounds.lambda (counted c.scans.state.penalties) c.scans.state.best.routes.lists c.scans.routes c.advance.new.routes c.scans.state.at c.advance.new.self (λ w. (goal.Watch-dyn g (w.vtable, w.value)).after w.value) (from_state c.args.closed.model.now c.args.bounds.limit c.args.bounds.lambda c.args.routes.now.lists c.args.state.now) _ _ (left g at.In_ok-ended) (ran_out g at.In-Cut) c.scans.invariant.stands.going.used)
+    stops_still c.args.closed.model.now c.args.bounds.limit c.scans.routes c.advance.new.routes c.scans.state c.advance.new.self c.args.bounds.limit.tries done.routes_are done.at_is (λ w. (goal.Watch-dyn g (w.vtable, w.value)).after w.value) (from_state c.args.closed.model.now c.args.bounds.limit c.args.bounds.lambda c.args.routes.now.lists c.args.state.now) Tries _ _ (goes_to_cut c.args.closed.model.now c.args.bounds.limit c.args.bounds.lambda (counted c.scans.state.penalties) c.scans.state.best.routes.lists c.scans.routes c.advance.new.routes c.scans.state.at c.advance.new.self (λ w. (goal.Watch-dyn g (w.vtable, w.value)).after w.value) (from_state c.args.closed.model.now c.args.bounds.limit c.args.bounds.lambda c.args.routes.now.lists c.args.state.now) _ _ (left g at.In_ok-ended) (ran_out g at.In-Cut) c.scans.invariant.stands.going.used)
 
 pub returns-in-Cut-clause-asked : goal.returns-in-Cut-clause-asked
 returns-in-Cut-clause-asked g c =
-    omega (arith, c.in_ok-ended.ensures.asked, c.scans.invariant.asked)
-
-pub returns-in-Cut-clause-looked : goal.returns-in-Cut-clause-looked
-returns-in-Cut-clause-looked g c =
-    omega (arith, c.in_ok-ended.ensures.looked, c.scans.invariant.looked)
+    on_then _ _ _ _ _ _ c.scans.invariant.asked c.in_ok-ended.ensures.asked
 
 pub returns-in-Cut-clause-stands : goal.returns-in-Cut-clause-stands
 returns-in-Cut-clause-stands g c =
     let done = ran_out g (goal.at.returns-in-Cut-clause-stands g c).In-Cut in
-    stands_still c.args.closed.model.now c.args.bounds.limit c.scans.routes c.advance.new.routes c.scans.state c.advance.new.self c.args.bounds.limit.tries done.routes_are done.at_is _ _ c.scans.invariant.stands c.in_ok-ended.ensures.holds c.scans.invariant.stands.going.used (omega arith)
+    stands_still c.args.closed.model.now c.args.bounds.limit c.scans.routes c.advance.new.routes c.scans.state c.advance.new.self c.args.bounds.limit.tries done.routes_are done.at_is _ _ c.scans.invariant.stands c.in_ok-ended.ensures.judge.holds c.scans.invariant.stands.going.used (omega arith)
 
-pub returns-in-Cut-clause-no_dearer : goal.returns-in-Cut-clause-no_dearer
-returns-in-Cut-clause-no_dearer g c =
-    c.scans.invariant.no_dearer
-
-pub returns-in-Cut-clause-judge_model : goal.returns-in-Cut-clause-judge_model
-returns-in-Cut-clause-judge_model g c =
-    c.in_ok-ended.ensures.judge_model
-
-pub returns-in-Cut-clause-holds : goal.returns-in-Cut-clause-holds
-returns-in-Cut-clause-holds g c =
-    c.in_ok-ended.ensures.holds
-
-pub returns-clause-outcome : goal.returns-clause-outcome
-returns-clause-outcome g c =
-    let goes = goes_as (λ w. (goal.Watch-dyn g (w.vtable, w.value)).after w.value) (from_state c.args.closed.model.now c.args.bounds.limit c.args.bounds.lambda c.args.routes.now.lists c.args.state.now) _ _ _ _ (enough c.args.closed.model.now c.args.bounds.limit c.args.bounds.lambda (counted c.scans.state.penalties) c.scans.routes.lists c.scans.state.best.routes.lists c.scans.state.at.used c.scans.state.at.found (same_count c.scans.state.at.found c.args.bounds.limit.solutions c.scans-test.false)) c.scans.invariant.goes in
-    ends_so (from_state c.args.closed.model.now c.args.bounds.limit c.args.bounds.lambda c.args.routes.now.lists c.args.state.now) goes.told c.scans.routes.lists c.scans.state.best.routes.lists c.scans.state.at.used c.scans.state.at.found Solutions goes.outcome
-
-pub returns-clause-told : goal.returns-clause-told
-returns-clause-told g c =
-    let goes = goes_as (λ w. (goal.Watch-dyn g (w.vtable, w.value)).after w.value) (from_state c.args.closed.model.now c.args.bounds.limit c.args.bounds.lambda c.args.routes.now.lists c.args.state.now) _ _ _ _ (enough c.args.closed.model.now c.args.bounds.limit c.args.bounds.lambda (counted c.scans.state.penalties) c.scans.routes.lists c.scans.state.best.routes.lists c.scans.state.at.used c.scans.state.at.found (same_count c.scans.state.at.found c.args.bounds.limit.solutions c.scans-test.false)) c.scans.invariant.goes in
-    goes_to_end (λ w. (goal.Watch-dyn g (w.vtable, w.value)).after w.value) (from_state c.args.closed.model.now c.args.bounds.limit c.args.bounds.lambda c.args.routes.now.lists c.args.state.now) (standing c.scans.routes.lists c.scans.state.best.routes.lists c.scans.state.at.used c.scans.state.at.found) Solutions _ _ goes
-
-pub returns-clause-asked : goal.returns-clause-asked
-returns-clause-asked g c =
-    c.scans.invariant.asked
-
-pub returns-clause-looked : goal.returns-clause-looked
-returns-clause-looked g c =
-    c.scans.invariant.looked
-
-pub returns-clause-stands : goal.returns-clause-stands
-returns-clause-stands g c =
-    c.scans.invariant.stands
-
-pub returns-clause-no_dearer : goal.returns-clause-no_dearer
-returns-clause-no_dearer g c =
-    c.scans.invariant.no_dearer
-
-pub returns-clause-judge_model : goal.returns-clause-judge_model
-returns-clause-judge_model g c =
-    c.scans.invariant.model
+pub returns-clause-stopped : goal.returns-clause-stopped
+returns-clause-stopped g c =
+    stops (λ w. (goal.Watch-dyn g (w.vtable, w.value)).after w.value) (from_state c.args.closed.model.now c.args.bounds.limit c.args.bounds.lambda c.args.routes.now.lists c.args.state.now) c.scans.routes.lists c.scans.state.at c.scans.state.best _ _ Solutions (goes_as (λ w. (goal.Watch-dyn g (w.vtable, w.value)).after w.value) (from_state c.args.closed.model.now c.args.bounds.limit c.args.bounds.lambda c.args.routes.now.lists c.args.state.now) _ _ _ _ (enough c.args.closed.model.now c.args.bounds.limit c.args.bounds.lambda (counted c.scans.state.penalties) c.scans.routes.lists c.scans.state.best.routes.lists c.scans.state.at.used c.scans.state.at.found (same_count c.scans.state.at.found c.args.bounds.limit.solutions c.scans-test.false)) c.scans.invariant.goes)
 
 pub returns-clause-holds : goal.returns-clause-holds
 returns-clause-holds g c =

@@ -52,7 +52,7 @@ rounds-init g c =
       cutter = c.in_ok-cost.ensures.cutter;
       holds = record { of_model = c.requires.of_model; valid = c.requires.valid; costs = cost_read c.args.cutting.now.model c.requires.well_formed c.args.routes.now.lists c.requires.valid c.in_ok-cost.cost c.in_ok-cost.ensures.value };
       used = omega arith;
-      found = c.requires.one_solution;
+      found = c.requires.limit.one_solution;
       knows = subst (λ k. g.R.Rebuild.knows c.know.new.rebuild k.model) c.in_ok-cost.ensures.cutter c.in_ok-know.ensures.knows;
       made = omega (arith, c.in_ok-know.ensures.made);
       goes = first_told (λ w. (goal.Watch-dyn g (w.vtable, w.value)).after w.value) (path_lns c.args.cutting.now.model c.args.routes.now.lists c.args.limit c.args.cutting.now.most) (from_here c.args.cutting.now.model c.args.cutting.now.most c.args.limit c.args.routes.now.lists 0 1) (first c.args.cutting.now.model c.args.routes.now.lists) (at_start c.args.cutting.now.model c.args.cutting.now.most c.args.limit c.args.routes.now.lists) _ _

@@ -26,7 +26,7 @@ loop-mv-preserved g c =
           (passes_in_front (g.S.Sieve.covers c.args.sieve.now) _ _ (moves_over now.model.now now.behind.now now.routes.now.lists) _ _ (passes_to_end (g.S.Sieve.covers c.args.sieve.now) _ _ _ _ c.in_default.ensures.takes)));
       looked = (
           let sieve = c.args.sieve.now in
-          let now = c.step_in.new.passed in
+          let now = c.step.new.passed in
           looked_further (g.S.Sieve.can_ask sieve) g.S.Sieve.judged g.S.Sieve.looked (g.S.Sieve.tries sieve) _ _ _ _ _ (within_rises (g.S.Sieve.tries sieve) (now + 0) now (omega arith))
           (looked_more (g.S.Sieve.can_ask sieve) g.S.Sieve.judged g.S.Sieve.looked (g.S.Sieve.tries sieve) _ _ _ _ _ _ c.loop-mv.invariant.looked c.in_default.ensures.looked));
     }
@@ -49,7 +49,7 @@ pub returns-in-None-clause-takes : goal.returns-in-None-clause-takes
 returns-in-None-clause-takes g c =
     let now = c.loop-mv.self-inside in
     let none = c.in-None.ensures.cases in
-    subst (λ l. Takes (g.S.Sieve.covers c.args.sieve.now) c.args.self.now c.args.passed.now None l c.step_in.new.passed)
+    subst (λ l. Takes (g.S.Sieve.covers c.args.sieve.now) c.args.self.now c.args.passed.now None l c.step.new.passed)
     (sym (none_left now.model.now now.routes.now.lists _ now.behind.now c.in_default.ensures.takes.first.1 none))
     (takes_none (g.S.Sieve.covers c.args.sieve.now) _ _ _ (passes_from (g.S.Sieve.covers c.args.sieve.now) _ _ _ _ _ c.self.view_is
     (passes_more (g.S.Sieve.covers c.args.sieve.now) _ _ _ _ _ _ c.loop-mv.invariant.passes

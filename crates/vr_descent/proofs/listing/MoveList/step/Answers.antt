@@ -1,4 +1,5 @@
-use Rattle.std.proofs.Common.{rules, ◌∙◌, ◌++◌, ◌+◌, sym, ap, arith}
+use Rattle.std.proofs.Common.{rules, ◌∙◌, ◌++◌, ◌+◌, sym, ap, subst, arith}
+use Rattle.vr_known.specs.Passing.{Takes}
 use Rattle.vr_known.proofs.LookedLemmas.{looked_none, within_rises}
 use Rattle.vr_known.proofs.PassingLemmas.{passes_from, passes_none}
 use Rattle.vr_descent.proofs.listing.MoveList.step.Goals as goal
@@ -18,10 +19,11 @@ returns-in-Some-clause-looked g c =
 
 pub returns-clause-takes : goal.returns-clause-takes
 returns-clause-takes g c =
-    let t = c.go_on.ensures.takes in
+    let covers = g.S.Sieve.covers c.args.sieve.now in
+    let t = subst (λ l. Takes covers c.self.inside.behind c.args.passed.now c.step-found.result l c.step-found.new.passed) c.stretch-self-inside.ensures c.step-found.ensures.takes in
     record {
       behind = t.behind;
-      passes = passes_from (g.S.Sieve.covers c.args.sieve.now) _ _ _ _ _
+      passes = passes_from covers _ _ _ _ _
           (sym (ap (λ l. l ++ c.self.inside.behind) c.in_default.ensures.0) ∙ c.self.view_is) t.passes;
       first = t.first;
     }

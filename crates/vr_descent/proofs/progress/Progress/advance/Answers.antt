@@ -14,12 +14,15 @@ use Rattle.vr_model.proofs.routes.CostFits.{costs_are_bounded}
 use Rattle.vr_model.proofs.tables.Refusals.{on_err}
 use Rattle.vr_watch.proofs.ToldLemmas.{none_behind, told_nothing}
 use Rattle.vr_model.specs.routes.CostLaws.{HasBoundedCost}
+use Rattle.vr_descent.specs.Asking.{AsksOn}
 use Rattle.vr_descent.specs.Scanned.{tries_of}
+use Rattle.vr_descent.proofs.AskingLemmas.{on_by, on_same}
 use Rattle.vr_descent.specs.Searching.{after_move, events_after, move_event, progress_after, routes_after, scan_of}
 use Rattle.vr_descent.proofs.EndLemmas.{AcceptedAt, accepted_at, completed, was_cut}
 use Rattle.vr_model.specs.declared.neighbours.Move.{Move}
 use Rattle.vr_known.specs.Blocks.{IsApart, covers, is_behind, is_kind_of, is_known, rows_of}
-use Rattle.vr_descent.specs.Refused.{AreRefused}
+use Rattle.vr_routes.specs.Tours.{Tours}
+use Rattle.vr_descent.specs.Refused.{AreRefused, CanJudge}
 use Rattle.vr_descent.proofs.RefusedLemmas.{changed, few_lists, noted, noted_all, row_low}
 use Rattle.vr_descent.proofs.progress.Progress.advance.Given.{Over}
 use Rattle.vr_descent.proofs.progress.Progress.advance.Goals.{In-Accepted, In-Complete, In-Cut, In_ok-ended}
@@ -27,10 +30,14 @@ use Rattle.vr_descent.proofs.progress.Progress.advance.Goals as goal
 
 -- the judge has the model still, and holds the lists
 same : (g : Over) (c : In_ok-ended g) → g.J.Judge.model c.scan.new.judge ≡ c.args.model.now
-same g c = c.in_ok-ended.ensures.model ∙ c.requires.judge_model
+same g c = c.in_ok-ended.ensures.keeps.model ∙ c.requires.judge.judge_model
 
 held : (g : Over) (c : In_ok-ended g) → HoldSame c.args.model.now (g.J.Judge.committed c.scan.new.judge) c.args.routes.now
-held g c = subst (λ x. HoldSame c.args.model.now x c.args.routes.now) (sym c.in_ok-ended.ensures.committed) c.requires.holds
+held g c = subst (λ x. HoldSame c.args.model.now x c.args.routes.now) (sym c.in_ok-ended.ensures.keeps.committed) c.requires.judge.holds
+
+-- and so they stand once a move was made
+taken : (g : Over) (c : In_ok-ended g) (later : g.row.J.Denot) (tours : Tours) → g.J.Judge.model later ≡ g.J.Judge.model c.scan.new.judge → HoldSame (g.J.Judge.model c.scan.new.judge) (g.J.Judge.committed later) tours → CanJudge c.args.model.now tours (g.J.Judge.model later) (g.J.Judge.committed later)
+taken g c later tours stays holds = record { judge_model = stays ∙ same g c; holds = subst (λ k. HoldSame k (g.J.Judge.committed later) tours) (same g c) holds }
 
 -- what the scan tells by its end
 accepted : (g : Over) (c : In-Accepted g) → AcceptedAt c.args.model.now (g.A.Accept.takes c.args.accept.now) c.args.routes.now.lists (c.args.limit.tries - c.args.self.now.used) c.in-Accepted.place c.in-Accepted.mv c.in-Accepted.difference
@@ -45,27 +52,28 @@ ran_out g c = was_cut c.args.model.now (g.A.Accept.takes c.args.accept.now) c.ar
 -- the event of the move is that of the scan
 event : (g : Over) (c : In-Accepted g) → move_event (g.J.Judge.model c.scan.new.judge) c.args.routes.now.lists c.in-Accepted.mv (c.args.self.now.used + c.in-Accepted.place) ∷ [] ≡ events_after c.args.model.now c.args.routes.now.lists c.args.self.now.used (scan_of c.args.model.now (g.A.Accept.takes c.args.accept.now) c.args.limit c.args.routes.now.lists c.args.self.now.used)
 event g c =
-    ap (λ k. move_event k c.args.routes.now.lists c.in-Accepted.mv (c.args.self.now.used + c.in-Accepted.place) ∷ []) (c.in_ok-ended.ensures.model ∙ c.requires.judge_model) ∙ ap (events_after c.args.model.now c.args.routes.now.lists c.args.self.now.used) (sym (accepted g c).scanned)
+    ap (λ k. move_event k c.args.routes.now.lists c.in-Accepted.mv (c.args.self.now.used + c.in-Accepted.place) ∷ []) (c.in_ok-ended.ensures.keeps.model ∙ c.requires.judge.judge_model) ∙ ap (events_after c.args.model.now c.args.routes.now.lists c.args.self.now.used) (sym (accepted g c).scanned)
+
+-- the judge was asked by the scan alone
+asks : (g : Over) (c : In-Accepted g) (later : g.row.J.Denot) → g.J.Judge.asked later ≡ g.J.Judge.asked c.scan.new.judge → g.J.Judge.looked later ≡ g.J.Judge.looked c.scan.new.judge → (to : ℕ) → c.args.self.now.used + c.in-Accepted.place ≤ to
+    → AsksOn g.J.Judge.asked g.J.Judge.looked c.args.judge.now later c.args.self.now.used to
+asks g c later asked looked to low =
+    let tries = ap (tries_of (c.args.limit.tries - c.args.self.now.used)) c.in-Accepted.is in
+    on_same _ _ _ _ _ (on_by _ _ c.args.self.now.used to _ c.in_ok-ended.ensures.asked (omega (arith, tries, low))) asked looked
 
 pub returns-in_err-ended-clause-told_in_part : goal.returns-in_err-ended-clause-told_in_part
 returns-in_err-ended-clause-told_in_part g c =
     on_err c.from_residual.result (none_behind (λ w. (goal.Watch-dyn g (w.vtable, w.value)).after w.value) _ _ [] _ (told_nothing _ _))
 
-pub returns-in_err-ended-clause-judge_model : goal.returns-in_err-ended-clause-judge_model
-returns-in_err-ended-clause-judge_model g c =
-    c.in_err-ended.ensures.model ∙ c.requires.judge_model
-
-pub returns-in_err-ended-clause-holds : goal.returns-in_err-ended-clause-holds
-returns-in_err-ended-clause-holds g c =
-    subst (λ x. HoldSame c.args.model.now x c.args.routes.now) (sym c.in_err-ended.ensures.committed) c.requires.holds
+pub returns-in_err-ended-clause-judge : goal.returns-in_err-ended-clause-judge
+returns-in_err-ended-clause-judge g c = record {
+  judge_model = c.in_err-ended.ensures.keeps.model ∙ c.requires.judge.judge_model;
+  holds = subst (λ x. HoldSame c.args.model.now x c.args.routes.now) (sym c.in_err-ended.ensures.keeps.committed) c.requires.judge.holds;
+}
 
 pub returns-in_err-ended-clause-asked_at_most : goal.returns-in_err-ended-clause-asked_at_most
 returns-in_err-ended-clause-asked_at_most g c =
-    on_err c.from_residual.result (omega (arith, c.in_err-ended.ensures.asked_at_most, c.requires.used))
-
-pub returns-in_err-ended-clause-looked_at_most : goal.returns-in_err-ended-clause-looked_at_most
-returns-in_err-ended-clause-looked_at_most g c =
-    on_err c.from_residual.result (omega (arith, c.in_err-ended.ensures.looked_at_most, c.requires.used))
+    on_err c.from_residual.result (on_by _ _ _ _ _ c.in_err-ended.ensures.asked_at_most (omega (arith, c.requires.used)))
 
 pub take-requires-clause-well_formed : goal.take-requires-clause-well_formed
 take-requires-clause-well_formed g c =
@@ -105,7 +113,7 @@ take-requires-clause-difference g c =
     let stays = same g (goal.at.take-requires-clause-difference g c).In_ok-ended in
     let made = accepted g (goal.at.take-requires-clause-difference g c).In-Accepted in
     let after = costs_are_bounded c.args.model.now c.requires.well_formed (apply c.args.model.now c.args.routes.now.lists c.in-Accepted.mv) made.valid in
-    let before = costs_are_bounded c.args.model.now c.requires.well_formed c.args.routes.now.lists c.requires.holds.valid in
+    let before = costs_are_bounded c.args.model.now c.requires.well_formed c.args.routes.now.lists c.requires.judge.holds.valid in
     let changes = made.changes in
     let fits : to_z w64 (of_z w64 c.in-Accepted.difference) ≡ c.in-Accepted.difference = omega (arith, ints, changes, after.least, after.greatest, before.least, before.greatest) in
     fits ∙ (changes ∙ ap (λ k. cost_change k c.args.routes.now.lists c.in-Accepted.mv) (sym stays))
@@ -115,15 +123,8 @@ take-requires-clause-tries g c =
     let made = accepted g (goal.at.take-requires-clause-tries g c).In-Accepted in
     omega (arith, made.within, c.requires.tries, c.requires.used)
 
-pub returns-in_err-take-in-Accepted-clause-judge_model : goal.returns-in_err-take-in-Accepted-clause-judge_model
-returns-in_err-take-in-Accepted-clause-judge_model g c =
-    let stays = same g (goal.at.returns-in_err-take-in-Accepted-clause-judge_model g c).In_ok-ended in
-    c.in_err-take-in-Accepted.ensures.model ∙ stays
-
-pub returns-in_err-take-in-Accepted-clause-holds : goal.returns-in_err-take-in-Accepted-clause-holds
-returns-in_err-take-in-Accepted-clause-holds g c =
-    let stays = same g (goal.at.returns-in_err-take-in-Accepted-clause-holds g c).In_ok-ended in
-    subst (λ k. HoldSame k (g.J.Judge.committed c.take.new.judge) c.take.new.routes) stays c.in_err-take-in-Accepted.ensures.holds
+pub returns-in_err-take-in-Accepted-clause-judge : goal.returns-in_err-take-in-Accepted-clause-judge
+returns-in_err-take-in-Accepted-clause-judge g c = taken g (goal.at.returns-in_err-take-in-Accepted-clause-judge g c).In_ok-ended c.take.new.judge c.take.new.routes c.in_err-take-in-Accepted.ensures.model c.in_err-take-in-Accepted.ensures.holds
 
 pub returns-in_err-take-in-Accepted-clause-told_in_part : goal.returns-in_err-take-in-Accepted-clause-told_in_part
 returns-in_err-take-in-Accepted-clause-told_in_part g c =
@@ -132,23 +133,12 @@ returns-in_err-take-in-Accepted-clause-told_in_part g c =
 
 pub returns-in_err-take-in-Accepted-clause-asked_at_most : goal.returns-in_err-take-in-Accepted-clause-asked_at_most
 returns-in_err-take-in-Accepted-clause-asked_at_most g c =
-    let made = accepted g (goal.at.returns-in_err-take-in-Accepted-clause-asked_at_most g c).In-Accepted in
-    on_err c.from_residual-in_err-take-in-Accepted.result (omega (arith, made.within, c.requires.used, c.in_err-take-in-Accepted.ensures.asked, c.in_ok-ended.ensures.asked, ap (tries_of (c.args.limit.tries - c.args.self.now.used)) c.in-Accepted.is))
+    let here = (goal.at.returns-in_err-take-in-Accepted-clause-asked_at_most g c).In-Accepted in
+    let made = accepted g here in
+    on_err c.from_residual-in_err-take-in-Accepted.result (asks g here c.take.new.judge c.in_err-take-in-Accepted.ensures.asked c.in_err-take-in-Accepted.ensures.looked _ (omega (arith, made.within, c.requires.used)))
 
-pub returns-in_err-take-in-Accepted-clause-looked_at_most : goal.returns-in_err-take-in-Accepted-clause-looked_at_most
-returns-in_err-take-in-Accepted-clause-looked_at_most g c =
-    let made = accepted g (goal.at.returns-in_err-take-in-Accepted-clause-looked_at_most g c).In-Accepted in
-    on_err c.from_residual-in_err-take-in-Accepted.result (omega (arith, made.within, c.requires.used, c.in_err-take-in-Accepted.ensures.looked, c.in_ok-ended.ensures.looked, ap (tries_of (c.args.limit.tries - c.args.self.now.used)) c.in-Accepted.is))
-
-pub returns-in_ok-take-in-Accepted-clause-judge_model : goal.returns-in_ok-take-in-Accepted-clause-judge_model
-returns-in_ok-take-in-Accepted-clause-judge_model g c =
-    let stays = same g (goal.at.returns-in_ok-take-in-Accepted-clause-judge_model g c).In_ok-ended in
-    c.in_ok-take-in-Accepted.ensures.model ∙ stays
-
-pub returns-in_ok-take-in-Accepted-clause-holds : goal.returns-in_ok-take-in-Accepted-clause-holds
-returns-in_ok-take-in-Accepted-clause-holds g c =
-    let stays = same g (goal.at.returns-in_ok-take-in-Accepted-clause-holds g c).In_ok-ended in
-    subst (λ k. HoldSame k (g.J.Judge.committed c.take.new.judge) c.take.new.routes) stays c.in_ok-take-in-Accepted.ensures.holds
+pub returns-in_ok-take-in-Accepted-clause-judge : goal.returns-in_ok-take-in-Accepted-clause-judge
+returns-in_ok-take-in-Accepted-clause-judge g c = taken g (goal.at.returns-in_ok-take-in-Accepted-clause-judge g c).In_ok-ended c.take.new.judge c.take.new.routes c.in_ok-take-in-Accepted.ensures.model c.in_ok-take-in-Accepted.ensures.holds
 
 pub returns-in_ok-take-in-Accepted-clause-told : goal.returns-in_ok-take-in-Accepted-clause-told
 returns-in_ok-take-in-Accepted-clause-told g c =
@@ -169,11 +159,7 @@ returns-in_ok-take-in-Accepted-clause-routes g c =
 
 pub returns-in_ok-take-in-Accepted-clause-asked : goal.returns-in_ok-take-in-Accepted-clause-asked
 returns-in_ok-take-in-Accepted-clause-asked g c =
-    omega (arith, c.in_ok-take-in-Accepted.ensures.asked, ap (λ p. p.used) c.in_ok-take-in-Accepted.ensures.progress, c.in_ok-ended.ensures.asked, ap (tries_of (c.args.limit.tries - c.args.self.now.used)) c.in-Accepted.is)
-
-pub returns-in_ok-take-in-Accepted-clause-looked : goal.returns-in_ok-take-in-Accepted-clause-looked
-returns-in_ok-take-in-Accepted-clause-looked g c =
-    omega (arith, c.in_ok-take-in-Accepted.ensures.looked, ap (λ p. p.used) c.in_ok-take-in-Accepted.ensures.progress, c.in_ok-ended.ensures.looked, ap (tries_of (c.args.limit.tries - c.args.self.now.used)) c.in-Accepted.is)
+    asks g (goal.at.returns-in_ok-take-in-Accepted-clause-asked g c).In-Accepted c.take.new.judge c.in_ok-take-in-Accepted.ensures.asked c.in_ok-take-in-Accepted.ensures.looked _ (omega (arith, ap (λ p. p.used) c.in_ok-take-in-Accepted.ensures.progress))
 
 pub overflow_add-self : goal.overflow_add-self
 overflow_add-self g c =
@@ -197,19 +183,10 @@ returns-in-Complete-clause-told g c =
 
 pub returns-in-Complete-clause-asked : goal.returns-in-Complete-clause-asked
 returns-in-Complete-clause-asked g c =
-    omega (arith, c.requires.used, c.in_ok-ended.ensures.asked, ap (tries_of (c.args.limit.tries - c.args.self.now.used)) c.in-Complete.is)
+    on_by _ _ _ _ _ c.in_ok-ended.ensures.asked (omega (arith, ap (tries_of (c.args.limit.tries - c.args.self.now.used)) c.in-Complete.is))
 
-pub returns-in-Complete-clause-looked : goal.returns-in-Complete-clause-looked
-returns-in-Complete-clause-looked g c =
-    omega (arith, c.requires.used, c.in_ok-ended.ensures.looked, ap (tries_of (c.args.limit.tries - c.args.self.now.used)) c.in-Complete.is)
-
-pub returns-in-Complete-clause-judge_model : goal.returns-in-Complete-clause-judge_model
-returns-in-Complete-clause-judge_model g c =
-    same g (goal.at.returns-in-Complete-clause-judge_model g c).In_ok-ended
-
-pub returns-in-Complete-clause-holds : goal.returns-in-Complete-clause-holds
-returns-in-Complete-clause-holds g c =
-    held g (goal.at.returns-in-Complete-clause-holds g c).In_ok-ended
+pub returns-in-Complete-clause-judge : goal.returns-in-Complete-clause-judge
+returns-in-Complete-clause-judge g c = let here = (goal.at.returns-in-Complete-clause-judge g c).In_ok-ended in record { judge_model = same g here; holds = held g here }
 
 pub returns-in-Cut-clause-progress : goal.returns-in-Cut-clause-progress
 returns-in-Cut-clause-progress g c =
@@ -228,26 +205,17 @@ returns-in-Cut-clause-told g c =
 
 pub returns-in-Cut-clause-asked : goal.returns-in-Cut-clause-asked
 returns-in-Cut-clause-asked g c =
-    omega (arith, c.requires.used, c.in_ok-ended.ensures.asked, ap (tries_of (c.args.limit.tries - c.args.self.now.used)) c.in-Cut.is)
+    on_by _ _ _ _ _ c.in_ok-ended.ensures.asked (omega (arith, c.requires.used, ap (tries_of (c.args.limit.tries - c.args.self.now.used)) c.in-Cut.is))
 
-pub returns-in-Cut-clause-looked : goal.returns-in-Cut-clause-looked
-returns-in-Cut-clause-looked g c =
-    omega (arith, c.requires.used, c.in_ok-ended.ensures.looked, ap (tries_of (c.args.limit.tries - c.args.self.now.used)) c.in-Cut.is)
-
-pub returns-in-Cut-clause-judge_model : goal.returns-in-Cut-clause-judge_model
-returns-in-Cut-clause-judge_model g c =
-    same g (goal.at.returns-in-Cut-clause-judge_model g c).In_ok-ended
-
-pub returns-in-Cut-clause-holds : goal.returns-in-Cut-clause-holds
-returns-in-Cut-clause-holds g c =
-    held g (goal.at.returns-in-Cut-clause-holds g c).In_ok-ended
+pub returns-in-Cut-clause-judge : goal.returns-in-Cut-clause-judge
+returns-in-Cut-clause-judge g c = let here = (goal.at.returns-in-Cut-clause-judge g c).In_ok-ended in record { judge_model = same g here; holds = held g here }
 
 pub note-requires : goal.note-requires
 note-requires g c =
     let model = c.args.model.now in
     let lists = c.args.routes.now.lists in
     let made = accepted g (goal.at.note-requires g c).In-Accepted in
-    record { first = row_low model (g.A.Accept.takes c.args.accept.now) lists c.requires.well_formed (few_lists model c.requires.well_formed lists c.requires.holds.valid) c.in-Accepted.mv made.is_one }
+    record { first = row_low model (g.A.Accept.takes c.args.accept.now) lists c.requires.well_formed (few_lists model c.requires.well_formed lists c.requires.judge.holds.valid) c.in-Accepted.mv made.is_one }
 
 pub of-touched-requires : goal.of-touched-requires
 of-touched-requires g c =
@@ -264,12 +232,12 @@ returns-in_ok-take-in-Accepted-clause-known g c =
     let second = c.of-touched.result.second in
     let stays = same g (goal.at.returns-in_ok-take-in-Accepted-clause-known g c).In_ok-ended in
     let made = accepted g (goal.at.returns-in_ok-take-in-Accepted-clause-known g c).In-Accepted in
-    let few = few_lists model c.requires.well_formed lists c.requires.holds.valid in
+    let few = few_lists model c.requires.well_formed lists c.requires.judge.holds.valid in
     let learned = subst (λ ns. (k u w : ℕ) → u < rows_of k → IsTrue (is_known c.note.new.self k u w) → IsTrue (is_known c.args.known.now k u w) ⊎ IsTrue (is_behind ns k u mv)) c.as_slice.ensures c.note.ensures.learned in
     let before = noted model takes lists c.args.known.now c.note.new.self c.in-Accepted.place (c.args.limit.tries - c.args.self.now.used) mv c.requires.well_formed few made.scanned learned c.requires.known in
     let routes_are : c.take.new.routes ≡ moved model c.args.routes.now mv = c.in_ok-take-in-Accepted.ensures.routes ∙ ap (λ k. moved k c.args.routes.now mv) stays in
     let apart = subst (λ r. (m : Move) → IsTrue (is_move model r.lists m) → IsTrue (covers c.change.new.self m) → IsApart model r.lists mv first second m) routes_are c.change.ensures.apart in
-    let after = changed model takes lists mv made.is_one first second c.of-touched.ensures.others c.note.new.self c.change.new.self c.requires.holds.valid made.valid
+    let after = changed model takes lists mv made.is_one first second c.of-touched.ensures.others c.note.new.self c.change.new.self c.requires.judge.holds.valid made.valid
     (λ k u w h. c.requires.stays (c.note.ensures.learns (c.change.ensures.learns (c.change.ensures.known k u w h)))) c.change.ensures.fewer apart before in
     subst (λ r. AreRefused model takes r.lists c.change.new.self) (sym routes_are) after
 
@@ -279,6 +247,6 @@ returns-in-Complete-clause-known g c =
     let takes = g.A.Accept.takes c.args.accept.now in
     let lists = c.args.routes.now.lists in
     let done = tried_all g (goal.at.returns-in-Complete-clause-known g c).In-Complete in
-    let few = few_lists model c.requires.well_formed lists c.requires.holds.valid in
+    let few = few_lists model c.requires.well_formed lists c.requires.judge.holds.valid in
     let learned = subst (λ ns. (k u w : ℕ) → u < rows_of k → IsTrue (is_known c.note_all.new.self k u w) → IsTrue (is_known c.args.known.now k u w) ⊎ IsTrue (is_kind_of ns k)) c.as_slice-in-Complete.ensures c.note_all.ensures.learned in
     noted_all model takes lists c.args.known.now c.note_all.new.self c.in-Complete.length (c.args.limit.tries - c.args.self.now.used) c.requires.well_formed few done.0 learned c.requires.known

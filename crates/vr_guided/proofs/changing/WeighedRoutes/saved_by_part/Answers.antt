@@ -15,16 +15,13 @@ pub returns-clause-most : goal.returns-clause-most
 returns-clause-most c =
     let m = c.args.self.now.on.closed.model.now in
     let p = counted c.args.self.now.on.penalties.now in
-    let v = c.args.v in
     let lists = c.args.self.now.routes.now.lists in
-    let list : List ℕ = route lists v in
-    let pieces = c.args.pieces.now in
-    let behind = c.strip-ends.result.behind in
+    let list : List ℕ = route lists c.args.v in
     let part = c.requires in
     let o = c.old_stretch.ensures in
-    let next = some_next (drop behind list) (vehicle_at m v).end in
-    let saved : (route_weight m p v list -ℤ route_weight m p v (joined lists pieces)) ≤ℤ c.old_stretch.result
-    = subst (λ z. (route_weight m p v list -ℤ route_weight m p v (joined lists pieces)) ≤ℤ z) (sym (o.total next.0 next.1.0 next.1.1))
-    (part_saved m c.args.self.now.on.closed.well_formed p c.args.self.now.on.few v part.of_model lists pieces c.strip-ends.result.middle.now c.strip-ends.result.front behind next.0 next.1.0 c.strip-ends.ensures next.1.1 part.nodes) in
+    let next = some_next (drop c.strip-ends.result.behind list) (vehicle_at m c.args.v).end in
+    let saved : (route_weight m p c.args.v list -ℤ route_weight m p c.args.v (joined lists c.args.pieces.now)) ≤ℤ c.old_stretch.result
+    = subst (λ z. (route_weight m p c.args.v list -ℤ route_weight m p c.args.v (joined lists c.args.pieces.now)) ≤ℤ z) (sym (o.total next.0 next.1.0 next.1.1))
+    (part_saved m c.args.self.now.on.closed.well_formed p c.args.self.now.on.few c.args.v part.of_model lists c.args.pieces.now c.strip-ends.result.middle.now c.strip-ends.result.front c.strip-ends.result.behind next.0 next.1.0 c.strip-ends.ensures next.1.1 part.nodes) in
     let same : to_z w128 (of_z w128 c.old_stretch.result) ≡ c.old_stretch.result = omega (arith, ints, o.low, o.high) in
-    subst (λ z. (route_weight m p v list -ℤ route_weight m p v (joined lists pieces)) ≤ℤ z) (sym same) saved
+    subst (λ z. (route_weight m p c.args.v list -ℤ route_weight m p c.args.v (joined lists c.args.pieces.now)) ≤ℤ z) (sym same) saved

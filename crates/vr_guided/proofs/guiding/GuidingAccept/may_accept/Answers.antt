@@ -13,10 +13,10 @@ use Rattle.vr_guided.proofs.guiding.GuidingAccept.may_accept.Goals as goal
 told : (before after saved : ℤ) → (before -ℤ after) ≤ℤ saved → pos 0 ≤ℤ ((after -ℤ before) +ℤ saved)
 told before after saved most = omega (arith, ints, most)
 
-pub invariant_of-weighed-2 : goal.invariant_of-weighed-2
-invariant_of-weighed-2 c = record {
+pub invariant_of-weighed : goal.invariant_of-weighed
+invariant_of-weighed c = record {
   parts = c.requires.change.parts_are;
-  after = lists_after c.args.self.now.weights.closed.model.now c.args.self.now.weights.closed.well_formed c.args.routes.now.lists c.args._mv c.requires.valid c.requires.mv c.requires.change;
+  after = lists_after c.args.self.now.weights.closed.model.now c.args.self.now.weights.closed.well_formed c.args.routes.now.lists c.args._mv c.requires.asks.valid c.requires.asks.is_one c.requires.change;
 }
 
 pub returns-then-is_no_gain : goal.returns-then-is_no_gain

@@ -17,10 +17,7 @@ pub list-requires : goal.list-requires
 list-requires c = record { vehicle = has_list c.args.closed.model.now c.args.routes.now.lists c.requires.valid c.loop-vehicle-test.true c.len-vehicle-end.ensures }
 
 pub invariant_of-list : goal.invariant_of-list
-invariant_of-list c = record {
-  there = omega (arith, c.loop-vehicle-test.true, c.len-vehicle-end.ensures);
-  few = few_nodes c.args.closed.model.now c.args.routes.now.lists c.requires.valid c.args.closed.well_formed c.loop-vehicle.vehicle c.list.ensures.value;
-}
+invariant_of-list c = record { there = omega (arith, c.loop-vehicle-test.true, c.len-vehicle-end.ensures); few = few_nodes c.args.closed.model.now c.args.routes.now.lists c.requires.valid c.args.closed.well_formed c.loop-vehicle.vehicle c.list.ensures.value }
 
 pub loop-vehicle-preserved : goal.loop-vehicle-preserved
 loop-vehicle-preserved c =

@@ -17,8 +17,8 @@ loop-node-init c =
     let start = (vehicle_at arcs.on.closed.model.now arcs.vehicle).start in
     record {
       sums = subst (AreArcSums f arcs.vehicle start []) (sym c.begin.ensures) (sums-begin f arcs.vehicle start);
-      at = c.start-at.ensures.value;
-      below = c.start-at.ensures.below;
+      at = c.ends-ends.ensures.start;
+      below = c.ends-ends.ensures.start_below;
     }
 
 pub loop-node-preserved : goal.loop-node-preserved
@@ -51,7 +51,7 @@ returns c =
     let w_low = c.weight_by-2.ensures.range.at_least in
     let w_high = c.weight_by-2.ensures.range.at_most in
     let same : to_z w128 (of_z w128 c.weight_by-2.result) ≡ c.weight_by-2.result = omega (arith, ints, w_low, w_high) in
-    let weight = same ∙ (c.weight_by-2.ensures.value ∙ ap₂ (λ x y. f (record { vehicle = arcs.vehicle; origin = x; target = y })) inv.at c.end.ensures.value) in
+    let weight = same ∙ (c.weight_by-2.ensures.value ∙ ap₂ (λ x y. f (record { vehicle = arcs.vehicle; origin = x; target = y })) inv.at c.ends-ends.ensures.end) in
     let all : take c.loop-node.node-index list ≡ list = take_all c.loop-node.node-index list (let last = c.loop-node.auto.node-index-end in omega (arith, last, c.loop-node-test.false)) in
     let whole = sums-push f arcs.vehicle ends.start (take c.loop-node.node-index list) ends.end c.loop-node.self c.add-2.new.self _ inv.sums weight c.add-2.ensures in
     subst (λ xs. AreArcSums f arcs.vehicle ends.start (xs ++ ends.end ∷ []) c.add-2.new.self) all whole

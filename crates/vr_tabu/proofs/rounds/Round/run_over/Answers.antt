@@ -7,7 +7,9 @@ use Rattle.vr_model.specs.moves.Moves.{moves}
 use Rattle.vr_tabu.specs.Rounds.{tries_of}
 use Rattle.vr_tabu.specs.Tabus.{tabus_of}
 use Rattle.vr_model.proofs.tables.Refusals.{on_err}
-use Rattle.vr_descent.proofs.PassedLemmas.{at_or_behind, looks_few}
+use Rattle.vr_descent.specs.Asking.{AsksFor}
+use Rattle.vr_descent.proofs.AskingLemmas.{asks_all, asks_as, asks_none, asks_so_far, asks_tried, keeps_then}
+use Rattle.vr_descent.proofs.PassedLemmas.{at_or_behind}
 use Rattle.vr_descent.proofs.ScanLemmas.{all_moves}
 use Rattle.vr_tabu.proofs.RoundLemmas.{IsLeft, all_tried, at_most, best_of, cut_off, exact, one_more, one_tried, pass_over, tries_end}
 use Rattle.vr_tabu.proofs.rounds.Round.run_over.Given.{Over}
@@ -40,18 +42,14 @@ counted g c under = let counts = (before g c).counts in counts ∙ exact (before
 counted_at_end : (g : Over) (c : In_default g) → c.next_open.new.length ≤ 1000000000 → c.next_open.new.length ≡ (at_end g c).at
 counted_at_end g c under = let counts = (at_end g c).counts in counts ∙ exact (at_end g c).at (omega (arith, counts, under))
 
--- the judge is asked what moves make at least no more often than there are tries
-looks : (g : Over) (c : In-Some g) → (g.J.Judge.looked c.next_open.new.judge + c.loop-mv.length ≤ g.J.Judge.looked c.loop-mv.judge + (c.next_open.new.length + 1)) × (g.J.Judge.looked c.next_open.new.judge + c.loop-mv.length ≤ g.J.Judge.looked c.loop-mv.judge + c.args.rest)
-looks g c =
-    looks_few c.args.rest (g.J.Judge.looked c.loop-mv.judge) (g.J.Judge.looked c.next_open.new.judge) c.loop-mv.length (c.next_open.new.length + 1) (fits c.args.rest c.requires.rest) c.loop-mv.invariant.within c.in-Some.ensures.looked
-
-looks_at_end : (g : Over) (c : In_default g) → (g.J.Judge.looked c.next_open.new.judge + c.loop-mv.length ≤ g.J.Judge.looked c.loop-mv.judge + (c.next_open.new.length + 0)) × (g.J.Judge.looked c.next_open.new.judge + c.loop-mv.length ≤ g.J.Judge.looked c.loop-mv.judge + c.args.rest)
-looks_at_end g c =
-    looks_few c.args.rest (g.J.Judge.looked c.loop-mv.judge) (g.J.Judge.looked c.next_open.new.judge) c.loop-mv.length (c.next_open.new.length + 0) (fits c.args.rest c.requires.rest) c.loop-mv.invariant.within c.in_default.ensures.looked
-
 -- tries are counted on
 further : (g : Over) (c : In-Some g) → c.loop-mv.length ≤ c.next_open.new.length
 further g c = at_or_behind c.args.rest c.loop-mv.length c.next_open.new.length _ c.in-Some.ensures.takes.passes.counts (fits c.args.rest c.requires.rest) c.loop-mv.invariant.within
+
+-- how often the judge was asked by then, where a move was tried
+asks : (g : Over) (c : In-Some g) → (later : g.row.J.Denot) (to : ℕ) → g.J.Judge.asked later ≤ g.J.Judge.asked c.next_open.new.judge + 1 → g.J.Judge.looked later ≤ g.J.Judge.looked c.next_open.new.judge + 2 → c.next_open.new.length + 1 ≤ to → suc c.loop-mv.length ≤ to
+    → AsksFor g.J.Judge.asked g.J.Judge.looked c.args.judge.now later to
+asks g c = asks_tried c.args.rest _ _ _ c.loop-mv.length c.next_open.new.length 1 (fits c.args.rest c.requires.rest) c.loop-mv.invariant.within c.loop-mv.invariant.asked c.in-Some.ensures.asked c.in-Some.ensures.looked
 
 pub loop-mv-init : goal.loop-mv-init
 loop-mv-init g c =
@@ -59,10 +57,8 @@ loop-mv-init g c =
     let lists = c.args.self.now.routes.now.lists in
     let list = c.requires.list in
     record {
-      model = refl;
-      committed = refl;
-      asked = omega arith;
-      looked = omega arith;
+      keeps = record { model = refl; committed = refl };
+      asked = asks_none _;
       within = omega arith;
       counted = (let same = ap length list in omega (arith, same));
       moves = ap (list_all (is_move model lists)) list ∙ all_moves model lists;
@@ -89,16 +85,12 @@ loop-mv-preserved g c =
     let t = c.in-Some.ensures.takes in
     let here = (goal.at.loop-mv-preserved g c).In-Some in
     let is = before g here in
-    let from = is.from in
     let under = c.if-length-rest.false in
     let at = counted g here (omega (arith, under, c.requires.rest)) in
-    let looked = (looks g here).0 in
-    let same = c.in-Some.ensures.asked in
+    let more = further g here in
     record {
-      model = e.model ∙ (c.in-Some.ensures.model ∙ i.model);
-      committed = e.committed ∙ (c.in-Some.ensures.committed ∙ i.committed);
-      asked = omega (arith, e.asked, same, i.asked, from, at);
-      looked = omega (arith, e.looked, looked, i.looked, from, at);
+      keeps = keeps_then _ _ _ i.keeps (record { model = e.model ∙ c.in-Some.ensures.model; committed = e.committed ∙ c.in-Some.ensures.committed });
+      asked = asks g here c.try_move.new.judge (c.next_open.new.length + 1) e.asked e.looked (omega arith) (omega (arith, more));
       within = omega (arith, under);
       counted = one_more c.next_open.new.length (length c.next_open.new.list) (length (moves c.args.self.now.model.now c.args.self.now.routes.now.lists)) (ap (λ n. n + suc (length c.next_open.new.list)) at ∙ (ap (λ ms. is.at + length ms) (sym t.first) ∙ is.sum));
       moves = and_right (is_move c.args.self.now.model.now c.args.self.now.routes.now.lists c.in-Some.mv) (list_all (is_move c.args.self.now.model.now c.args.self.now.routes.now.lists) c.next_open.new.list) (ap (list_all (is_move c.args.self.now.model.now c.args.self.now.routes.now.lists)) (sym t.first) ∙ is.moves);
@@ -127,47 +119,22 @@ returns-clause-ends g c =
 
 pub returns-clause-asked : goal.returns-clause-asked
 returns-clause-asked g c =
-    let here = (goal.at.returns-clause-asked g c).In_default in
-    let from = (at_end g here).from in
-    let at = counted_at_end g here (omega (arith, c.if-length-rest-2.false, c.requires.rest)) in
-    let tries = all_tries g (goal.at.returns-clause-asked g c).After-end_of in
-    omega (arith, c.loop-mv.invariant.asked, c.in_default.ensures.asked, from, at, tries)
-
-pub returns-clause-looked : goal.returns-clause-looked
-returns-clause-looked g c =
-    let here = (goal.at.returns-clause-looked g c).In_default in
-    let from = (at_end g here).from in
-    let at = counted_at_end g here (omega (arith, c.if-length-rest-2.false, c.requires.rest)) in
-    let looked = (looks_at_end g here).0 in
-    let tries = all_tries g (goal.at.returns-clause-looked g c).After-end_of in
-    omega (arith, c.loop-mv.invariant.looked, looked, from, at, tries)
+    let at = goal.at.returns-clause-asked g c in
+    let from = (at_end g at.In_default).from in
+    let exact = counted_at_end g at.In_default (omega (arith, c.if-length-rest-2.false, c.requires.rest)) in
+    asks_as _ _ _ _ (all_tries g at.After-end_of)
+    (asks_so_far c.args.rest _ _ _ c.loop-mv.length c.next_open.new.length 0 (fits c.args.rest c.requires.rest) c.loop-mv.invariant.within c.loop-mv.invariant.asked c.in_default.ensures.asked c.in_default.ensures.looked c.next_open.new.length (omega arith) (omega (arith, from, exact)))
 
 pub returns-then-length-rest-clause-asked : goal.returns-then-length-rest-clause-asked
 returns-then-length-rest-clause-asked g c =
-    omega (arith, c.loop-mv.invariant.asked, c.loop-mv.invariant.within, c.in-Some.ensures.asked)
-
-pub returns-then-length-rest-clause-looked : goal.returns-then-length-rest-clause-looked
-returns-then-length-rest-clause-looked g c =
-    let looked = (looks g (goal.at.returns-then-length-rest-clause-looked g c).In-Some).1 in
-    omega (arith, c.loop-mv.invariant.looked, c.loop-mv.invariant.within, looked)
+    asks_all c.args.rest _ _ _ c.loop-mv.length c.next_open.new.length 1 (fits c.args.rest c.requires.rest) c.loop-mv.invariant.within c.loop-mv.invariant.asked c.in-Some.ensures.asked c.in-Some.ensures.looked
 
 pub returns-in_err-best-clause-asked_at_most : goal.returns-in_err-best-clause-asked_at_most
 returns-in_err-best-clause-asked_at_most g c =
-    let more = further g (goal.at.returns-in_err-best-clause-asked_at_most g c).In-Some in
-    on_err c.from_residual.result (omega (arith, c.loop-mv.invariant.asked, c.in-Some.ensures.asked, c.try_move.ensures.asked, more, c.if-length-rest.false))
-
-pub returns-in_err-best-clause-looked_at_most : goal.returns-in_err-best-clause-looked_at_most
-returns-in_err-best-clause-looked_at_most g c =
-    let here = (goal.at.returns-in_err-best-clause-looked_at_most g c).In-Some in
+    let here = (goal.at.returns-in_err-best-clause-asked_at_most g c).In-Some in
     let more = further g here in
-    let looked = (looks g here).0 in
-    on_err c.from_residual.result (omega (arith, c.loop-mv.invariant.looked, looked, c.try_move.ensures.looked, more, c.if-length-rest.false))
+    on_err c.from_residual.result (asks g here c.try_move.new.judge c.args.rest c.try_move.ensures.asked c.try_move.ensures.looked (omega (arith, c.if-length-rest.false)) (omega (arith, more, c.if-length-rest.false)))
 
 pub returns-then-length-rest-2-clause-asked : goal.returns-then-length-rest-2-clause-asked
 returns-then-length-rest-2-clause-asked g c =
-    omega (arith, c.loop-mv.invariant.asked, c.loop-mv.invariant.within, c.in_default.ensures.asked)
-
-pub returns-then-length-rest-2-clause-looked : goal.returns-then-length-rest-2-clause-looked
-returns-then-length-rest-2-clause-looked g c =
-    let looked = (looks_at_end g (goal.at.returns-then-length-rest-2-clause-looked g c).In_default).1 in
-    omega (arith, c.loop-mv.invariant.looked, c.loop-mv.invariant.within, looked)
+    asks_all c.args.rest _ _ _ c.loop-mv.length c.next_open.new.length 0 (fits c.args.rest c.requires.rest) c.loop-mv.invariant.within c.loop-mv.invariant.asked c.in_default.ensures.asked c.in_default.ensures.looked

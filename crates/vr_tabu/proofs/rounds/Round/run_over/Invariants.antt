@@ -1,10 +1,11 @@
-use Rattle.std.proofs.Common.{◌≡◌, ◌≤◌, ◌+◌, ◌*◌, length, true, [], ◌∷◌}
+use Rattle.std.proofs.Common.{◌≡◌, ◌≤◌, ◌+◌, length, true, [], ◌∷◌}
 use Rattle.std.specs.Prelude.{IfSome, filter, fold}
 use Rattle.std.specs.List.{list_all}
 use Rattle.vr_model.specs.first.Choosing.{better}
 use Rattle.vr_model.specs.moves.Moves.{apply, moves}
 use Rattle.vr_model.specs.moves.MoveTests.{is_move}
 use Rattle.vr_model.specs.routes.Costs.{cost}
+use Rattle.vr_descent.specs.Asking.{AsksFor, Keeps}
 use Rattle.vr_tabu.specs.Rounds.{IsKnown, move_of}
 use Rattle.vr_tabu.specs.Tabus.{tabus_of}
 use Rattle.vr_tabu.specs.TabuSearches.{is_candidate, least_candidate}
@@ -13,10 +14,8 @@ use Rattle.vr_tabu.proofs.rounds.Round.run_over.Given as goal
 -- the least candidate is the best of the moves that are left and the best candidate so far
 abbrev pub invariant-loop-mv : goal.invariant-loop-mv
 invariant-loop-mv g l = record {
-  model : g.J.Judge.model l.judge ≡ g.J.Judge.model l.initial.judge;
-  committed : g.J.Judge.committed l.judge ≡ g.J.Judge.committed l.initial.judge;
-  asked : g.J.Judge.asked l.judge ≤ g.J.Judge.asked l.initial.judge + l.length;
-  looked : g.J.Judge.looked l.judge ≤ g.J.Judge.looked l.initial.judge + 3 * l.length;
+  keeps : Keeps g.J.Judge.model g.J.Judge.committed l.initial.judge l.judge;
+  asked : AsksFor g.J.Judge.asked g.J.Judge.looked l.initial.judge l.judge l.length;
   within : l.length ≤ l.rest;
   counted : l.length + length l.list ≡ length (moves l.self.model.now l.self.routes.now.lists);
   moves : list_all (is_move l.self.model.now l.self.routes.now.lists) l.list ≡ true;

@@ -1,4 +1,4 @@
-use Rattle.std.proofs.Common.{◌≡◌, ◌∙◌, ◌+◌, ◌-◌, [], ◌∷◌, refl, sym, ap, subst}
+use Rattle.std.proofs.Common.{◌≡◌, ◌∙◌, ◌+◌, ◌-◌, [], ◌∷◌, refl, sym, ap, subst, arith}
 use Rattle.vr_model.specs.moves.Moves.{apply}
 use Rattle.vr_model.specs.routes.Costs.{cost}
 use Rattle.vr_model.specs.search.Outcomes.{cheaper}
@@ -6,9 +6,11 @@ use Rattle.vr_model.proofs.tables.Refusals.{on_err}
 use Rattle.vr_model.proofs.tables.Tests.{apart}
 use Rattle.vr_descent.specs.Incumbents.{kept}
 use Rattle.vr_descent.specs.Searching.{after_move, move_event}
+use Rattle.vr_descent.proofs.AskingLemmas.{on_by, on_same}
 use Rattle.vr_descent.proofs.IncumbentLemmas.{kept_lists}
 use Rattle.vr_watch.specs.Told.{Told, ToldInPart}
 use Rattle.vr_watch.proofs.ToldLemmas.{none_behind, told_nothing}
+use Rattle.vr_tabu.specs.Rounds.{tries_of}
 use Rattle.vr_tabu.specs.Standing.{next_of}
 use Rattle.vr_tabu.specs.Tabus.{tabus_of}
 use Rattle.vr_tabu.specs.TabuSearches.Round.{Best}
@@ -74,3 +76,30 @@ returns-in-Stuck-clause-outcome g c =
 pub returns-in-Cut-clause-outcome : goal.returns-in-Cut-clause-outcome
 returns-in-Cut-clause-outcome g c =
     after_cut c.args.closed.model.now c.args.bounds c.args.routes.now.lists c.args.self.now (apart c.args.self.now.at.found c.args.bounds.limit.solutions c.requires.more) (of_cut c.args.closed.model.now c.args.routes.now.lists (next_of c.args.closed.model.now c.args.bounds c.args.routes.now.lists c.args.self.now) (sym c.in-Cut.is ∙ c.in_ok-ended.ensures.ends)) c.requires.stands.going.used
+
+-- ---- how often the judge was asked
+
+pub returns-in_err-ended-clause-asked_at_most : goal.returns-in_err-ended-clause-asked_at_most
+returns-in_err-ended-clause-asked_at_most g c =
+    on_err c.from_residual.result (on_by _ _ _ _ _ c.in_err-ended.ensures.asked_at_most (omega (arith, c.requires.stands.going.used)))
+
+pub returns-in_err-take-in-Best-clause-asked_at_most : goal.returns-in_err-take-in-Best-clause-asked_at_most
+returns-in_err-take-in-Best-clause-asked_at_most g c =
+    let within = (least g (goal.at.returns-in_err-take-in-Best-clause-asked_at_most g c).In-Best).within in
+    let tries = ap (tries_of (c.args.bounds.limit.tries - c.args.self.now.at.used)) c.in-Best.is in
+    on_err c.from_residual-in_err-take-in-Best.result (on_same _ _ _ _ _ (on_by _ _ _ _ _ c.in_ok-ended.ensures.asked (omega (arith, tries, within, c.requires.stands.going.used))) c.in_err-take-in-Best.ensures.asked c.in_err-take-in-Best.ensures.looked)
+
+pub returns-in_ok-take-in-Best-clause-asked : goal.returns-in_ok-take-in-Best-clause-asked
+returns-in_ok-take-in-Best-clause-asked g c =
+    let taken = c.in_ok-take-in-Best.ensures in
+    let tries = ap (tries_of (c.args.bounds.limit.tries - c.args.self.now.at.used)) c.in-Best.is in
+    let used = ap (λ p. p.used) (taken.at ∙ ap (after_move c.args.closed.model.now c.args.routes.now.lists c.in-Best.candidate.mv c.in-Best.length) c.forbid.ensures.at) in
+    on_same _ _ _ _ _ (on_by _ _ _ _ _ c.in_ok-ended.ensures.asked (omega (arith, tries, used))) taken.asked taken.looked
+
+pub returns-in-Stuck-clause-asked : goal.returns-in-Stuck-clause-asked
+returns-in-Stuck-clause-asked g c =
+    on_by _ _ _ _ _ c.in_ok-ended.ensures.asked (omega (arith, ap (tries_of (c.args.bounds.limit.tries - c.args.self.now.at.used)) c.in-Stuck.is))
+
+pub returns-in-Cut-clause-asked : goal.returns-in-Cut-clause-asked
+returns-in-Cut-clause-asked g c =
+    on_by _ _ _ _ _ c.in_ok-ended.ensures.asked (omega (arith, c.requires.stands.going.used, ap (tries_of (c.args.bounds.limit.tries - c.args.self.now.at.used)) c.in-Cut.is))

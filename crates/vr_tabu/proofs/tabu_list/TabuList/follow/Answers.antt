@@ -6,41 +6,33 @@ use Rattle.vr_model.specs.tables.Numbers.{from_to}
 use Rattle.vr_model.proofs.tables.Ranges.{first_left, none_left}
 use Rattle.vr_routes.specs.Pieces.{changed, joined, part_at}
 use Rattle.vr_tabu.specs.Changed.{is_changed}
-use Rattle.vr_tabu.specs.Parts.{IsListChange, changes}
+use Rattle.vr_tabu.specs.Parts.{OldAndNew, change_of, changes}
 use Rattle.vr_tabu.specs.Tabus.{until_at}
-use Rattle.vr_tabu.proofs.ChangedLemmas.{change_of, changed_by_parts}
+use Rattle.vr_tabu.proofs.ChangedLemmas.{changed_by_parts}
 use Rattle.vr_tabu.proofs.ForbidLemmas.{part_step}
-use Rattle.vr_tabu.proofs.PartFacts.{list_change, new_below, new_below_room, old_below, seen_as}
+use Rattle.vr_tabu.proofs.PartFacts.{new_below, new_below_room, old_below}
 use Rattle.vr_tabu.proofs.tabu_list.TabuList.follow.Goals as goal
 
 pub write-requires-clause-visits : goal.write-requires-clause-visits
 write-requires-clause-visits c =
-    let low : c.loop-k.k < length c.args.lists.change.now = omega (arith, c.loop-k-test.true, c.parts-k-end.ensures.value) in
-    new_below_room c.args.lists.closed.model.now c.args.lists.routes.now.lists c.args.lists.change.now c.requires.made.makes.parts_are c.args.lists.before c.args.lists.after c.args.lists.closed.well_formed c.loop-k.k low
-
-pub invariant_of-list : goal.invariant_of-list
-invariant_of-list c =
-    let low : c.loop-k.k < length c.args.lists.change.now = omega (arith, c.loop-k-test.true, c.parts-k-end.ensures.value) in
-    let lists = c.args.lists.routes.now.lists in
-    subst (λ new. IsListChange lists c.vehicle-vehicle.result new) (sym c.write.ensures)
-    (subst (λ v. IsListChange lists v (joined lists (part_at c.args.lists.change.now c.loop-k.k).pieces)) (sym c.vehicle-vehicle.ensures)
-    (list_change c.args.lists.closed.model.now lists c.args.lists.change.now c.requires.made.makes.parts_are c.args.lists.before c.args.lists.after c.args.lists.closed.well_formed c.loop-k.k low))
+    new_below_room c.args.lists.closed.model.now c.args.lists.routes.now.lists c.args.lists.change.now c.requires.made.makes.parts_are c.args.lists.before c.args.lists.after c.args.lists.closed.well_formed c.loop-k.k (omega (arith, c.loop-k-test.true, c.parts-k-end.ensures.value))
 
 pub forbid-requires-clause-old_visits : goal.forbid-requires-clause-old_visits
 forbid-requires-clause-old_visits c =
     let lists = c.args.lists.routes.now.lists in
     let room : length c.loop-k.self.until.items ≡ c.args.lists.closed.model.now.nodes = c.loop-k.invariant.covers ∙ c.requires.covers in
-    subst (λ n. All (λ visit. visit < n) (route lists c.vehicle-vehicle.result)) (sym room)
-    (subst (λ v. All (λ visit. visit < c.args.lists.closed.model.now.nodes) (route lists v)) (sym c.vehicle-vehicle.ensures)
+    subst (λ (list : OldAndNew). All (λ visit. visit < length c.loop-k.self.until.items) list.old) (sym c.list_change-list.ensures)
+    (subst (λ n. All (λ visit. visit < n) (route lists (part_at c.args.lists.change.now c.loop-k.k).vehicle)) (sym room)
     (old_below c.args.lists.closed.model.now lists c.args.lists.change.now c.requires.made.makes.parts_are c.args.lists.before c.args.lists.after c.args.lists.closed.well_formed c.loop-k.k))
 
 pub forbid-requires-clause-new_visits : goal.forbid-requires-clause-new_visits
 forbid-requires-clause-new_visits c =
+    let lists = c.args.lists.routes.now.lists in
     let low : c.loop-k.k < length c.args.lists.change.now = omega (arith, c.loop-k-test.true, c.parts-k-end.ensures.value) in
     let room : length c.loop-k.self.until.items ≡ c.args.lists.closed.model.now.nodes = c.loop-k.invariant.covers ∙ c.requires.covers in
-    subst (λ n. All (λ visit. visit < n) c.write.new.self) (sym room)
-    (subst (λ list. All (λ visit. visit < c.args.lists.closed.model.now.nodes) list) (sym c.write.ensures)
-    (new_below c.args.lists.closed.model.now c.args.lists.routes.now.lists c.args.lists.change.now c.requires.made.makes.parts_are c.args.lists.before c.args.lists.after c.args.lists.closed.well_formed c.loop-k.k low))
+    subst (λ (list : OldAndNew). All (λ visit. visit < length c.loop-k.self.until.items) list.new) (sym c.list_change-list.ensures)
+    (subst (λ n. All (λ visit. visit < n) (joined lists (part_at c.args.lists.change.now c.loop-k.k).pieces)) (sym room)
+    (new_below c.args.lists.closed.model.now lists c.args.lists.change.now c.requires.made.makes.parts_are c.args.lists.before c.args.lists.after c.args.lists.closed.well_formed c.loop-k.k low))
 
 pub loop-k-preserved : goal.loop-k-preserved
 loop-k-preserved c =
@@ -49,7 +41,7 @@ loop-k-preserved c =
     let lists = c.args.lists.routes.now.lists in
     let parts = c.args.lists.change.now in
     let k = c.loop-k.k in
-    let seen = seen_as model lists parts k c.start_of.result c.vehicle-vehicle.result c.write.new.self c.vehicle-vehicle.ensures c.start_of.ensures c.write.ensures in
+    let seen = c.list_change-list.ensures in
     let until = (c.args.self.now.round + 1) + c.args.tenure in
     record {
       round = c.forbid.ensures.round ∙ c.loop-k.invariant.round;

@@ -1,9 +1,8 @@
 use Rattle.std.proofs.Common.{◌≡◌, ℕ, cond, length}
 use Rattle.std.specs.List.{list_any}
 use Rattle.vr_model.specs.tables.Numbers.{below, from_to}
-use Rattle.vr_tabu.specs.Parts.{changes}
+use Rattle.vr_tabu.specs.Parts.{change_of, changes}
 use Rattle.vr_tabu.specs.Tabus.{until_at}
-use Rattle.vr_tabu.proofs.ChangedLemmas.{change_of}
 use Rattle.vr_tabu.proofs.tabu_list.TabuList.follow.Given as goal
 
 -- what is left is the whole

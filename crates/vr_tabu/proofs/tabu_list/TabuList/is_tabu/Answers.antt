@@ -1,31 +1,17 @@
-use Rattle.std.proofs.Common.{◌≡◌, ◌∙◌, ◌<◌, ◌≤◌, Bool, length, ap, subst, sym, true, false, arith}
+use Rattle.std.proofs.Common.{◌≡◌, ◌∙◌, ◌≤◌, Bool, length, ap, sym, true, false, arith}
 use Rattle.vr_model.proofs.tables.Ranges.{test_ends, test_finds, test_goes_on}
-use Rattle.vr_routes.specs.Pieces.{joined, part_at}
-use Rattle.vr_tabu.specs.Parts.{IsListChange, frees}
+use Rattle.vr_tabu.specs.Parts.{change_of, frees}
 use Rattle.vr_tabu.specs.Tabus.{tabus_of}
-use Rattle.vr_tabu.proofs.ChangedLemmas.{change_of}
-use Rattle.vr_tabu.proofs.PartFacts.{free_found, list_change, new_below_room, none_found, seen_as}
+use Rattle.vr_tabu.proofs.PartFacts.{free_found, new_below_room, none_found}
 use Rattle.vr_tabu.proofs.tabu_list.TabuList.is_tabu.Goals.{After-frees}
 use Rattle.vr_tabu.proofs.tabu_list.TabuList.is_tabu.Goals as goal
 
 -- whether the list of this part frees
 freed : (c : After-frees) (b : Bool) → c.frees.result ≡ b → frees (tabus_of c.args.self.now) (change_of c.args.lists.closed.model.now c.args.lists.routes.now.lists c.args.lists.change.now c.loop-k.k) ≡ b
-freed c b is =
-    let seen = seen_as c.args.lists.closed.model.now c.args.lists.routes.now.lists c.args.lists.change.now c.loop-k.k c.start_of.result c.vehicle-vehicle.result c.write.new.self c.vehicle-vehicle.ensures c.start_of.ensures c.write.ensures in
-    ap (frees (tabus_of c.args.self.now)) (sym seen) ∙ (sym c.frees.ensures ∙ is)
+freed c b is = ap (frees (tabus_of c.args.self.now)) (sym c.list_change-list.ensures) ∙ (sym c.frees.ensures ∙ is)
 
 pub write-requires-clause-visits : goal.write-requires-clause-visits
-write-requires-clause-visits c =
-    let low : c.loop-k.k < length c.args.lists.change.now = omega (arith, c.loop-k-test.true, c.parts-k-end.ensures.value) in
-    new_below_room c.args.lists.closed.model.now c.args.lists.routes.now.lists c.args.lists.change.now c.requires.made.makes.parts_are c.args.lists.before c.args.lists.after c.args.lists.closed.well_formed c.loop-k.k low
-
-pub invariant_of-list : goal.invariant_of-list
-invariant_of-list c =
-    let low : c.loop-k.k < length c.args.lists.change.now = omega (arith, c.loop-k-test.true, c.parts-k-end.ensures.value) in
-    let lists = c.args.lists.routes.now.lists in
-    subst (λ new. IsListChange lists c.vehicle-vehicle.result new) (sym c.write.ensures)
-    (subst (λ v. IsListChange lists v (joined lists (part_at c.args.lists.change.now c.loop-k.k).pieces)) (sym c.vehicle-vehicle.ensures)
-    (list_change c.args.lists.closed.model.now lists c.args.lists.change.now c.requires.made.makes.parts_are c.args.lists.before c.args.lists.after c.args.lists.closed.well_formed c.loop-k.k low))
+write-requires-clause-visits c = new_below_room c.args.lists.closed.model.now c.args.lists.routes.now.lists c.args.lists.change.now c.requires.made.makes.parts_are c.args.lists.before c.args.lists.after c.args.lists.closed.well_formed c.loop-k.k (omega (arith, c.loop-k-test.true, c.parts-k-end.ensures.value))
 
 pub returns-then-frees : goal.returns-then-frees
 returns-then-frees c =

@@ -1,9 +1,8 @@
 use Rattle.std.proofs.Common.{◌≡◌, length}
 use Rattle.std.specs.List.{list_any}
 use Rattle.vr_model.specs.tables.Numbers.{below, from_to}
-use Rattle.vr_tabu.specs.Parts.{frees}
+use Rattle.vr_tabu.specs.Parts.{change_of, frees}
 use Rattle.vr_tabu.specs.Tabus.{tabus_of}
-use Rattle.vr_tabu.proofs.ChangedLemmas.{change_of}
 use Rattle.vr_tabu.proofs.tabu_list.TabuList.is_tabu.Given as goal
 
 -- the parts so far free no visit
