@@ -10,17 +10,18 @@ use Rattle.vr_model.specs.first.FirstSolutions.{first_lists}
 use Rattle.vr_app.specs.Causes.{HasFault, IsNotJson, IsReadAs, IsRefused, IsTooLong}
 use Rattle.vr_app.specs.Found.{found_from}
 use Rattle.vr_app.specs.Input.{max_input, model_of, value_of}
-use Rattle.vr_app.specs.Reply.{reply, reply_in, reply_to_found, reply_to_input, reply_to_model, reply_to_value}
+use Rattle.vr_app.specs.Reply.{reply, reply_in, reply_to_found, reply_to_input, reply_to_model, reply_to_tree, reply_to_value}
 use Rattle.vr_app.specs.Runs.{IsSolved}
 use Rattle.vr_app.specs.Texts.{refused_tree}
 use Rattle.vr_app.specs.declared.words.Mode.{Mode}
 use Rattle.vr_app.specs.declared.words.Request.{Request}
+use Rattle.vr_app.specs.declared.words.Task.{Task}
 use Rattle.vr_app.specs.declared.words.Task.TheVariants as task
 use Rattle.vr_app.proofs.InputLemmas.{of_input, reply-short}
 
 -- which inputs have this status, where their values are read so: 0 where what is read has one property, another number
 -- where it has the other
-pub record Tells {A : Type 0} (read : Data → Result A Fault) (other : ℕ) (P Q : A → Type 0) (bytes : List ℕ) (status : ℕ) : Type 0 where
+pub record Classifies {A : Type 0} (read : Data → Result A Fault) (other : ℕ) (P Q : A → Type 0) (bytes : List ℕ) (status : ℕ) : Type 0 where
   pub too_long : (status ≡ 8) ↔ IsTooLong bytes
   pub not_json : (status ≡ 4) ↔ IsNotJson bytes
   pub refused : (status ≡ 5) ↔ IsRefused read bytes
@@ -28,8 +29,8 @@ pub record Tells {A : Type 0} (read : Data → Result A Fault) (other : ℕ) (P 
   pub undone : (status ≡ other) ↔ ((x : A) × IsReadAs read bytes x × Q x)
 
 module _ {A : Type 0} (read : Data → Result A Fault) (other : ℕ) (P Q : A → Type 0) (at_least : 6 ≤ other) (not_8 : 8 ≢ other) (bytes : List ℕ) where
-  pub long-tells : max_input < length bytes → Tells read other P Q bytes 8
-  long-tells long = record {
+  long-classifies : max_input < length bytes → Classifies read other P Q bytes 8
+  long-classifies long = record {
     too_long = (λ e. long, λ h. refl);
     not_json = (λ e. absurd (omega arith), λ h. absurd (omega (arith, h.short)));
     refused = (λ e. absurd (omega arith), λ h. absurd (omega (arith, h.1.short)));
@@ -37,14 +38,20 @@ module _ {A : Type 0} (read : Data → Result A Fault) (other : ℕ) (P Q : A �
     undone = (λ e. absurd (not_8 e), λ h. absurd (omega (arith, h.1.short)));
   }
 
-  pub no_value-tells : length bytes ≤ max_input → value_of bytes ≡ None → Tells read other P Q bytes 4
-  no_value-tells short none = record {
+  no_value-classifies : length bytes ≤ max_input → value_of bytes ≡ None → Classifies read other P Q bytes 4
+  no_value-classifies short none = record {
     too_long = (λ e. absurd (omega arith), λ h. absurd (omega arith));
     not_json = (λ e. record { short = short; no_value = none }, λ h. refl);
     refused = (λ e. absurd (omega arith), λ h. let same = sym none ∙ h.1.is_value in absurd cc);
     done = (λ e. absurd (omega arith), λ h. let same = sym none ∙ h.1.is_value in absurd cc);
     undone = (λ e. absurd (omega (arith, e, at_least)), λ h. let same = sym none ∙ h.1.is_value in absurd cc);
   }
+
+  -- of any input, where it is so of those that are JSON
+  pub of_input-classifies : (it : Task) (reports : List Event → List ℕ)
+      → ((d : Data) → length bytes ≤ max_input → value_of bytes ≡ Some d → Classifies read other P Q bytes (reply_to_tree it reports d).status)
+      → Classifies read other P Q bytes (reply_to_input it reports bytes).status
+  of_input-classifies it reports of_tree = of_input it reports bytes (λ reply. Classifies read other P Q bytes reply.status) long-classifies no_value-classifies of_tree
 
   -- of an input whose value this is
   module _ (d : Data) (short : length bytes ≤ max_input) (some : value_of bytes ≡ Some d) where
@@ -57,8 +64,8 @@ module _ {A : Type 0} (read : Data → Result A Fault) (other : ℕ) (P Q : A �
     not_both : (x : A) (fault : Fault) → read d ≡ Err fault → IsReadAs read bytes x → ⊥
     not_both x fault is h = let both = sym is ∙ same_read h.value h.is_value ∙ h.is_read in absurd cc
 
-    pub fault-tells : (fault : Fault) → read d ≡ Err fault → Tells read other P Q bytes 5
-    fault-tells fault is = record {
+    pub fault-classifies : (fault : Fault) → read d ≡ Err fault → Classifies read other P Q bytes 5
+    fault-classifies fault is = record {
       too_long = (λ e. absurd (omega arith), λ h. absurd (omega arith));
       not_json = (λ e. absurd (omega arith), λ h. let same = sym some ∙ h.no_value in absurd cc);
       refused = (λ e. (fault, record { short = short; value = d; is_value = some; is_fault = is }), λ h. refl);
@@ -73,8 +80,8 @@ module _ {A : Type 0} (read : Data → Result A Fault) (other : ℕ) (P Q : A �
       not_fault : (fault : Fault) → HasFault read bytes fault → ⊥
       not_fault fault k = let both = sym is ∙ same_read k.value k.is_value ∙ k.is_fault in absurd cc
 
-      pub done-tells : P x → (Q x → ⊥) → Tells read other P Q bytes 0
-      done-tells p not = record {
+      pub done-classifies : P x → (Q x → ⊥) → Classifies read other P Q bytes 0
+      done-classifies p not = record {
         too_long = (λ e. absurd (omega arith), λ h. absurd (omega arith));
         not_json = (λ e. absurd (omega arith), λ h. let same = sym some ∙ h.no_value in absurd cc);
         refused = (λ e. absurd (omega arith), λ h. absurd (not_fault h.0 h.1));
@@ -82,8 +89,8 @@ module _ {A : Type 0} (read : Data → Result A Fault) (other : ℕ) (P Q : A �
         undone = (λ e. absurd (omega arith), λ h. absurd (not (subst Q (sym (only_one x h.0 is h.1)) h.2)));
       }
 
-      pub undone-tells : Q x → (P x → ⊥) → Tells read other P Q bytes other
-      undone-tells q not = record {
+      pub undone-classifies : Q x → (P x → ⊥) → Classifies read other P Q bytes other
+      undone-classifies q not = record {
         too_long = (λ e. absurd (not_8 (sym e)), λ h. absurd (omega (arith, h, short)));
         not_json = (λ e. absurd (omega (arith, e, at_least)), λ h. let same = sym some ∙ h.no_value in absurd cc);
         refused = (λ e. absurd (omega (arith, e, at_least)), λ h. absurd (not_fault h.0 h.1));
@@ -100,36 +107,34 @@ abbrev pub has_no_first : Model → Type 0
 has_no_first model = first_lists model ≡ None
 
 -- which inputs have this status, where a solution is asked for
-abbrev pub TellsFirst : List ℕ → ℕ → Type 0
-TellsFirst bytes status = Tells model_of 6 has_first has_no_first bytes status
+abbrev pub ClassifiesFirst : List ℕ → ℕ → Type 0
+ClassifiesFirst bytes status = Classifies model_of 6 has_first has_no_first bytes status
 
 module _ (asked : Mode) (reports : List Event → List ℕ) (bytes : List ℕ) where
   module _ (d : Data) (short : length bytes ≤ max_input) (some : value_of bytes ≡ Some d) where
-    found-tells : (model : Model) → model_of d ≡ Ok model → (o : Option (List (List ℕ))) → first_lists model ≡ o
-        → TellsFirst bytes (reply_to_found asked reports model (option_map (found_from asked model) o)).status
-    found-tells model is None none =
-        undone-tells model_of 6 has_first has_no_first (omega arith) (λ e. absurd (omega arith)) bytes d short some model is none (λ h. let k = subst IsSome none h in absurd cc)
-    found-tells model is (Some lists) first =
-        done-tells model_of 6 has_first has_no_first (omega arith) (λ e. absurd (omega arith)) bytes d short some model is (subst IsSome (sym first) refl) (λ h. let k = sym first ∙ h in absurd cc)
+    found-classifies : (model : Model) → model_of d ≡ Ok model → (o : Option (List (List ℕ))) → first_lists model ≡ o
+        → ClassifiesFirst bytes (reply_to_found asked reports model (option_map (found_from asked model) o)).status
+    found-classifies model is None none =
+        undone-classifies model_of 6 has_first has_no_first (omega arith) (λ e. absurd (omega arith)) bytes d short some model is none (λ h. let k = subst IsSome none h in absurd cc)
+    found-classifies model is (Some lists) first =
+        done-classifies model_of 6 has_first has_no_first (omega arith) (λ e. absurd (omega arith)) bytes d short some model is (subst IsSome (sym first) refl) (λ h. let k = sym first ∙ h in absurd cc)
 
-    model-tells : (m : Result Model Fault) → model_of d ≡ m → TellsFirst bytes (reply_to_model asked reports m).status
-    model-tells (Err fault) is = fault-tells model_of 6 has_first has_no_first (omega arith) (λ e. absurd (omega arith)) bytes d short some fault is
-    model-tells (Ok model) is = found-tells model is (first_lists model) refl
+    model-classifies : (m : Result Model Fault) → model_of d ≡ m → ClassifiesFirst bytes (reply_to_model asked reports m).status
+    model-classifies (Err fault) is = fault-classifies model_of 6 has_first has_no_first (omega arith) (λ e. absurd (omega arith)) bytes d short some fault is
+    model-classifies (Ok model) is = found-classifies model is (first_lists model) refl
 
-  pub input-tells : TellsFirst bytes (reply_to_input (task.Find asked) reports bytes).status
-  input-tells = of_input (task.Find asked) reports bytes (λ reply. TellsFirst bytes reply.status)
-      (long-tells model_of 6 has_first has_no_first (omega arith) (λ e. absurd (omega arith)) bytes)
-      (no_value-tells model_of 6 has_first has_no_first (omega arith) (λ e. absurd (omega arith)) bytes)
-      (λ d short some. model-tells d short some (model_of d) refl)
+  pub input-classifies : ClassifiesFirst bytes (reply_to_input (task.Find asked) reports bytes).status
+  input-classifies =
+      of_input-classifies model_of 6 has_first has_no_first (omega arith) (λ e. absurd (omega arith)) bytes (task.Find asked) reports (λ d short some. model-classifies d short some (model_of d) refl)
 
   input-refused : (fault : Fault) → HasFault model_of bytes fault → (reply_to_input (task.Find asked) reports bytes).text ≡ line_of (refused_tree fault)
   input-refused fault r =
       ap (λ reply. reply.text) (reply-short (task.Find asked) reports bytes r.short ∙ ap (reply_to_value (task.Find asked) reports) r.is_value ∙ ap (reply_to_model asked reports) r.is_fault)
 
 module _ (reports : List Event → List ℕ) (words : List (List ℕ)) (bytes : List ℕ) where
-  pub solved-tells : IsSolved words → TellsFirst bytes (reply reports words bytes).status
-  solved-tells h = let P : Option Request → Type 0 = λ o. TellsFirst bytes (reply_in reports o bytes).status in subst P (sym h.1) (input-tells h.0 reports bytes)
+  pub solved-classifies : IsSolved words → ClassifiesFirst bytes (reply reports words bytes).status
+  solved-classifies h = let P : Option Request → Type 0 = λ o. ClassifiesFirst bytes (reply_in reports o bytes).status in subst P (sym h.1) (input-classifies h.0 reports bytes)
 
-  -- a refusal tells the fault
+  -- a refusal says the fault
   pub solved-refused : (fault : Fault) → IsSolved words → HasFault model_of bytes fault → (reply reports words bytes).text ≡ line_of (refused_tree fault)
   solved-refused fault h r = ap (λ o. (reply_in reports o bytes).text) h.1 ∙ input-refused h.0 reports bytes fault r

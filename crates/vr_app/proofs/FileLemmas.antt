@@ -126,44 +126,44 @@ module _ (vehicles : ℕ) (bytes : List ℕ) where
         by false e = of_read (grind (arith, nat_tests)) (imported vehicles bytes) refl
 
 -- which files have this status
-pub record TellsFile (vehicles : ℕ) (bytes : List ℕ) (status : ℕ) : Type 0 where
+pub record ClassifiesFile (vehicles : ℕ) (bytes : List ℕ) (status : ℕ) : Type 0 where
   pub too_long : (status ≡ 8) ↔ IsTooLong bytes
   pub flawed : (status ≡ 5) ↔ IsFlawed vehicles bytes
   pub done : (status ≡ 0) ↔ IsFile vehicles bytes
   pub json : status ≡ 4 → ⊥
 
 module _ (vehicles : ℕ) (bytes : List ℕ) where
-  long-tells : max_input < length bytes → TellsFile vehicles bytes 8
-  long-tells long = record {
+  long-classifies : max_input < length bytes → ClassifiesFile vehicles bytes 8
+  long-classifies long = record {
     too_long = (λ e. long, λ h. refl);
     flawed = (λ e. absurd (omega arith), λ h. absurd (omega (arith, h.1.short)));
     done = (λ e. absurd (omega arith), λ h. absurd (omega (arith, h.1.short)));
     json = λ e. absurd (omega arith);
   }
 
-  imported-tells : length bytes ≤ max_input → (m : Result Data Fault) → imported vehicles bytes ≡ m → TellsFile vehicles bytes (reply_to_imported m).status
-  imported-tells short (Err fault) is = record {
+  imported-classifies : length bytes ≤ max_input → (m : Result Data Fault) → imported vehicles bytes ≡ m → ClassifiesFile vehicles bytes (reply_to_imported m).status
+  imported-classifies short (Err fault) is = record {
     too_long = (λ e. absurd (omega arith), λ h. absurd (omega arith));
     flawed = (λ e. (fault, record { short = short; is_fault = is }), λ h. refl);
     done = (λ e. absurd (omega arith), λ h. let same = sym is ∙ h.1.is_tree in absurd cc);
     json = λ e. absurd (omega arith);
   }
-  imported-tells short (Ok tree) is = record {
+  imported-classifies short (Ok tree) is = record {
     too_long = (λ e. absurd (omega arith), λ h. absurd (omega arith));
     flawed = (λ e. absurd (omega arith), λ h. let same = sym is ∙ h.1.is_fault in absurd cc);
     done = (λ e. (tree, record { short = short; is_tree = is }), λ h. refl);
     json = λ e. absurd (omega arith);
   }
 
-  pub file-tells : TellsFile vehicles bytes (reply_to_file vehicles bytes).status
-  file-tells = of_file vehicles bytes (λ reply. TellsFile vehicles bytes reply.status) long-tells imported-tells
+  pub file-classifies : ClassifiesFile vehicles bytes (reply_to_file vehicles bytes).status
+  file-classifies = of_file vehicles bytes (λ reply. ClassifiesFile vehicles bytes reply.status) long-classifies imported-classifies
 
-  -- a refusal tells the fault
+  -- a refusal says the fault
   pub file-refused : (fault : Fault) → HasFlaw vehicles bytes fault → (reply_to_file vehicles bytes).text ≡ line_of (refused_tree fault)
   file-refused fault h = ap (λ reply. reply.text) (file-short vehicles bytes h.short ∙ ap reply_to_imported h.is_fault)
 
-  -- a model is told
-  pub file-told : (reply_to_file vehicles bytes).status ≡ 0 → (tree : Data) × IsImportedAs vehicles bytes tree × ((reply_to_file vehicles bytes).text ≡ line_of tree)
-  file-told zero =
-      let is = file-tells.done.0 zero in
+  -- a model is reported
+  pub file-reported : (reply_to_file vehicles bytes).status ≡ 0 → (tree : Data) × IsImportedAs vehicles bytes tree × ((reply_to_file vehicles bytes).text ≡ line_of tree)
+  file-reported zero =
+      let is = file-classifies.done.0 zero in
       (is.0, is.1, ap (λ reply. reply.text) (file-short vehicles bytes is.1.short ∙ ap reply_to_imported is.1.is_tree))

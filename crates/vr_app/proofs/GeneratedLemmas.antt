@@ -90,7 +90,7 @@ generated-printable n = record {
 
 -- ---- the replies to numbers
 
--- the model of a number is read and solved, so its search can be told of
+-- the model of a number is read and solved, so its search can be reported
 pub demo-done : (n : ℕ) → (reply_of_demo n).status ≡ 0
 unfolding reply_of_demo
 demo-done n =

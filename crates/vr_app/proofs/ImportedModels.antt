@@ -1,13 +1,11 @@
 -- The model that the tree of a file is read as.
-use Rattle.std.proofs.Common.{◌≡◌, ◌∙◌, ℕ, zero, suc, ◌+◌, ◌-◌, ◌<◌, false, ◌&&◌, ◌||◌, not, List, [], ◌∷◌, length, replicate, Result, Ok, refl, ap, arith}
-use Rattle.std.specs.Prelude.{ℤ, pos, ◌≤ℤ◌, slice_index_or, ⊤}
-use Rattle.std.specs.List.{All, list_any, range_with_len}
-use Rattle.std.proofs.lemmas.Int.{ints}
+use Rattle.std.proofs.Common.{◌≡◌, ◌∙◌, ℕ, zero, suc, ◌+◌, ◌-◌, ◌<◌, false, ◌&&◌, ◌||◌, not, List, [], ◌∷◌, length, replicate, Ok, refl, ap, arith}
+use Rattle.std.specs.Prelude.{ℤ, pos, ◌≤ℤ◌, slice_index_or}
+use Rattle.std.specs.List.{All, list_any}
 use Rattle.std.proofs.lemmas.List.Elements.{All-replicate, All-weaker}
 use Rattle.std.proofs.lemmas.List.Folds.{list_any_none}
 use Rattle.serde_json.specs.Data.{Data}
 use Rattle.vr_json.specs.declared.fault.Cause.TheVariants.{NegativeCost, NegativeTransit}
-use Rattle.vr_json.specs.declared.fault.Fault.{Fault}
 use Rattle.vr_json.specs.Reading.{and_then, at_path, field, if_present, required, optional, known, if_unknown, list, entries, array as array_of, refuse_if}
 use Rattle.vr_json.specs.Kinds.{count as count_of}
 use Rattle.vr_model.specs.tables.Numbers.{is_same_number}
@@ -22,6 +20,7 @@ use Rattle.vr_read.specs.Rules.{for_all, costs_rule, entries_rule, transits_rule
 use Rattle.vr_read.specs.Models.{base, visit_tables, parts, model_table, read_model}
 use Rattle.vr_read.proofs.WellFormedModels.{well_formed_from_read}
 use Rattle.vr_gen.proofs.ExactReadings.{step, refuse_none}
+use Rattle.vr_gen.proofs.ModelRead.{for_range_passes, not_negative}
 use Rattle.vr_tsplib.specs.declared.files.State.{State}
 use Rattle.vr_tsplib.specs.declared.summaries.Problem.{Problem}
 use Rattle.vr_tsplib.specs.Ranges.{IsProblem, IsSound, IsWithin}
@@ -32,14 +31,6 @@ use Rattle.vr_app.proofs.ImportedMatrices.{matrix_read}
 use Rattle.vr_app.proofs.ImportedTables.{count_reads, fleet_read, fleet_reads, loads_read, loads_reads}
 
 -- ---- rules
-
-for_range_passes : (rule : ℕ → Result ⊤ Fault) (a n : ℕ) → ((k : ℕ) → rule k ≡ Ok tt) → for_all (range_with_len a n) rule ≡ Ok tt
-unfolding for_all and_then
-for_range_passes rule a zero h = refl
-for_range_passes rule a (suc n) h = step _ (h a) (for_range_passes rule (a + 1) n h)
-
-not_negative : (z : ℤ) → pos 0 ≤ℤ z → is_negative z ≡ false
-not_negative z h = grind (arith, ints)
 
 -- the one matrix has no negative entry, and a number of no matrix gives none
 none_negative : (one : Matrix) (m : ℕ) → All (λ z. pos 0 ≤ℤ z) one.entries → list_any is_negative (slice_index_or (one ∷ []) m no_matrix).entries ≡ false

@@ -58,4 +58,4 @@ module _ (it : Task) (reports : List Event → List ℕ) (bytes : List ℕ) wher
 
 -- a source from which too many bytes came
 pub long-gave : (old new : Option (List ℕ)) (taken bytes : List ℕ) → max_input < length taken → Gave old new taken → old ≡ Some bytes → max_input < length bytes
-long-gave old new taken bytes h gave e = let g = gave.told bytes e in omega (arith, length-append taken g.0, ap length g.1)
+long-gave old new taken bytes h gave e = let g = gave.known bytes e in omega (arith, length-append taken g.0, ap length g.1)

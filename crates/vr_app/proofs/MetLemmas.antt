@@ -25,25 +25,22 @@ use Rattle.vr_app.specs.Input.{max_input, value_of}
 use Rattle.vr_printed.specs.Printed.{assignment_of}
 use Rattle.vr_printed.specs.Shape.{printed_in}
 use Rattle.vr_printed.specs.declared.printed.Printed.{Printed}
-use Rattle.vr_app.specs.Met.{IsBrokenBy, IsMetBy, IsSpannedBy}
+use Rattle.vr_app.specs.Met.{IsBrokenBy, HasKept, IsMetBy, IsSpannedBy}
 use Rattle.vr_app.specs.Spans.{printed_assignment, spans_of, spans_tree}
 use Rattle.vr_app.specs.Reply.{Reply, answer_tree, not_json, refused, reply, reply_in, reply_to_checked, reply_to_finding, reply_to_input, reply_to_question, reply_to_value, too_long}
 use Rattle.vr_app.specs.Runs.{Asks, IsRead, ReadsJson}
-use Rattle.vr_app.specs.Status.{number_of}
 use Rattle.vr_app.specs.Texts.{refused_tree}
-use Rattle.vr_app.specs.declared.status.Status.{Status}
-use Rattle.vr_app.specs.declared.status.Status.TheVariants as all
 use Rattle.vr_app.specs.Words.{is_read, reads_json, request_of}
 use Rattle.vr_app.specs.declared.words.Question.{Question}
 use Rattle.vr_app.specs.declared.words.Question.TheVariants as question
 use Rattle.vr_app.specs.declared.words.Request.{Request}
 use Rattle.vr_app.specs.declared.words.Request.TheVariants as request
 use Rattle.vr_app.specs.declared.words.Task.TheVariants as task
-use Rattle.vr_app.proofs.CauseLemmas.{Tells, done-tells, fault-tells, input-tells, long-tells, no_value-tells, undone-tells}
-use Rattle.vr_app.proofs.FileLemmas.{file-tells}
+use Rattle.vr_app.proofs.CauseLemmas.{Classifies, done-classifies, fault-classifies, input-classifies, of_input-classifies, undone-classifies}
+use Rattle.vr_app.proofs.FileLemmas.{file-classifies}
 use Rattle.vr_app.proofs.GeneratedLemmas.{demo-done, generated-done}
 use Rattle.vr_app.proofs.InputLemmas.{of_input, reply-short}
-use Rattle.vr_app.proofs.SpanLemmas.{tells_shortest}
+use Rattle.vr_app.proofs.SpanLemmas.{reports_shortest}
 
 -- ---- what is read
 
@@ -112,45 +109,37 @@ meets it = IsTrue (is_met (found_in it))
 abbrev pub breaks : Checked → Type 0
 breaks it = is_met (found_in it) ≡ false
 
-abbrev pub TellsMet : List ℕ → ℕ → Type 0
-TellsMet bytes status = Tells checked_of 9 meets breaks bytes status
+abbrev pub ClassifiesMet : List ℕ → ℕ → Type 0
+ClassifiesMet bytes status = Classifies checked_of 9 meets breaks bytes status
 
 module _ (asked : Question) (reports : List Event → List ℕ) (bytes : List ℕ) where
   module _ (d : Data) (short : length bytes ≤ max_input) (some : value_of bytes ≡ Some d) where
-    finding-tells : (it : Checked) → checked_of d ≡ Ok it → (f : Finding) → found_in it ≡ f → TellsMet bytes (reply_to_finding asked it f).status
-    finding-tells it is (Meets cost) e =
-        done-tells checked_of 9 meets breaks (omega arith) (λ e. absurd (omega arith)) bytes d short some it is (ap is_met e) (λ h. let k = sym (ap is_met e) ∙ h in absurd cc)
-    finding-tells it is (Broken rule vehicle place) e =
-        undone-tells checked_of 9 meets breaks (omega arith) (λ e. absurd (omega arith)) bytes d short some it is (ap is_met e) (λ h. let k = sym (ap is_met e) ∙ h in absurd cc)
+    finding-classifies : (it : Checked) → checked_of d ≡ Ok it → (f : Finding) → found_in it ≡ f → ClassifiesMet bytes (reply_to_finding asked it f).status
+    finding-classifies it is (Meets cost) e =
+        done-classifies checked_of 9 meets breaks (omega arith) (λ e. absurd (omega arith)) bytes d short some it is (ap is_met e) (λ h. let k = sym (ap is_met e) ∙ h in absurd cc)
+    finding-classifies it is (Broken rule vehicle place) e =
+        undone-classifies checked_of 9 meets breaks (omega arith) (λ e. absurd (omega arith)) bytes d short some it is (ap is_met e) (λ h. let k = sym (ap is_met e) ∙ h in absurd cc)
 
-    checked-tells : (m : Result Checked Fault) → checked_of d ≡ m → TellsMet bytes (reply_to_checked asked m).status
-    checked-tells (Err fault) is = fault-tells checked_of 9 meets breaks (omega arith) (λ e. absurd (omega arith)) bytes d short some fault is
-    checked-tells (Ok it) is = finding-tells it is (found_in it) refl
+    checked-classifies : (m : Result Checked Fault) → checked_of d ≡ m → ClassifiesMet bytes (reply_to_checked asked m).status
+    checked-classifies (Err fault) is = fault-classifies checked_of 9 meets breaks (omega arith) (λ e. absurd (omega arith)) bytes d short some fault is
+    checked-classifies (Ok it) is = finding-classifies it is (found_in it) refl
 
-  check-tells : TellsMet bytes (reply_to_input (task.Ask asked) reports bytes).status
-  check-tells = of_input (task.Ask asked) reports bytes (λ reply. TellsMet bytes reply.status)
-      (long-tells checked_of 9 meets breaks (omega arith) (λ e. absurd (omega arith)) bytes)
-      (no_value-tells checked_of 9 meets breaks (omega arith) (λ e. absurd (omega arith)) bytes)
-      (λ d short some. checked-tells d short some (checked_of d) refl)
+  check-classifies : ClassifiesMet bytes (reply_to_input (task.Ask asked) reports bytes).status
+  check-classifies =
+      of_input-classifies checked_of 9 meets breaks (omega arith) (λ e. absurd (omega arith)) bytes (task.Ask asked) reports (λ d short some. checked-classifies d short some (checked_of d) refl)
 
   check-refused : (fault : Fault) → HasFault checked_of bytes fault → (reply_to_input (task.Ask asked) reports bytes).text ≡ line_of (refused_tree fault)
   check-refused fault r =
       ap (λ reply. reply.text) (reply-short (task.Ask asked) reports bytes r.short ∙ ap (reply_to_value (task.Ask asked) reports) r.is_value ∙ ap (reply_to_checked asked) r.is_fault)
 
--- ---- what the text tells
+-- ---- what the text says
 
 -- the solution keeps all rules of its model, and the text answers the question about it
 pub record IsKeptBy (asked : Question) (bytes text : List ℕ) : Type 0 where
-  pub it : Checked
-  pub printed : Printed
-  pub cost : ℤ
-  pub is_read : IsReadAs checked_of bytes it
-  pub is_found : found_in it ≡ Meets cost
-  pub is_printed : printed_in it.model it.solution ≡ Some printed
-  pub keeps : KeepsAllRules it.model printed cost
-  pub text_is : text ≡ line_of (answer_tree asked it cost)
+  pub kept : HasKept bytes
+  pub text_is : text ≡ line_of (answer_tree asked kept.it kept.cost)
 
--- a reply answers the question about a solution that keeps all rules, or tells the rule that is broken
+-- a reply answers the question about a solution that keeps all rules, or says the rule that is broken
 pub record Finds (asked : Question) (bytes : List ℕ) (answer : Reply) : Type 0 where
   pub met : answer.status ≡ 0 → IsKeptBy asked bytes answer.text
   pub broken : answer.status ≡ 9 → IsBrokenBy bytes answer.text
@@ -163,7 +152,10 @@ module _ (asked : Question) (reports : List Event → List ℕ) (bytes : List �
   finding-finds : (it : Checked) → IsWellFormed it.model → IsReadAs checked_of bytes it → (f : Finding) → found_in it ≡ f → Finds asked bytes (reply_to_finding asked it f)
   finding-finds it well is (Meets cost) e =
       let k = met_keeps_all_rules it.model it.solution cost well e in record {
-        met = λ zero. record { it = it; printed = k.0; cost = cost; is_read = is; is_found = e; is_printed = k.1; keeps = k.2; text_is = refl };
+        met = λ zero. record {
+          kept = record { it = it; printed = k.0; cost = cost; is_read = is; is_found = e; is_printed = k.1; keeps = k.2 };
+          text_is = refl;
+        };
         broken = λ nine. absurd (omega arith);
       }
   finding-finds it well is (Broken rule vehicle place) e = record {
@@ -184,61 +176,43 @@ module _ (asked : Question) (reports : List Event → List ℕ) (bytes : List �
 
 -- what is so of `check`, and of `spans`
 pub kept-met : (bytes text : List ℕ) → IsKeptBy question.Check bytes text → IsMetBy bytes text
-kept-met bytes text is = record { it = is.it; printed = is.printed; cost = is.cost; is_read = is.is_read; is_found = is.is_found; is_printed = is.is_printed; keeps = is.keeps; text_is = is.text_is }
+kept-met bytes text is = record { kept = is.kept; text_is = is.text_is }
 
 pub kept-spanned : (bytes text : List ℕ) → IsKeptBy question.Spans bytes text → IsSpannedBy bytes text
 unfolding spans_of
-kept-spanned bytes text is = record {
-  it = is.it;
-  printed = is.printed;
-  cost = is.cost;
-  is_read = is.is_read;
-  is_found = is.is_found;
-  is_printed = is.is_printed;
-  keeps = is.keeps;
-  shortest = tells_shortest is.it.model (assignment_of is.printed.routes) is.keeps.plans_are_schedules;
-  text_is = is.text_is ∙ ap (λ printed. line_of (spans_tree is.it.model (printed_assignment printed))) is.is_printed;
-}
+kept-spanned bytes text is =
+    let kept = is.kept in record {
+      kept = kept;
+      shortest = reports_shortest kept.it.model (assignment_of kept.printed.routes) kept.keeps.plans_are_schedules;
+      text_is = is.text_is ∙ ap (λ printed. line_of (spans_tree kept.it.model (printed_assignment printed))) kept.is_printed;
+    }
 
 module _ (asked : Question) (reports : List Event → List ℕ) (words : List (List ℕ)) (bytes : List ℕ) (asks : Asks asked words) where
-  pub asked_words-tell : TellsMet bytes (reply reports words bytes).status
-  asked_words-tell = let P : Option Request → Type 0 = λ o. TellsMet bytes (reply_in reports o bytes).status in subst P (sym asks) (check-tells asked reports bytes)
+  pub asked_words-classify : ClassifiesMet bytes (reply reports words bytes).status
+  asked_words-classify = let P : Option Request → Type 0 = λ o. ClassifiesMet bytes (reply_in reports o bytes).status in subst P (sym asks) (check-classifies asked reports bytes)
 
   pub asked_words-find : Finds asked bytes (reply reports words bytes)
   asked_words-find = let P : Option Request → Type 0 = λ o. Finds asked bytes (reply_in reports o bytes) in subst P (sym asks) (check-finds asked reports bytes)
 
-  -- a refusal tells the fault
+  -- a refusal says the fault
   pub asked_words-refused : (fault : Fault) → HasFault checked_of bytes fault → (reply reports words bytes).text ≡ line_of (refused_tree fault)
   asked_words-refused fault r = ap (λ o. (reply_in reports o bytes).text) asks ∙ check-refused asked reports bytes fault r
-
--- the status of number 9
-pub nine : (status : Status) → number_of status ≡ 9 → status ≡ all.NotMet
-nine all.Done e = absurd (omega arith)
-nine all.Usage e = absurd (omega arith)
-nine all.ReadFault e = absurd (omega arith)
-nine all.WriteFault e = absurd (omega arith)
-nine all.NotJson e = absurd (omega arith)
-nine all.Refused e = absurd (omega arith)
-nine all.NoneFound e = absurd (omega arith)
-nine all.NoMemory e = absurd (omega arith)
-nine all.TooLong e = absurd (omega arith)
-nine all.NotMet e = refl
 
 -- ---- words that read
 
 -- which inputs are too long or no JSON, whatever these words ask of them
-pub record TellsText (words : List (List ℕ)) (bytes : List ℕ) (status : ℕ) : Type 0 where
+pub record ClassifiesText (words : List (List ℕ)) (bytes : List ℕ) (status : ℕ) : Type 0 where
   pub too_long : (status ≡ 8) ↔ IsTooLong bytes
   pub not_json : (status ≡ 4) ↔ (ReadsJson words × IsNotJson bytes)
 
-pub read-tells : (reports : List Event → List ℕ) (words : List (List ℕ)) (bytes : List ℕ) → IsRead words → TellsText words bytes (reply reports words bytes).status
-read-tells reports words bytes h = record { too_long = long (request_of words) h; not_json = json (request_of words) }
+pub read-classifies : (reports : List Event → List ℕ) (words : List (List ℕ)) (bytes : List ℕ) → IsRead words → ClassifiesText words bytes (reply reports words bytes).status
+read-classifies reports words bytes h = record { too_long = long (request_of words) h; not_json = json (request_of words) }
   where
     long : (o : Option Request) → is_read o ≡ true → ((reply_in reports o bytes).status ≡ 8) ↔ IsTooLong bytes
     long None h = absurd cc
-    long (Some (request.Read (task.Find asked))) h = (input-tells asked reports bytes).too_long
-    long (Some (request.Read (task.Ask asked))) h = (check-tells asked reports bytes).too_long
-    long (Some (request.Import vehicles)) h = (file-tells vehicles bytes).too_long
+    long (Some (request.Read (task.Find asked))) h = (input-classifies asked reports bytes).too_long
+    long (Some (request.Read (task.Ask asked))) h = (check-classifies asked reports bytes).too_long
+    long (Some (request.Import vehicles)) h = (file-classifies vehicles bytes).too_long
     long (Some (request.Generate n)) h = absurd cc
     long (Some (request.Demo n)) h = absurd cc
 
@@ -247,8 +221,8 @@ read-tells reports words bytes h = record { too_long = long (request_of words) h
 
     json : (o : Option Request) → ((reply_in reports o bytes).status ≡ 4) ↔ ((reads_json o ≡ true) × IsNotJson bytes)
     json None = (λ e. absurd (omega arith), λ h. absurd (let k = h.0 in cc))
-    json (Some (request.Read (task.Find asked))) = with_json true refl (input-tells asked reports bytes).not_json
-    json (Some (request.Read (task.Ask asked))) = with_json true refl (check-tells asked reports bytes).not_json
-    json (Some (request.Import vehicles)) = (λ e. absurd ((file-tells vehicles bytes).json e), λ h. absurd (let k = h.0 in cc))
+    json (Some (request.Read (task.Find asked))) = with_json true refl (input-classifies asked reports bytes).not_json
+    json (Some (request.Read (task.Ask asked))) = with_json true refl (check-classifies asked reports bytes).not_json
+    json (Some (request.Import vehicles)) = (λ e. absurd ((file-classifies vehicles bytes).json e), λ h. absurd (let k = h.0 in cc))
     json (Some (request.Generate n)) = (λ e. absurd (omega (arith, e, generated-done n)), λ h. absurd (let k = h.0 in cc))
     json (Some (request.Demo n)) = (λ e. absurd (omega (arith, e, demo-done n)), λ h. absurd (let k = h.0 in cc))

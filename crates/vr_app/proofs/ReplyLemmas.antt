@@ -1,10 +1,10 @@
 -- Replies.
-use Rattle.std.proofs.Common.{◌≡◌, ◌∙◌, ◌++◌, ◌≤◌, ℕ, ℤ, pos, negsuc, List, [], false, Option, Some, None, Result, Ok, Err, refl, ap, sym, subst, arith, option_map, length}
+use Rattle.std.proofs.Common.{◌≡◌, ◌∙◌, ◌++◌, ◌≤◌, ℕ, ℤ, List, [], false, Option, Some, None, Result, Ok, Err, refl, ap, sym, subst, arith, option_map, length}
 use Rattle.std.specs.Prelude.{flat_map}
 use Rattle.std.proofs.lemmas.List.{append-nil}
 use Rattle.std.proofs.lemmas.List.Folds.{flat_map-map}
 use Rattle.serde_json.specs.Data.{Data, depth}
-use Rattle.serde_json.specs.Find.{is_float, of_integer}
+use Rattle.vr_print.proofs.TreeLemmas.{is_float-whole}
 use Rattle.serde_json.specs.Read.{max_depth}
 use Rattle.serde_json.specs.Written.{has_float}
 use Rattle.vr_json.specs.declared.fault.Fault.{Fault}
@@ -45,10 +45,6 @@ status-printable status = record { whole = refl; nested = omega arith }
 pub refused-printable : (fault : Fault) → IsPrintable (refused_tree fault)
 unfolding refused_tree
 refused-printable fault = record { whole = refl; nested = omega arith }
-
-pub is_float-whole : (z : ℤ) → is_float (of_integer z) ≡ false
-is_float-whole (pos n) = refl
-is_float-whole (negsuc n) = refl
 
 pub met-printable : (cost : ℤ) → IsPrintable (met_tree cost)
 unfolding met_tree

@@ -1,5 +1,5 @@
 -- What holds of a run, by how it ends.
-use Rattle.std.proofs.Common.{◌≡◌, ◌∙◌, ◌⊎◌, ℕ, List, [], Option, Some, inl, inr, refl, ap, sym, subst, arith}
+use Rattle.std.proofs.Common.{◌≡◌, ◌∙◌, ◌⊎◌, ℕ, List, [], ◌∷◌, get_or, Option, Some, inl, inr, refl, ap, sym, subst, arith}
 use Rattle.std.specs.Prelude.{◌≢◌}
 use Rattle.vr_io.specs.Edges.{Rose, Took}
 use Rattle.vr_io.specs.Whole.{TookFront}
@@ -14,7 +14,7 @@ use Rattle.vr_app.specs.Ended.{Ends, IsCut, IsSilent, IsAnswered, Ran, Responds}
 use Rattle.vr_app.specs.Input.{model_of}
 use Rattle.vr_app.specs.Met.{IsBrokenBy, IsMetBy, IsSpannedBy}
 use Rattle.vr_app.specs.Reply.{Replies, Reply, reply, reply_in, reply_to_file}
-use Rattle.vr_app.specs.Runs.{Imports, IsAskedFor, IsAsking, IsChecked, IsNotAccepted, IsRead, IsSettled, IsSolved, IsSpanned, IsUnread, WhereAnswered, WhereAsked, WhereImported, WhereSolved, WhereTold}
+use Rattle.vr_app.specs.Runs.{Imports, IsAskedFor, IsAsking, IsChecked, IsNotAccepted, IsRead, IsSettled, IsSolved, IsSpanned, IsUnread, WhereAnswered, WhereAsked, WhereImported, WhereSolved, WhereKnown}
 use Rattle.vr_app.specs.Status.{number_of}
 use Rattle.vr_app.specs.Texts.{refused_tree}
 use Rattle.vr_app.specs.Words.{is_read}
@@ -24,26 +24,34 @@ use Rattle.vr_app.specs.declared.status.Status.TheVariants as all
 use Rattle.vr_app.specs.declared.words.Mode.{Mode}
 use Rattle.vr_app.specs.declared.words.Question.TheVariants as question
 use Rattle.vr_app.specs.declared.words.Request.{Request}
-use Rattle.vr_app.proofs.CauseLemmas.{TellsFirst, solved-refused, solved-tells}
+use Rattle.vr_app.proofs.CauseLemmas.{ClassifiesFirst, solved-refused, solved-classifies}
 use Rattle.vr_app.proofs.GeneratedLemmas.{or-else, unread-done}
-use Rattle.vr_app.proofs.FileLemmas.{TellsFile, file-refused, file-tells, file-told}
-use Rattle.vr_app.proofs.MetLemmas.{TellsMet, TellsText, asked_words-find, asked_words-refused, asked_words-tell, kept-met, kept-spanned, nine, read-tells}
+use Rattle.vr_app.proofs.FileLemmas.{ClassifiesFile, file-refused, file-classifies, file-reported}
+use Rattle.vr_app.proofs.MetLemmas.{ClassifiesMet, ClassifiesText, asked_words-find, asked_words-refused, asked_words-classify, kept-met, kept-spanned, read-classifies}
 use Rattle.vr_app.proofs.ReplyLemmas.{reply-answered}
 
 -- ---- statuses
 
--- the status of number 1
-one : (status : Status) → number_of status ≡ 1 → status ≡ all.Usage
-one all.Done e = absurd (omega arith)
-one all.Usage e = refl
-one all.ReadFault e = absurd (omega arith)
-one all.WriteFault e = absurd (omega arith)
-one all.NotJson e = absurd (omega arith)
-one all.Refused e = absurd (omega arith)
-one all.NoneFound e = absurd (omega arith)
-one all.NoMemory e = absurd (omega arith)
-one all.TooLong e = absurd (omega arith)
-one all.NotMet e = absurd (omega arith)
+-- the status of a number
+abbrev status_of : ℕ → Status
+status_of n =
+    get_or (all.Done ∷ all.Usage ∷ all.ReadFault ∷ all.WriteFault ∷ all.NotJson ∷ all.Refused ∷ all.NoneFound ∷ all.NoMemory ∷ all.TooLong ∷ all.NotMet ∷ []) n all.Done
+
+status_back : (status : Status) → status_of (number_of status) ≡ status
+status_back all.Done = refl
+status_back all.Usage = refl
+status_back all.ReadFault = refl
+status_back all.WriteFault = refl
+status_back all.NotJson = refl
+status_back all.Refused = refl
+status_back all.NoneFound = refl
+status_back all.NoMemory = refl
+status_back all.TooLong = refl
+status_back all.NotMet = refl
+
+-- two statuses of one number are the same
+same_status : (x y : Status) → number_of x ≡ number_of y → x ≡ y
+same_status x y e = sym (status_back x) ∙ ap status_of e ∙ status_back y
 
 settled_0 : IsSettled 0
 settled_0 = record { is_read = λ e. absurd (omega arith); is_written = λ e. absurd (omega arith); has_memory = λ e. absurd (omega arith) }
@@ -73,7 +81,7 @@ answer-settles status (inr (inl (inr (inr e)))) = settled_by settled_9 (ap numbe
 -- ---- how a run ends, by its status
 
 module _ {K : Type 0} (written : K → Option (List ℕ)) (faults : K → ℕ) (P : Answer → Type 0) (failed : Type 0) (old new : K) (status : ℕ) where
-  -- a status that tells of an answer is that of a written one
+  -- a status that is that of an answer is that of a written one
   end-written : Ends written faults P failed old new status → IsSettled status → IsAnswered P (written old) (written new) status
   end-written (inl is) settled = is
   end-written (inr (inl cut)) settled = absurd (settled.is_written cut.status_is)
@@ -135,72 +143,72 @@ module _ {K : Type 0} {written : K → Option (List ℕ)} {faults : K → ℕ} {
   written-replies : {r : Reply} (is : IsAnswered P (written old) (written new) status) → AnswersReply r is.answer → Replies r (written old) (written new) status
   written-replies is has = record { status = is.status_is ∙ has.status_is; written = subst (Took (written old) (written new)) has.text_is is.took }
 
-  pub replies : IsSettled status → WhereTold left (λ bytes. Replies (reply reports words bytes) (written old) (written new) status)
-  replies settled bytes told = let is = is_written settled in written-replies is (is.responds.replies bytes told)
+  pub replies : IsSettled status → WhereKnown left (λ bytes. Replies (reply reports words bytes) (written old) (written new) status)
+  replies settled bytes known = let is = is_written settled in written-replies is (is.responds.replies bytes known)
 
   pub unread : IsSettled status → IsUnread words → (bytes : List ℕ) → Replies (reply reports words bytes) (written old) (written new) status
   unread settled none bytes = let is = is_written settled in written-replies is (is.responds.unread none bytes)
 
   -- which inputs have the status
-  pub tells-text : WhereAnswered words left status (λ bytes. TellsText words bytes status)
-  tells-text settled reads bytes told = subst (TellsText words bytes) (sym (replies settled bytes told).status) (read-tells reports words bytes reads)
+  pub classifies-text : WhereAnswered words left status (λ bytes. ClassifiesText words bytes status)
+  classifies-text settled reads bytes known = subst (ClassifiesText words bytes) (sym (replies settled bytes known).status) (read-classifies reports words bytes reads)
 
-  pub tells-first : WhereSolved words left status (λ bytes. TellsFirst bytes status)
-  tells-first settled solves bytes told = subst (TellsFirst bytes) (sym (replies settled bytes told).status) (solved-tells reports words bytes solves)
+  pub classifies-first : WhereSolved words left status (λ bytes. ClassifiesFirst bytes status)
+  classifies-first settled solves bytes known = subst (ClassifiesFirst bytes) (sym (replies settled bytes known).status) (solved-classifies reports words bytes solves)
 
-  pub tells-met : WhereAsked words left status (λ bytes. TellsMet bytes status)
-  tells-met settled asks bytes told = subst (TellsMet bytes) (sym (replies settled bytes told).status) (asked_words-tell asks.0 reports words bytes asks.1)
+  pub classifies-met : WhereAsked words left status (λ bytes. ClassifiesMet bytes status)
+  classifies-met settled asks bytes known = subst (ClassifiesMet bytes) (sym (replies settled bytes known).status) (asked_words-classify asks.0 reports words bytes asks.1)
 
-  pub tells-file : WhereImported words left status (λ vehicles bytes. TellsFile vehicles bytes status)
-  tells-file settled vehicles imports bytes told =
-      let P : Option Request → Type 0 = λ o. TellsFile vehicles bytes (reply_in reports o bytes).status in
-      subst (TellsFile vehicles bytes) (sym (replies settled bytes told).status) (subst P (sym imports) (file-tells vehicles bytes))
+  pub classifies-file : WhereImported words left status (λ vehicles bytes. ClassifiesFile vehicles bytes status)
+  classifies-file settled vehicles imports bytes known =
+      let P : Option Request → Type 0 = λ o. ClassifiesFile vehicles bytes (reply_in reports o bytes).status in
+      subst (ClassifiesFile vehicles bytes) (sym (replies settled bytes known).status) (subst P (sym imports) (file-classifies vehicles bytes))
 
   -- which texts are written
-  pub solution : status ≡ 0 → (asked : Mode) → IsAskedFor asked words → WhereTold left (λ bytes. (text : List ℕ) × IsAnsweredBy asked reports bytes text × Took (written old) (written new) text)
-  solution e asked is bytes told =
-      let r = replies (settled_by settled_0 e) bytes told in
+  pub solution : status ≡ 0 → (asked : Mode) → IsAskedFor asked words → WhereKnown left (λ bytes. (text : List ℕ) × IsAnsweredBy asked reports bytes text × Took (written old) (written new) text)
+  solution e asked is bytes known =
+      let r = replies (settled_by settled_0 e) bytes known in
       ((reply reports words bytes).text, reply-answered asked reports bytes words is (sym r.status ∙ e), r.written)
 
-  pub kept : status ≡ 0 → IsChecked words → WhereTold left (λ bytes. (text : List ℕ) × IsMetBy bytes text × Took (written old) (written new) text)
-  kept e checks bytes told =
-      let r = replies (settled_by settled_0 e) bytes told in
+  pub kept : status ≡ 0 → IsChecked words → WhereKnown left (λ bytes. (text : List ℕ) × IsMetBy bytes text × Took (written old) (written new) text)
+  kept e checks bytes known =
+      let r = replies (settled_by settled_0 e) bytes known in
       ((reply reports words bytes).text, kept-met bytes _ ((asked_words-find question.Check reports words bytes checks).met (sym r.status ∙ e)), r.written)
 
-  pub spans : status ≡ 0 → IsSpanned words → WhereTold left (λ bytes. (text : List ℕ) × IsSpannedBy bytes text × Took (written old) (written new) text)
-  spans e asks bytes told =
-      let r = replies (settled_by settled_0 e) bytes told in
+  pub spans : status ≡ 0 → IsSpanned words → WhereKnown left (λ bytes. (text : List ℕ) × IsSpannedBy bytes text × Took (written old) (written new) text)
+  spans e asks bytes known =
+      let r = replies (settled_by settled_0 e) bytes known in
       ((reply reports words bytes).text, kept-spanned bytes _ ((asked_words-find question.Spans reports words bytes asks).met (sym r.status ∙ e)), r.written)
 
-  pub model : status ≡ 0 → (vehicles : ℕ) → Imports vehicles words → WhereTold left (λ bytes. (tree : Data) × IsImportedAs vehicles bytes tree × Took (written old) (written new) (line_of tree))
-  model e vehicles imports bytes told =
-      let r = replies (settled_by settled_0 e) bytes told in
+  pub model : status ≡ 0 → (vehicles : ℕ) → Imports vehicles words → WhereKnown left (λ bytes. (tree : Data) × IsImportedAs vehicles bytes tree × Took (written old) (written new) (line_of tree))
+  model e vehicles imports bytes known =
+      let r = replies (settled_by settled_0 e) bytes known in
       let same : reply reports words bytes ≡ reply_to_file vehicles bytes = ap (λ o. reply_in reports o bytes) imports in
-      let is = file-told vehicles bytes (sym (ap (λ reply. reply.status) same) ∙ sym r.status ∙ e) in
+      let is = file-reported vehicles bytes (sym (ap (λ reply. reply.status) same) ∙ sym r.status ∙ e) in
       (is.0, is.1, subst (Took (written old) (written new)) (ap (λ reply. reply.text) same ∙ is.2) r.written)
 
-  pub flaw : status ≡ 5 → (vehicles : ℕ) → Imports vehicles words → WhereTold left (λ bytes. (fault : Fault) → HasFlaw vehicles bytes fault → Took (written old) (written new) (line_of (refused_tree fault)))
-  flaw e vehicles imports bytes told fault has =
+  pub flaw : status ≡ 5 → (vehicles : ℕ) → Imports vehicles words → WhereKnown left (λ bytes. (fault : Fault) → HasFlaw vehicles bytes fault → Took (written old) (written new) (line_of (refused_tree fault)))
+  flaw e vehicles imports bytes known fault has =
       let same : reply reports words bytes ≡ reply_to_file vehicles bytes = ap (λ o. reply_in reports o bytes) imports in
-      subst (Took (written old) (written new)) (ap (λ reply. reply.text) same ∙ file-refused vehicles bytes fault has) (replies (settled_by settled_5 e) bytes told).written
+      subst (Took (written old) (written new)) (ap (λ reply. reply.text) same ∙ file-refused vehicles bytes fault has) (replies (settled_by settled_5 e) bytes known).written
 
   pub usage_only : status ≡ 1 → IsNotAccepted words
-  usage_only e = let is = is_written (settled_by settled_1 e) in is.responds.usage_only (one is.answer.status (sym is.status_is ∙ e))
+  usage_only e = let is = is_written (settled_by settled_1 e) in is.responds.usage_only (same_status is.answer.status all.Usage (sym is.status_is ∙ e))
 
   pub not_met_only : status ≡ 9 → IsAsking words
-  not_met_only e = let is = is_written (settled_by settled_9 e) in is.responds.not_met_only (nine is.answer.status (sym is.status_is ∙ e))
+  not_met_only e = let is = is_written (settled_by settled_9 e) in is.responds.not_met_only (same_status is.answer.status all.NotMet (sym is.status_is ∙ e))
 
-  pub broken : status ≡ 9 → WhereTold left (λ bytes. (text : List ℕ) × IsBrokenBy bytes text × Took (written old) (written new) text)
-  broken e bytes told =
-      let r = replies (settled_by settled_9 e) bytes told in
+  pub broken : status ≡ 9 → WhereKnown left (λ bytes. (text : List ℕ) × IsBrokenBy bytes text × Took (written old) (written new) text)
+  broken e bytes known =
+      let r = replies (settled_by settled_9 e) bytes known in
       let asks = not_met_only e in
       ((reply reports words bytes).text, (asked_words-find asks.0 reports words bytes asks.1).broken (sym r.status ∙ e), r.written)
 
-  pub refusal : status ≡ 5 → IsSolved words → WhereTold left (λ bytes. (fault : Fault) → HasFault model_of bytes fault → Took (written old) (written new) (line_of (refused_tree fault)))
-  refusal e solves bytes told fault has = subst (Took (written old) (written new)) (solved-refused reports words bytes fault solves has) (replies (settled_by settled_5 e) bytes told).written
+  pub refusal : status ≡ 5 → IsSolved words → WhereKnown left (λ bytes. (fault : Fault) → HasFault model_of bytes fault → Took (written old) (written new) (line_of (refused_tree fault)))
+  refusal e solves bytes known fault has = subst (Took (written old) (written new)) (solved-refused reports words bytes fault solves has) (replies (settled_by settled_5 e) bytes known).written
 
-  pub check_refusal : status ≡ 5 → IsAsking words → WhereTold left (λ bytes. (fault : Fault) → HasFault checked_of bytes fault → Took (written old) (written new) (line_of (refused_tree fault)))
-  check_refusal e asks bytes told fault has = subst (Took (written old) (written new)) (asked_words-refused asks.0 reports words bytes asks.1 fault has) (replies (settled_by settled_5 e) bytes told).written
+  pub check_refusal : status ≡ 5 → IsAsking words → WhereKnown left (λ bytes. (fault : Fault) → HasFault checked_of bytes fault → Took (written old) (written new) (line_of (refused_tree fault)))
+  check_refusal e asks bytes known fault has = subst (Took (written old) (written new)) (asked_words-refused asks.0 reports words bytes asks.1 fault has) (replies (settled_by settled_5 e) bytes known).written
 
   -- of words that read nothing
   pub usage : IsSettled status → IsNotAccepted words → status ≡ 1
@@ -213,8 +221,8 @@ module _ {K : Type 0} {written : K → Option (List ℕ)} {faults : K → ℕ} {
   pub write_fault : status ≡ 3 → Rose (faults old) (faults new)
   write_fault e = (is_cut e).fault
 
-  pub front : status ≡ 3 → WhereTold left (λ bytes. TookFront (written old) (written new) (reply reports words bytes).text)
-  front e bytes told = let is = is_cut e in subst (TookFront (written old) (written new)) (is.responds.replies bytes told).text_is is.took
+  pub front : status ≡ 3 → WhereKnown left (λ bytes. TookFront (written old) (written new) (reply reports words bytes).text)
+  front e bytes known = let is = is_cut e in subst (TookFront (written old) (written new)) (is.responds.replies bytes known).text_is is.took
 
   pub unread_front : status ≡ 3 → IsUnread words → (bytes : List ℕ) → TookFront (written old) (written new) (reply reports words bytes).text
   unread_front e none bytes = let is = is_cut e in subst (TookFront (written old) (written new)) (is.responds.unread none bytes).text_is is.took
@@ -223,18 +231,18 @@ module _ {K : Type 0} {written : K → Option (List ℕ)} {faults : K → ℕ} {
   whole : (F → ⊥) → (Rose (faults old) (faults new) → ⊥) → (status ≡ 7) ⊎ IsAnswered P (written old) (written new) status
   whole = end-whole written faults P F old new status ran.ends
 
-  pub complete : WhereTold left (λ bytes. (Rose failed fails → ⊥) → (Rose (faults old) (faults new) → ⊥) → (status ≡ 7) ⊎ Replies (reply reports words bytes) (written old) (written new) status)
-  complete bytes told calm quiet = or-else (λ is. written-replies is (is.responds.replies bytes told)) (whole (λ f. calm f.0) quiet)
+  pub complete : WhereKnown left (λ bytes. (Rose failed fails → ⊥) → (Rose (faults old) (faults new) → ⊥) → (status ≡ 7) ⊎ Replies (reply reports words bytes) (written old) (written new) status)
+  complete bytes known calm quiet = or-else (λ is. written-replies is (is.responds.replies bytes known)) (whole (λ f. calm f.0) quiet)
 
   pub complete_unread : IsUnread words → (Rose (faults old) (faults new) → ⊥) → (bytes : List ℕ) → (status ≡ 7) ⊎ Replies (reply reports words bytes) (written old) (written new) status
   complete_unread none quiet bytes = or-else (λ is. written-replies is (is.responds.unread none bytes)) (whole (λ f. let k = sym f.1 ∙ none in absurd cc) quiet)
 
   -- the source was read to its end
-  pub emptied : IsRead words → status ≢ 2 → status ≢ 7 → status ≢ 8 → WhereTold left (λ bytes. (status ≡ 3 → (reply reports words bytes).status ≢ 8) → rest ≡ Some [])
-  emptied reads read memory long bytes told cut_long = by ran.ends
+  pub emptied : IsRead words → status ≢ 2 → status ≢ 7 → status ≢ 8 → WhereKnown left (λ bytes. (status ≡ 3 → (reply reports words bytes).status ≢ 8) → rest ≡ Some [])
+  emptied reads read memory long bytes known cut_long = by ran.ends
     where
       by : Ends written faults P F old new status → rest ≡ Some []
-      by (inl is) = is.responds.emptied reads (λ e. long (is.status_is ∙ ap number_of e)) bytes told
-      by (inr (inl is)) = is.responds.emptied reads (λ e. cut_long is.status_is (sym (is.responds.replies bytes told).status_is ∙ ap number_of e)) bytes told
+      by (inl is) = is.responds.emptied reads (λ e. long (is.status_is ∙ ap number_of e)) bytes known
+      by (inr (inl is)) = is.responds.emptied reads (λ e. cut_long is.status_is (sym (is.responds.replies bytes known).status_is ∙ ap number_of e)) bytes known
       by (inr (inr (inl silent))) = absurd (read silent.0.status_is)
       by (inr (inr (inr silent))) = absurd (memory silent.status_is)

@@ -13,7 +13,7 @@ use Rattle.vr_span.specs.Spans.{IsFirstPlan, IsLeastSpanOf, IsReachedSpan}
 use Rattle.vr_span.specs.declared.least.Least.{Least}
 use Rattle.vr_steps.specs.declared.lines.Line.{Line}
 use Rattle.vr_app.specs.Shortest.{IsShortest, ShortestFound, find_shortest, shortest, shortest_found, shortest_plan}
-use Rattle.vr_app.specs.Told.{IsShortestOf}
+use Rattle.vr_app.specs.Scheduled.{IsShortestOf}
 
 -- ---- two lists of numbers that come no later than each other
 
@@ -87,8 +87,8 @@ shortest_there line feasible = by (find_shortest line)
 
 module _ (made : Line) (none : made.breaks ≡ []) (least : Least) where
   -- a reached least span, with the first plan of it
-  found_shortest : IsReachedSpan made least → IsLeastSpanOf made least → IsFirstPlan made least → IsShortestOf made least
-  found_shortest reached is_least first defined of =
+  least_shortest : IsReachedSpan made least → IsLeastSpanOf made least → IsFirstPlan made least → IsShortestOf made least
+  least_shortest reached is_least first defined of =
       let r = reached defined of in
       let l = is_least defined of in
       let f = first defined of in
@@ -102,6 +102,6 @@ module _ (made : Line) (none : made.breaks ≡ []) (least : Least) where
         span_is = sym its;
       }
 
-  pub found_told : (found : Option Least) → found ≡ Some least → IfSome found (IsReachedSpan made) → IfSome found (IsLeastSpanOf made) → IfSome found (IsFirstPlan made) → IsShortestOf made least
-  found_told found is reached is_least first =
-      found_shortest (subst (λ o. IfSome o (IsReachedSpan made)) is reached) (subst (λ o. IfSome o (IsLeastSpanOf made)) is is_least) (subst (λ o. IfSome o (IsFirstPlan made)) is first)
+  pub found_shortest : (found : Option Least) → found ≡ Some least → IfSome found (IsReachedSpan made) → IfSome found (IsLeastSpanOf made) → IfSome found (IsFirstPlan made) → IsShortestOf made least
+  found_shortest found is reached is_least first =
+      least_shortest (subst (λ o. IfSome o (IsReachedSpan made)) is reached) (subst (λ o. IfSome o (IsLeastSpanOf made)) is is_least) (subst (λ o. IfSome o (IsFirstPlan made)) is first)

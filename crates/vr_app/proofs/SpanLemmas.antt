@@ -1,5 +1,5 @@
 -- Trees of least spans: they are printed, and put together row by row.
-use Rattle.std.proofs.Common.{◌≡◌, ◌∙◌, ◌≤◌, ◌<◌, ◌+◌, ◌-◌, ◌++◌, ℕ, ℤ, max, List, [], ◌∷◌, Bool, true, false, cond, not, Option, Some, refl, sym, ap, subst, arith, map, length}
+use Rattle.std.proofs.Common.{◌≡◌, ◌∙◌, ◌≤◌, ◌<◌, ◌+◌, ◌-◌, ◌++◌, ℕ, ℤ, List, [], ◌∷◌, Bool, true, false, cond, not, Option, Some, refl, sym, ap, subst, arith, map, length}
 use Rattle.std.specs.Prelude.{IsSome, IsTrue, ◌==◌, ◌||◌, ◌-ℤ◌, option_map, slice_index_or, unwrap_or}
 use Rattle.std.specs.List.{find, flat_map, list_all, list_any}
 use Rattle.std.proofs.lemmas.Grind.{flat_map-append}
@@ -29,7 +29,7 @@ use Rattle.vr_model.specs.declared.records.VehicleBreaks.{VehicleBreaks}
 use Rattle.vr_model.proofs.routes.Lists.{are-lists, are_lists-count, route-distinct, route-visits}
 use Rattle.vr_model.proofs.tables.Ranges.{below-more}
 use Rattle.vr_model.proofs.tables.Tests.{or-false_left, or-false_right}
-use Rattle.vr_print.specs.Numbers.{whole}
+use Rattle.vr_print.proofs.TreeLemmas.{flat_wholes, is_float-whole, no_float_wholes}
 use Rattle.vr_printed.proofs.Shaped.{plans_there, printed_shaped, route_shaped, routes_count}
 use Rattle.vr_printed.specs.Printed.{assignment_of, lists_of, no_route, visits_of}
 use Rattle.vr_printed.specs.Shape.{are_routes_shaped, printed_in}
@@ -37,21 +37,13 @@ use Rattle.vr_printed.specs.declared.printed.Printed.{Printed}
 use Rattle.vr_printed.specs.declared.printed.PrintedRoute.{PrintedRoute}
 use Rattle.vr_app.specs.Checked.{Checked}
 use Rattle.vr_app.specs.Shortest.{shortest, shortest_plan}
-use Rattle.vr_app.specs.Spans.{TellsShortest, printed_assignment, span_at, span_beside, span_row, span_rows, span_tree, spans_in, spans_of, spans_tree, spans_with, told_spans, without_breaks}
-use Rattle.vr_app.specs.Told.{AreScheduled, HasSchedules, IsMetIn, printed_plans}
+use Rattle.vr_app.specs.Spans.{ReportsShortest, printed_assignment, span_at, span_beside, span_row, span_rows, span_tree, spans_in, spans_of, spans_tree, spans_with, reported_spans, without_breaks}
+use Rattle.vr_app.specs.Scheduled.{AreScheduled, HasSchedules, IsMetIn, printed_plans}
 use Rattle.vr_app.proofs.GeneratedLemmas.{depth_items, no_float_items}
-use Rattle.vr_app.proofs.ReplyLemmas.{IsPrintable, is_float-whole}
+use Rattle.vr_app.proofs.ReplyLemmas.{IsPrintable}
 use Rattle.vr_app.proofs.ShortestLemmas.{shortest_there}
 
 -- ---- no float stands in such a tree, and it is not deep
-
-no_float_wholes : (numbers : List ℤ) → items_have_float (items_of (map whole numbers)) ≡ false
-no_float_wholes [] = refl
-no_float_wholes (n ∷ numbers) = rw (is_float-whole n) (no_float_wholes numbers)
-
-flat_wholes : (numbers : List ℤ) → items_depth (items_of (map whole numbers)) ≡ 0
-flat_wholes [] = refl
-flat_wholes (n ∷ numbers) = ap (max 0) (flat_wholes numbers)
 
 no_float_row : (dimension : Dimension) (v : ℕ) (plan : Plan) (least printed : ℤ) → has_float (span_tree dimension v plan least printed) ≡ false
 unfolding span_tree
@@ -97,7 +89,7 @@ module _ (model : Model) (assignment : Assignment) where
   depth_all (v ∷ vs) = depth_both 2 (span_rows model assignment v) (each vs (span_rows model assignment)) (depth_rows v) (depth_all vs)
 
   spans-printable : IsPrintable (spans_tree model assignment)
-  unfolding spans_tree told_spans
+  unfolding spans_tree reported_spans
   spans-printable = record {
     whole = simp (no_float_all (vehicles assignment.lists));
     nested = omega (arith, depth_all (vehicles assignment.lists));
@@ -118,7 +110,7 @@ span_is its plan stops is =
 pub line_stops_behind : (model : Model) (d v : ℕ) (list : List ℕ) → length (line model d v list).allowed ≡ length (line model d v list).arcs + 1
 line_stops_behind model d v list = omega (arith, line_stops model d v list, line_arcs model d v list)
 
--- what is told of a line by its shortest schedule
+-- what is reported of a line by its shortest schedule
 pub row_is : (dimension other : Dimension) (v : ℕ) (its : Line) (printed plan : Plan) (least took : ℤ) (tree : Data) → tree ≡ span_tree dimension v plan least took → dimension ≡ other → shortest its ≡ Some plan → least ≡ span its plan → took ≡ span its printed
     → tree ≡ span_row other v its printed
 row_is dimension other v its printed plan least took tree is same found least_is took_is =
@@ -137,9 +129,9 @@ spans_more model v list plans d =
     ∙ ap (map (span_at model v list plans)) (filter-append (λ d. not (has_breaks (dimension_at model d))) (below d) (d ∷ []))
     ∙ map-append (span_at model v list plans) (without_breaks model (below d)) (without_breaks model (d ∷ []))
 
--- of a dimension in which no vehicle has breaks a row is told
-pub one-told : (model : Model) (v d : ℕ) (list : List ℕ) (plans : ℕ → Plan) → has_breaks (dimension_at model d) ≡ false → spans_in model v list plans (d ∷ []) ≡ span_at model v list plans d ∷ []
-one-told model v d list plans none = ap (λ b. map (span_at model v list plans) (cond (not b) (d ∷ []) [])) none
+-- of a dimension in which no vehicle has breaks there is one row
+pub one-row : (model : Model) (v d : ℕ) (list : List ℕ) (plans : ℕ → Plan) → has_breaks (dimension_at model d) ≡ false → spans_in model v list plans (d ∷ []) ≡ span_at model v list plans d ∷ []
+one-row model v d list plans none = ap (λ b. map (span_at model v list plans) (cond (not b) (d ∷ []) [])) none
 
 -- one vehicle more
 pub rows_more : (model : Model) (assignment : Assignment) (v : ℕ) → each (below (v + 1)) (span_rows model assignment) ≡ each (below v) (span_rows model assignment) ++ span_rows model assignment v
@@ -151,7 +143,7 @@ rows_more model assignment v =
 with_plans : (model : Model) (v : ℕ) (list : List ℕ) (plans others : ℕ → Plan) → ((d : ℕ) → plans d ≡ others d) → spans_with model v list plans ≡ spans_with model v list others
 with_plans model v list plans others same = λ i. spans_with model v list (λ d. same d i)
 
--- what is told of a printed route is what is told of the vehicle in the assignment
+-- what is reported of a printed route is what is reported of the vehicle in the assignment
 pub rows_are : (model : Model) (routes : List PrintedRoute) (v : ℕ) (r : PrintedRoute) (list : List ℕ) → r ≡ slice_index_or routes v no_route → list ≡ route (lists_of routes) v
     → spans_with model v list (printed_plans r) ≡ span_rows model (assignment_of routes) v
 rows_are model routes v r list r_is list_is =
@@ -238,7 +230,7 @@ module _ (model : Model) (routes : List PrintedRoute) (lists : List (List ℕ)) 
       subst P (sym r_is) (subst (HasSchedules model v (slice_index_or routes v no_route)) (sym same) (all.of_used v (read_low are low) (ap is_empty (sym same) ∙ some)))
 
 -- lines with schedules have shortest ones
-pub tells_shortest : (model : Model) (assignment : Assignment) → MeetsItsLines model assignment → TellsShortest model assignment
-tells_shortest model assignment meets v d known low visited =
+pub reports_shortest : (model : Model) (assignment : Assignment) → MeetsItsLines model assignment → ReportsShortest model assignment
+reports_shortest model assignment meets v d known low visited =
     let its = line model d v (route assignment.lists v) in
     (shortest_plan its, shortest_there its (plan_at assignment d v, meets d v low known visited), refl)

@@ -5,7 +5,7 @@ use Rattle.vr_io.specs.Whole.{TookFront}
 use Rattle.vr_model.specs.declared.search.Event.{Event}
 use Rattle.vr_app.specs.Answers.{AnswersReply, IsOfAnswer}
 use Rattle.vr_app.specs.Reply.{reply}
-use Rattle.vr_app.specs.Runs.{IsAsking, IsNotAccepted, IsRead, IsUnread, WhereTold}
+use Rattle.vr_app.specs.Runs.{IsAsking, IsNotAccepted, IsRead, IsUnread, WhereKnown}
 use Rattle.vr_app.specs.Status.{number_of}
 use Rattle.vr_app.specs.declared.answer.Answer.{Answer}
 use Rattle.vr_app.specs.declared.status.Status.{Status}
@@ -14,11 +14,11 @@ use Rattle.vr_app.specs.declared.status.Status.TheVariants as all
 -- the answer is the one to these words and to a source that has this left before, and this after
 pub record Responds (reports : List Event → List ℕ) (words : List (List ℕ)) (left rest : Option (List ℕ))
     (answer : Answer) : Type 0 where
-  pub replies : WhereTold left (λ bytes. AnswersReply (reply reports words bytes) answer)
+  pub replies : WhereKnown left (λ bytes. AnswersReply (reply reports words bytes) answer)
   pub unread : IsUnread words → (bytes : List ℕ) → AnswersReply (reply reports words bytes) answer
   pub usage_only : answer.status ≡ all.Usage → IsNotAccepted words
   pub not_met_only : answer.status ≡ all.NotMet → IsAsking words
-  pub emptied : IsRead words → answer.status ≢ all.TooLong → WhereTold left (λ bytes. rest ≡ Some [])
+  pub emptied : IsRead words → answer.status ≢ all.TooLong → WhereKnown left (λ bytes. rest ≡ Some [])
   pub settled : IsOfAnswer answer.status
 
 -- an answer of which P holds was written, and the status is its own

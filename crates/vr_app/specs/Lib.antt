@@ -9,7 +9,7 @@ pub mod Checked
 pub mod Texts
 pub mod Shortest
 pub mod Spans
-pub mod Told
+pub mod Scheduled
 pub mod Reports
 pub mod Reply
 pub mod Solutions

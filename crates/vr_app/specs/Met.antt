@@ -9,7 +9,7 @@ use Rattle.vr_check.specs.declared.finding.Finding.TheVariants.{Meets, Broken}
 use Rattle.vr_check.specs.declared.finding.Rule.{Rule}
 use Rattle.vr_app.specs.Causes.{IsReadAs}
 use Rattle.vr_app.specs.Checked.{Checked, checked_of, found_in, is_met}
-use Rattle.vr_app.specs.Spans.{TellsShortest, spans_tree}
+use Rattle.vr_app.specs.Spans.{ReportsShortest, spans_tree}
 use Rattle.vr_app.specs.Texts.{met_tree, not_met_tree}
 
 -- it is a model with a solution that meets its rules
@@ -21,8 +21,8 @@ abbrev pub IsNotMet : List ℕ → Type 0
 IsNotMet bytes = (it : Checked) × IsReadAs checked_of bytes it × (is_met (found_in it) ≡ false)
 
 -- its solution keeps all rules of its model: routes from start to end, valid lists, plans that are schedules, the parts
--- of their cost, and limits; and the text tells the cost
-pub record IsMetBy (bytes text : List ℕ) : Type 0 where
+-- of their cost, and limits
+pub record HasKept (bytes : List ℕ) : Type 0 where
   pub it : Checked
   pub printed : Printed
   pub cost : ℤ
@@ -30,22 +30,20 @@ pub record IsMetBy (bytes text : List ℕ) : Type 0 where
   pub is_found : found_in it ≡ Meets cost
   pub is_printed : printed_in it.model it.solution ≡ Some printed
   pub keeps : KeepsAllRules it.model printed cost
-  pub text_is : text ≡ line_of (met_tree cost)
 
--- its solution keeps all rules of its model, and the text tells how short its routes could be: for each used vehicle
+-- its solution keeps all rules of its model, and the text says the cost
+pub record IsMetBy (bytes text : List ℕ) : Type 0 where
+  pub kept : HasKept bytes
+  pub text_is : text ≡ line_of (met_tree kept.cost)
+
+-- its solution keeps all rules of its model, and the text says how short its routes could be: for each used vehicle
 -- and each dimension without breaks the shortest schedule of the line
 pub record IsSpannedBy (bytes text : List ℕ) : Type 0 where
-  pub it : Checked
-  pub printed : Printed
-  pub cost : ℤ
-  pub is_read : IsReadAs checked_of bytes it
-  pub is_found : found_in it ≡ Meets cost
-  pub is_printed : printed_in it.model it.solution ≡ Some printed
-  pub keeps : KeepsAllRules it.model printed cost
-  pub shortest : TellsShortest it.model (assignment_of printed.routes)
-  pub text_is : text ≡ line_of (spans_tree it.model (assignment_of printed.routes))
+  pub kept : HasKept bytes
+  pub shortest : ReportsShortest kept.it.model (assignment_of kept.printed.routes)
+  pub text_is : text ≡ line_of (spans_tree kept.it.model (assignment_of kept.printed.routes))
 
--- its solution breaks a rule of its model, the first one here, and the text tells it
+-- its solution breaks a rule of its model, the first one here, and the text says it
 pub record IsBrokenBy (bytes text : List ℕ) : Type 0 where
   pub it : Checked
   pub rule : Rule

@@ -15,7 +15,7 @@ use Rattle.vr_app.specs.Reply as replies
 use Rattle.vr_app.specs.Reply.{Replies}
 use Rattle.vr_app.specs.Runs.{Imports, IsAskedFor, IsAsking, IsChecked, IsNotAccepted, IsRead, IsSettled, IsSolved}
 use Rattle.vr_app.specs.Runs.{IsSpanned, IsUnread, ReadsJson, WhereAnswered, WhereAsked, WhereImported}
-use Rattle.vr_app.specs.Runs.{WhereSolved, WhereTold}
+use Rattle.vr_app.specs.Runs.{WhereSolved, WhereKnown}
 use Rattle.vr_app.specs.Texts.{refused_tree}
 use Rattle.vr_app.specs.declared.words.Mode.{Mode}
 
@@ -23,13 +23,13 @@ use Rattle.vr_app.specs.declared.words.Mode.{Mode}
 pub record Run : Type 0 where
   -- its words, as bytes
   pub words : List (List ℕ)
-  -- what the source has left before it and after it, where it tells
+  -- what the source has left before it and after it, where it is known
   pub left : Option (List ℕ)
   pub rest : Option (List ℕ)
   -- how often the source has failed before it and after it
   pub failed : ℕ
   pub fails : ℕ
-  -- what the sink has taken before it and after it, where it tells
+  -- what the sink has taken before it and after it, where it is known
   pub taken : Option (List ℕ)
   pub takes : Option (List ℕ)
   -- how often the sink has failed before it and after it
@@ -68,15 +68,15 @@ WroteFront reports run bytes = TookFront run.taken run.takes (replies.reply repo
 -- The reply: status and whole text are those of the definition, where the run was settled, whatever the source has
 -- where nothing is read; where the sink failed, a front of the text is written.
 pub record IsReply (reports : List Event → List ℕ) (run : Run) : Type 0 where
-  pub read : IsSettled run.status → WhereTold run.left (RepliesTo reports run)
+  pub read : IsSettled run.status → WhereKnown run.left (RepliesTo reports run)
   pub unread : IsSettled run.status → IsUnread run.words → (bytes : List ℕ) → RepliesTo reports run bytes
-  pub front : run.status ≡ 3 → WhereTold run.left (WroteFront reports run)
+  pub front : run.status ≡ 3 → WhereKnown run.left (WroteFront reports run)
   pub unread_front : run.status ≡ 3 → IsUnread run.words → (bytes : List ℕ) → WroteFront reports run bytes
 
 -- Words that read, an input of at most 64 MiB, and no failure of source or sink: the whole reply, or want of memory. Of
 -- words that read nothing, a sink that does not fail is enough.
 pub record IsComplete (reports : List Event → List ℕ) (run : Run) : Type 0 where
-  pub read : IsRead run.words → WhereTold run.left (λ bytes. length bytes ≤ max_input
+  pub read : IsRead run.words → WhereKnown run.left (λ bytes. length bytes ≤ max_input
       → (Rose run.failed run.fails → ⊥) → (Rose run.refused run.refuses → ⊥)
       → (run.status ≡ 7) ⊎ RepliesTo reports run bytes)
   pub unread : IsUnread run.words → (Rose run.refused run.refuses → ⊥) → (bytes : List ℕ)
@@ -85,44 +85,44 @@ pub record IsComplete (reports : List Event → List ℕ) (run : Run) : Type 0 w
 -- Of words that ask for a solution, 0 comes exactly where the input is a model with a first solution, 6 exactly where
 -- it is a model without one. What is written is a solution, which meets a check: valid lists with their chosen
 -- schedules and their cost; with `--log` the watchers' reports follow. 5 comes exactly where the model is refused; the
--- text tells code and path.
+-- text says code and path.
 pub record IsSolving (reports : List Event → List ℕ) (run : Run) : Type 0 where
   pub done : WhereSolved run.words run.left run.status (λ bytes. (run.status ≡ 0) ↔ HasFirst bytes)
-  pub solution : run.status ≡ 0 → (asked : Mode) → IsAskedFor asked run.words → WhereTold run.left (λ bytes.
+  pub solution : run.status ≡ 0 → (asked : Mode) → IsAskedFor asked run.words → WhereKnown run.left (λ bytes.
       (text : List ℕ) × IsAnsweredBy asked reports bytes text × Wrote run text)
   pub none_found : WhereSolved run.words run.left run.status (λ bytes. (run.status ≡ 6) ↔ HasNoFirst bytes)
   pub refused : WhereSolved run.words run.left run.status (λ bytes. (run.status ≡ 5) ↔ IsRefused model_of bytes)
-  pub refusal : run.status ≡ 5 → IsSolved run.words → WhereTold run.left (λ bytes.
+  pub refusal : run.status ≡ 5 → IsSolved run.words → WhereKnown run.left (λ bytes.
       (fault : Fault) → HasFault model_of bytes fault → Wrote run (line_of (refused_tree fault)))
 
 -- Of `check` and `spans`, 0 comes exactly where the solution in the input meets the rules of its model, and then it
--- keeps them: valid lists, schedules, the parts of their cost. `spans` tells of each line without breaks the least span
+-- keeps them: valid lists, schedules, the parts of their cost. `spans` says of each line without breaks the least span
 -- of all its schedules, with the first schedule of this span. 9 comes of these two alone, exactly where the solution
--- breaks a rule; the text tells the first. 5 comes exactly where the input is refused; the text tells code and path.
+-- breaks a rule; the text says the first. 5 comes exactly where the input is refused; the text says code and path.
 pub record IsChecking (run : Run) : Type 0 where
   pub met : WhereAsked run.words run.left run.status (λ bytes. (run.status ≡ 0) ↔ IsMet bytes)
-  pub kept : run.status ≡ 0 → IsChecked run.words → WhereTold run.left (λ bytes.
+  pub kept : run.status ≡ 0 → IsChecked run.words → WhereKnown run.left (λ bytes.
       (text : List ℕ) × IsMetBy bytes text × Wrote run text)
-  pub spans : run.status ≡ 0 → IsSpanned run.words → WhereTold run.left (λ bytes.
+  pub spans : run.status ≡ 0 → IsSpanned run.words → WhereKnown run.left (λ bytes.
       (text : List ℕ) × IsSpannedBy bytes text × Wrote run text)
   pub not_met : WhereAsked run.words run.left run.status (λ bytes. (run.status ≡ 9) ↔ IsNotMet bytes)
-  pub broken : run.status ≡ 9 → WhereTold run.left (λ bytes.
+  pub broken : run.status ≡ 9 → WhereKnown run.left (λ bytes.
       (text : List ℕ) × IsBrokenBy bytes text × Wrote run text)
   pub not_met_only : run.status ≡ 9 → IsAsking run.words
   pub refused : WhereAsked run.words run.left run.status (λ bytes. (run.status ≡ 5) ↔ IsRefused checked_of bytes)
-  pub refusal : run.status ≡ 5 → IsAsking run.words → WhereTold run.left (λ bytes.
+  pub refusal : run.status ≡ 5 → IsAsking run.words → WhereKnown run.left (λ bytes.
       (fault : Fault) → HasFault checked_of bytes fault → Wrote run (line_of (refused_tree fault)))
 
 -- Of `import`, 0 comes exactly where the file has no fault, and then its model is written. 5 comes exactly where it has
--- one; the text tells the first.
+-- one; the text says the first.
 pub record IsImporting (run : Run) : Type 0 where
   pub imported : WhereImported run.words run.left run.status (λ vehicles bytes.
       (run.status ≡ 0) ↔ IsFile vehicles bytes)
-  pub model : run.status ≡ 0 → (vehicles : ℕ) → Imports vehicles run.words → WhereTold run.left (λ bytes.
+  pub model : run.status ≡ 0 → (vehicles : ℕ) → Imports vehicles run.words → WhereKnown run.left (λ bytes.
       (tree : Data) × IsImportedAs vehicles bytes tree × Wrote run (line_of tree))
   pub flawed : WhereImported run.words run.left run.status (λ vehicles bytes.
       (run.status ≡ 5) ↔ IsFlawed vehicles bytes)
-  pub flaw : run.status ≡ 5 → (vehicles : ℕ) → Imports vehicles run.words → WhereTold run.left (λ bytes.
+  pub flaw : run.status ≡ 5 → (vehicles : ℕ) → Imports vehicles run.words → WhereKnown run.left (λ bytes.
       (fault : Fault) → HasFlaw vehicles bytes fault → Wrote run (line_of (refused_tree fault)))
 
 -- Of words that read, 8 comes exactly where the input is too long; of all of them but `import`, 4 comes exactly where
@@ -144,5 +144,5 @@ pub record HasFailed (run : Run) : Type 0 where
 -- Where the input is read, it is read to its end on every status but 2, 7 and 8; on 3 where the reply is not 8.
 abbrev pub IsEmptied : (List Event → List ℕ) → Run → Type 0
 IsEmptied reports run = IsRead run.words → run.status ≢ 2 → run.status ≢ 7 → run.status ≢ 8
-    → WhereTold run.left (λ bytes. (run.status ≡ 3 → (replies.reply reports run.words bytes).status ≢ 8)
+    → WhereKnown run.left (λ bytes. (run.status ≡ 3 → (replies.reply reports run.words bytes).status ≢ 8)
     → run.rest ≡ Some [])

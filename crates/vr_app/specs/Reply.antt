@@ -32,21 +32,21 @@ pub record Reply : Type 0 where
   pub status : ℕ
   pub text : List ℕ
 
--- a status whose text tells it alone
-abbrev pub told : ℕ → List ℕ → Reply
-told status word = record { status = status; text = line_of (status_tree word) }
+-- a status whose text says it alone
+abbrev pub status_reply : ℕ → List ℕ → Reply
+status_reply status word = record { status = status; text = line_of (status_tree word) }
 
 -- the words are not accepted
 abbrev pub usage : Reply
-usage = told 1 (codes "USAGE")
+usage = status_reply 1 (codes "USAGE")
 
 -- the input has too many bytes
 abbrev pub too_long : Reply
-too_long = told 8 (codes "TOO_LONG")
+too_long = status_reply 8 (codes "TOO_LONG")
 
 -- the input is no JSON
 abbrev pub not_json : Reply
-not_json = told 4 (codes "NOT_JSON")
+not_json = status_reply 4 (codes "NOT_JSON")
 
 -- the input is refused
 abbrev pub refused : Fault → Reply
@@ -54,7 +54,7 @@ refused fault = record { status = 5; text = line_of (refused_tree fault) }
 
 -- the construction gives no first solution
 abbrev pub none_found : Reply
-none_found = told 6 (codes "ROUTING_FAIL")
+none_found = status_reply 6 (codes "ROUTING_FAIL")
 
 -- the whole of what was asked for, in this text
 abbrev pub done : List ℕ → Reply
@@ -129,7 +129,7 @@ reply_to_file vehicles bytes =
 unfoldable pub reply_generated : ℕ → Reply
 reply_generated n = done (line_of (generated n))
 
--- the reply that tells of the search of the model of number n
+-- the reply that reports on the search of the model of number n
 abbrev pub summary_of_found : ℕ → Model → Option Found → Reply
 summary_of_found n model None = none_found
 summary_of_found n model (Some found) = done (line_of (summary_tree (summary_of n model found)))

@@ -61,29 +61,29 @@ ReadsJson words = reads_json (request_of words) ≡ true
 abbrev pub IsUnread : List (List ℕ) → Type 0
 IsUnread words = is_read (request_of words) ≡ false
 
--- a status that tells of an answer: no fault of source or sink, and no want of memory
+-- a status that is that of an answer: no fault of source or sink, and no want of memory
 pub record IsSettled (status : ℕ) : Type 0 where
   pub is_read : status ≢ 2
   pub is_written : status ≢ 3
   pub has_memory : status ≢ 7
 
--- what is said of the bytes that a source has left, where it tells them
-abbrev pub WhereTold : Option (List ℕ) → (List ℕ → Type 0) → Type 0
-WhereTold left P = (bytes : List ℕ) → left ≡ Some bytes → P bytes
+-- what is said of the bytes that a source has left, where they are known
+abbrev pub WhereKnown : Option (List ℕ) → (List ℕ → Type 0) → Type 0
+WhereKnown left P = (bytes : List ℕ) → left ≡ Some bytes → P bytes
 
 -- what is said of the input of a run that was settled, where it is read
 abbrev pub WhereAnswered : List (List ℕ) → Option (List ℕ) → ℕ → (List ℕ → Type 0) → Type 0
-WhereAnswered words left status P = IsSettled status → IsRead words → WhereTold left P
+WhereAnswered words left status P = IsSettled status → IsRead words → WhereKnown left P
 
 -- the same, where a solution of it is asked for
 abbrev pub WhereSolved : List (List ℕ) → Option (List ℕ) → ℕ → (List ℕ → Type 0) → Type 0
-WhereSolved words left status P = IsSettled status → IsSolved words → WhereTold left P
+WhereSolved words left status P = IsSettled status → IsSolved words → WhereKnown left P
 
 -- the same, where something is asked about its solution
 abbrev pub WhereAsked : List (List ℕ) → Option (List ℕ) → ℕ → (List ℕ → Type 0) → Type 0
-WhereAsked words left status P = IsSettled status → IsAsking words → WhereTold left P
+WhereAsked words left status P = IsSettled status → IsAsking words → WhereKnown left P
 
 -- the same, where it is a file whose model with so many vehicles is asked for
 abbrev pub WhereImported : List (List ℕ) → Option (List ℕ) → ℕ → (ℕ → List ℕ → Type 0) → Type 0
 WhereImported words left status P =
-    IsSettled status → (vehicles : ℕ) → Imports vehicles words → WhereTold left (P vehicles)
+    IsSettled status → (vehicles : ℕ) → Imports vehicles words → WhereKnown left (P vehicles)

@@ -20,8 +20,8 @@ use Rattle.vr_printed.specs.declared.printed.Printed.{Printed}
 use Rattle.vr_app.specs.Checked.{Checked}
 use Rattle.vr_app.specs.Shortest.{IsShortest, shortest_plan}
 
--- what is told of a vehicle in a dimension: the cumuls and slacks of a plan, the name of the dimension, the least span
--- and the printed one
+-- what is reported of a vehicle in a dimension: the cumuls and slacks of a plan, the name of the dimension, the least
+-- span and the printed one
 unfoldable pub span_tree : Dimension → ℕ → Plan → ℤ → ℤ → Data
 span_tree dimension v plan least printed = object
     (member (codes "cumuls") (wholes plan.cumuls)
@@ -31,15 +31,15 @@ span_tree dimension v plan least printed = object
     (member (codes "slacks") (wholes plan.slacks)
     (member (codes "vehicle") (count v) no_members))))))
 
--- what is told of a line by one of its plans, beside the printed one
+-- what is reported of a line by one of its plans, beside the printed one
 abbrev pub span_beside : Dimension → ℕ → Line → Plan → Plan → Data
 span_beside dimension v its printed plan = span_tree dimension v plan (span its plan) (span its printed)
 
--- what is told of a line: its shortest schedule beside the printed one
+-- what is reported of a line: its shortest schedule beside the printed one
 abbrev pub span_row : Dimension → ℕ → Line → Plan → Data
 span_row dimension v its printed = span_beside dimension v its printed (shortest_plan its)
 
--- what is told of vehicle v with a list and these plans in dimension d
+-- what is reported of vehicle v with a list and these plans in dimension d
 abbrev pub span_at : Model → ℕ → List ℕ → (ℕ → Plan) → ℕ → Data
 span_at model v list plans d = span_row (dimension_at model d) v (line model d v list) (plans d)
 
@@ -47,28 +47,28 @@ span_at model v list plans d = span_row (dimension_at model d) v (line model d v
 abbrev pub without_breaks : Model → List ℕ → List ℕ
 without_breaks model ds = filter (λ d. not (has_breaks (dimension_at model d))) ds
 
--- what is told of a vehicle in some dimensions
+-- what is reported of a vehicle in some dimensions
 abbrev pub spans_in : Model → ℕ → List ℕ → (ℕ → Plan) → List ℕ → List Data
 spans_in model v list plans ds = map (span_at model v list plans) (without_breaks model ds)
 
--- what is told of a vehicle, dimension after dimension; nothing where it is unused
+-- what is reported of a vehicle, dimension after dimension; nothing where it is unused
 abbrev pub spans_with : Model → ℕ → List ℕ → (ℕ → Plan) → List Data
 spans_with model v list plans =
     if is_empty list then [] else spans_in model v list plans (below (length model.dimensions))
 
--- what is told of vehicle v of an assignment
+-- what is reported of vehicle v of an assignment
 abbrev pub span_rows : Model → Assignment → ℕ → List Data
 span_rows model assignment v = spans_with model v (route assignment.lists v) (λ d. plan_at assignment d v)
 
--- all that is told
-unfoldable pub told_spans : List Data → Data
-told_spans rows = object
+-- all that is reported
+unfoldable pub reported_spans : List Data → Data
+reported_spans rows = object
     (member (codes "spans") (array (items_of rows))
     (member (codes "status") (string (codes "SPANS")) no_members))
 
 -- how short the routes of an assignment could be, vehicle after vehicle
 unfoldable pub spans_tree : Model → Assignment → Data
-spans_tree model assignment = told_spans (each (vehicles assignment.lists) (span_rows model assignment))
+spans_tree model assignment = reported_spans (each (vehicles assignment.lists) (span_rows model assignment))
 
 -- the assignment of a printed solution, without routes where none is printed
 abbrev pub printed_assignment : Option Printed → Assignment
@@ -79,9 +79,9 @@ printed_assignment (Some printed) = assignment_of printed.routes
 unfoldable pub spans_of : Checked → Data
 spans_of it = spans_tree it.model (printed_assignment (printed_in it.model it.solution))
 
--- of each line that is told of, the shortest schedule is told
-abbrev pub TellsShortest : Model → Assignment → Type 0
-TellsShortest model assignment =
+-- of each line that is reported of, the shortest schedule is reported
+abbrev pub ReportsShortest : Model → Assignment → Type 0
+ReportsShortest model assignment =
     (v d : ℕ) → v < length assignment.lists → d < length model.dimensions
     → is_empty (route assignment.lists v) ≡ false
     → (plan : Plan) × IsShortest (line model d v (route assignment.lists v)) plan

@@ -1,4 +1,4 @@
-//! A status with the text to write; the answers that tell a status alone, and the answer to an input that is refused.
+//! A status with the text to write; the answers that say a status alone, and the answer to an input that is refused.
 
 ghost use Rattle.std.specs.Prelude.{◌≡◌, ◌≤◌, IfOk, false};
 ghost use Rattle.serde_json.specs.Data.{depth};
@@ -36,7 +36,7 @@ pub(crate) fn line(alloc: Global, status: Status, tree: &Value) -> Result<Answer
     Ok(Answer { status, text })
 }
 
-// The answer that tells a status alone.
+// The answer that says a status alone.
 fn status_line(alloc: Global, status: Status, name: &str) -> Result<Answer, NoMemory>
     ensures { IfOk result (Answers status (line_of (texts.status_tree name.now))) }
 {

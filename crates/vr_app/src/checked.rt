@@ -20,7 +20,7 @@ use crate::words::Question;
 use serde_json::Value;
 use std::alloc::Global;
 use vr_check::{Finding, Rule, check};
-use vr_json::{Cause, Path, Place, ReadFail, Reader, field, known, required, settle};
+use vr_json::{Cause, Datum, Fields, Path, ReadFail, Reader, field, known, settle};
 use vr_model::{Closed, Model, NoMemory};
 use vr_read::read_model;
 
@@ -29,22 +29,13 @@ use vr_read::read_model;
 pub struct ModelField;
 
 impl Reader for ModelField {
-    ghost use Rattle.vr_read.specs.Models.{read_model};
-
     type Item = Model;
 
-    ghost reads = { λ it earlier path d. read_model path d };
+    ghost reads = { λ it earlier path d. model_at path d };
 
-    fn read(
-        &self,
-        alloc: Global,
-        _earlier: &[Model],
-        value: &Value,
-        place: Place<'_>,
-    ) -> Result<Model, ReadFail> {
-        let path = place.path()?;
-        let model = read_model(alloc, value, &path)?;
-        Ok(model)
+    fn read(&self, _earlier: &[Self::Item], datum: Datum<'_, '_>) -> Result<Self::Item, ReadFail> {
+        let path = datum.place.path()?;
+        read_model(datum.alloc, datum.value, &path)
     }
 }
 
@@ -53,8 +44,7 @@ fn model_in(alloc: Global, value: &Value, path: &Path) -> Result<Model, ReadFail
     ensures model { Answers result (field_of (codes "model") model_at path.now (view value.now)) }
     ensures well_formed { IfOk result IsWellFormed }
 {
-    let model = required(alloc, value, "model", path, &ModelField)?;
-    Ok(model)
+    Fields { alloc, value, path }.required("model", &ModelField)
 }
 
 // The solution in an object, as it stands.
@@ -93,7 +83,7 @@ fn answer_met(
     }
 }
 
-// The answer that tells of the first rule that a solution breaks.
+// The answer that reports the first rule that a solution breaks.
 fn answer_broken(alloc: Global, rule: Rule, vehicle: i64, place: i64) -> Result<Answer, NoMemory>
     ensures reply { IfOk result (AnswersReply (replies.broken rule vehicle place)) }
     ensures status { IfOk result (λ a. IsOfChecking a.status) }

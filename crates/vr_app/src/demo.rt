@@ -25,7 +25,7 @@ use vr_model::{Closed, NoMemory};
 use vr_plan::Lookups;
 use vr_routes::Routes;
 
-/// The answer that tells of the whole search of the model of a number. It is the one that its model would have if it
+/// The answer that reports on the whole search of the model of a number. It is the one that its model would have if it
 /// were read, in short: it does not rest on a law that this model is read and solved.
 pub(crate) fn demo(alloc: Global, number: u64) -> Result<Answer, NoMemory>
     ensures reply { IfOk result (AnswersReply (replies.reply_of_demo number)) }
@@ -35,7 +35,7 @@ pub(crate) fn demo(alloc: Global, number: u64) -> Result<Answer, NoMemory>
     summary_of_tree(alloc, number, tree)
 }
 
-// The answer that tells of the search of the model of this tree.
+// The answer that reports on the search of the model of this tree.
 fn summary_of_tree(alloc: Global, number: u64, tree: Value) -> Result<Answer, NoMemory>
     ensures reply { IfOk result (AnswersReply (replies.summary_of_model number (model_of (view tree)))) }
     ensures status { IfOk result (λ a. IsOfSolving a.status) }
@@ -47,7 +47,7 @@ fn summary_of_tree(alloc: Global, number: u64, tree: Value) -> Result<Answer, No
     }
 }
 
-// The answer that tells of the search of a model, which is looked up once for all that ask it.
+// The answer that reports on the search of a model, which is looked up once for all that ask it.
 fn summary_of_model(alloc: Global, number: u64, closed: Closed<'_>) -> Result<Answer, NoMemory>
     ensures reply { IfOk result (AnswersReply (replies.summary_of_model number (Ok closed.entry.model.now))) }
     ensures status { IfOk result (λ a. IsOfSolving a.status) }

@@ -11,9 +11,9 @@
 //! solutions, tells the watchers, and stands in a crate of its own; what all four answer is put side by side here.
 //!
 //! Replied: `solving` works out the answer to an input, `demo` a summary of a search for a number, `checked` what is
-//! asked of a solution, `spans` the tree of least spans for it, `numbered` what has a number, `answer` what tells a
+//! asked of a solution, `spans` the tree of least spans for it, `numbered` what has a number, `answer` what says a
 //! status alone and refusals, `logs` puts the reports of watchers behind the line of a solution, `texts` makes the
-//! trees that tell no solution, and `laws` has the law that what is printed meets a check. `reply` ties these to the
+//! trees that say no solution, and `laws` has the law that what is printed meets a check. `reply` ties these to the
 //! source and the sink.
 //!
 //! Each call that answers says which reply of the definition it gives, or that memory was wanting. An input is let go

@@ -29,8 +29,8 @@ pub fn generated(alloc: Global, number: u64) -> Result<Answer, NoMemory>
     Ok(answer)
 }
 
-/// The answer that tells in short of a search in the model of a number, from a first solution that costs `first_cost`.
-/// `NoMemory` where there was no memory.
+/// The answer that reports in short on a search in the model of a number, from a first solution that costs
+/// `first_cost`. `NoMemory` where there was no memory.
 pub fn summarised(
     alloc: Global,
     number: u64,

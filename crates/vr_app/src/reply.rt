@@ -8,7 +8,7 @@ ghost use Rattle.vr_app.specs.Promises.{run_of, HasCause, HasFailed, IsChecking,
 ghost use Rattle.vr_app.specs.Promises.{IsImporting, IsReply, IsSolving};
 ghost use Rattle.vr_app.specs.Reply as replies;
 ghost use Rattle.vr_app.specs.Reports.{joined};
-ghost use Rattle.vr_app.specs.Runs.{IsAsking, IsNotAccepted, IsQuestion, IsRead, IsUnread, WhereTold, bytes_of};
+ghost use Rattle.vr_app.specs.Runs.{IsAsking, IsNotAccepted, IsQuestion, IsRead, IsUnread, WhereKnown, bytes_of};
 ghost use Rattle.vr_app.specs.Status.{IsStatus};
 
 use crate::answer::{Answer, too_long, usage};
@@ -50,10 +50,10 @@ fn respond_to_input<S: Source>(
     watch: &mut Watchers,
 ) -> Result<Answer, Stop>
     ensures reply { let reports = joined (λ w later. after w later) watch.old.items in
-        IfOk result (λ a. WhereTold (S.left source.old) (λ bytes.
+        IfOk result (λ a. WhereKnown (S.left source.old) (λ bytes.
         AnswersReply (replies.reply_to_input task reports bytes) a)) }
     ensures emptied { IfOk result (λ a. a.status ≢ Status.TooLong
-        → WhereTold (S.left source.old) (λ bytes. S.left source.new ≡ Some [])) }
+        → WhereKnown (S.left source.old) (λ bytes. S.left source.new ≡ Some [])) }
     ensures status { IfOk result (λ a. IsOfInput a.status) }
     ensures not_met_only { IfOk result (λ a. a.status ≡ Status.NotMet → IsQuestion task) }
     ensures fault { IsErrOf result Stop.ReadFault → Rose (S.faults source.old) (S.faults source.new) }
@@ -70,10 +70,10 @@ fn respond_to_input<S: Source>(
 fn respond_to_file<S: Source>(alloc: Global, vehicles: u32, source: &mut S) -> Result<Answer, Stop>
     requires some { 1 ≤ vehicles }
     requires few { vehicles ≤ 100 }
-    ensures reply { IfOk result (λ a. WhereTold (S.left source.old) (λ bytes.
+    ensures reply { IfOk result (λ a. WhereKnown (S.left source.old) (λ bytes.
         AnswersReply (replies.reply_to_file vehicles bytes) a)) }
     ensures emptied { IfOk result (λ a. a.status ≢ Status.TooLong
-        → WhereTold (S.left source.old) (λ bytes. S.left source.new ≡ Some [])) }
+        → WhereKnown (S.left source.old) (λ bytes. S.left source.new ≡ Some [])) }
     ensures status { IfOk result (λ a. IsOfFile a.status ⊎ (a.status ≡ Status.TooLong)) }
     ensures fault { IsErrOf result Stop.ReadFault → Rose (S.faults source.old) (S.faults source.new) }
 {
@@ -93,7 +93,7 @@ fn respond<S: Source>(
     watch: &mut Watchers,
 ) -> Result<Answer, Stop>
     ensures reply { let reports = joined (λ w later. after w later) watch.old.items in
-        IfOk result (λ a. WhereTold (S.left source.old) (λ bytes.
+        IfOk result (λ a. WhereKnown (S.left source.old) (λ bytes.
         AnswersReply (replies.reply reports (bytes_of words.now) bytes) a)) }
     ensures unread { let reports = joined (λ w later. after w later) watch.old.items in
         IfOk result (λ a. IsUnread (bytes_of words.now) → (bytes : List ℕ)
@@ -102,7 +102,7 @@ fn respond<S: Source>(
     ensures not_met_only { IfOk result (λ a. a.status ≡ Status.NotMet → IsAsking (bytes_of words.now)) }
     ensures untouched { IsUnread (bytes_of words.now) → source.new ≡ source.old }
     ensures emptied { IfOk result (λ a. IsRead (bytes_of words.now) → a.status ≢ Status.TooLong
-        → WhereTold (S.left source.old) (λ bytes. S.left source.new ≡ Some [])) }
+        → WhereKnown (S.left source.old) (λ bytes. S.left source.new ≡ Some [])) }
     ensures status { IfOk result (λ a. IsOfAnswer a.status) }
     ensures fault { IsErrOf result Stop.ReadFault → Rose (S.faults source.old) (S.faults source.new) }
     ensures reads { IsErrOf result Stop.ReadFault → IsRead (bytes_of words.now) }
@@ -173,7 +173,7 @@ fn run_watched<S: Source, K: Sink>(
 ///
 /// An input is JSON where it is UTF-8 and `serde_json` reads a value from it, which may nest at most 127 deep. `first`
 /// and `solve` ask for a model with a first solution: the lists at which its construction ends are valid. `check` and
-/// `spans` ask for a solution that keeps all rules of the model beside it. Of each used vehicle `spans` tells, in each
+/// `spans` ask for a solution that keeps all rules of the model beside it. Of each used vehicle `spans` says, in each
 /// dimension in which no vehicle has breaks, the least span of all schedules of its line and the printed one, and of
 /// the schedules of the least span the one whose cumuls, compared from the start on, are least. With 5, C is the code
 /// and P the path of the first fault of reading, of `import` a `/` and the number of the line, `/0` for the file as a

@@ -1,14 +1,14 @@
 //! The search of a mode: what it makes of a first solution, by the judge that is chosen here.
 
 ghost use Rattle.std.specs.Prelude.{◌≡◌, ◌<◌, [], IfOk, IsTrue, OnOk};
+ghost use Rattle.vr_app.specs.Endings.{EndsAs};
+ghost use Rattle.vr_app.specs.Found as found;
+ghost use Rattle.vr_app.specs.Improved as how;
 ghost use Rattle.vr_model.specs.routes.Costs.{cost};
 ghost use Rattle.vr_model.specs.routes.Rules.{is_valid};
 ghost use Rattle.vr_model.specs.tables.Tables.{visits};
 ghost use Rattle.vr_routes.specs.Judging.{HoldSame};
 ghost use Rattle.vr_watch.specs.Told.{Told};
-ghost use Rattle.vr_app.specs.Endings.{EndsAs};
-ghost use Rattle.vr_app.specs.Improved as how;
-ghost use Rattle.vr_app.specs.Found as found;
 
 use crate::best::{Best, untried};
 use crate::improving::{FirstSolution, Watchers, improve};

@@ -17,7 +17,7 @@ ghost use Rattle.vr_plan.specs.Settled.{IsUnfeasible};
 ghost use Rattle.vr_printed.specs.Printed.{assignment_of, lists_of, plan_of};
 ghost use Rattle.vr_app.specs.Checked.{checked_pair};
 ghost use Rattle.vr_app.specs.Spans as spans;
-ghost use Rattle.vr_app.specs.Told.{AreScheduled, HasSchedules, IsMetIn, IsShortestOf, printed_plans};
+ghost use Rattle.vr_app.specs.Scheduled.{AreScheduled, HasSchedules, IsMetIn, IsShortestOf, printed_plans};
 ghost use Rattle.vr_steps.specs.Lines.{IsSoundLine};
 
 use serde_json::{Value, json};
@@ -29,7 +29,7 @@ use vr_printed::{PrintedPlan, PrintedRoute, printed_lists, read_printed};
 use vr_span::{Least, span};
 use vr_steps::Line;
 
-// What is told of a vehicle in a dimension.
+// What is reported of a vehicle in a dimension.
 #[tactic(auto, unfolding(crate::specs::Spans::span_tree))]
 fn span_tree(
     alloc: Global,
@@ -72,7 +72,7 @@ fn span_between(cumuls: &[i64]) -> i64
     cumuls[cumuls.len() - 1] - cumuls[0]
 }
 
-// What is told of a used vehicle in dimension `d`, in which no vehicle has breaks, beside the printed plan.
+// What is reported of a used vehicle in dimension `d`, in which no vehicle has breaks, beside the printed plan.
 fn row(
     alloc: Global,
     closed: Closed<'_>,
@@ -116,7 +116,7 @@ fn has_breaks(dimension: &Dimension) -> bool
         .any(|entry| !entry.rows.is_empty())
 }
 
-// Puts what is told of a used vehicle in dimension `d` behind the rows, where no vehicle has breaks in it.
+// Puts what is reported of a used vehicle in dimension `d` behind the rows, where no vehicle has breaks in it.
 fn push_row(
     alloc: Global,
     closed: Closed<'_>,
@@ -139,7 +139,7 @@ fn push_row(
     Ok(())
 }
 
-// Puts what is told of a used vehicle behind the rows, dimension after dimension.
+// Puts what is reported of a used vehicle behind the rows, dimension after dimension.
 fn push_used(
     alloc: Global,
     closed: Closed<'_>,
@@ -159,7 +159,7 @@ fn push_used(
     Ok(())
 }
 
-// Puts what is told of a vehicle behind the rows: nothing where it is unused.
+// Puts what is reported of a vehicle behind the rows: nothing where it is unused.
 fn push_rows(
     alloc: Global,
     closed: Closed<'_>,
@@ -179,7 +179,7 @@ fn push_rows(
     push_used(alloc, closed, route, list, v, rows)
 }
 
-// What is told of all vehicles of printed routes, with the lists of these.
+// What is reported of all vehicles of printed routes, with the lists of these.
 fn rows_of(
     alloc: Global,
     closed: Closed<'_>,
@@ -206,10 +206,10 @@ fn rows_of(
     Ok(rows)
 }
 
-// The tree of what is told of all vehicles.
-#[tactic(auto, unfolding(crate::specs::Spans::told_spans))]
-fn told_spans(alloc: Global, rows: Vec<Value>) -> Result<Value, NoMemory>
-    ensures { IfOk result (λ tree. view tree ≡ spans.told_spans (map view rows.items)) }
+// The tree of what is reported of all vehicles.
+#[tactic(auto, unfolding(crate::specs::Spans::reported_spans))]
+fn reported_spans(alloc: Global, rows: Vec<Value>) -> Result<Value, NoMemory>
+    ensures { IfOk result (λ tree. view tree ≡ spans.reported_spans (map view rows.items)) }
 {
     Ok(json!(in alloc; {"spans": Value::Array(rows), "status": "SPANS"})?)
 }
@@ -225,7 +225,7 @@ fn routes_tree(
 {
     let lists = printed_lists(alloc, routes)?;
     let rows = rows_of(alloc, closed, routes, lists.as_slice())?;
-    let tree = told_spans(alloc, rows)?;
+    let tree = reported_spans(alloc, rows)?;
     Ok(tree)
 }
 

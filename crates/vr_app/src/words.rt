@@ -4,8 +4,8 @@ ghost use Rattle.std.specs.Char.{is_ascii_digit};
 ghost use Rattle.std.specs.List.{list_all};
 ghost use Rattle.std.specs.Prelude.{◌≡◌, IfSome, Some};
 ghost use Rattle.vr_app.specs.Runs.{bytes_of};
-ghost use Rattle.vr_app.specs.Words.{HasFleet};
 ghost use Rattle.vr_app.specs.Words as words_of;
+ghost use Rattle.vr_app.specs.Words.{HasFleet};
 
 /// What is asked of a model.
 #[derive(Clone, Copy)]
@@ -19,7 +19,7 @@ pub enum Mode {
 }
 
 /// What is asked of a model and a solution beside it. Either question is answered where the solution meets the rules of
-/// the model; else the first rule that it breaks is told.
+/// the model; else the first rule that it breaks is reported.
 #[derive(Clone, Copy)]
 pub enum Question {
     /// Whether the solution meets the rules.

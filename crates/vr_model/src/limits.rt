@@ -1,7 +1,7 @@
-//! The limits of a model: what reading lets through, and what every layer above counts on.
+//! The limits of a model, as code above counts on them.
 //!
-//! Times, loads and distances are in units of the model's own. The definition of a well-formed model
-//! cites these constants.
+//! Times, loads and distances are in units of the model's own. The definitions have the same numbers
+//! (`specs/tables/Limits`), and a law holds these constants to them (`limits_as_defined`).
 
 /// The greatest cumul, 2^36: windows, breaks and soft bounds lie in `0..=HORIZON`, and greater
 /// capacities and slacks are read as it.

@@ -4,4 +4,4 @@ use Rattle.vr_app.proofs.MetLemmas.{field_ensures}
 use Rattle.vr_app.proofs.checked.model_in.Goals as goal
 
 pub returns-clause-well_formed : goal.returns-clause-well_formed
-returns-clause-well_formed c = answered (field_ensures c.args.path.now (view c.args.value.now)) c.in_ok-model.ensures
+returns-clause-well_formed c = answered (field_ensures c.args.path.now (view c.args.value.now)) c.required.ensures

@@ -11,4 +11,4 @@ returns-clause-told g c =
     let model = c.args.closed.model.now in
     let lists = c.args.first.routes.lists in
     let told : Limit → Lambda → Type 0 = λ limit lambda. Told (λ w. (goal.Watch-dyn g (w.vtable, w.value)).after w.value) c.args.watch.now.items c.guide.new.watch.items (guided model lists limit lambda).events in
-    subst (told (limit_of model)) c.lambda_of-lambda.ensures.lambda (subst (λ limit. told limit c.lambda_of-lambda.result) c.limit_of-limit.ensures.limit c.in_ok-guided.ensures.told)
+    subst (told (limit_of model)) c.lambda_of-lambda.ensures.lambda (subst (λ limit. told limit c.lambda_of-lambda.result) c.limit_of-limit.ensures.limit c.in_ok-guided.ensures.ended.told)

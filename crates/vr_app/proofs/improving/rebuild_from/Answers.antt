@@ -10,4 +10,4 @@ returns-clause-told g c =
     let model = c.args.lookups.now.closed.model.now in
     let lists = c.args.first.routes.lists in
     let told : Limit → ℕ → Type 0 = λ limit cut. Told (λ w. (goal.Watch-dyn g (w.vtable, w.value)).after w.value) c.args.watch.now.items c.lns_over.new.watch.items (path_lns model lists limit cut).events in
-    subst (told (limit_of model)) c.cut_of-cut.ensures.cut (subst (λ limit. told limit c.cut_of-cut.result) c.limit_of-limit.ensures.limit c.in_ok-report.ensures.told)
+    subst (told (limit_of model)) c.cut_of-cut.ensures.cut (subst (λ limit. told limit c.cut_of-cut.result) c.limit_of-limit.ensures.limit c.in_ok-report.ensures.ended.told)

@@ -15,7 +15,7 @@ returns-in_ok-too_long-in-Err-TooLong-clause-reply g c = λ bytes e.
 pub returns-in_ok-answer_file-in-Ok-clause-reply : goal.returns-in_ok-answer_file-in-Ok-clause-reply
 returns-in_ok-answer_file-in-Ok-clause-reply g c = λ bytes e.
     let read = c.in-Ok.bytes.items in
-    let all = c.in-Ok.ensures.ok.told bytes e in
+    let all = c.in-Ok.ensures.ok.known bytes e in
     let short = file-short c.args.vehicles read c.in-Ok.ensures.short in
     let P : List ℕ → Type 0 = λ bytes. AnswersReply (reply_to_file c.args.vehicles bytes) c.in_ok-answer_file-in-Ok.field-0 in
     let Q : Reply → Type 0 = λ reply. AnswersReply reply c.in_ok-answer_file-in-Ok.field-0 in

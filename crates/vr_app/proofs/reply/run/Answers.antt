@@ -12,43 +12,43 @@ returns-clause-reply g c = let ran = c.run_watched.ensures.ran in record {
 
 pub returns-clause-complete : goal.returns-clause-complete
 returns-clause-complete g c = let ran = c.run_watched.ensures.ran in record {
-  read = λ reads bytes told short calm quiet. run.complete ran bytes told calm quiet;
+  read = λ reads bytes known short calm quiet. run.complete ran bytes known calm quiet;
   unread = run.complete_unread ran;
 }
 
 pub returns-clause-solving : goal.returns-clause-solving
 returns-clause-solving g c = let ran = c.run_watched.ensures.ran in record {
-  done = λ settled solves bytes told. (run.tells-first ran settled solves bytes told).done;
+  done = λ settled solves bytes known. (run.classifies-first ran settled solves bytes known).done;
   solution = run.solution ran;
-  none_found = λ settled solves bytes told. (run.tells-first ran settled solves bytes told).undone;
-  refused = λ settled solves bytes told. (run.tells-first ran settled solves bytes told).refused;
+  none_found = λ settled solves bytes known. (run.classifies-first ran settled solves bytes known).undone;
+  refused = λ settled solves bytes known. (run.classifies-first ran settled solves bytes known).refused;
   refusal = run.refusal ran;
 }
 
 pub returns-clause-checking : goal.returns-clause-checking
 returns-clause-checking g c = let ran = c.run_watched.ensures.ran in record {
-  met = λ settled checks bytes told. (run.tells-met ran settled checks bytes told).done;
+  met = λ settled checks bytes known. (run.classifies-met ran settled checks bytes known).done;
   kept = run.kept ran;
   spans = run.spans ran;
-  not_met = λ settled checks bytes told. (run.tells-met ran settled checks bytes told).undone;
+  not_met = λ settled checks bytes known. (run.classifies-met ran settled checks bytes known).undone;
   broken = run.broken ran;
   not_met_only = run.not_met_only ran;
-  refused = λ settled checks bytes told. (run.tells-met ran settled checks bytes told).refused;
+  refused = λ settled checks bytes known. (run.classifies-met ran settled checks bytes known).refused;
   refusal = run.check_refusal ran;
 }
 
 pub returns-clause-importing : goal.returns-clause-importing
 returns-clause-importing g c = let ran = c.run_watched.ensures.ran in record {
-  imported = λ settled vehicles imports bytes told. (run.tells-file ran settled vehicles imports bytes told).done;
+  imported = λ settled vehicles imports bytes known. (run.classifies-file ran settled vehicles imports bytes known).done;
   model = run.model ran;
-  flawed = λ settled vehicles imports bytes told. (run.tells-file ran settled vehicles imports bytes told).flawed;
+  flawed = λ settled vehicles imports bytes known. (run.classifies-file ran settled vehicles imports bytes known).flawed;
   flaw = run.flaw ran;
 }
 
 pub returns-clause-cause : goal.returns-clause-cause
 returns-clause-cause g c = let ran = c.run_watched.ensures.ran in record {
-  too_long = λ settled reads bytes told. (run.tells-text ran settled reads bytes told).too_long;
-  not_json = λ settled reads bytes told. (run.tells-text ran settled reads bytes told).not_json;
+  too_long = λ settled reads bytes known. (run.classifies-text ran settled reads bytes known).too_long;
+  not_json = λ settled reads bytes known. (run.classifies-text ran settled reads bytes known).not_json;
   usage = run.usage ran;
   usage_only = run.usage_only ran;
   numbered = run.numbered ran;

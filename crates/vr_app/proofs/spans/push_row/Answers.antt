@@ -8,8 +8,8 @@ use Rattle.vr_model.specs.tables.Tables.{dimension_at, no_dimension}
 use Rattle.vr_printed.specs.Printed.{plan_of}
 use Rattle.vr_printed.specs.Shape.{no_printed_plan}
 use Rattle.vr_app.specs.Spans.{span_row}
-use Rattle.vr_app.specs.Told.{printed_plans}
-use Rattle.vr_app.proofs.SpanLemmas.{one-told}
+use Rattle.vr_app.specs.Scheduled.{printed_plans}
+use Rattle.vr_app.proofs.SpanLemmas.{one-row}
 use Rattle.vr_app.proofs.spans.push_row.Goals as goal
 
 pub returns-in_ok-push : goal.returns-in_ok-push
@@ -25,4 +25,4 @@ returns-in_ok-push c =
     ap (map view) c.in_ok-push.ensures.items
     ∙ map-append view c.args.rows.now.items (c.in_ok-row.row ∷ [])
     ∙ ap (λ tree. before ++ tree ∷ []) row
-    ∙ ap (λ rows. before ++ rows) (sym (one-told model c.args.v d list plans none))
+    ∙ ap (λ rows. before ++ rows) (sym (one-row model c.args.v d list plans none))

@@ -4,7 +4,7 @@ use Rattle.serde_json.specs.Data.{Data}
 use Rattle.serde_json.specs.View.{view}
 use Rattle.vr_model.specs.tables.Numbers.{below}
 use Rattle.vr_app.specs.Spans.{spans_in}
-use Rattle.vr_app.specs.Told.{printed_plans}
+use Rattle.vr_app.specs.Scheduled.{printed_plans}
 use Rattle.vr_app.proofs.SpanLemmas.{spans_more}
 use Rattle.vr_app.proofs.spans.push_used.Goals as goal
 

@@ -2,7 +2,7 @@ use Rattle.std.proofs.Common.{◌≡◌, ◌++◌, map}
 use Rattle.serde_json.specs.View.{view}
 use Rattle.vr_model.specs.tables.Numbers.{below}
 use Rattle.vr_app.specs.Spans.{spans_in}
-use Rattle.vr_app.specs.Told.{printed_plans}
+use Rattle.vr_app.specs.Scheduled.{printed_plans}
 use Rattle.vr_app.proofs.spans.push_used.Given as goal
 
 abbrev pub invariant-loop-d : goal.invariant-loop-d

@@ -1,7 +1,7 @@
 use Rattle.std.proofs.Common.{◌∙◌, ap}
-use Rattle.vr_app.specs.Spans.{spans_tree, told_spans}
+use Rattle.vr_app.specs.Spans.{spans_tree, reported_spans}
 use Rattle.vr_app.proofs.spans.routes_tree.Goals as goal
 
 pub returns : goal.returns
 unfolding spans_tree
-returns c = c.in_ok-tree.ensures ∙ ap told_spans c.in_ok-rows.ensures
+returns c = c.in_ok-tree.ensures ∙ ap reported_spans c.in_ok-rows.ensures

@@ -1,7 +1,7 @@
 use Rattle.std.proofs.Common.{◌∙◌, sym, ap, subst}
 use Rattle.serde_json.specs.View.{view}
 use Rattle.vr_printed.specs.Printed.{assignment_of}
-use Rattle.vr_app.specs.Told.{AreScheduled}
+use Rattle.vr_app.specs.Scheduled.{AreScheduled}
 use Rattle.vr_app.specs.Spans.{printed_assignment, spans_of, spans_tree}
 use Rattle.vr_app.proofs.SpanLemmas.{printed_scheduled, printed_some}
 use Rattle.vr_app.proofs.spans.spans_tree.Goals as goal

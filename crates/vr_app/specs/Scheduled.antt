@@ -1,4 +1,4 @@
--- What the code knows where it tells of spans.
+-- What the code knows where it reports spans.
 use Rattle.std.specs.Prelude.{◌≡◌, ℕ, ◌<◌, ℤ, List, Some, IsTrue, false, length, slice_index_or}
 use Rattle.std.specs.List.{list_all}
 use Rattle.serde_json.specs.Data.{Data}
