@@ -51,7 +51,7 @@ const IMPORTED: &str = "{\"dimensions\":[{\"capacity\":10,\"evaluators\":[{\"val
     \"fix_start\":true,\"name\":\"load\",\"slack_max\":0}],\"format\":1,\
     \"matrices\":[[[0,5,1],[5,0,4],[1,4,0]]],\"nodes\":3,\"vehicles\":[{\"end\":0,\"start\":0}]}\n";
 
-// The search tells of two events: the first solution, and a move that drops node 2.
+// The search has two events: the first solution, and a move that drops node 2.
 const DROPPED: &str = "{\"format\":1,\"nodes\":3,\"matrices\":[[[0,5,9],[5,0,4],[9,4,0]]],\
     \"vehicles\":[{\"start\":0,\"end\":0}],\"groups\":[{\"nodes\":[2],\"penalty\":3}]}";
 
@@ -104,7 +104,7 @@ fn assert_too_long(rt: &impl Abort, alloc: Global, words: &str) -> Result<(), Fa
 }
 
 #[test]
-fn a_long_input_is_told(rt: HostRuntime) -> Result<(), Fail> {
+fn a_long_input_is_refused(rt: HostRuntime) -> Result<(), Fail> {
     assert_too_long(&rt, rt.alloc(), "first")?;
     assert_too_long(&rt, rt.alloc(), "import 1")
 }

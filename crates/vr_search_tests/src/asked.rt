@@ -7,7 +7,8 @@ ghost use Rattle.vr_model.specs.moves.MoveTests.{is_move};
 ghost use Rattle.vr_model.specs.routes.Rules.{is_valid};
 ghost use Rattle.vr_model.specs.tables.Tables.{visits};
 ghost use Rattle.vr_routes.specs.Changes.{IsChange};
-ghost use Rattle.vr_routes.specs.Judging.{HoldSame, moved, verdict_of};
+ghost use Rattle.vr_descent.specs.Refused.{CanJudge};
+ghost use Rattle.vr_routes.specs.Judging.{moved, verdict_of};
 
 use crate::judges::{self, Said};
 use crate::searches::{self, Sought};
@@ -129,8 +130,8 @@ fn is_answered<J: Judge, L: Ledger>(
     question: Question,
     blank: Blank,
 ) -> Result<bool, NoMemory>
-    requires judge_model { J.model counting.old.judge ≡ closed.model.now }
-    requires holds { HoldSame closed.model.now (J.committed counting.old.judge) routes.old }
+    requires judge { CanJudge closed.model.now routes.old (J.model counting.old.judge)
+        (J.committed counting.old.judge) }
     requires name { blank.name ≡ L.name }
     requires parts { blank.parts ≡ L.parts }
     requires some { 0 < blank.parts }
@@ -156,8 +157,7 @@ fn answer_of<J: Judge>(
     routes: &mut Routes,
     question: Question,
 ) -> (Result<bool, NoMemory>, J)
-    requires judge_model { J.model judge ≡ closed.model.now }
-    requires holds { HoldSame closed.model.now (J.committed judge) routes.old }
+    requires judge { CanJudge closed.model.now routes.old (J.model judge) (J.committed judge) }
 {
     let mut counting = Counting {
         judge,

@@ -1,6 +1,7 @@
 //! What the search by cuts finds, where the construction of a first solution rebuilds.
 
 ghost use Rattle.std.specs.Prelude.{◌≡◌, ◌≤◌, ⊤, IsTrue};
+ghost use Rattle.vr_descent.specs.Ending.{IsSearchLimit};
 ghost use Rattle.vr_model.specs.routes.Rules.{is_valid};
 ghost use Rattle.vr_model.specs.tables.Tables.{visits};
 
@@ -69,14 +70,12 @@ fn report_of(
 ) -> Result<Report, NoMemory>
     requires of_model { routes.old.visits ≡ visits closed.model.now }
     requires valid { IsTrue (is_valid closed.model.now routes.old.lists) }
-    requires tries { limit.tries ≤ 1000000000 }
-    requires one_solution { 1 ≤ limit.solutions }
-    requires solutions { limit.solutions ≤ 1000000000 }
+    requires limit { IsSearchLimit limit }
     requires one_visit { 1 ≤ cut }
     requires few_visits { cut ≤ 100 }
 {
     let mut none: Vec<Box<dyn Watch>> = Vec::new(alloc);
-    let report = lns(
+    lns(
         alloc,
         closed.model,
         inserting,
@@ -84,8 +83,7 @@ fn report_of(
         limit,
         cut,
         &mut none,
-    )?;
-    Ok(report)
+    )
 }
 
 /// Whether the search by cuts from valid routes finds what is wanted.

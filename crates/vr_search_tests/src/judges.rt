@@ -1,7 +1,6 @@
 //! Verdicts on single moves, by both judges.
 
-ghost use Rattle.std.specs.Prelude.{◌≡◌};
-ghost use Rattle.vr_routes.specs.Judging.{HoldSame};
+ghost use Rattle.vr_descent.specs.Refused.{CanJudge};
 
 use crate::asked::{By, Question};
 use crate::models::{OPTIONAL, TWO_VANS};
@@ -22,10 +21,8 @@ fn judge_move<J: Judge, L: Ledger>(
     makes: bool,
     steps: &mut Steps<L>,
 ) -> Result<Option<Verdict>, NoMemory>
-    requires judge_model { J.model judge.old ≡ closed.model.now }
-    requires holds { HoldSame closed.model.now (J.committed judge.old) routes.old }
-    ensures judge_model { J.model judge.new ≡ closed.entry.model.now }
-    ensures holds { HoldSame closed.entry.model.now (J.committed judge.new) routes.new }
+    requires judge { CanJudge closed.model.now routes.old (J.model judge.old) (J.committed judge.old) }
+    ensures { CanJudge closed.entry.model.now routes.new (J.model judge.new) (J.committed judge.new) }
 {
     if Change::of(closed.model, routes, mv).is_none() {
         return Ok(None);
@@ -50,8 +47,7 @@ pub(crate) fn says_all<J: Judge, L: Ledger>(
     moves: &[Said],
     steps: &mut Steps<L>,
 ) -> Result<bool, NoMemory>
-    requires judge_model { J.model judge.old ≡ closed.model.now }
-    requires holds { HoldSame closed.model.now (J.committed judge.old) routes.old }
+    requires judge { CanJudge closed.model.now routes.old (J.model judge.old) (J.committed judge.old) }
 {
     for &(mv, makes, want) in moves {
         if judge_move(closed, judge, routes, mv, makes, steps)? != Some(want) {

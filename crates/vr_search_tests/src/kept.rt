@@ -15,7 +15,7 @@ use std::alloc::Global;
 use vr_costfilter::{AllCumuls, Paid, PartAfter, Trail};
 use vr_model::{Closed, Move, NoMemory};
 use vr_plan::{Table, tables_of};
-use vr_routes::{Change, Piece, Routes};
+use vr_routes::{Change, Routes};
 
 // Whether what is kept tells, in the first dimension, what the first list of a change comes to. An empty list has
 // nothing to tell.
@@ -35,16 +35,16 @@ fn is_told(
     if closed.model.dimensions.is_empty() || change.parts() == 0 {
         return false;
     }
-    if Piece::nodes_in(routes, change.pieces(0)) == 0 {
-        return true;
-    }
-    let mut trail = Trail::new();
     let first = PartAfter {
         model: closed.model,
         routes,
         change,
         k: 0,
     };
+    if first.is_empty() {
+        return true;
+    }
+    let mut trail = Trail::new();
     kept.timing_after(&first, &tables[0], 0, &mut trail)
         .is_some()
 }

@@ -2,8 +2,9 @@
 //! moves, and less often where what a move makes at least rules it out; and at most three times a try what moves make
 //! at least. Of tabu search also which moves it makes, passes over and ends at.
 
-ghost use Rattle.std.specs.Prelude.{◌≡◌, ◌+◌, ◌*◌, ◌≤◌, IfOk};
-ghost use Rattle.vr_routes.specs.Judging.{HoldSame};
+ghost use Rattle.std.specs.Prelude.{IfOk};
+ghost use Rattle.vr_descent.specs.Asking.{AsksFor};
+ghost use Rattle.vr_descent.specs.Refused.{CanJudge};
 
 use crate::asked::{By, Counting, Question};
 use crate::models::{DAY, DETOUR, PAID_SQUARE, SHORTCUT, SPAN_SQUARE, SQUARE, THREE};
@@ -68,10 +69,8 @@ fn found_by<J: Judge, L: Ledger>(
     limit: Limit,
     steps: &mut Steps<L>,
 ) -> Result<Found, NoMemory>
-    requires judge_model { J.model judge.old ≡ closed.model.now }
-    requires holds { HoldSame closed.model.now (J.committed judge.old) routes.old }
-    ensures asked { IfOk result (λ found. J.asked judge.new ≤ J.asked judge.old + found.report.tries) }
-    ensures looked { IfOk result (λ found. J.looked judge.new ≤ J.looked judge.old + 3 * found.report.tries) }
+    requires judge { CanJudge closed.model.now routes.old (J.model judge.old) (J.committed judge.old) }
+    ensures { IfOk result (λ found. AsksFor J.asked J.looked judge.old judge.new found.report.tries) }
 {
     let limit = Limit {
         tries: limit.tries.min(1000),
@@ -158,8 +157,8 @@ pub(crate) fn finds<J: Judge, L: Ledger>(
     sought: &Sought,
     steps: &mut Steps<L>,
 ) -> Result<bool, NoMemory>
-    requires judge_model { J.model counting.old.judge ≡ closed.model.now }
-    requires holds { HoldSame closed.model.now (J.committed counting.old.judge) routes.old }
+    requires judge { CanJudge closed.model.now routes.old (J.model counting.old.judge)
+        (J.committed counting.old.judge) }
 {
     let found = found_by(
         alloc,
@@ -183,53 +182,25 @@ pub(crate) fn finds<J: Judge, L: Ledger>(
 const CROSSING: &[&[u32]] = &[&[1, 2, 3]];
 
 // A descent uncrosses it.
-static UNCROSSED: Sought = Sought {
-    search: Search::Descent,
-    limit: FAR,
-    wanted: Wanted {
-        tries: 18,
-        solutions: 2,
-        end: End::Optimum,
-        list: &[2, 1, 3],
-    },
-};
+#[rattlefmt::skip]
+static UNCROSSED: Sought = Sought { search: Search::Descent, limit: FAR,
+    wanted: Wanted { tries: 18, solutions: 2, end: End::Optimum, list: &[2, 1, 3] } };
 
 // Guided search goes on until its tries run out.
-static TURNED_AGAIN: Sought = Sought {
-    search: Search::Guided,
-    limit: FAR,
-    wanted: Wanted {
-        tries: 1000,
-        solutions: 67,
-        end: End::Tries,
-        list: &[1, 2, 3],
-    },
-};
+#[rattlefmt::skip]
+static TURNED_AGAIN: Sought = Sought { search: Search::Guided, limit: FAR,
+    wanted: Wanted { tries: 1000, solutions: 67, end: End::Tries, list: &[1, 2, 3] } };
 
 // Lists of two vehicles.
 const PLANNED: &[&[u32]] = &[&[6, 3, 7], &[4, 5, 1, 2]];
 
-static PLANNED_BETTER: Sought = Sought {
-    search: Search::Descent,
-    limit: FAR,
-    wanted: Wanted {
-        tries: 332,
-        solutions: 6,
-        end: End::Optimum,
-        list: &[3, 6, 1, 2],
-    },
-};
+#[rattlefmt::skip]
+static PLANNED_BETTER: Sought = Sought { search: Search::Descent, limit: FAR,
+    wanted: Wanted { tries: 332, solutions: 6, end: End::Optimum, list: &[3, 6, 1, 2] } };
 
-static PLANNED_AGAIN: Sought = Sought {
-    search: Search::Guided,
-    limit: FAR,
-    wanted: Wanted {
-        tries: 1000,
-        solutions: 8,
-        end: End::Tries,
-        list: &[3, 6, 1, 2],
-    },
-};
+#[rattlefmt::skip]
+static PLANNED_AGAIN: Sought = Sought { search: Search::Guided, limit: FAR,
+    wanted: Wanted { tries: 1000, solutions: 8, end: End::Tries, list: &[3, 6, 1, 2] } };
 
 // Lists that tabu search begins with: two visits, and three.
 const BOTH: &[&[u32]] = &[&[1, 2]];
@@ -237,83 +208,35 @@ const BOTH: &[&[u32]] = &[&[1, 2]];
 const ALL: &[&[u32]] = &[&[1, 2, 3]];
 
 // The list is turned, which costs as much. Each move back changes only visits that are tabu then.
-static TURNED: Sought = Sought {
-    search: Search::Tabu(10, &[1, 2]),
-    limit: FAR,
-    wanted: Wanted {
-        tries: 12,
-        solutions: 2,
-        end: End::Optimum,
-        list: &[2, 1],
-    },
-};
+#[rattlefmt::skip]
+static TURNED: Sought = Sought { search: Search::Tabu(10, &[1, 2]), limit: FAR,
+    wanted: Wanted { tries: 12, solutions: 2, end: End::Optimum, list: &[2, 1] } };
 
 // Costs of 26, 18 and 14. In the first round two moves lead to 18, and the first of them is made; the second one's
 // move changes tabu visits alone, but costs less than any before.
-static LED_ON: Sought = Sought {
-    search: Search::Tabu(1, &[3, 1, 2]),
-    limit: FAR,
-    wanted: Wanted {
-        tries: 9,
-        solutions: 3,
-        end: End::Optimum,
-        list: &[3, 1, 2],
-    },
-};
+#[rattlefmt::skip]
+static LED_ON: Sought = Sought { search: Search::Tabu(1, &[3, 1, 2]), limit: FAR,
+    wanted: Wanted { tries: 9, solutions: 3, end: End::Optimum, list: &[3, 1, 2] } };
 
 // Costs of 12, 14, 11 and 22: the best lists are not the last ones.
-static UPHILL: Sought = Sought {
-    search: Search::Tabu(1, &[3, 1, 2]),
-    limit: FAR,
-    wanted: Wanted {
-        tries: 12,
-        solutions: 4,
-        end: End::Optimum,
-        list: &[1, 3, 2],
-    },
-};
+#[rattlefmt::skip]
+static UPHILL: Sought = Sought { search: Search::Tabu(1, &[3, 1, 2]), limit: FAR,
+    wanted: Wanted { tries: 12, solutions: 4, end: End::Optimum, list: &[1, 3, 2] } };
 
 // Where visits are tabu for one round longer, the third round has no move that may be made.
-static LONGER_TABU: Sought = Sought {
-    search: Search::Tabu(2, &[3, 1, 2]),
-    limit: FAR,
-    wanted: Wanted {
-        tries: 9,
-        solutions: 3,
-        end: End::Optimum,
-        list: &[3, 1, 2],
-    },
-};
+#[rattlefmt::skip]
+static LONGER_TABU: Sought = Sought { search: Search::Tabu(2, &[3, 1, 2]), limit: FAR,
+    wanted: Wanted { tries: 9, solutions: 3, end: End::Optimum, list: &[3, 1, 2] } };
 
 // The third round has three moves, and two tries are left.
-static CUT_SHORT: Sought = Sought {
-    search: Search::Tabu(1, &[3, 1, 2]),
-    limit: Limit {
-        tries: 8,
-        solutions: 100,
-    },
-    wanted: Wanted {
-        tries: 8,
-        solutions: 3,
-        end: End::Tries,
-        list: &[3, 1, 2],
-    },
-};
+#[rattlefmt::skip]
+static CUT_SHORT: Sought = Sought { search: Search::Tabu(1, &[3, 1, 2]), limit: Limit { tries: 8, solutions: 100 },
+    wanted: Wanted { tries: 8, solutions: 3, end: End::Tries, list: &[3, 1, 2] } };
 
 // The second solution costs more than the first.
-static ENOUGH: Sought = Sought {
-    search: Search::Tabu(1, &[1, 2, 3]),
-    limit: Limit {
-        tries: 1000,
-        solutions: 2,
-    },
-    wanted: Wanted {
-        tries: 3,
-        solutions: 2,
-        end: End::Solutions,
-        list: &[3, 2, 1],
-    },
-};
+#[rattlefmt::skip]
+static ENOUGH: Sought = Sought { search: Search::Tabu(1, &[1, 2, 3]), limit: Limit { tries: 1000, solutions: 2 },
+    wanted: Wanted { tries: 3, solutions: 2, end: End::Solutions, list: &[3, 2, 1] } };
 
 // What a row asks of a search.
 fn asks_of(by: By, search: &'static Sought) -> Asks {

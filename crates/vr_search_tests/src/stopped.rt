@@ -1,7 +1,6 @@
 //! What a descent leaves where a watcher wants memory in its midst.
 
-ghost use Rattle.std.specs.Prelude.{◌≡◌};
-ghost use Rattle.vr_routes.specs.Judging.{HoldSame};
+ghost use Rattle.vr_descent.specs.Refused.{CanJudge};
 
 use crate::asked::{By, Question};
 use crate::models::OPTIONAL;
@@ -24,8 +23,7 @@ fn is_stopped<J: Judge, L: Ledger>(
     watch: &mut Vec<Box<dyn Watch>>,
     steps: &mut Steps<L>,
 ) -> Result<bool, NoMemory>
-    requires judge_model { J.model judge.old ≡ closed.model.now }
-    requires holds { HoldSame closed.model.now (J.committed judge.old) routes.old }
+    requires judge { CanJudge closed.model.now routes.old (J.model judge.old) (J.committed judge.old) }
 {
     let cost = total(alloc, closed.model, routes)?;
     Ok(descend(closed.model, judge, routes, cost, FAR, watch, steps).is_err())
@@ -56,8 +54,7 @@ pub(crate) fn ends_between_watchers<J: Judge, L: Ledger>(
     routes: &mut Routes,
     steps: &mut Steps<L>,
 ) -> Result<bool, NoMemory>
-    requires judge_model { J.model judge.old ≡ closed.model.now }
-    requires holds { HoldSame closed.model.now (J.committed judge.old) routes.old }
+    requires judge { CanJudge closed.model.now routes.old (J.model judge.old) (J.committed judge.old) }
 {
     let mut watch: Vec<Box<dyn Watch>> = Vec::new(alloc);
     watch.push(Box::new(alloc, Trace::new(alloc))?)?;

@@ -86,7 +86,7 @@ impl Write for Scripted {
     }
 }
 
-// A source over a reader tells a fault from the end, and the next read goes on.
+// A source over a reader knows a fault from the end, and the next read goes on.
 #[test]
 fn a_reader_is_read_to_its_end_or_fault(rt: HostRuntime) -> Result<(), Fail> {
     let alloc = rt.alloc();

@@ -4,39 +4,16 @@ use serde_json::Value;
 use std::alloc::Global;
 use std::test::Fail;
 use vr_json::{
-    Array, Path, Place, ReadFail, Reader, Tree, flag, known, list, optional, required, text,
-    to_line, whole, word,
+    Array, Fields, Path, ReadFail, Tree, Whole, flag, known, list, text, to_line, whole, word,
 };
 use vr_model::{NoMemory, Seq};
 use vr_samples::all_hold;
 
-// A whole number of 0 to 9, as the entry of an array.
-#[derive(Drop)]
-struct Digit;
-
-impl Reader for Digit {
-    ghost use Rattle.std.specs.Prelude.{pos};
-    ghost use Rattle.vr_json.specs.Kinds as kinds;
-
-    type Item = i64;
-
-    ghost reads = { λ it earlier path d. kinds.whole (pos 0) (pos 9) path d };
-
-    fn read(
-        &self,
-        alloc: Global,
-        _earlier: &[i64],
-        value: &Value,
-        place: Place<'_>,
-    ) -> Result<i64, ReadFail> {
-        whole(alloc, value, 0, 9, &place.path()?)
-    }
-}
-
-const DIGITS: Array<Digit> = Array {
+// One to three digits.
+const DIGITS: Array<Whole> = Array {
     lo: 1,
     hi: 3,
-    entry: Digit,
+    entry: Whole { lo: 0, hi: 9 },
 };
 
 // What is asked of a value.
@@ -61,14 +38,19 @@ enum Call {
 }
 
 fn answer(alloc: Global, call: Call, value: &Value, root: &Path) -> Result<usize, ReadFail> {
+    let fields = Fields {
+        alloc,
+        value,
+        path: root,
+    };
     match call {
         Call::Whole => Ok(whole(alloc, value, 0, 9, root)? as usize),
         Call::Word => word(alloc, value, &["any", "lifo"], root),
         Call::Flag => Ok(usize::from(flag(alloc, value, root)?)),
         Call::Text => Ok(text(alloc, value, 1, 4, root)?.as_str().len()),
         Call::List => Ok(list(alloc, value, 1, 2, root)?.len()),
-        Call::Required => Ok(required(alloc, value, "b", root, &DIGITS)?.len()),
-        Call::Optional => Ok(optional(alloc, value, "b", root, Seq::new(alloc), &DIGITS)?.len()),
+        Call::Required => Ok(fields.required("b", &DIGITS)?.len()),
+        Call::Optional => Ok(fields.optional_array("b", &DIGITS)?.len()),
         Call::Known => {
             known(alloc, value, &["b"], root)?;
             Ok(0)
