@@ -1,9 +1,9 @@
 //! Nanoseconds of hot paths: crossing an arc, the meet of two sets, listing a move and making its change, judging a
-//! move, the chosen schedule of a list.
+//! move, the earliest schedule of a list.
 //!
 //! `vr_bench WORK ROUNDS`. The works `crossing` and `meet` make what they need themselves. The others read a model from
 //! standard input and begin with its first solution by the cheapest arcs: `moves` lists the moves of the model's
-//! neighbourhoods and makes their changes, `judge` judges the first of them, and `schedule` asks for the chosen
+//! neighbourhoods and makes their changes, `judge` judges the first of them, and `schedule` asks for the earliest
 //! schedule of the first list in the first dimension. `bench/run` runs them beside plain Rust.
 //!
 //! `vr_bench ask PLACE` takes no time: it prints what the judge says of one move of that solution, or that memory was

@@ -1,4 +1,4 @@
-//! The earliest schedule of a list.
+//! The time that the earliest schedule of a list takes.
 
 ghost use Rattle.std.specs.Prelude.{IfOk, IsTrue};
 ghost use Rattle.vr_model.specs.routes.Routes.{are_lists};

@@ -1,4 +1,7 @@
 //! What is kept of committed lists, and what a change makes of them.
+//!
+//! A step is a stop of a list with its floor; a stage is how far the vehicle is at a stop, and what was paid until
+//! then. The changed list is the one that `Asked` names.
 
 ghost use Rattle.std.specs.Prelude.{◌≡◌, ◌<◌, ◌+◌, ℕ, List, IfOk, IfSome, IsTrue, false, length, pos};
 ghost use Rattle.std.specs.Prelude.{◌↔◌, is_some};
@@ -43,7 +46,7 @@ use vr_routes::{Piece, Routes};
 /// What is kept of the list of a vehicle.
 #[derive(Drop)]
 pub struct KeptList {
-    // the steps and the stages of its chosen schedule; none of a tight one that soft upper bounds cost nothing
+    // the steps and the stages of its chosen schedule; none where that is tight and no soft bound may cost anything
     steps: KeptSteps,
     // the cumuls of its start and of its end, between which they are, where it chooses its tight schedule
     between: TightEnds,
@@ -138,7 +141,7 @@ impl KeptList {
         });
     }
 
-    // What the tight schedule of the list comes to that is asked of; nothing exactly where what is kept does not tell.
+    // What the tight schedule of the changed list comes to; nothing exactly where what is kept does not tell.
     fn tight_after(&self, asked: &Asked, trail: &mut Trail) -> Option<Timing>
         requires kept { IsKeptBy Tight asked.now self.now }
         requires feasible { IsFeasible (new_line asked.now) }
@@ -201,8 +204,7 @@ impl KeptList {
         self.steps.after(&asked, Some(start), trail)
     }
 
-    // What the earliest schedule of the list comes to that is asked of; nothing exactly where what is kept does not
-    // tell.
+    // What the earliest schedule of the changed list comes to; nothing exactly where what is kept does not tell.
     fn earliest_after(&self, asked: &Asked, trail: &mut Trail) -> Option<Timing>
         requires { IsKeptBy Earliest asked.now self.now }
         ensures known { IsFeasible (new_line asked.now)

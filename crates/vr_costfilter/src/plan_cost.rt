@@ -26,9 +26,10 @@ use vr_routes::{Change, Routes};
 
 /// What soft upper bounds and spans cost (`SetCumulVarSoftUpperBound` and `SetSpanCostCoefficientForVehicle` in
 /// OR-Tools). A change is known by the floors and cumuls that are kept of the committed lists: along what it puts in,
-/// in front of that until a floor is as it was, and behind it until a cumul is; and of tight vehicles along their whole
-/// lists. Only where they are not known so are the schedules of the changed lists built, in the dimensions where they
-/// may cost anything.
+/// in front of that until a floor is as it was, and behind it until a cumul is; of tight vehicles by the ways along
+/// their first visits and what is left behind each place, and where soft bounds may cost anything and the end is
+/// another, along the whole list. Only where they are not known so are the schedules of the changed lists built, in the
+/// dimensions where they may cost anything.
 #[derive(Drop)]
 pub struct PlanCost<'m> {
     rules: PlanRules<'m>,

@@ -48,8 +48,8 @@ pub trait Accept {
     }
 
     /// Whether the move may be taken where it makes a difference of `least` or more, as far as its numbers tell
-    /// (vehicles, places, nodes): false only where it is not. A search asks this first, before it makes the change of
-    /// the move. Takes no memory.
+    /// (vehicles, places, nodes): false only where it is not. A search asks this after it has asked about the run of
+    /// the move, and before it makes the change of the move. Takes no memory.
     #[inline]
     fn may_accept_by_numbers(&self, routes: &Routes, mv: Move, least: i64) -> bool
         requires well_formed { IsWellFormed (model self.now) }

@@ -74,8 +74,8 @@ impl<'m> Accept for Cheaper<'m> {
 /// more moves than the limit has tries, and the watchers have been told the events up to there: of the event in hand,
 /// the first few. Memory is taken by the judge and the watchers alone.
 ///
-/// A move that was refused is not asked about again as long as the lists of its vehicles stay, where no dimension has a
-/// cost of its global span.
+/// The moves of a row that a scan refused whole are not asked about again as long as the lists of their vehicles stay
+/// and, of kinds that change it, which visits are active; where no dimension has a cost of its global span.
 pub fn descend<J: Judge, L: Ledger>(
     model: &Model,
     judge: &mut J,

@@ -11,8 +11,8 @@
 //! whole search is what was told already, and behind that what it tells of the search from here. No move of these lists
 //! that is known is acceptable.
 //!
-//! `vr_guided` stands on it: it descends where a model asks for that, and scans by penalised costs. It and
-//! `vr_tabu` go on to lists that cost more, and keep the best ones ([`Incumbent`]).
+//! `vr_app` calls [`descend`]. `vr_guided` scans by penalised costs; it and `vr_tabu` go on to lists that cost more,
+//! and keep the best ones ([`Incumbent`]).
 #![tactic(auto)]
 
 mod accepting;

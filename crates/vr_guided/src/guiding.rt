@@ -136,8 +136,8 @@ impl<'m, 'p, 's> Guiding<'m, 'p, 's> {
         Some(difference)
     }
 
-    // Whether a difference in cost is no gain where at most so much of the penalised arc costs is saved. Nothing is
-    // multiplied where nothing is saved, as long as no arc is penalised.
+    // Whether a difference in cost is no gain where at most so much of the penalised arc costs is saved. Until an
+    // arc is penalised nothing can be saved, and the sign alone tells.
     #[inline]
     fn is_no_gain(&self, difference: i64, saved: i128) -> bool
         requires { IsIn (pos 0) (pos (2 ^ 90)) saved }

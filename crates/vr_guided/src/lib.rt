@@ -5,9 +5,9 @@
 //! of the penalised arc costs is told by the stretches that its change touches (`changing`, `stretches`), with sums
 //! along the lists of vehicles (`route_sums`).
 //!
-//! A move that a scan refused is known to be refused until a commit changes the list of one of its vehicles (or
-//! activity, if it changes that), or a round penalises an arc of such a list: what it makes of the penalised arc costs
-//! is told by arcs of these lists alone (`raising`).
+//! The moves of a row that a scan refused whole are known to be refused until a commit changes the list of one of their
+//! vehicles (or activity, if they change that), or a round penalises an arc of such a list: what a move makes of the
+//! penalised arc costs depends on arcs of these lists alone (`raising`).
 //!
 //! Between scans the sums are those of the lists and the penalties, no arc was penalised more often than a move was
 //! tried, and the best lists so far are valid and of known cost; routes and judge stand as in `vr_descent`.

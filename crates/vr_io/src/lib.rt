@@ -2,7 +2,8 @@
 //!
 //! A [`Source`] and a [`Sink`] are devices that may fail: each says how often it has, so that a caller's contract can
 //! say that a failure has a cause. There are three kinds of each: over std's readers and writers, in memory without
-//! faults, and in memory with faults at the calls that a test names.
+//! faults, and in memory with faults at the calls that a test names. `vr_app` reads and writes by them, and `vr_cli`
+//! hands in the two standard streams.
 #![tactic(auto)]
 
 mod edges;

@@ -5,7 +5,8 @@
 //! path where it stands, and the first fault in the order of the table is the answer. A tree is built field by field,
 //! in any order, and `to_line` prints it, its keys in the order of bytes.
 //!
-//! `vr_read`, `vr_printed` and `vr_tsplib` read and build by it, and `vr_app` prints each reply.
+//! `vr_read`, `vr_printed` and `vr_tsplib` read by it, `vr_gen` and `vr_print` build trees by it, and `vr_app` prints
+//! the replies that are no solution.
 #![tactic(auto)]
 
 mod arrays;

@@ -151,7 +151,7 @@ impl<'m, F: PathFilter + Drop> Judge for Judging<'m, F> {
         self.costs.least(routes, mv, change)
     }
 
-    // The clauses of the trait, of which the judge counts no questions, and when there is an answer.
+    // `known` says when there is an answer. The others are those of the trait; `looked` is always 0 here.
     #[inline(always)]
     fn least_by_numbers(&mut self, routes: &Routes, mv: Move) -> Option<i64>
         requires well_formed { IsWellFormed self.old.model }

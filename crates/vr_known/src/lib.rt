@@ -12,8 +12,9 @@
 //!
 //! `vr_moves_route`, `vr_moves_cross`, `vr_moves_active` and `vr_moves_pair` list their moves by these ranges. What
 //! makes the moves of a run knows their kind ([`Pattern`]), and says in which block they stand ([`Block`]).
-//! `vr_descent` learns at the end of each scan, and forgets where a move is made, by the vehicles that it touches
-//! ([`Touched`]).
+//! `vr_descent` learns at the end of each scan ([`Known::note`], [`Known::note_all`]), and forgets where a move is made
+//! ([`Known::change`]), by the vehicles that it touches ([`Touched`]); `vr_guided` forgets besides where it penalises
+//! an arc ([`Known::forget`], [`Known::settle`]).
 #![tactic(auto)]
 
 mod blocks;

@@ -24,7 +24,7 @@ impl<L: Listed> Model for Moves<L> {
 }
 
 impl<L: Listed> Moves<L> {
-    /// All that a list has.
+    /// All moves of these ranges, none taken yet.
     #[inline]
     pub fn new(left: L) -> Moves<L>
         ensures { result ≡ L.rest left }

@@ -17,7 +17,7 @@ use vr_routes::Routes;
 pub(crate) struct Stamps {
     // For each row of a kind, when its moves were last refused.
     seen: [u64; 1511],
-    // For each vehicle, when its list last changed.
+    // For each vehicle, when its list, or a penalty of its arcs, last changed.
     changed: [u64; 100],
     // When it last changed which visits are active.
     active: u64,
@@ -130,7 +130,7 @@ impl Stamps {
         }
     }
 
-    /// The list of a vehicle changes now.
+    /// What the moves of a vehicle depend on changes now: its list, or what penalises its arcs.
     pub(crate) fn forget(&mut self, v: u32)
         requires vehicle { v < 100 }
         ensures fewer { (k u w : ℕ) → IsTrue (is_known self.new k u w) → IsTrue (is_known self.old k u w) }

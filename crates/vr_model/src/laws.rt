@@ -180,7 +180,7 @@ pub fn narrowed_to_ends()
     ensures { NarrowedToEnds }
 {}
 
-/// The constants of `limits`, by which the code reads, are the numbers that the definitions name.
+/// The constants of `limits` are the numbers that the definitions name.
 pub fn limits_as_defined()
     ensures { LimitsAsDefined }
 {}

@@ -249,7 +249,7 @@ pub struct Parts {
 /// Why a search ended.
 #[derive(Clone, Copy)]
 pub enum End {
-    /// There was no search: the first solution was asked for.
+    /// There was no search: the first solution was asked for, or the model names none.
     First,
     /// No move was acceptable, and nothing else was left to do.
     Optimum,
@@ -264,7 +264,7 @@ pub enum End {
 pub struct Report {
     /// How many moves were tried.
     pub tries: u64,
-    /// How many solutions were found: 1, and 1 for each accepted move.
+    /// How many solutions were found: 1, and 1 for each move that was made or cut that was kept.
     pub solutions: u64,
     pub end: End,
 }

@@ -1,6 +1,6 @@
 //! What a search is told, and what it tells while it runs.
 
-/// How far a search may go: both searches stop at the first of the two that they reach.
+/// How far a search may go: each search stops at the first of the two that it reaches.
 #[derive(Clone, Copy)]
 pub struct Limit {
     /// How many moves may be tried, in `0..=10^9`.

@@ -5,7 +5,8 @@ ghost use Rattle.std.specs.Prelude.{◌≡◌, ◌+◌, ◌<◌};
 use std::marker::Model;
 use std::sync::ledger::{Blank, Book, Ledger, Share};
 
-/// How many images of runs were taken. It holds no bytes at run time, and only `tick` changes it.
+/// How many steps were taken, of the kind that a call names: images of runs, tries, lists written. Contracts bound it.
+/// It holds no bytes at run time, and only `tick` changes it.
 #[derive(Drop)]
 pub struct Steps<L: Ledger> {
     book: Book<L>,

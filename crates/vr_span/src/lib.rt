@@ -9,7 +9,7 @@
 //! line narrowed to these ends.
 //!
 //! Invariant: at each stop, a cumul is in a piece that starts it at `s` or later exactly where some way comes there
-//! from `s` or later. It is asked for each printed route of which is told how short it could be.
+//! from `s` or later. `vr_app` asks it of each route of a solution, for the word `spans`.
 #![tactic(auto)]
 
 mod crossing;
