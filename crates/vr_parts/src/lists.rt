@@ -1,18 +1,19 @@
 //! Parts of the cost that are sums over the lists of vehicles.
 
-ghost use Rattle.std.specs.Prelude.{◌≡◌, ◌<◌, ◌≤◌, ◌-ℤ◌, ℕ, ℤ, List, All, IsTrue, length};
+ghost use Rattle.std.specs.Prelude.{◌≡◌, ◌<◌, ◌-ℤ◌, ℕ, ℤ, List, All, IsTrue, length};
 ghost use Rattle.vr_model.specs.routes.Routes.{route};
 ghost use Rattle.vr_model.specs.routes.Rules.{is_valid};
 ghost use Rattle.vr_model.specs.tables.Tables.{visits};
 ghost use Rattle.vr_model.specs.tables.WellFormed.{IsWellFormed};
 ghost use Rattle.vr_model.specs.declared.records.Model.{Model as RoutingModel};
-ghost use Rattle.vr_routes.specs.Pieces.{changed, joined, IsWithin};
+ghost use Rattle.vr_routes.specs.Pieces.{changed};
 ghost use Rattle.vr_routes.specs.Changes.{IsMadeOn};
 ghost use Rattle.vr_routes.specs.Tours.{Tours};
 ghost use Rattle.vr_parts.specs.Bounds.{IsAddedByChange, IsAddedByList};
+ghost use Rattle.vr_parts.specs.Splices.{spliced, MayBeSpliced};
 ghost use Rattle.vr_parts.specs.Sums.{over_routes};
 
-use vr_routes::{Change, Piece, Routes};
+use vr_routes::{Change, Routes, Splice};
 
 /// A part of the cost that adds up what each vehicle's list costs by itself.
 pub trait ListCost {
@@ -25,18 +26,18 @@ pub trait ListCost {
     /// What is kept is of these lists.
     ghost keeps: { Self → Tours → Type 0 };
 
-    /// What the list that pieces are joined to adds, in the place of the vehicle's list.
-    fn list_adds(&self, routes: &Routes, v: u32, pieces: &[Piece]) -> i64
+    /// What the list after a splice adds, in the place of the vehicle's list.
+    fn list_adds(&self, routes: &Routes, splice: Splice<'_>) -> i64
         requires well_formed { IsWellFormed (of_model self.now) }
         requires keeps { keeps self.now routes.now }
         requires as_many { length routes.now.lists ≡ length (of_model self.now).vehicles }
-        requires vehicle { v < length routes.now.lists }
-        requires within { All (IsWithin routes.now.lists) pieces.now }
-        requires few { length pieces.now ≤ 8 }
-        requires nodes { All (λ node. node < (of_model self.now).nodes) (joined routes.now.lists pieces.now) }
-        requires old_nodes { All (λ node. node < (of_model self.now).nodes) (route routes.now.lists v) }
-        ensures value { result ≡ list_cost (of_model self.now) v (joined routes.now.lists pieces.now)
-            -ℤ list_cost (of_model self.now) v (route routes.now.lists v) }
+        requires splice { MayBeSpliced routes.now.lists splice.vehicle splice.front splice.behind splice.middle.now }
+        requires nodes { All (λ node. node < (of_model self.now).nodes)
+            (spliced routes.now.lists splice.vehicle splice.front splice.behind splice.middle.now) }
+        requires old_nodes { All (λ node. node < (of_model self.now).nodes) (route routes.now.lists splice.vehicle) }
+        ensures value { let s = splice.entry in result
+            ≡ list_cost (of_model self.now) s.vehicle (spliced routes.now.lists s.vehicle s.front s.behind s.middle.now)
+            -ℤ list_cost (of_model self.now) s.vehicle (route routes.now.lists s.vehicle) }
         ensures range { IsAddedByList result };
 }
 
@@ -54,7 +55,9 @@ pub fn added_by<C: ListCost>(cost: &C, routes: &Routes, change: &Change) -> i64
 {
     let mut total = 0;
     for k in 0..change.parts() {
-        total += cost.list_adds(routes, change.vehicle(k), change.pieces(k));
+        // That a part has few pieces says that few come between its ends.
+        let _few = change.pieces(k);
+        total += cost.list_adds(routes, change.splice(routes, k));
     }
     total
 }
