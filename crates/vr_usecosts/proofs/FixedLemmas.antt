@@ -1,6 +1,6 @@
 -- Fixed costs as a sum over all vehicles.
-use Rattle.std.proofs.Common.{◌≡◌, ◌∙◌, ℕ, Bool, cond, List, true, false, length, refl, arith}
-use Rattle.std.specs.Prelude.{IsTrue, ℤ, not, pos}
+use Rattle.std.proofs.Common.{◌≡◌, ◌∙◌, ℕ, Bool, cond, List, [], ◌∷◌, true, false, length, refl, arith}
+use Rattle.std.specs.Prelude.{IsTrue, ℤ, nat_lt, not, pos}
 use Rattle.vr_model.specs.declared.records.Model.{Model}
 use Rattle.vr_model.specs.deciding.Testing.{eq_of_tests}
 use Rattle.vr_model.specs.tables.Numbers.{below, is_same_number}
@@ -11,6 +11,11 @@ use Rattle.vr_model.proofs.tables.Bounds.{none_at}
 use Rattle.vr_model.proofs.tables.Totals.{sum_nothing, total_by-failing}
 use Rattle.vr_parts.specs.Sums.{over_routes}
 use Rattle.vr_usecosts.specs.Fixed.{fixed_with, has_fixed_cost, is_some_fixed}
+
+-- a list that is not empty has some nodes
+pub some-nodes : (list : List ℕ) → not (is_empty list) ≡ nat_lt 0 (length list)
+some-nodes [] = refl
+some-nodes (x ∷ xs) = Prim.grind arith
 
 pub fixed-over : (model : Model) (lists : List (List ℕ)) → fixed_part model lists ≡ over_routes (fixed_with model) lists
 fixed-over model lists = total_by-failing (λ v. (vehicle_at model v).fixed) (λ v. is_empty (route lists v)) (below (length lists))

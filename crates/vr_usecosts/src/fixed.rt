@@ -12,8 +12,8 @@ ghost use Rattle.vr_balance.specs.Sums.{IsUpTo};
 
 use std::marker::Model;
 use vr_model::{Model as RoutingModel, NoMemory};
-use vr_parts::{InfallibleCost, ListCost, added_by};
-use vr_routes::{Change, Piece, Routes};
+use vr_parts::{InfallibleCost, ListCost, added_by, is_left_empty};
+use vr_routes::{Change, Routes, Splice};
 
 /// The fixed costs of used vehicles (`SetFixedCostOfVehicle` in OR-Tools).
 #[derive(Drop)]
@@ -63,8 +63,9 @@ impl<'m> ListCost for FixedCost<'m> {
 
     ghost keeps = { StandsFixed };
 
-    fn list_adds(&self, routes: &Routes, v: u32, pieces: &[Piece]) -> i64 {
-        let after = self.fixed(v, Piece::nodes_in(routes, pieces) > 0);
+    fn list_adds(&self, routes: &Routes, splice: Splice<'_>) -> i64 {
+        let v = splice.vehicle;
+        let after = self.fixed(v, !is_left_empty(routes, splice));
         after - self.fixed(v, routes.len(v) > 0)
     }
 }

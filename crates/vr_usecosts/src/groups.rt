@@ -298,8 +298,7 @@ impl<'m> GroupCost<'m> {
         if self.total == 0 {
             return 0;
         }
-        let added = self.added(routes, change);
-        added
+        self.added(routes, change)
     }
 
     /// What each move of a run saves of the penalties, where the lists after it are valid: what a visit or a pair saves

@@ -1,9 +1,10 @@
 //! Cost terms that ask which vehicles and which nodes are used, and not in what order: the fixed costs of used
 //! vehicles, and the penalties of groups.
 //!
-//! Both stand at the committed lists: of each group it is kept how many of its nodes are active, so that a change is
-//! told by the nodes that it brings in and takes out (`vr_balance`). `vr_judge` adds both to the cost, and asks what a
-//! move saves at most where arcs alone do not tell that it costs too much.
+//! Both stand at the committed lists. What a list costs a vehicle in fixed costs is told by whether it has visits. Of
+//! groups it is kept what each node saves where it is active, so that a change is told by the nodes that it brings in
+//! and takes out (`vr_balance`). `vr_judge` adds both to the cost, and asks what a move saves at most where arcs alone
+//! do not tell that it costs too much.
 #![tactic(auto)]
 
 mod fixed;
