@@ -23,6 +23,13 @@ unpaid-where-none model d lists kept h none some = elim h.many [
   | inr unpaid ↦ unpaid
 ]
 
+-- where something is kept it is of all of them
+pub all-where-some : (model : Model) (d : ℕ) (lists : List (List ℕ)) (kept : List KeptWays) → HaveWays model d lists kept → 0 < length kept → length kept ≡ length lists
+all-where-some model d lists kept h some = elim h.many [
+  | inl many ↦ many
+  | inr unpaid ↦ (let none = h.none unpaid in absurd (omega (arith, none, some)))
+]
+
 module _ (model : Model) (lists : List (List ℕ)) (parts : List ListAfter) (n : ℕ) (rows : List (List Early)) (told : AreTold model lists parts n rows) where
   -- one dimension more is told
   pub told-more : (row : List Early) → n < 4 → length (slice_set rows n row) ≡ 4 → IsEarlyRow model lists parts n row → AreTold model lists parts (n + 1) (slice_set rows n row)

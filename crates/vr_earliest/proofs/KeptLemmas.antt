@@ -66,6 +66,7 @@ kept-set model d lists kept v list new h known low is = record {
     | inl same ↦ inl (length-set kept v new ∙ same ∙ sym (length-set lists v list))
     | inr none ↦ inr none
   ];
+  none = λ unpaid. length-set kept v new ∙ h.none unpaid;
   each = λ u other under. set-at (HasWays model d) lists kept v list new low is u other (λ _. known) (λ _. h.each u other (let l = length-set kept v new in omega (arith, under, l)));
 }
 
@@ -76,5 +77,6 @@ kept-stays model d lists kept v list h high = record {
     | inl same ↦ inl (same ∙ sym (length-set lists v list))
     | inr none ↦ inr none
   ];
+  none = h.none;
   each = λ u other under. subst (λ l. HasWays model d u l (slice_index_or kept u other)) (sym (route_set_other lists v u list (λ e. absurd (omega (arith, e, under, high))))) (h.each u other under);
 }

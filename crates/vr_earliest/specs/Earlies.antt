@@ -1,11 +1,12 @@
 -- What is told of the lists after a change.
-use Rattle.std.specs.Prelude.{◌≡◌, ◌<◌, ◌≤◌, ℕ, List, [], length, slice_index_or, pos, neg_ℤ}
+use Rattle.std.specs.Prelude.{◌≡◌, ◌<◌, ◌≤◌, ℕ, All, List, [], length, slice_index_or, pos, neg_ℤ}
 use Rattle.vr_model.specs.tables.Numbers.{horizon}
 use Rattle.vr_model.specs.tables.Tables.{dimension_at}
 use Rattle.vr_model.specs.tables.WellFormed.{IsIn}
 use Rattle.vr_model.specs.declared.records.Model.{Model}
+use Rattle.vr_routes.specs.Changes.{AreParts}
 use Rattle.vr_routes.specs.Pieces.{ListAfter, joined, part_at}
-use Rattle.vr_earliest.specs.Kept.{IsUnpaid}
+use Rattle.vr_earliest.specs.Kept.{IsUnpaid, KeptEarly, StandsEarliest}
 use Rattle.vr_earliest.specs.Ways.{earliest_end, least_span}
 use Rattle.vr_earliest.specs.declared.earlies.Early.{Early}
 
@@ -32,6 +33,15 @@ IsEarlyPart model lists d part early = IsEarly model d part.vehicle (joined list
 abbrev pub IsEarlyRow : Model → List (List ℕ) → List ListAfter → ℕ → List Early → Type 0
 IsEarlyRow model lists parts d row =
     (k : ℕ) → k < length parts → IsEarlyPart model lists d (part_at parts k) (slice_index_or row k no_early)
+
+-- the lists of these parts have nodes of the model alone, and in dimension d ways are kept of all lists before
+pub record MayTell (early : KeptEarly) (lists : List (List ℕ)) (parts : List ListAfter) (d : ℕ) : Type 0 where
+  pub stands : StandsEarliest early lists
+  pub dimension : d < length early.model.dimensions
+  pub of_all : length (slice_index_or early.kept d []) ≡ length lists
+  pub parts_are : AreParts lists parts
+  pub below : (k : ℕ) → k < length parts
+      → All (λ node. node < early.model.nodes) (joined lists (part_at parts k).pieces)
 
 -- it is told in each dimension where anything is paid for spans
 pub record AreEarlies (model : Model) (lists : List (List ℕ)) (parts : List ListAfter) (rows : List (List Early))

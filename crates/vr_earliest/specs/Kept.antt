@@ -27,9 +27,11 @@ pub record IsUnpaid (dimension : Dimension) : Type 0 where
   pub spans : (v : ℕ) → v < length dimension.span_costs → number_at dimension.span_costs v ≡ pos 0
   pub global : dimension.global_span_cost ≡ pos 0
 
--- what is kept in dimension d has those of these lists, of all of them where anything is paid for spans
+-- what is kept in dimension d has those of these lists, of all of them where anything is paid for spans, and else of
+-- none
 pub record HaveWays (model : Model) (d : ℕ) (lists : List (List ℕ)) (kept : List KeptWays) : Type 0 where
   pub many : (length kept ≡ length lists) ⊎ IsUnpaid (dimension_at model d)
+  pub none : IsUnpaid (dimension_at model d) → length kept ≡ 0
   pub each : (v : ℕ) (other : KeptWays) → v < length kept
       → HasWays model d v (route lists v) (slice_index_or kept v other)
 

@@ -1,29 +1,26 @@
 //! How early vehicles can end lists, in all dimensions of a model.
 
-ghost use Rattle.std.specs.Prelude.{◌≡◌, ◌<◌, ◌≤◌, ℕ, List, pos, neg_ℤ, All, IfOk, IsTrue, length};
+ghost use Rattle.std.specs.Prelude.{◌≡◌, ◌<◌, ◌≤◌, ℕ, List, All, IfOk, IsTrue, length};
 ghost use Rattle.vr_model.specs.moves.Moves.{with_route};
-ghost use Rattle.vr_model.specs.routes.Routes.{route};
 ghost use Rattle.vr_model.specs.routes.Rules.{is_valid};
-ghost use Rattle.vr_model.specs.tables.Numbers.{horizon};
-ghost use Rattle.vr_model.specs.tables.WellFormed.{IsIn, IsWellFormed};
+ghost use Rattle.vr_model.specs.tables.WellFormed.{IsWellFormed};
 ghost use Rattle.vr_routes.specs.Changes.{AreParts, IsMadeOn};
-ghost use Rattle.vr_routes.specs.Pieces.{changed, joined, part_at, IsWithin};
-ghost use Rattle.vr_earliest.specs.Earlies.{AreEarlies, IsEarlyRow};
+ghost use Rattle.vr_routes.specs.Pieces.{changed, joined, part_at};
+ghost use Rattle.vr_earliest.specs.Earlies.{AreEarlies, IsEarly, IsEarlyPart, IsEarlyRow, MayTell};
 ghost use Rattle.vr_earliest.specs.Floors.{AreAllFloors};
-ghost use Rattle.vr_earliest.specs.Kept.{HaveAllWays, HaveWays, StandsEarliest};
-ghost use Rattle.vr_earliest.specs.Ways.{earliest_end, least_span, whole_way, IsWholeWay};
+ghost use Rattle.vr_earliest.specs.Kept.{HaveAllWays, StandsEarliest};
+ghost use Rattle.vr_earliest.specs.Ways.{whole_way, IsWholeWay};
 
 use crate::earlies::{Earlies, Early};
 use crate::floors::Floors;
 use crate::kept::KeptLists;
-use crate::walks::{Walk, along_pieces};
+use crate::walks::along_pieces;
 use crate::ways::{Guide, Way};
 use std::alloc::Global;
 use std::marker::Model;
-use vr_balance::strip;
 use vr_model::limits::HORIZON;
 use vr_model::{Closed, Model as RoutingModel, NoMemory};
-use vr_routes::{Change, Piece, Routes, Row};
+use vr_routes::{Change, Routes, Row};
 
 /// How early vehicles can end lists. It has committed lists, and in the dimensions where anything is paid for spans it
 /// walks along what a change puts between the kept ends of lists alone. Contracts see the model, and what is kept of
@@ -73,27 +70,23 @@ impl<'m> Earliest<'m> {
         })
     }
 
-    // What the chosen schedule of the list that pieces are joined to comes to at least, for vehicle `v` in dimension
-    // `d`. No schedule is built.
-    fn after(&self, d: u32, v: u32, routes: &Routes, pieces: &[Piece]) -> Early
-        requires stands { StandsEarliest self.now routes.now.lists }
-        requires dimension { d < length self.now.model.dimensions }
-        requires vehicle { v < length self.now.model.vehicles }
-        requires within { All (IsWithin routes.now.lists) pieces.now }
-        requires few { length pieces.now ≤ 8 }
-        requires nodes { All (λ node. node < self.now.model.nodes) (joined routes.now.lists pieces.now) }
-        ensures last { result.last ≡ earliest_end self.now.model d v (joined routes.now.lists pieces.now) }
-        ensures span { result.span ≡ least_span self.now.model d v (joined routes.now.lists pieces.now) }
-        ensures last_range { IsIn (pos 0) horizon result.last }
-        ensures span_range { IsIn (neg_ℤ horizon) horizon result.span }
+    // What the chosen schedule of the list comes to at least that part `k` of a change gives its vehicle, in dimension
+    // `d`. No schedule is built, and what stays of the list is not walked.
+    fn after(&self, d: u32, routes: &Routes, change: &Change, k: usize) -> Early
+        requires may { MayTell self.now routes.now.lists change.now d }
+        requires part { k < length change.now }
+        ensures { IsEarlyPart self.now.model routes.now.lists d (part_at change.now k) result }
     {
+        // that there are eight pieces at most is for the clause alone
+        let _few = change.pieces(k);
+        let splice = change.splice(routes, k);
+        let v = splice.vehicle;
         let guide = Guide::of(Closed { model: self.model }, &self.floors[d as usize], d, v);
-        let way = way_after(&guide, &self.kept[d as usize], routes, pieces);
-        let span = guide.span_by(way);
-        Early {
-            last: way.time.min(HORIZON),
-            span: span.min(HORIZON).max(-HORIZON),
-        }
+        let all = &self.kept[d as usize];
+        let kept = &all.lists[v as usize];
+        let way = along_pieces(&guide, routes, splice.middle, kept.way(splice.front));
+        let whole = guide.to_end(way, kept.rest(splice.behind));
+        early_of(&guide, whole)
     }
 
     /// Writes what the chosen schedules of the lists after a change come to at least, in each dimension where anything
@@ -116,16 +109,12 @@ impl<'m> Earliest<'m> {
 
     // What they come to at least in dimension `d`.
     fn row_after(&self, d: u32, routes: &Routes, change: &Change) -> [Early; 2]
-        requires stands { StandsEarliest self.now routes.now.lists }
-        requires dimension { d < length self.now.model.dimensions }
-        requires parts { AreParts routes.now.lists change.now }
-        requires nodes { (k : ℕ) → k < length change.now → All (λ node. node < self.now.model.nodes)
-            (joined routes.now.lists (part_at change.now k).pieces) }
+        requires { MayTell self.now routes.now.lists change.now d }
         ensures { IsEarlyRow self.now.model routes.now.lists change.now d result }
     {
         let mut row = [Early { last: 0, span: 0 }; 2];
         for k in 0..change.parts() {
-            row[k] = self.after(d, change.vehicle(k), routes, change.pieces(k));
+            row[k] = self.after(d, routes, change, k);
         }
         row
     }
@@ -196,26 +185,16 @@ fn write_list(closed: Closed<'_>, floors: &[Floors], kept: &mut [KeptLists], v: 
     }
 }
 
-// The whole way of the vehicle along the list that pieces are joined to. What is kept of its list is not walked.
+// What the whole way along a list tells of it.
 #[inline(always)]
-fn way_after(guide: &Guide, kept: &KeptLists, routes: &Routes, pieces: &[Piece]) -> Way
-    requires vehicle { guide.now.v < length routes.now.lists }
-    requires kept { HaveWays guide.now.model.now guide.now.d routes.now.lists kept.now }
-    requires nodes_before { All (λ node. node < guide.now.model.now.nodes) (route routes.now.lists guide.now.v) }
-    requires within { All (IsWithin routes.now.lists) pieces.now }
-    requires few { length (joined routes.now.lists pieces.now) ≤ 8000 }
-    requires nodes { All (λ node. node < guide.now.model.now.nodes) (joined routes.now.lists pieces.now) }
-    ensures value { result
-        ≡ whole_way guide.now.model.now guide.now.d guide.now.v (joined routes.now.lists pieces.now) }
-    ensures range { IsWholeWay guide.now.model.now result }
+fn early_of(guide: &Guide, whole: Way) -> Early
+    requires { IsWholeWay guide.now.model.now whole }
+    ensures { (list : List ℕ) → whole ≡ whole_way guide.now.model.now guide.now.d guide.now.v list
+        → IsEarly guide.now.model.now guide.now.d guide.now.v list result }
 {
-    let v = guide.v;
-    if (v as usize) < kept.lists.len() {
-        let list = &kept.lists[v as usize];
-        let ends = strip(routes, v, pieces);
-        let way = along_pieces(guide, routes, ends.middle, list.way(ends.front));
-        return guide.to_end(way, list.rest(ends.behind));
+    let span = guide.span_by(whole);
+    Early {
+        last: whole.time.min(HORIZON),
+        span: span.min(HORIZON).max(-HORIZON),
     }
-    let way = along_pieces(guide, routes, pieces, guide.way_out());
-    guide.to_end(way, guide.rest_at_end())
 }

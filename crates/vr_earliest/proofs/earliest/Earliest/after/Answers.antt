@@ -1,90 +1,109 @@
-use Rattle.std.proofs.Common.{◌≡◌, ◌∙◌, ◌<◌, ℕ, List, ap, sym, subst, arith, to_z, of_z, w64}
-use Rattle.std.specs.Prelude.{pos, negsuc, All}
-use Rattle.vr_model.specs.routes.Routes.{route}
+use Rattle.std.proofs.Common.{◌∙◌, ◌≤◌, ℕ, List, length, ap, subst, arith}
+use Rattle.std.specs.Prelude.{slice_index_or}
 use Rattle.vr_model.specs.tables.WellFormed.{IsWellFormed}
-use Rattle.std.specs.Int.{int_max, int_min}
-use Rattle.std.proofs.lemmas.Int.{ints, int_max_is, int_min_is}
-use Rattle.vr_routes.specs.Pieces.{joined}
-use Rattle.vr_earliest.specs.declared.ways.Way.{Way}
-use Rattle.vr_earliest.specs.Ways.{span_by, whole_way}
+use Rattle.vr_routes.specs.Pieces.{joined, part_at}
 use Rattle.vr_parts.proofs.PartLemmas.{small}
-use Rattle.vr_earliest.proofs.WayLemmas.{guided, joined-few}
+use Rattle.vr_earliest.specs.Earlies.{IsEarly}
+use Rattle.vr_earliest.specs.Kept.{KeptEarly, KeptWays}
+use Rattle.vr_earliest.proofs.PartLemmas.{behind-kept, front-kept, kept-around, kept-of-all, middle-below, middle-few, rest-small, vehicle-known, way-small, whole-is}
+use Rattle.vr_earliest.proofs.WayLemmas.{by-guide}
 use Rattle.vr_earliest.proofs.earliest.Earliest.after.Goals as goal
 
-pub way_after-way-requires-clause-vehicle : goal.way_after-way-requires-clause-vehicle
-way_after-way-requires-clause-vehicle c =
-    let h = c.requires.stands in
-    let m = c.args.self.now.model in
-    let well = subst IsWellFormed (ap (λ s. s.model) c.self.view_is) c.self.invariant.well_formed in
-    let many = (small m well c.args.routes.now.lists h.valid).many in
-    omega (arith, many, c.requires.vehicle, c.of-guide.ensures.vehicle)
+pub splice-splice-requires-clause-parts : goal.splice-splice-requires-clause-parts
+splice-splice-requires-clause-parts c = c.requires.may.parts_are
 
-pub way_after-way-requires-clause-nodes_before : goal.way_after-way-requires-clause-nodes_before
-way_after-way-requires-clause-nodes_before c =
-    let h = c.requires.stands in
-    let m = c.args.self.now.model in
-    let well = subst IsWellFormed (ap (λ s. s.model) c.self.view_is) c.self.invariant.well_formed in
-    let few = small m well c.args.routes.now.lists h.valid in
-    subst (λ model. All (λ node. node < model.nodes) (route c.args.routes.now.lists c.of-guide.result.v)) (sym (c.of-guide.ensures.model ∙ ap (λ s. s.model) c.self.view_is)) (few.below c.of-guide.result.v)
+pub of-guide-requires-clause-vehicle : goal.of-guide-requires-clause-vehicle
+of-guide-requires-clause-vehicle c =
+    let same = ap (λ (s : KeptEarly). length s.model.vehicles) c.self.view_is in
+    let well = subst (λ (s : KeptEarly). IsWellFormed s.model) c.self.view_is c.self.invariant.well_formed in
+    let many = (small c.args.self.now.model well c.args.routes.now.lists c.requires.may.stands.valid).many in
+    let known = vehicle-known c.requires.may c.args.k c.requires.part c.splice-splice.ensures.vehicle in
+    omega (arith, same, many, known)
 
-pub way_after-way-requires-clause-few : goal.way_after-way-requires-clause-few
-way_after-way-requires-clause-few c =
-    let m = c.args.self.now.model in
-    let well = subst IsWellFormed (ap (λ s. s.model) c.self.view_is) c.self.invariant.well_formed in
-    let few = small m well c.args.routes.now.lists c.requires.stands.valid in
-    let all = joined-few c.args.routes.now.lists few.few c.args.pieces.now in
-    omega (arith, all, c.requires.few)
+pub index-kept-requires : goal.index-kept-requires
+index-kept-requires c =
+    let all = c.index-all.result.now in
+    let are = c.index-all.ensures ∙ ap (λ (s : KeptEarly). slice_index_or s.kept c.args.d all) c.self.view_is in
+    let many = kept-of-all c.requires.may all are in
+    let same = ap (λ (l : List KeptWays). length l) c.all.view_is in
+    let known = vehicle-known c.requires.may c.args.k c.requires.part c.splice-splice.ensures.vehicle in
+    omega (arith, many, same, known)
 
-pub returns-clause-last : goal.returns-clause-last
-returns-clause-last c =
-    let list : List ℕ = joined c.args.routes.now.lists c.args.pieces.now in
-    let way = whole_way c.args.self.now.model c.args.d c.args.v list in
+pub way-requires : goal.way-requires
+way-requires c =
     let g = c.of-guide.ensures in
-    let model = g.model ∙ ap (λ s. s.model) c.self.view_is in
-    let e = ap (λ (w : Way). w.time) (c.way_after-way.ensures.value ∙ guided (λ m d v. whole_way m d v list) c.of-guide.result c.args.self.now.model c.args.d c.args.v model g.dimension g.vehicle) in
-    let early = c.way_after-way.ensures.range.early in
-    let late = c.way_after-way.ensures.range.late in
-    let read : to_z w64 (of_z w64 c.way_after-way.result.time) ≡ c.way_after-way.result.time = omega (arith, ints, early, late) in
-    let is = c.min.ensures.value ∙ ap (λ x. int_min x (pos 68719476736)) (read ∙ e) in
-    let m = int_min_is way.time (pos 68719476736) in
-    let n = int_min_is (pos 68719476736) way.time in
-    omega (arith, ints, is, m, n, e, early, late)
+    let all = c.index-all.result.now in
+    let one = c.index-kept.result.now in
+    let are = c.index-all.ensures ∙ ap (λ (s : KeptEarly). slice_index_or s.kept c.args.d all) c.self.view_is in
+    let is = c.index-kept.ensures ∙ ap (λ (l : List KeptWays). slice_index_or l c.splice-splice.result.vehicle one) c.all.view_is in
+    let model = g.model ∙ ap (λ (s : KeptEarly). s.model) c.self.view_is in
+    let it = kept-around c.requires.may c.args.k c.requires.part c.splice-splice.ensures.vehicle c.of-guide.result all one model g.dimension g.vehicle are is c.splice-splice.ensures.ends in
+    let low = front-kept it in omega (arith, low)
 
-pub returns-clause-last_range : goal.returns-clause-last_range
-returns-clause-last_range c =
-    let early = c.way_after-way.ensures.range.early in
-    let late = c.way_after-way.ensures.range.late in
-    let time = c.way_after-way.result.time in
-    let read : to_z w64 (of_z w64 time) ≡ time = omega (arith, ints, early, late) in
-    let is = c.min.ensures.value ∙ ap (λ x. int_min x (pos 68719476736)) read in
-    let m = int_min_is time (pos 68719476736) in
-    record { at_least = omega (arith, ints, is, m, early, late); at_most = omega (arith, ints, is, m, early, late) }
-
-pub returns-clause-span : goal.returns-clause-span
-returns-clause-span c =
-    let list : List ℕ = joined c.args.routes.now.lists c.args.pieces.now in
-    let m = c.args.self.now.model in
-    let span = span_by m c.args.d c.args.v (whole_way m c.args.d c.args.v list) in
+pub along_pieces-way-requires-clause-few : goal.along_pieces-way-requires-clause-few
+along_pieces-way-requires-clause-few c =
     let g = c.of-guide.ensures in
-    let model = g.model ∙ ap (λ s. s.model) c.self.view_is in
-    let e = c.way_after-way.ensures.value ∙ guided (λ m d v. whole_way m d v list) c.of-guide.result m c.args.d c.args.v model g.dimension g.vehicle in
-    let s = c.span_by-span.ensures ∙ (guided (λ m d v. span_by m d v c.way_after-way.result) c.of-guide.result m c.args.d c.args.v model g.dimension g.vehicle ∙ ap (span_by m c.args.d c.args.v) e) in
-    let read : to_z w64 (of_z w64 c.span_by-span.result) ≡ c.span_by-span.result = omega (arith, ints, c.span_by-span.type_inv) in
-    let a = c.min-2.ensures.value ∙ ap (λ x. int_min x (pos 68719476736)) (read ∙ s) in
-    let m = int_min_is span (pos 68719476736) in
-    let n = int_min_is (pos 68719476736) span in
-    let same : to_z w64 (of_z w64 c.min-2.result) ≡ int_min (pos 68719476736) span = omega (arith, ints, a, m, n, c.min-2.type_inv) in
-    let b = c.max.ensures.value ∙ ap (λ x. int_max x (negsuc 68719476735)) same in
-    let x = int_max_is (int_min (pos 68719476736) span) (negsuc 68719476735) in
-    let y = int_max_is (negsuc 68719476735) (int_min (pos 68719476736) span) in
-    omega (arith, ints, b, x, y, c.max.type_inv)
+    let all = c.index-all.result.now in
+    let one = c.index-kept.result.now in
+    let are = c.index-all.ensures ∙ ap (λ (s : KeptEarly). slice_index_or s.kept c.args.d all) c.self.view_is in
+    let is = c.index-kept.ensures ∙ ap (λ (l : List KeptWays). slice_index_or l c.splice-splice.result.vehicle one) c.all.view_is in
+    let model = g.model ∙ ap (λ (s : KeptEarly). s.model) c.self.view_is in
+    let it = kept-around c.requires.may c.args.k c.requires.part c.splice-splice.ensures.vehicle c.of-guide.result all one model g.dimension g.vehicle are is c.splice-splice.ensures.ends in
+    middle-few it (subst (λ l. length l ≤ 8) c.pieces-few.ensures.value c.pieces-few.ensures.few)
 
-pub returns-clause-span_range : goal.returns-clause-span_range
-returns-clause-span_range c =
-    let read : to_z w64 (of_z w64 c.span_by-span.result) ≡ c.span_by-span.result = omega (arith, ints, c.span_by-span.type_inv) in
-    let a = c.min-2.ensures.value ∙ ap (λ x. int_min x (pos 68719476736)) read in
-    let m = int_min_is c.span_by-span.result (pos 68719476736) in
-    let same : to_z w64 (of_z w64 c.min-2.result) ≡ c.min-2.result = omega (arith, ints, c.min-2.type_inv) in
-    let b = c.max.ensures.value ∙ ap (λ x. int_max x (negsuc 68719476735)) same in
-    let x = int_max_is c.min-2.result (negsuc 68719476735) in
-    record { at_least = omega (arith, ints, a, m, b, x, c.max.type_inv); at_most = omega (arith, ints, a, m, b, x, c.max.type_inv) }
+pub along_pieces-way-requires-clause-nodes : goal.along_pieces-way-requires-clause-nodes
+along_pieces-way-requires-clause-nodes c =
+    let g = c.of-guide.ensures in
+    let all = c.index-all.result.now in
+    let one = c.index-kept.result.now in
+    let are = c.index-all.ensures ∙ ap (λ (s : KeptEarly). slice_index_or s.kept c.args.d all) c.self.view_is in
+    let is = c.index-kept.ensures ∙ ap (λ (l : List KeptWays). slice_index_or l c.splice-splice.result.vehicle one) c.all.view_is in
+    let model = g.model ∙ ap (λ (s : KeptEarly). s.model) c.self.view_is in
+    let it = kept-around c.requires.may c.args.k c.requires.part c.splice-splice.ensures.vehicle c.of-guide.result all one model g.dimension g.vehicle are is c.splice-splice.ensures.ends in
+    middle-below it
+
+pub along_pieces-way-requires-clause-way : goal.along_pieces-way-requires-clause-way
+along_pieces-way-requires-clause-way c =
+    let g = c.of-guide.ensures in
+    let all = c.index-all.result.now in
+    let one = c.index-kept.result.now in
+    let are = c.index-all.ensures ∙ ap (λ (s : KeptEarly). slice_index_or s.kept c.args.d all) c.self.view_is in
+    let is = c.index-kept.ensures ∙ ap (λ (l : List KeptWays). slice_index_or l c.splice-splice.result.vehicle one) c.all.view_is in
+    let model = g.model ∙ ap (λ (s : KeptEarly). s.model) c.self.view_is in
+    let it = kept-around c.requires.may c.args.k c.requires.part c.splice-splice.ensures.vehicle c.of-guide.result all one model g.dimension g.vehicle are is c.splice-splice.ensures.ends in
+    way-small it c.way.result c.way.ensures
+
+pub rest-requires : goal.rest-requires
+rest-requires c =
+    let g = c.of-guide.ensures in
+    let all = c.index-all.result.now in
+    let one = c.index-kept.result.now in
+    let are = c.index-all.ensures ∙ ap (λ (s : KeptEarly). slice_index_or s.kept c.args.d all) c.self.view_is in
+    let is = c.index-kept.ensures ∙ ap (λ (l : List KeptWays). slice_index_or l c.splice-splice.result.vehicle one) c.all.view_is in
+    let model = g.model ∙ ap (λ (s : KeptEarly). s.model) c.self.view_is in
+    let it = kept-around c.requires.may c.args.k c.requires.part c.splice-splice.ensures.vehicle c.of-guide.result all one model g.dimension g.vehicle are is c.splice-splice.ensures.ends in
+    let low = behind-kept it in omega (arith, low)
+
+pub to_end-whole-requires-clause-rest : goal.to_end-whole-requires-clause-rest
+to_end-whole-requires-clause-rest c =
+    let g = c.of-guide.ensures in
+    let all = c.index-all.result.now in
+    let one = c.index-kept.result.now in
+    let are = c.index-all.ensures ∙ ap (λ (s : KeptEarly). slice_index_or s.kept c.args.d all) c.self.view_is in
+    let is = c.index-kept.ensures ∙ ap (λ (l : List KeptWays). slice_index_or l c.splice-splice.result.vehicle one) c.all.view_is in
+    let model = g.model ∙ ap (λ (s : KeptEarly). s.model) c.self.view_is in
+    let it = kept-around c.requires.may c.args.k c.requires.part c.splice-splice.ensures.vehicle c.of-guide.result all one model g.dimension g.vehicle are is c.splice-splice.ensures.ends in
+    rest-small it c.rest.result c.rest.ensures
+
+pub returns : goal.returns
+returns c =
+    let g = c.of-guide.ensures in
+    let all = c.index-all.result.now in
+    let one = c.index-kept.result.now in
+    let are = c.index-all.ensures ∙ ap (λ (s : KeptEarly). slice_index_or s.kept c.args.d all) c.self.view_is in
+    let is = c.index-kept.ensures ∙ ap (λ (l : List KeptWays). slice_index_or l c.splice-splice.result.vehicle one) c.all.view_is in
+    let model = g.model ∙ ap (λ (s : KeptEarly). s.model) c.self.view_is in
+    let it = kept-around c.requires.may c.args.k c.requires.part c.splice-splice.ensures.vehicle c.of-guide.result all one model g.dimension g.vehicle are is c.splice-splice.ensures.ends in
+    let list : List ℕ = joined c.args.routes.now.lists (part_at c.args.change.now c.args.k).pieces in
+    let whole = whole-is it c.way.result c.along_pieces-way.result c.to_end-whole.result c.rest.result c.way.ensures c.rest.ensures c.along_pieces-way.ensures.value c.to_end-whole.ensures.value in
+    by-guide c.of-guide.result model g.dimension (g.vehicle ∙ c.splice-splice.ensures.vehicle) (λ m d v. IsEarly m d v list c.early_of.result) (c.early_of.ensures list whole)

@@ -1,14 +1,36 @@
-use Rattle.std.proofs.Common.{◌≡◌, ◌∙◌, ◌+◌, ℕ, List, length, ap, sym, subst, arith}
+use Rattle.std.proofs.Common.{◌≡◌, ◌∙◌, ◌<◌, ◌+◌, ℕ, List, [], length, ap, sym, subst, arith}
 use Rattle.std.specs.Prelude.{slice_index_or}
+use Rattle.std.proofs.lemmas.List.{get_or_default}
 use Rattle.vr_model.specs.tables.WellFormed.{IsWellFormed}
-use Rattle.vr_model.proofs.tables.Tests.{none_from_test}
+use Rattle.vr_model.proofs.tables.Tests.{none_from_test, some_from_test}
 use Rattle.vr_routes.specs.Pieces.{no_part}
 use Rattle.vr_earliest.specs.declared.earlies.Early.{Early}
 use Rattle.vr_earliest.specs.Kept.{KeptWays}
 use Rattle.vr_earliest.specs.Kept.{HaveWays}
-use Rattle.vr_earliest.proofs.EarlyLemmas.{AreTold, told-more, told-unpaid, unpaid-where-none}
+use Rattle.vr_earliest.proofs.EarlyLemmas.{all-where-some, AreTold, told-more, told-unpaid, unpaid-where-none}
 use Rattle.vr_earliest.proofs.earliest.Earliest.write_after.Goals as goal
 use Rattle.vr_earliest.proofs.earliest.Earliest.write_after.Goals.{then-not-is_empty, else-not-is_empty}
+
+pub row_after-requires : goal.row_after-requires
+row_after-requires c =
+    let model = c.args.self.now.model in
+    let lists : List (List ℕ) = c.args.routes.now.lists in
+    let d = c.loop-d.d in
+    let kept = ap (λ s. s.kept) c.self.view_is in
+    let all = ap (λ (l : List (List KeptWays)). length l) kept in
+    let low : d < length c.args.self.now.kept = omega (arith, all, c.len-d-end.ensures, c.loop-d-test.true) in
+    let one : List KeptWays = c.index.result.now in
+    let is : one ≡ slice_index_or c.args.self.now.kept d one = c.index.ensures ∙ ap (λ (l : List (List KeptWays)). slice_index_or l d one) kept in
+    let here : HaveWays model d lists one = subst (HaveWays model d lists) (sym is) (c.requires.stands.ways.each d one low) in
+    let some = some_from_test _ _ c.if-not-is_empty.true c.is_empty.ensures in
+    let same = ap (λ (l : List KeptWays). length l) c.behind-self.view_is in
+    record {
+      stands = c.requires.stands;
+      dimension = omega (arith, low, c.requires.stands.ways.many);
+      of_all = ap (λ (l : List KeptWays). length l) (get_or_default c.args.self.now.kept d [] one low ∙ sym is) ∙ all-where-some model d lists one here (omega (arith, some, same));
+      parts_are = c.requires.parts;
+      below = c.requires.nodes;
+    }
 
 pub loop-d-preserved : goal.loop-d-preserved
 loop-d-preserved c =
