@@ -15,9 +15,8 @@ use Rattle.vr_model.proofs.routes.Bounded.{IsUpTo, lists-up_to, product-up_to, u
 use Rattle.vr_model.proofs.routes.CostFits.{costs_are_bounded}
 use Rattle.vr_model.proofs.routes.Lists.{are-lists, are_lists-count, route-below, visits-few}
 use Rattle.vr_model.proofs.tables.Bounds.{arc_cost_in_range}
-use Rattle.vr_balance.specs.Ends.{AreEnds}
 use Rattle.vr_routes.specs.declared.pieces.Piece.{Piece}
-use Rattle.vr_routes.specs.Pieces.{joined}
+use Rattle.vr_routes.specs.Pieces.{IsSplice, joined}
 use Rattle.vr_guided.specs.Bounding.{AugmentedCostsAreBounded}
 use Rattle.vr_guided.specs.Counts.{AtMost}
 use Rattle.vr_guided.specs.Walks.{route_weight, stretch_weight, unused_weight, weight}
@@ -127,7 +126,7 @@ module _ (model : Model) (well : IsWellFormed model) (p : Penalties) (few : AtMo
   whole_most list = let is = bare model p v list in let none = unused_low (length list) in omega (arith, ints, is, none)
 
   -- other pieces take no more than what the arcs of the changed stretch add
-  pub part_saved : (lists : List (List ℕ)) (pieces middle : List Piece) (front behind next : ℕ) (others : List ℕ) → AreEnds lists v pieces front behind middle → drop behind (route lists v) ++ end ∷ [] ≡ next ∷ others
+  pub part_saved : (lists : List (List ℕ)) (pieces middle : List Piece) (front behind next : ℕ) (others : List ℕ) → IsSplice lists v pieces front behind middle → drop behind (route lists v) ++ end ∷ [] ≡ next ∷ others
       → Below (joined lists pieces)
       → (route_weight model p v (route lists v) -ℤ route_weight model p v (joined lists pieces))
       ≤ℤ stretch_weight model p v (last_of start (take front (route lists v))) (slice_range (route lists v) front behind) next

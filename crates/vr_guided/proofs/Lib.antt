@@ -7,7 +7,6 @@ pub mod SumLemmas
 pub mod StretchLemmas
 pub mod RouteSumLemmas
 pub mod ListLemmas
-pub mod NamedLemmas
 pub mod ChainLemmas
 pub mod KeptLemmas
 pub mod ArcLemmas

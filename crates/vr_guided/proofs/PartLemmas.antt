@@ -14,14 +14,13 @@ use Rattle.vr_model.specs.declared.records.Model.{Model}
 use Rattle.vr_model.proofs.tables.Totals.{total_by-more}
 use Rattle.vr_routes.specs.declared.pieces.Piece.{Piece}
 use Rattle.vr_routes.specs.Changes.{AreParts}
-use Rattle.vr_routes.specs.Pieces.{IsWithin, ListAfter, changed, joined, no_part, part_at}
+use Rattle.vr_routes.specs.Pieces.{ListAfter, IsSplice, changed, joined, no_part, part_at}
 use Rattle.vr_model.specs.routes.Rules.{is_valid}
 use Rattle.vr_model.proofs.routes.Lists.{are-lists, are_lists-count, route-below, route-few, route_set_same, route_set_other}
 use Rattle.vr_model.specs.tables.WellFormed.{IsWellFormed}
 use Rattle.std.proofs.Math.IntN.{zero-*ℤ}
 use Rattle.vr_routes.proofs.PartLemmas.{part_is}
-use Rattle.vr_guided.specs.Parts.{IsPart}
-use Rattle.vr_balance.specs.Ends.{AreEnds}
+use Rattle.vr_guided.specs.Parts.{IsPart, weight_change}
 use Rattle.vr_guided.specs.Walks.{route_weight, stretch_weight, unused_weight, weight}
 use Rattle.vr_balance.specs.Sums.{last_of}
 use Rattle.vr_guided.proofs.LocalChanges.{along, local_change, total_by_each}
@@ -58,7 +57,7 @@ module _ (model : Model) (p : Penalties) (v : ℕ) where
   joins_end front middle rest others next e = append_assoc front (middle ++ rest) (end ∷ []) ∙ ap (λ xs. front ++ xs) (append_assoc middle rest (end ∷ []) ∙ ap (λ xs. middle ++ xs) e)
 
   -- only the changed stretch counts
-  pub part_value : (lists : List (List ℕ)) (pieces middle : List Piece) (front behind next : ℕ) (others : List ℕ) → AreEnds lists v pieces front behind middle → drop behind (route lists v) ++ end ∷ [] ≡ next ∷ others
+  pub part_value : (lists : List (List ℕ)) (pieces middle : List Piece) (front behind next : ℕ) (others : List ℕ) → IsSplice lists v pieces front behind middle → drop behind (route lists v) ++ end ∷ [] ≡ next ∷ others
       → route_weight model p v (joined lists pieces) -ℤ route_weight model p v (route lists v)
       ≡ (stretch_weight model p v (last_of start (take front (route lists v))) (joined lists middle) next -ℤ unused_weight model p v (length (joined lists pieces)))
       -ℤ (stretch_weight model p v (last_of start (take front (route lists v))) (slice_range (route lists v) front behind) next -ℤ unused_weight model p v (length (route lists v)))
@@ -74,7 +73,7 @@ module _ (model : Model) (p : Penalties) (v : ℕ) where
       omega (arith, ints, bare new, bare list, after, before, local)
 
 -- the lengths of the three parts of the new list
-pub new_length : (lists : List (List ℕ)) (v : ℕ) (pieces middle : List Piece) (front behind : ℕ) → AreEnds lists v pieces front behind middle → length (joined lists pieces) ≡ front + length (joined lists middle) + (length (route lists v) - behind)
+pub new_length : (lists : List (List ℕ)) (v : ℕ) (pieces middle : List Piece) (front behind : ℕ) → IsSplice lists v pieces front behind middle → length (joined lists pieces) ≡ front + length (joined lists middle) + (length (route lists v) - behind)
 new_length lists v pieces middle front behind ends =
     let order = ends.order in
     let high = ends.high in
@@ -149,18 +148,14 @@ none_there k low = absurd (never low)
     never : k < 0 → ⊥
     never h = omega (arith, h)
 
--- what a part makes of the penalised arc costs
-abbrev pub part_change : Model → Penalties → List (List ℕ) → ListAfter → ℤ
-part_change model p lists part = route_weight model p part.vehicle (joined lists part.pieces) -ℤ route_weight model p part.vehicle (route lists part.vehicle)
-
 one_part : (model : Model) (p : Penalties) (lists : List (List ℕ)) (parts : List ListAfter) → AreParts lists parts → length parts ≡ 1 → (d : ListAfter)
-    → penalised model p (changed lists parts) -ℤ penalised model p lists ≡ part_change model p lists (slice_index_or parts 0 d)
+    → penalised model p (changed lists parts) -ℤ penalised model p lists ≡ weight_change model p lists (slice_index_or parts 0 d)
 one_part model p lists [] are one d = none_there 0 (omega (arith, one))
 one_part model p lists (q ∷ []) are one d = one_changed model p lists q.vehicle (joined lists q.pieces) (are.each_vehicle 0 d (omega arith))
 one_part model p lists (q ∷ (r ∷ rest)) are one d = none_there (length rest) (omega (arith, one))
 
 two_parts : (model : Model) (p : Penalties) (lists : List (List ℕ)) (parts : List ListAfter) → AreParts lists parts → length parts ≡ 2 → (d : ListAfter)
-    → penalised model p (changed lists parts) -ℤ penalised model p lists ≡ part_change model p lists (slice_index_or parts 0 d) +ℤ part_change model p lists (slice_index_or parts 1 d)
+    → penalised model p (changed lists parts) -ℤ penalised model p lists ≡ weight_change model p lists (slice_index_or parts 0 d) +ℤ weight_change model p lists (slice_index_or parts 1 d)
 two_parts model p lists [] are two d = none_there 0 (omega (arith, two))
 two_parts model p lists (q ∷ []) are two d = none_there 0 (omega (arith, two))
 two_parts model p lists (q ∷ (r ∷ [])) are two d =
@@ -188,46 +183,37 @@ as_read n o u w n_low n_high o_low o_high u_low u_high w_low w_high =
 -- ---- the premises of a part
 
 -- a second part is there
-second_there : (n k : ℕ) → k ≡ n → 1 ≤ k → (k ≡ 1 → ⊥) → 1 < n
+pub second_there : (n k : ℕ) → k ≡ n → 1 ≤ k → (k ≡ 1 → ⊥) → 1 < n
 second_there n k e some apart = Prim.grind (arith, e, some, apart)
 
--- a part of a change of lists is one of a vehicle of the model
-pub part-of : (model : Model) → IsWellFormed model → (lists : List (List ℕ)) → IsTrue (are_lists model lists) → (parts : List ListAfter) → AreParts lists parts → IsTrue (are_lists model (changed lists parts))
-    → (k v : ℕ) (pieces : List Piece) → k < length parts → v ≡ (part_at parts k).vehicle → pieces ≡ (part_at parts k).pieces → IsPart model lists v pieces
-part-of model well lists valid parts are after k v pieces low is same =
+-- a part of a change of the lists of a model is one of a vehicle of it
+pub part_of : (model : Model) → IsWellFormed model → (lists : List (List ℕ)) → IsTrue (is_valid model lists) → (parts : List ListAfter) → AreParts lists parts → IsTrue (are_lists model (changed lists parts))
+    → (k v : ℕ) → k < length parts → v ≡ (part_at parts k).vehicle → IsPart model lists v (part_at parts k).pieces
+part_of model well lists valid parts are after k v low is =
+    let old = are-lists model lists valid in
     let most = well.number_of_nodes.1 in
-    let count = are_lists-count model lists valid in
+    let count = are_lists-count model lists old in
     let there : v < length lists = subst (λ w. w < length lists) (sym is) (are.each_vehicle k no_part low) in
-    let few = route-few model lists v valid in
+    let few = route-few model lists v old in
     let later = route-few model (changed lists parts) (part_at parts k).vehicle after in
-    let here : route (changed lists parts) (part_at parts k).vehicle ≡ joined lists pieces = part_is lists parts are k low ∙ ap (joined lists) (sym same) in
+    let here : route (changed lists parts) (part_at parts k).vehicle ≡ joined lists (part_at parts k).pieces = part_is lists parts are k low in
     let len = ap length here in
     record {
       vehicle = there;
       of_model = omega (arith, count, there);
-      old_nodes = route-below model lists v valid;
+      old_nodes = route-below model lists v old;
       old_short = omega (arith, few, most);
-      within = subst (λ ps. All (IsWithin lists) ps) (sym same) (are.each_within k no_part low);
       nodes = subst (λ xs. All (λ node. node < model.nodes) xs) here (route-below model (changed lists parts) (part_at parts k).vehicle after);
       short = omega (arith, later, most, len);
     }
 
--- both parts of a change of the lists of a model: the first is there, and the second where there is not one alone
-module _ {model : Model} (well : IsWellFormed model) {lists : List (List ℕ)} (valid : IsTrue (is_valid model lists)) {parts : List ListAfter} (are : AreParts lists parts)
-    (after : IsTrue (are_lists model (changed lists parts))) {k : ℕ} (count : k ≡ length parts) (some : 1 ≤ k) where
-  pub first_part : {v : ℕ} {pieces : List Piece} → v ≡ (part_at parts 0).vehicle → pieces ≡ (part_at parts 0).pieces → IsPart model lists v pieces
-  first_part is same = part-of model well lists (are-lists model lists valid) parts are after 0 _ _ (omega (arith, count, some)) is same
-
-  pub second_part : (k ≡ 1 → ⊥) → {v : ℕ} {pieces : List Piece} → v ≡ (part_at parts 1).vehicle → pieces ≡ (part_at parts 1).pieces → IsPart model lists v pieces
-  second_part more is same = part-of model well lists (are-lists model lists valid) parts are after 1 _ _ (second_there (length parts) k count some more) is same
-
 -- what the parts of a change make of the penalised arc costs: one alone, or two
 module _ (model : Model) (p : Penalties) {lists : List (List ℕ)} {parts : List ListAfter} (are : AreParts lists parts) {k : ℕ} (count : k ≡ length parts) where
-  pub alone : k ≡ 1 → penalised model p (changed lists parts) -ℤ penalised model p lists ≡ part_change model p lists (part_at parts 0)
+  pub alone : k ≡ 1 → penalised model p (changed lists parts) -ℤ penalised model p lists ≡ weight_change model p lists (part_at parts 0)
   alone one = one_part model p lists parts are (sym count ∙ one) no_part
 
   pub together : 1 ≤ k → k ≤ 2 → (k ≡ 1 → ⊥)
-      → penalised model p (changed lists parts) -ℤ penalised model p lists ≡ part_change model p lists (part_at parts 0) +ℤ part_change model p lists (part_at parts 1)
+      → penalised model p (changed lists parts) -ℤ penalised model p lists ≡ weight_change model p lists (part_at parts 0) +ℤ weight_change model p lists (part_at parts 1)
   together some few more =
       let second = second_there (length parts) k count some more in
       two_parts model p lists parts are (omega (arith, count, few, second)) no_part

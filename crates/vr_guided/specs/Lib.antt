@@ -2,7 +2,6 @@ pub mod Counts
 pub mod Parts
 pub mod Sums
 pub mod RouteSums
-pub mod Named
 pub mod Guides
 pub mod Standing
 pub mod Worths

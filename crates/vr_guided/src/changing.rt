@@ -1,28 +1,27 @@
 //! What a change makes of the penalised arc costs, by the stretches that it changes.
 
 ghost use Rattle.std.proofs.Props.{props};
-ghost use Rattle.std.specs.Prelude.{◌≡◌, ◌<◌, ◌≤◌, ◌-ℤ◌, ◌≤ℤ◌, ◌^◌, negsuc, ◌∷◌, ◌++◌, [], IsTrue, ◌*◌};
+ghost use Rattle.std.specs.Prelude.{◌≡◌, ◌<◌, ◌≤◌, ◌-ℤ◌, ◌+ℤ◌, ◌≤ℤ◌, ◌^◌, negsuc, ◌∷◌, ◌++◌, [], IsTrue, ◌*◌};
 ghost use Rattle.std.specs.Prelude.{All, ℕ, drop, length, pos, take, unsigned_abs};
 ghost use Rattle.vr_guided.specs.Counts.{counted};
 ghost use Rattle.vr_guided.specs.Nexts.{IsNext};
-ghost use Rattle.vr_guided.specs.Parts.{IsPart, IsWithin-prop};
+ghost use Rattle.vr_guided.specs.Parts.{IsPart, IsWithin-prop, weight_change};
 ghost use Rattle.vr_guided.specs.RouteSums.{AreAllRouteSums};
-ghost use Rattle.vr_guided.specs.Savings.{named_weight};
+ghost use Rattle.vr_guided.specs.Savings.{touched_weight};
 ghost use Rattle.vr_guided.specs.Walks.{route_weight};
 ghost use Rattle.vr_model.specs.search.GuidedSearches.{penalised};
 ghost use Rattle.vr_model.specs.routes.Routes.{are_lists, route};
 ghost use Rattle.vr_model.specs.routes.Rules.{is_valid};
 ghost use Rattle.vr_model.specs.tables.WellFormed.{IsIn};
 ghost use Rattle.vr_routes.specs.Changes.{AreParts};
-ghost use Rattle.vr_routes.specs.Pieces.{changed, joined};
+ghost use Rattle.vr_routes.specs.Pieces.{changed, part_at, IsSplice};
 ghost use Rattle.vr_balance.specs.Sums.{last_of};
 
 use crate::route_sums::AllRouteSums;
 use crate::stretches::Stretches;
-use crate::two_vehicles::TwoVehicles;
 use crate::weights::{VehicleWeights, Weights};
-use vr_balance::strip;
-use vr_routes::{Change, Piece, Routes};
+use vr_known::Touched;
+use vr_routes::{Change, Routes, Splice};
 
 // The node before a place of a list, `start` before the first.
 #[inline]
@@ -75,24 +74,23 @@ pub struct WeighedChange<'m, 'p, 's, 'r, 'c> {
 
 impl<'m, 'p, 's, 'r, 'c> WeighedChange<'m, 'p, 's, 'r, 'c> {
     /// What the change makes of the penalised arc costs, by the stretches that it changes. Takes no memory.
-    pub fn difference(self) -> i128
+    pub fn difference(&self) -> i128
         ensures bound { unsigned_abs result ≤ 2 ^ 100 }
         ensures value { result
-            ≡ penalised self.entry.of.on.closed.model.now (counted self.entry.of.on.penalties.now)
-            (changed self.entry.of.routes.now.lists self.entry.change.now)
-            -ℤ penalised self.entry.of.on.closed.model.now (counted self.entry.of.on.penalties.now)
-            self.entry.of.routes.now.lists }
+            ≡ penalised self.now.of.on.closed.model.now (counted self.now.of.on.penalties.now)
+            (changed self.now.of.routes.now.lists self.now.change.now)
+            -ℤ penalised self.now.of.on.closed.model.now (counted self.now.of.on.penalties.now)
+            self.now.of.routes.now.lists }
     {
         if !self.of.on.penalties.is_any() {
             return 0;
         }
-        let change = self.change;
-        let parts = change.parts();
-        let first = self.of.change_of_part(change.vehicle(0), change.pieces(0));
+        let parts = self.change.parts();
+        let first = self.change_of_part(0);
         if parts == 1 {
             return first;
         }
-        first + self.of.change_of_part(change.vehicle(1), change.pieces(1))
+        first + self.change_of_part(1)
     }
 
     /// What the change takes of the penalised arc costs at most: what the arcs of the stretches that it changes add
@@ -108,13 +106,77 @@ impl<'m, 'p, 's, 'r, 'c> WeighedChange<'m, 'p, 's, 'r, 'c> {
         if !self.of.on.penalties.is_any() {
             return 0;
         }
-        let change = self.change;
-        let parts = change.parts();
-        let first = self.of.saved_by_part(change.vehicle(0), change.pieces(0));
+        let parts = self.change.parts();
+        let first = self.saved_by_part(0);
         if parts == 1 {
             return first;
         }
-        first + self.of.saved_by_part(change.vehicle(1), change.pieces(1))
+        first + self.saved_by_part(1)
+    }
+
+    // Part `k` as a splice of the list of its vehicle.
+    #[inline]
+    fn splice(&self, k: usize) -> Splice<'_>
+        requires { k < length self.now.change.now }
+        ensures vehicle { result.vehicle ≡ (part_at self.now.change.now k).vehicle }
+        ensures part { IsPart self.now.of.on.closed.model.now self.now.of.routes.now.lists result.vehicle
+            (part_at self.now.change.now k).pieces }
+        ensures ends { IsSplice self.now.of.routes.now.lists result.vehicle (part_at self.now.change.now k).pieces
+            result.front result.behind result.middle.now }
+    {
+        self.change.splice(self.of.routes, k)
+    }
+
+    // What part `k` takes of the penalised arc costs at most.
+    #[inline]
+    fn saved_by_part(&self, k: usize) -> i128
+        requires { k < length self.now.change.now }
+        ensures low { pos 0 ≤ℤ result }
+        ensures high { result ≤ℤ pos (1001 * 2 ^ 70) }
+        ensures most { pos 0 ≤ℤ (weight_change self.now.of.on.closed.model.now (counted self.now.of.on.penalties.now)
+            self.now.of.routes.now.lists (part_at self.now.change.now k) +ℤ result) }
+    {
+        let of = self.of;
+        let splice = self.splice(k);
+        let stretches = Stretches {
+            arcs: VehicleWeights {
+                on: of.on,
+                vehicle: splice.vehicle,
+            },
+            routes: of.routes,
+            route_sums: of.route_sums,
+        };
+        stretches.old_stretch(splice.front, splice.behind)
+    }
+
+    // What part `k` makes of the penalised arc costs.
+    fn change_of_part(&self, k: usize) -> i128
+        requires { k < length self.now.change.now }
+        ensures range { IsIn (negsuc (2 ^ 90)) (pos (2 ^ 90)) result }
+        ensures value { result ≡ weight_change self.now.of.on.closed.model.now
+            (counted self.now.of.on.penalties.now) self.now.of.routes.now.lists (part_at self.now.change.now k) }
+    {
+        let of = self.of;
+        let splice = self.splice(k);
+        let arcs = VehicleWeights {
+            on: of.on,
+            vehicle: splice.vehicle,
+        };
+        let stretches = Stretches {
+            arcs,
+            routes: of.routes,
+            route_sums: of.route_sums,
+        };
+        let list = of.routes.list(splice.vehicle);
+        let own = arcs.ends();
+        let start = node_before(list, splice.front, own.start);
+        let next = node_from(list, splice.behind, own.end);
+        let new = stretches.new_stretch(start, splice.middle, next);
+        let old = stretches.old_stretch(splice.front, splice.behind);
+        let len = splice.front + new.nodes + (list.len() as u32 - splice.behind);
+        let before = old - arcs.unused(list.len() as u32);
+        let after = new.total - arcs.unused(len);
+        after - before
     }
 }
 
@@ -122,22 +184,22 @@ impl<'m, 'p, 's, 'r> WeighedRoutes<'m, 'p, 's, 'r> {
     /// What new lists of these vehicles take of the penalised arc costs at most: what the arcs of their lists add now.
     /// Takes no memory.
     #[inline]
-    pub fn saved_by_lists(&self, named: TwoVehicles) -> i128
-        requires v { named.v < length self.now.routes.now.lists }
-        requires w { named.w < length self.now.routes.now.lists }
+    pub fn saved_by_lists(&self, touched: Touched) -> i128
+        requires first { touched.first < length self.now.routes.now.lists }
+        requires second { touched.second < length self.now.routes.now.lists }
         ensures low { pos 0 ≤ℤ result }
         ensures high { result ≤ℤ pos (2 ^ 90) }
-        ensures most { named_weight self.now.on.closed.model.now (counted self.now.on.penalties.now)
-            self.now.routes.now.lists named ≤ℤ result }
+        ensures most { touched_weight self.now.on.closed.model.now (counted self.now.on.penalties.now)
+            self.now.routes.now.lists touched ≤ℤ result }
     {
         if !self.on.penalties.is_any() {
             return 0;
         }
-        let first = self.saved_by_list(named.v);
-        if named.w == named.v {
+        let first = self.saved_by_list(touched.first);
+        if touched.second == touched.first {
             return first;
         }
-        first + self.saved_by_list(named.w)
+        first + self.saved_by_list(touched.second)
     }
 
     // What the arcs of the list of a vehicle add at most.
@@ -158,59 +220,5 @@ impl<'m, 'p, 's, 'r> WeighedRoutes<'m, 'p, 's, 'r> {
             route_sums: self.route_sums,
         };
         stretches.old_stretch(0, self.routes.len(v))
-    }
-
-    // What other pieces take of the penalised arc costs of a vehicle at most.
-    #[inline]
-    fn saved_by_part(&self, v: u32, pieces: &[Piece]) -> i128
-        requires { IsPart self.now.on.closed.model.now self.now.routes.now.lists v pieces.now }
-        ensures low { pos 0 ≤ℤ result }
-        ensures high { result ≤ℤ pos (1001 * 2 ^ 70) }
-        ensures most { (route_weight self.now.on.closed.model.now (counted self.now.on.penalties.now) v
-            (route self.now.routes.now.lists v)
-            -ℤ route_weight self.now.on.closed.model.now (counted self.now.on.penalties.now) v
-            (joined self.now.routes.now.lists pieces.now)) ≤ℤ result }
-    {
-        let ends = strip(self.routes, v, pieces);
-        let stretches = Stretches {
-            arcs: VehicleWeights {
-                on: self.on,
-                vehicle: v,
-            },
-            routes: self.routes,
-            route_sums: self.route_sums,
-        };
-        stretches.old_stretch(ends.front, ends.behind)
-    }
-
-    // What other pieces make of the penalised arc costs of a vehicle.
-    fn change_of_part(&self, v: u32, pieces: &[Piece]) -> i128
-        requires { IsPart self.now.on.closed.model.now self.now.routes.now.lists v pieces.now }
-        ensures range { IsIn (negsuc (2 ^ 90)) (pos (2 ^ 90)) result }
-        ensures value { result ≡ route_weight self.now.on.closed.model.now (counted self.now.on.penalties.now) v
-            (joined self.now.routes.now.lists pieces.now)
-            -ℤ route_weight self.now.on.closed.model.now (counted self.now.on.penalties.now) v
-            (route self.now.routes.now.lists v) }
-    {
-        let arcs = VehicleWeights {
-            on: self.on,
-            vehicle: v,
-        };
-        let stretches = Stretches {
-            arcs,
-            routes: self.routes,
-            route_sums: self.route_sums,
-        };
-        let list = self.routes.list(v);
-        let ends = strip(self.routes, v, pieces);
-        let own = arcs.ends();
-        let start = node_before(list, ends.front, own.start);
-        let next = node_from(list, ends.behind, own.end);
-        let new = stretches.new_stretch(start, ends.middle, next);
-        let old = stretches.old_stretch(ends.front, ends.behind);
-        let len = ends.front + new.nodes + (list.len() as u32 - ends.behind);
-        let before = old - arcs.unused(list.len() as u32);
-        let after = new.total - arcs.unused(len);
-        after - before
     }
 }

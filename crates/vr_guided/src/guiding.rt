@@ -6,7 +6,7 @@ ghost use Rattle.vr_guided.specs.Bounding.{IsLambda};
 ghost use Rattle.vr_guided.specs.Counts.{counted};
 ghost use Rattle.vr_guided.specs.RouteSums.{AreAllRouteSums};
 ghost use Rattle.vr_guided.specs.Guides.{is_gain, makes_less, penalised_change};
-ghost use Rattle.vr_guided.specs.Savings.{named_weight};
+ghost use Rattle.vr_guided.specs.Savings.{touched_weight};
 ghost use Rattle.vr_model.specs.moves.MoveTests.{is_move};
 ghost use Rattle.vr_model.specs.routes.Rules.{is_valid};
 ghost use Rattle.vr_model.specs.tables.WellFormed.{IsIn};
@@ -14,9 +14,9 @@ ghost use Rattle.vr_routes.specs.Changes.{IsChange};
 
 use crate::changing::{WeighedChange, WeighedRoutes};
 use crate::route_sums::AllRouteSums;
-use crate::two_vehicles::{TwoVehicles, vehicles_changed};
 use crate::weights::Weights;
 use vr_descent::Accept;
+use vr_known::Touched;
 use vr_model::{Lambda, Move};
 use vr_routes::{Change, Routes};
 
@@ -50,26 +50,26 @@ impl<'m, 'p, 's> Accept for Guiding<'m, 'p, 's> {
 
     #[inline(always)]
     fn may_accept_by_numbers(&self, routes: &Routes, mv: Move, least: i64) -> bool {
-        let Some(changed) = vehicles_changed(self.weights.closed.model, routes, mv) else {
+        let Some(touched) = Touched::found(self.weights.closed.model, routes, mv) else {
             return true;
         };
-        let saved = self.saved_by_lists(routes, changed);
+        let saved = self.saved_by_lists(routes, touched);
         self.gains(least, -saved)
     }
 
     #[inline]
     fn open_below(&self, routes: &Routes, mv: Move) -> Option<i64> {
-        let Some(changed) = vehicles_changed(self.weights.closed.model, routes, mv) else {
+        let Some(touched) = Touched::found(self.weights.closed.model, routes, mv) else {
             return None;
         };
         let vehicles = routes.vehicles();
-        if changed.v >= vehicles {
+        if touched.first >= vehicles {
             return None;
         }
-        if changed.w >= vehicles {
+        if touched.second >= vehicles {
             return None;
         }
-        let saved = self.saved_by_lists(routes, changed);
+        let saved = self.saved_by_lists(routes, touched);
         self.enough_against(saved)
     }
 
@@ -91,32 +91,36 @@ impl<'m, 'p, 's> Accept for Guiding<'m, 'p, 's> {
 impl<'m, 'p, 's> Guiding<'m, 'p, 's> {
     // What new lists of these vehicles take of the penalised arc costs at most.
     #[inline]
-    fn saved_by_lists(&self, routes: &Routes, changed: TwoVehicles) -> i128
+    fn saved_by_lists(&self, routes: &Routes, touched: Touched) -> i128
         requires stands { AreAllRouteSums self.now.weights.closed.model.now (counted self.now.weights.penalties.now)
             routes.now.lists self.now.route_sums.now }
         requires valid { IsTrue (is_valid self.now.weights.closed.model.now routes.now.lists) }
-        requires v { changed.v < length routes.now.lists }
-        requires w { changed.w < length routes.now.lists }
+        requires first { touched.first < length routes.now.lists }
+        requires second { touched.second < length routes.now.lists }
         ensures low { pos 0 ≤ℤ result }
         ensures high { result ≤ℤ pos (2 ^ 90) }
-        ensures most { named_weight self.now.weights.closed.model.now (counted self.now.weights.penalties.now)
-            routes.now.lists changed ≤ℤ result }
+        ensures most { touched_weight self.now.weights.closed.model.now (counted self.now.weights.penalties.now)
+            routes.now.lists touched ≤ℤ result }
     {
         let weighed = WeighedRoutes {
             on: self.weights,
             routes,
             route_sums: self.route_sums,
         };
-        weighed.saved_by_lists(changed)
+        weighed.saved_by_lists(touched)
     }
 
     // A difference in cost that is no gain where so much of the penalised arc costs is saved: what this weighs over the
-    // weight of a cost, rounded up. `None` where it might not fit 64 bits.
+    // weight of a cost, rounded up. `None` where it might not fit 64 bits. Where nothing is saved, as long as no arc is
+    // penalised, nothing is divided.
     #[inline]
     fn enough_against(&self, saved: i128) -> Option<i64>
         requires { IsIn (pos 0) (pos (2 ^ 90)) saved }
         ensures { IfSome result (λ enough. is_gain self.now.lambda enough (pos 0 -ℤ saved) ≡ false) }
     {
+        if saved == 0 {
+            return Some(0);
+        }
         if saved > 1_000_000_000_000_000 {
             return None;
         }

@@ -25,7 +25,6 @@ mod route_sums;
 mod searching;
 mod stretches;
 mod sums;
-mod two_vehicles;
 mod vehicle_list;
 mod walks;
 mod weights;

@@ -7,10 +7,10 @@ ghost use Rattle.vr_model.specs.moves.Moves.{apply};
 ghost use Rattle.vr_model.specs.routes.Rules.{is_valid};
 
 use crate::sums::Sums;
-use crate::two_vehicles::vehicles_of;
 use crate::weights::{ListWeights, VehicleWeights, Weights};
 use std::alloc::Global;
 use std::marker::Model;
+use vr_known::Touched;
 use vr_model::{Model as RoutingModel, Move, NoMemory};
 use vr_routes::Routes;
 
@@ -110,15 +110,15 @@ impl AllRouteSums {
             → AreAllRouteSums weights.entry.closed.model.now (counted weights.entry.penalties.now) routes.now.lists
             self.new }
     {
-        let Some(named) = vehicles_of(mv) else {
+        let Some(touched) = Touched::named(mv) else {
             self.write(weights, routes);
             return;
         };
-        self.write_of(weights, routes, named.v);
-        if named.w == named.v {
+        self.write_of(weights, routes, touched.first);
+        if touched.second == touched.first {
             return;
         }
-        self.write_of(weights, routes, named.w);
+        self.write_of(weights, routes, touched.second);
     }
 
     /// The sums of a vehicle.

@@ -4,7 +4,7 @@ use Rattle.std.specs.Prelude.{IfSome, false, pos, ◌-ℤ◌}
 use Rattle.std.proofs.lemmas.Int.{ints}
 use Rattle.vr_guided.specs.Counts.{counted}
 use Rattle.vr_guided.specs.Guides.{is_gain}
-use Rattle.vr_guided.specs.Named.{AreChanged}
+use Rattle.vr_known.specs.Touching.{AreFound}
 use Rattle.vr_guided.proofs.SavingLemmas.{enough_for_run}
 use Rattle.vr_guided.proofs.guiding.GuidingAccept.open_below.Goals as goal
 
@@ -20,5 +20,5 @@ returns c = record {
       let as_read : to_z w128 (of_z w128 saved) ≡ saved = omega (arith, ints, low, high) in
       let none = subst (λ z. IfSome c.enough_against.result (λ e. is_gain at.lambda e (pos 0 -ℤ z) ≡ false)) as_read c.enough_against.ensures in
       enough_for_run at.weights.closed.model.now at.weights.closed.well_formed (counted at.weights.penalties.now) at.weights.few at.lambda at.sound.p_in_range.at_least at.sound.q_in_range.at_least lists c.requires.valid c.args.mv
-      c.in-Some.changed (subst (AreChanged c.args.self.now.weights.closed.model.now c.args.routes.now.lists c.args.mv) c.in-Some.is c.vehicles_changed.ensures) saved s.most c.enough_against.result none);
+      c.in-Some.touched (subst (AreFound c.args.self.now.weights.closed.model.now c.args.routes.now.lists c.args.mv) c.in-Some.is c.found.ensures) saved s.most c.enough_against.result none);
 }

@@ -3,30 +3,39 @@ use Rattle.std.specs.Prelude.{◌-ℤ◌, All, slice_range}
 use Rattle.std.proofs.lemmas.Int.{ints}
 use Rattle.vr_model.specs.routes.Routes.{route}
 use Rattle.vr_model.specs.tables.Tables.{vehicle_at}
-use Rattle.vr_routes.specs.Pieces.{joined}
+use Rattle.vr_routes.specs.Pieces.{joined, part_at}
 use Rattle.vr_guided.specs.Counts.{counted}
-use Rattle.vr_guided.specs.Walks.{stretch_weight, unused_weight}
+use Rattle.vr_guided.specs.Walks.{route_weight, stretch_weight, unused_weight}
 use Rattle.vr_balance.specs.Sums.{last_of}
 use Rattle.vr_routes.proofs.JoinedPieces.{all_left, all_right}
-use Rattle.vr_guided.proofs.PartLemmas.{as_read, part_value, new_length}
-use Rattle.vr_guided.proofs.changing.WeighedRoutes.change_of_part.Goals as goal
+use Rattle.vr_guided.proofs.PartLemmas.{as_read, new_length, part_value}
+use Rattle.vr_guided.proofs.changing.WeighedChange.change_of_part.Goals as goal
 
 pub new_stretch-new-requires-clause-start : goal.new_stretch-new-requires-clause-start
-new_stretch-new-requires-clause-start c = c.node_before-start.ensures.below c.args.self.now.on.closed.model.now.nodes c.ends-own.ensures.start_below (subst (λ xs. All (λ node. node < c.args.self.now.on.closed.model.now.nodes) xs) (sym c.list-list.ensures.value) c.requires.old_nodes)
+new_stretch-new-requires-clause-start c =
+    let it = c.args.self.now.of in
+    let part = c.splice-splice.ensures.part in
+    c.node_before-start.ensures.below it.on.closed.model.now.nodes c.ends-own.ensures.start_below (subst (λ xs. All (λ node. node < it.on.closed.model.now.nodes) xs) (sym c.list-list.ensures.value) part.old_nodes)
 
 pub new_stretch-new-requires-clause-next : goal.new_stretch-new-requires-clause-next
-new_stretch-new-requires-clause-next c = c.node_from-next.ensures.below c.args.self.now.on.closed.model.now.nodes c.ends-own.ensures.end_below (subst (λ xs. All (λ node. node < c.args.self.now.on.closed.model.now.nodes) xs) (sym c.list-list.ensures.value) c.requires.old_nodes)
+new_stretch-new-requires-clause-next c =
+    let it = c.args.self.now.of in
+    let part = c.splice-splice.ensures.part in
+    c.node_from-next.ensures.below it.on.closed.model.now.nodes c.ends-own.ensures.end_below (subst (λ xs. All (λ node. node < it.on.closed.model.now.nodes) xs) (sym c.list-list.ensures.value) part.old_nodes)
 
 pub new_stretch-new-requires-clause-pieces : goal.new_stretch-new-requires-clause-pieces
 new_stretch-new-requires-clause-pieces c =
-    let lists = c.args.self.now.routes.now.lists in
-    let ends = c.strip-ends.ensures in
-    let list : List ℕ = route c.args.self.now.routes.now.lists c.args.v in
-    let middle : List ℕ = joined lists c.strip-ends.result.middle.now in
+    let it = c.args.self.now.of in
+    let n = it.on.closed.model.now.nodes in
+    let lists = it.routes.now.lists in
+    let splice = c.splice-splice in
+    let part = splice.ensures.part in
+    let list : List ℕ = route lists splice.result.vehicle in
+    let middle : List ℕ = joined lists splice.result.middle.now in
     record {
-      within = ends.within;
-      nodes = all_left (λ node. node < c.args.self.now.on.closed.model.now.nodes) middle (drop c.strip-ends.result.behind list)
-          (all_right (λ node. node < c.args.self.now.on.closed.model.now.nodes) (take c.strip-ends.result.front list) (middle ++ drop c.strip-ends.result.behind list) (subst (λ xs. All (λ node. node < c.args.self.now.on.closed.model.now.nodes) xs) ends.joins c.requires.nodes));
+      within = splice.ensures.ends.within;
+      nodes = all_left (λ node. node < n) middle (drop splice.result.behind list)
+          (all_right (λ node. node < n) (take splice.result.front list) (middle ++ drop splice.result.behind list) (subst (λ xs. All (λ node. node < n) xs) splice.ensures.ends.joins part.nodes));
     }
 
 pub returns-clause-range : goal.returns-clause-range
@@ -41,15 +50,18 @@ returns-clause-range c =
 
 pub returns-clause-value : goal.returns-clause-value
 returns-clause-value c =
-    let m = c.args.self.now.on.closed.model.now in
-    let p = counted c.args.self.now.on.penalties.now in
-    let v = c.args.v in
-    let lists = c.args.self.now.routes.now.lists in
-    let list : List ℕ = route c.args.self.now.routes.now.lists c.args.v in
-    let pieces = c.args.pieces.now in
-    let front = c.strip-ends.result.front in
-    let behind = c.strip-ends.result.behind in
-    let middle : List ℕ = joined lists c.strip-ends.result.middle.now in
+    let it = c.args.self.now.of in
+    let m = it.on.closed.model.now in
+    let p = counted it.on.penalties.now in
+    let lists = it.routes.now.lists in
+    let splice = c.splice-splice in
+    let part = splice.ensures.part in
+    let v = splice.result.vehicle in
+    let list : List ℕ = route lists v in
+    let pieces = (part_at c.args.self.now.change.now c.args.k).pieces in
+    let front = splice.result.front in
+    let behind = splice.result.behind in
+    let middle : List ℕ = joined lists splice.result.middle.now in
     let next = c.node_from-next.result in
     let n = c.new_stretch-new.ensures in
     let o = c.old_stretch-old.ensures in
@@ -58,9 +70,10 @@ returns-clause-value c =
     let new_is : c.new_stretch-new.result.total ≡ stretch_weight m p v (last_of (vehicle_at m v).start (take front list)) middle next = n.total ∙ ap (λ s. stretch_weight m p v s middle next) start_is in
     let before : c.unused.result ≡ unused_weight m p v (length list) = c.unused.ensures.value ∙ ap (unused_weight m p v) (ap length c.list-list.ensures.value) in
     let after_len : front + c.new_stretch-new.result.nodes + (length c.list-list.result.now - behind) ≡ length (joined lists pieces)
-    = ap₂ (λ k l. front + k + (l - behind)) n.nodes (ap length c.list-list.ensures.value) ∙ sym (new_length lists v pieces c.strip-ends.result.middle.now front behind c.strip-ends.ensures) in
+    = ap₂ (λ k l. front + k + (l - behind)) n.nodes (ap length c.list-list.ensures.value) ∙ sym (new_length lists v pieces splice.result.middle.now front behind splice.ensures.ends) in
     let after : c.unused-2.result ≡ unused_weight m p v (length (joined lists pieces)) = c.unused-2.ensures.value ∙ ap (unused_weight m p v) after_len in
     let first = ap₂ (λ xs e. drop behind xs ++ e ∷ []) (sym c.list-list.ensures.value) (sym c.ends-own.ensures.end) ∙ c.node_from-next.ensures.node.first in
     let old_is : c.old_stretch-old.result ≡ stretch_weight m p v (last_of (vehicle_at m v).start (take front list)) (slice_range list front behind) next = o.total next c.node_from-next.ensures.node.others first in
+    let there = ap (λ u. route_weight m p u (joined lists pieces) -ℤ route_weight m p u (route lists u)) splice.ensures.vehicle in
     same ∙ (ap₂ (λ x y. x -ℤ y) (ap₂ (λ x y. x -ℤ y) new_is after) (ap₂ (λ x y. x -ℤ y) old_is before)
-    ∙ sym (part_value m p v lists pieces c.strip-ends.result.middle.now front behind next c.node_from-next.ensures.node.others c.strip-ends.ensures first))
+    ∙ (sym (part_value m p v lists pieces splice.result.middle.now front behind next c.node_from-next.ensures.node.others splice.ensures.ends first) ∙ there))
