@@ -59,8 +59,7 @@ fn shortest_way(alloc: Global, line: &Line) -> Result<Option<Piece>, NoMemory>
     ensures start { IfOk result (λ found. IfSome found (λ way. IsIn (pos 0) horizon way.first)) }
 {
     let pieces = pieces_at_end(alloc, line)?;
-    let way = shortest(pieces.as_slice());
-    Ok(way)
+    Ok(shortest(pieces.as_slice()))
 }
 
 // The chosen schedule of the line whose start allows `start` alone, and whose end `end`; `None` exactly where there is
@@ -79,6 +78,5 @@ fn schedule_between(
     let mut narrow = same_line(alloc, line)?;
     pin(alloc, &mut narrow, line.hops.len(), end)?;
     pin(alloc, &mut narrow, 0, start)?;
-    let plan = schedule(alloc, &narrow, ScheduleRule::Earliest)?;
-    Ok(plan)
+    schedule(alloc, &narrow, ScheduleRule::Earliest)
 }
