@@ -26,7 +26,24 @@ fn write_end(stops: &ListStops, row: &mut Levels) -> Result<(), NoMemory>
     Ok(())
 }
 
-// Writes what a list reaches at each stop over the rows, of which the first `known` are those of the list.
+/// Writes what a list reaches at each stop over the rows, of which the first `known` are those of the list.
+pub(crate) fn write_ahead(
+    stops: &ListStops,
+    known: usize,
+    rows: &mut [Levels],
+) -> Result<(), NoMemory>
+    requires known { AreFirstOn stops.now.of known rows.old }
+    requires long { length rows.old ≡ suc (suc (length stops.now.of.list.now)) }
+    ensures { OnOk result (AreReachedOn stops.now.of rows.new) }
+{
+    if known > 0 {
+        return reach_on(stops, known, rows);
+    }
+    write_start(stops, &mut rows[0])?;
+    reach_on(stops, 1, rows)
+}
+
+// The same, where at least one is known.
 fn reach_on(stops: &ListStops, known: usize, rows: &mut [Levels]) -> Result<(), NoMemory>
     requires begun { 0 < known }
     requires known { AreFirstOn stops.now.of known rows.old }
@@ -50,25 +67,22 @@ fn reach_on(stops: &ListStops, known: usize, rows: &mut [Levels]) -> Result<(), 
     Ok(())
 }
 
-/// Writes what a list reaches at each stop over the rows, of which the first `known` are those of the list.
-pub(crate) fn write_ahead(
-    stops: &ListStops,
-    known: usize,
-    rows: &mut [Levels],
-) -> Result<(), NoMemory>
-    requires known { AreFirstOn stops.now.of known rows.old }
-    requires long { length rows.old ≡ suc (suc (length stops.now.of.list.now)) }
-    ensures { OnOk result (AreReachedOn stops.now.of rows.new) }
-{
-    if known > 0 {
-        return reach_on(stops, known, rows);
-    }
-    write_start(stops, &mut rows[0])?;
-    reach_on(stops, 1, rows)
-}
-
 // Writes what the end is reached from at each stop of a list over the rows, of which the last `known` are those of the
 // list.
+fn write_back(stops: &ListStops, known: usize, rows: &mut [Levels]) -> Result<(), NoMemory>
+    requires known { AreLastOn stops.now.of known rows.old }
+    requires long { length rows.old ≡ suc (suc (length stops.now.of.list.now)) }
+    ensures { OnOk result (AreReachingOn stops.now.of rows.new) }
+{
+    if known > 0 {
+        return reach_back(stops, known, rows);
+    }
+    let n = stops.of.list.len();
+    write_end(stops, &mut rows[n + 1])?;
+    reach_back(stops, 1, rows)
+}
+
+// The same, where at least one is known.
 fn reach_back(stops: &ListStops, known: usize, rows: &mut [Levels]) -> Result<(), NoMemory>
     requires begun { 0 < known }
     requires known { AreLastOn stops.now.of known rows.old }
@@ -93,21 +107,6 @@ fn reach_back(stops: &ListStops, known: usize, rows: &mut [Levels]) -> Result<()
     Ok(())
 }
 
-// Writes what the end is reached from at each stop of a list over the rows, of which the last `known` are those of the
-// list.
-fn write_back(stops: &ListStops, known: usize, rows: &mut [Levels]) -> Result<(), NoMemory>
-    requires known { AreLastOn stops.now.of known rows.old }
-    requires long { length rows.old ≡ suc (suc (length stops.now.of.list.now)) }
-    ensures { OnOk result (AreReachingOn stops.now.of rows.new) }
-{
-    if known > 0 {
-        return reach_back(stops, known, rows);
-    }
-    let n = stops.of.list.len();
-    write_end(stops, &mut rows[n + 1])?;
-    reach_back(stops, 1, rows)
-}
-
 /// Writes what the end is reached from at each stop of a list over the levels from place `first` on, of which the last
 /// `known` are those of the list.
 pub(crate) fn write_behind(
@@ -125,6 +124,5 @@ pub(crate) fn write_behind(
     let n = stops.of.list.len();
     let (_, behind) = kept.split_at_mut(first);
     let (rows, _) = behind.split_at_mut(n + 2);
-    write_back(stops, known, rows)?;
-    Ok(())
+    write_back(stops, known, rows)
 }

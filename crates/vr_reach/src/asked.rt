@@ -29,6 +29,5 @@ pub(crate) fn asked_of<'m, 'l, 's>(
         v: stops.v,
         list,
     };
-    let asked = ListStops { of, ends, visits };
-    asked
+    ListStops { of, ends, visits }
 }

@@ -28,8 +28,7 @@ pub fn write_rows(
     ensures { OnOk result
         (AreRowsIfUsed stops.now.closed.model.now stops.now.d stops.now.v list.now rows.new) }
 {
-    rewrite_rows(alloc, stops, &[], list, rows)?;
-    Ok(())
+    rewrite_rows(alloc, stops, &[], list, rows)
 }
 
 /// Writes the rows of a list over those of another, as `write_rows` does. What both lists reach at stops that they
@@ -55,8 +54,7 @@ pub fn rewrite_rows(
     let stretch = Stretch::of(old, &whole, Stretch { front: 0, back: 0 });
     let ahead = known_with(old, stretch.front);
     let behind = known_with(old, stretch.back);
-    rows.rewrite(alloc, &asked, ahead, behind)?;
-    Ok(())
+    rows.rewrite(alloc, &asked, ahead, behind)
 }
 
 // How many rows are known with so many nodes: one more, but none of an empty list.

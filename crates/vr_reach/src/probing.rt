@@ -35,12 +35,10 @@ pub(crate) fn told_without_breaks<L: Ledger>(walk: &RunWalk, tries: &mut Steps<L
     if !shares_with(run, walk.to.level(all)) {
         return Some(false);
     }
-    let goes = shares_with(run, walk.to.level(0));
-    if goes {
+    if shares_with(run, walk.to.level(0)) {
         return Some(true);
     }
-    let goes = goes_with_some(walk, tries);
-    if goes {
+    if goes_with_some(walk, tries) {
         return Some(true);
     }
     None
@@ -75,6 +73,5 @@ fn goes_with<L: Ledger>(walk: &RunWalk, taken: usize, tries: &mut Steps<L>) -> b
         return false;
     };
     let run = carry_run(walk, taken, begun, tries);
-    let goes = shares_with(run, walk.to.level(taken));
-    goes
+    shares_with(run, walk.to.level(taken))
 }

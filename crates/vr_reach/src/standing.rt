@@ -50,8 +50,7 @@ pub fn goes_between(
         from,
         to,
     };
-    let goes = goes_along(&leg, walk)?;
-    Ok(goes)
+    goes_along(&leg, walk)
 }
 
 /// Writes what a list of a vehicle reaches behind its first `front` nodes and one arc more over `here`, where it
@@ -141,8 +140,7 @@ pub fn goes_from(
         from: here,
         to,
     };
-    let goes = goes_along(&leg, walk)?;
-    Ok(goes)
+    goes_along(&leg, walk)
 }
 
 /// Whether nothing is reached: no cumul, whatever breaks were taken. Then no list that reaches this at a stop has a

@@ -1,6 +1,6 @@
 //! What changes between two lists.
 
-ghost use Rattle.std.specs.Prelude.{◌≡◌, ◌+◌, ◌≤◌, IsTrue, length};
+ghost use Rattle.std.specs.Prelude.{◌+◌, ◌≤◌, length};
 ghost use Rattle.vr_reach.specs.Stretches.{SharesFront, SharesBack, DifferAtFront, DifferAtBack, IsStretch};
 
 use crate::spliced::Spliced;

@@ -125,6 +125,5 @@ fn visit_set(alloc: Global, vehicle: VehicleIn<'_>, node: u32) -> Result<Spans, 
     if !model.is_visit(node) {
         return Ok(Spans::new(alloc));
     }
-    let set = allowed_at(alloc, model, vehicle.d, vehicle.v, StopName::Visit(node))?;
-    Ok(set)
+    allowed_at(alloc, model, vehicle.d, vehicle.v, StopName::Visit(node))
 }

@@ -1,6 +1,6 @@
 //! Walks along a list, and through what changed in one.
 
-ghost use Rattle.std.specs.Prelude.{◌≡◌, ◌+◌, ◌-◌, ◌<◌, ◌≤◌, suc, false, IsTrue, length, IfOk, IfSome, IsSome, None};
+ghost use Rattle.std.specs.Prelude.{◌≡◌, ◌+◌, ◌-◌, ◌<◌, ◌≤◌, IsTrue, length, IfOk, IfSome, IsSome, None};
 ghost use Rattle.vr_model.specs.schedules.Choices.{is_feasible};
 ghost use Rattle.vr_model.specs.schedules.Weights.{walk_weight, list_weight};
 ghost use Rattle.vr_reach.specs.Rows.{row_at};
@@ -46,8 +46,7 @@ fn walk_through<L: Ledger, M: Ledger>(
     if let Some(passed) = told {
         return Ok(passed);
     }
-    let passed = walk_by_sets(leg, walk, steps)?;
-    Ok(passed)
+    walk_by_sets(leg, walk, steps)
 }
 
 // The same, where walks that carry one run tell.
@@ -81,11 +80,9 @@ fn told_by_runs<L: Ledger, M: Ledger>(
         to: leg.to,
     };
     if let Some(between) = runs_between(leg.stops.ends, &walk) {
-        let passed = walk_by_runs(&walk, between, steps);
-        return Some(passed);
+        return Some(walk_by_runs(&walk, between, steps));
     }
-    let told = told_without_breaks(&walk, tries)?;
-    Some(told)
+    told_without_breaks(&walk, tries)
 }
 
 // The same, carrying the sets of each number of breaks.
@@ -108,8 +105,7 @@ fn walk_by_sets<L: Ledger>(
         let next = set_at(&leg.stops, k + 1);
         walk.step(hop, next, breaks, steps)?;
     }
-    let passed = walk.meets(leg.to, steps);
-    Ok(passed)
+    Ok(walk.meets(leg.to, steps))
 }
 
 /// Whether the list that a vehicle gets is empty or its line feasible: its list before, with other nodes in the place
@@ -171,8 +167,7 @@ pub fn passes_along<L: Ledger, M: Ledger>(
         from,
         to,
     };
-    let passed = walk_through(&leg, walk, steps, tries)?;
-    Ok(passed)
+    walk_through(&leg, walk, steps, tries)
 }
 
 /// Whether a vehicle has a schedule with a list in a dimension: goes along the list from its start to its end.
@@ -195,16 +190,14 @@ pub fn goes_through(stops: &StopsFor, list: &[u32], walk: &mut Walk) -> Result<b
         from: &asked.ends.start_levels,
         to: &asked.ends.end_levels,
     };
-    let goes = goes_along(&leg, walk)?;
-    Ok(goes)
+    goes_along(&leg, walk)
 }
 
 // Whether the line of a list is feasible, found by a walk along a leg of it, where nobody counts steps or tries.
 pub(crate) fn goes_along(leg: &Leg, walk: &mut Walk) -> Result<bool, NoMemory>
     ensures { IfOk result (λ goes. goes ≡ is_feasible (line_of_leg leg.now)) }
 {
-    let goes = walk_uncounted::<Brand, Brand>(leg, walk, Blank::new(1), Blank::new(1))?;
-    Ok(goes)
+    walk_uncounted::<Brand, Brand>(leg, walk, Blank::new(1), Blank::new(1))
 }
 
 // The same, by counters that are made of blank ones.
@@ -224,8 +217,7 @@ fn walk_uncounted<L: Ledger, M: Ledger>(
 {
     let mut steps = Steps::<L>::new(blank);
     let mut tries = Steps::<M>::new(other);
-    let goes = walk_through(leg, walk, &mut steps, &mut tries)?;
-    Ok(goes)
+    walk_through(leg, walk, &mut steps, &mut tries)
 }
 
 // The levels at which the last stop is reached that a list shares at the front with the one whose rows are known.

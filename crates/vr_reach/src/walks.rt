@@ -189,8 +189,7 @@ impl Walk {
             IsTrue result ↔ IsFeasible line }
         ensures count { steps.new ≡ steps.old + (runs_in self.now + runs_in (row_at rows.now.backward stop)) }
     {
-        let joined = self.meets(rows.backward(stop), steps);
-        joined
+        self.meets(rows.backward(stop), steps)
     }
 
     /// Whether the line on which the walk stands has a schedule, where these are the levels from which its end is

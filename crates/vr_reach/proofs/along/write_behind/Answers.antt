@@ -1,5 +1,6 @@
 use Rattle.std.proofs.Common.{◌≡◌, ◌+◌, ◌∙◌, suc, length, take, drop, ap, ap₂, subst, sym, arith}
 use Rattle.std.proofs.lemmas.List.{length-take-le}
+use Rattle.std.proofs.lemmas.Result.{on_ok_weaker}
 use Rattle.vr_reach.specs.KnownRows.{AreLastRows, AreReachingRows}
 use Rattle.vr_reach.proofs.AlongLemmas.{window_long, window_of}
 use Rattle.vr_reach.proofs.along.write_behind.Goals.{After-write_back-arg-1}
@@ -25,5 +26,4 @@ returns c =
     let list = of.list.now in
     let there = c.requires.there in
     let before = ap length c.split_at_mut-behind.ensures.front ∙ length-take-le c.args.first c.args.kept.now (omega (arith, there)) in
-    let rows = c.in_ok-write_back.ensures in
-    record { rows = subst (AreReachingRows of.closed.model.now of.d of.v list) (sym (window_of c.split_at_mut-behind.result.0.now c.write_back.new.rows c.split_at_mut-rows.result.1.now c.args.first (suc (suc (length list))) before rows.row_of_each_stop)) rows }
+    record { rows = on_ok_weaker _ (λ rows. subst (AreReachingRows of.closed.model.now of.d of.v list) (sym (window_of c.split_at_mut-behind.result.0.now c.write_back.new.rows c.split_at_mut-rows.result.1.now c.args.first (suc (suc (length list))) before rows.row_of_each_stop)) rows) c.write_back.ensures }

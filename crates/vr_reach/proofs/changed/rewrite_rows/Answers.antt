@@ -1,6 +1,7 @@
 use Rattle.std.proofs.Common.{refl, subst, sym}
+use Rattle.std.proofs.lemmas.Result.{on_ok_weaker}
 use Rattle.vr_spans.proofs.RunsLemmas.{some_from_test}
-use Rattle.vr_reach.specs.KnownRows.{AreFirstRows, AreLastRows, AreRowsOf}
+use Rattle.vr_reach.specs.KnownRows.{AreFirstRows, AreLastRows, AreRowsIfUsed, AreRowsOf}
 use Rattle.vr_reach.specs.Lists.{IsUsed}
 use Rattle.vr_reach.proofs.AskedLemmas.{asked_so, so_asked}
 use Rattle.vr_reach.proofs.AlongLemmas.{none_at_back, none_at_front, shared_first, shared_last}
@@ -27,4 +28,4 @@ rewrite-requires-clause-behind c =
     (shared_last c.args.stops.now.closed.model.now c.args.stops.now.d c.args.stops.now.v c.args.old.now c.whole-whole.result c.args.rows.now c.requires.rows c.of-stretch.result.back c.of-stretch.ensures.back c.known_with-behind.result c.known_with-behind.ensures.empty c.known_with-behind.ensures.some)
 
 pub returns : goal.returns
-returns c _ = so_asked c.whole-whole.ensures c.asked_of-asked.ensures (λ m d v l. AreRowsOf m d v l c.rewrite.new.self) c.in_ok-rewrite.ensures
+returns c = on_ok_weaker {Q = AreRowsIfUsed c.args.stops.now.closed.model.now c.args.stops.now.d c.args.stops.now.v c.args.list.now c.rewrite.new.self} _ (λ are _. so_asked c.whole-whole.ensures c.asked_of-asked.ensures (λ m d v l. AreRowsOf m d v l c.rewrite.new.self) are) c.rewrite.ensures

@@ -30,11 +30,11 @@ returns-then-not-shares_with-clause-told g c =
           (λ shared. let served = c.shares_with.ensures.1 (subst (ShareANumber (run ∷ [])) there shared) in clash c.shares_with.result served c.if-not-shares_with.true) feasible),
     )
 
-pub returns-then-goes-clause-told : goal.returns-then-goes-clause-told
-returns-then-goes-clause-told g c =
+pub returns-then-shares_with-clause-told : goal.returns-then-shares_with-clause-told
+returns-then-shares_with-clause-told g c =
     let L = line_along c.args.walk.now in
     let run = c.carry_run-run.result in
-    let shared = subst (ShareANumber (run ∷ [])) (sym (level_is c.args.walk.now.to.now 0 c.level-2.result.now c.level-2.ensures)) (c.shares_with-goes.ensures.0 c.if-goes.true) in
+    let shared = subst (ShareANumber (run ∷ [])) (sym (level_is c.args.walk.now.to.now 0 c.level-2.result.now c.level-2.ensures)) (c.shares_with-2.ensures.0 c.if-shares_with.true) in
     feasible_as_tested chosen_where_feasible L true (
       λ t.
           accepted feasible_where_levels_meet L (sound_of c.args.walk.now.line.of)
@@ -42,25 +42,25 @@ returns-then-goes-clause-told g c =
       λ feasible. refl,
     )
 
-pub returns-then-goes-2-clause-told : goal.returns-then-goes-2-clause-told
-returns-then-goes-2-clause-told g c =
-    feasible_as_tested chosen_where_feasible (line_along c.args.walk.now) true (λ t. c.goes_with_some-goes.ensures.goes c.if-goes-2.true, λ feasible. refl)
+pub returns-then-goes_with_some-clause-told : goal.returns-then-goes_with_some-clause-told
+returns-then-goes_with_some-clause-told g c =
+    feasible_as_tested chosen_where_feasible (line_along c.args.walk.now) true (λ t. c.goes_with_some.ensures.goes c.if-goes_with_some.true, λ feasible. refl)
 
 pub returns-then-not-shares_with-clause-count : goal.returns-then-not-shares_with-clause-count
 returns-then-not-shares_with-clause-count g c =
     first_try (length (line_along c.args.walk.now).breaks) (c.args.walk.now.last - c.args.walk.now.begin) c.args.tries.now c.carry_run-run.ensures.arcs
 
-pub returns-then-goes-clause-count : goal.returns-then-goes-clause-count
-returns-then-goes-clause-count g c =
+pub returns-then-shares_with-clause-count : goal.returns-then-shares_with-clause-count
+returns-then-shares_with-clause-count g c =
     first_try (length (line_along c.args.walk.now).breaks) (c.args.walk.now.last - c.args.walk.now.begin) c.args.tries.now c.carry_run-run.ensures.arcs
 
-pub returns-then-goes-2-clause-count : goal.returns-then-goes-2-clause-count
-returns-then-goes-2-clause-count g c =
-    all_tries (length (line_along c.args.walk.now).breaks) (c.args.walk.now.last - c.args.walk.now.begin) c.args.tries.now c.carry_run-run.ensures.arcs c.goes_with_some-goes.ensures.count
+pub returns-then-goes_with_some-clause-count : goal.returns-then-goes_with_some-clause-count
+returns-then-goes_with_some-clause-count g c =
+    all_tries (length (line_along c.args.walk.now).breaks) (c.args.walk.now.last - c.args.walk.now.begin) c.args.tries.now c.carry_run-run.ensures.arcs c.goes_with_some.ensures.count
 
 pub returns-clause-count : goal.returns-clause-count
 returns-clause-count g c =
-    all_tries (length (line_along c.args.walk.now).breaks) (c.args.walk.now.last - c.args.walk.now.begin) c.args.tries.now c.carry_run-run.ensures.arcs c.goes_with_some-goes.ensures.count
+    all_tries (length (line_along c.args.walk.now).breaks) (c.args.walk.now.last - c.args.walk.now.begin) c.args.tries.now c.carry_run-run.ensures.arcs c.goes_with_some.ensures.count
 
 pub returns-clause-untold : goal.returns-clause-untold
 returns-clause-untold g c = λ none tried.
@@ -77,11 +77,11 @@ returns-clause-untold g c = λ none tried.
       reached = c.carry_run-run.ensures.reached.reached shared.0 (alone_in run shared.0 shared.1);
       reaches = (walk_to c.args.walk.now (length L.breaks) (omega arith) shared.0).0 shared.2;
       none = λ b few goes. elim (cases_lt 0 b) [
-        | inl some ↦ false≢true (sym c.if-goes-2.false ∙ c.goes_with_some-goes.ensures.exact.1 (b, omega (arith, some), few, goes))
+        | inl some ↦ false≢true (sym c.if-goes_with_some.false ∙ c.goes_with_some.ensures.exact.1 (b, omega (arith, some), few, goes))
         | inr past ↦ (
             let here : b ≡ 0 = omega (arith, past) in
-            let served = c.shares_with-goes.ensures.1 (subst (ShareANumber (run ∷ [])) first (alone.1 (subst (GoesAlone L c.args.walk.now.from.now to c.args.walk.now.begin c.args.walk.now.last) here goes))) in
-            false≢true (sym c.if-goes.false ∙ served)
+            let served = c.shares_with-2.ensures.1 (subst (ShareANumber (run ∷ [])) first (alone.1 (subst (GoesAlone L c.args.walk.now.from.now to c.args.walk.now.begin c.args.walk.now.last) here goes))) in
+            false≢true (sym c.if-shares_with.false ∙ served)
             )
       ];
     }
@@ -101,18 +101,18 @@ returns-then-not-shares_with-clause-known g c = λ _.
           clash c.shares_with.result served c.if-not-shares_with.true,
     )
 
-pub returns-then-goes-clause-known : goal.returns-then-goes-clause-known
-returns-then-goes-clause-known g c = λ _.
+pub returns-then-shares_with-clause-known : goal.returns-then-shares_with-clause-known
+returns-then-shares_with-clause-known g c = λ _.
     let L = line_along c.args.walk.now in
     let to = c.args.walk.now.to.now in
     let run = c.carry_run-run.result in
     let first = level_is to 0 c.level-2.result.now c.level-2.ensures in
     let alone = alone_where L c.args.walk.now.from.now to c.args.walk.now.begin c.args.walk.now.last 0 c.in_ok-begun.begun run (sym c.in_ok-begun.ensures.known) c.in_ok-begun.ensures.run c.carry_run-run.ensures.led in (
       sym c.in_ok-begun.ensures.known,
-      λ untold. untold.none 0 (omega arith) (alone.0 (subst (ShareANumber (run ∷ [])) (sym first) (c.shares_with-goes.ensures.0 c.if-goes.true))),
+      λ untold. untold.none 0 (omega arith) (alone.0 (subst (ShareANumber (run ∷ [])) (sym first) (c.shares_with-2.ensures.0 c.if-shares_with.true))),
     )
 
-pub returns-then-goes-2-clause-known : goal.returns-then-goes-2-clause-known
-returns-then-goes-2-clause-known g c = λ _.
-    let m = c.goes_with_some-goes.ensures.exact.0 c.if-goes-2.true in
+pub returns-then-goes_with_some-clause-known : goal.returns-then-goes_with_some-clause-known
+returns-then-goes_with_some-clause-known g c = λ _.
+    let m = c.goes_with_some.ensures.exact.0 c.if-goes_with_some.true in
     (sym c.in_ok-begun.ensures.known, λ untold. untold.none m.0 m.2 m.3)

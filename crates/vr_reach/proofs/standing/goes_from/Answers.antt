@@ -1,5 +1,5 @@
 use Rattle.std.proofs.Common.{◌≡◌, ◌+◌, ◌-◌, ◌≤◌, suc, length, sym, subst, arith}
-use Rattle.std.specs.Prelude.{IfSome}
+use Rattle.std.specs.Prelude.{IfOk, IfSome}
 use Rattle.vr_model.specs.schedules.Choices.{is_feasible}
 use Rattle.vr_model.specs.schedules.Lines.{line}
 use Rattle.vr_reach.specs.Lists.{IsUsed}
@@ -26,4 +26,4 @@ invariant_of-leg c =
     }
 
 pub returns : goal.returns
-returns c = so_asked c.whole-whole.ensures c.asked_of-asked.ensures (λ m d v l. c.in_ok-goes.goes ≡ is_feasible (line m d v l)) c.in_ok-goes.ensures
+returns c = so_asked c.whole-whole.ensures c.asked_of-asked.ensures (λ m d v l. IfOk c.goes_along.result (λ goes. goes ≡ is_feasible (line m d v l))) c.goes_along.ensures

@@ -1,6 +1,7 @@
 use Rattle.std.proofs.Common.{◌≡◌, ◌∙◌, ◌+◌, ◌-◌, ◌<◌, ◌≤◌, ◌||◌, ◌⊎◌, ℕ, List, inl, inr, length, suc, refl, ap, sym, subst, arith}
 use Rattle.std.specs.Prelude.{IfSome}
 use Rattle.std.proofs.lemmas.List.{take_all}
+use Rattle.std.proofs.lemmas.Result.{IfOk-weaker}
 use Rattle.vr_model.specs.schedules.Weights.{list_weight, walk_weight}
 use Rattle.vr_model.specs.schedules.Lines.{line}
 use Rattle.vr_model.specs.schedules.Choices.{is_feasible}
@@ -43,7 +44,8 @@ pub returns-clause-exact : goal.returns-clause-exact
 returns-clause-exact g c =
     let m = c.args.stops.now.closed.model.now in
     let used_here = used_by m (spliced c.args.known.now.list.now c.args.splice.now.front c.args.splice.now.behind c.args.splice.now.middle.now) c.of-new.result c.of-new.ensures c.requires.tour c.len-n.result c.len-n.ensures.value c.if-n-eq0.false in
-    so_asked refl c.asked_of-asked.ensures (λ m d v l. c.in_ok-passed.passed ≡ is_feasible (line m d v l)) c.in_ok-passed.ensures.exact ∙ (sym (ap (λ e. e || is_feasible (line m c.args.stops.now.d c.args.stops.now.v c.of-new.result)) used_here.some) ∙ ap (is_feasible_list m c.args.stops.now.d c.args.stops.now.v) c.of-new.ensures)
+    let same = sym (ap (λ e. e || is_feasible (line m c.args.stops.now.d c.args.stops.now.v c.of-new.result)) used_here.some) ∙ ap (is_feasible_list m c.args.stops.now.d c.args.stops.now.v) c.of-new.ensures in
+    IfOk-weaker _ _ _ (λ passed exact. so_asked refl c.asked_of-asked.ensures (λ m d v l. passed ≡ is_feasible (line m d v l)) exact ∙ same) c.walk_through.ensures.exact
 
 pub asked_of-asked-requires-clause-used : goal.asked_of-asked-requires-clause-used
 asked_of-asked-requires-clause-used g c = used_by c.args.stops.now.closed.model.now (spliced c.args.known.now.list.now c.args.splice.now.front c.args.splice.now.behind c.args.splice.now.middle.now) c.of-new.result c.of-new.ensures c.requires.tour c.len-n.result c.len-n.ensures.value c.if-n-eq0.false
@@ -91,14 +93,8 @@ counted g c =
           (so_asked refl c.asked_of-asked.ensures (λ m d v l. c.walk_through.new.tries ≤ c.args.tries.now + tries_between (line m d v l) stretch.front last) c.walk_through.ensures.tries),
     )
 
-pub returns-in_err-passed-clause-count : goal.returns-in_err-passed-clause-count
-returns-in_err-passed-clause-count g c = (counted g (goal.at.returns-in_err-passed-clause-count g c).After-walk_through).0
-
 pub returns-clause-count : goal.returns-clause-count
 returns-clause-count g c = (counted g (goal.at.returns-clause-count g c).After-walk_through).0
-
-pub returns-in_err-passed-clause-tries : goal.returns-in_err-passed-clause-tries
-returns-in_err-passed-clause-tries g c = (counted g (goal.at.returns-in_err-passed-clause-tries g c).After-walk_through).1
 
 pub returns-clause-tries : goal.returns-clause-tries
 returns-clause-tries g c = (counted g (goal.at.returns-clause-tries g c).After-walk_through).1

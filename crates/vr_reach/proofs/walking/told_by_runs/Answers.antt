@@ -1,4 +1,4 @@
-use Rattle.std.proofs.Common.{◌∙◌, ◌<◌, All, rules, length, pos, ap, ap₂, refl, sym, subst, arith}
+use Rattle.std.proofs.Common.{◌∙◌, ◌<◌, All, rules, length, pos, ap, ap₂, sym, subst, arith}
 use Rattle.std.specs.Prelude.{◌&&◌}
 use Rattle.std.proofs.lemmas.Bool.{and_parts, false≢true}
 use Rattle.vr_model.specs.tables.Numbers.{horizon}
@@ -35,8 +35,8 @@ invariant_of-line g c =
       finish_is = c.in_ok-finish.ensures.finish;
     }
 
-pub returns-in_err-told-clause-given_up : goal.returns-in_err-told-clause-given_up
-returns-in_err-told-clause-given_up g c _ _ =
+pub returns-clause-given_up : goal.returns-clause-given_up
+returns-clause-given_up g c none _ =
     let of = c.args.leg.now.stops.of in
     let m = of.closed.model.now in
     let from = c.args.leg.now.from.now in
@@ -46,13 +46,13 @@ returns-in_err-told-clause-given_up g c _ _ =
           let both = and_parts (is_one_run (allowed_by m of.d of.v End)) (are_runs (breaks_of (dimension_at m of.d) of.v) from to) t in
           false≢true (c.in_default.ensures.known ∙ ap (λ breaks. are_runs breaks from to) c.args.leg.now.stops.ends_are.breaks_are.same ∙ both.1)
           );
-      untold = λ t. c.in_err-told.ensures.untold refl (and_parts (is_one_run (allowed_by m of.d of.v End)) (is_run (level_at from 0)) t).1;
+      untold = λ t. c.told_without_breaks.ensures.untold none (and_parts (is_one_run (allowed_by m of.d of.v End)) (is_run (level_at from 0)) t).1;
     }
 
 pub returns-clause-known : goal.returns-clause-known
-returns-clause-known g c _ = (
+returns-clause-known g c some = (
   search rules,
   λ up.
-      let told = c.in_ok-told.ensures.known refl in
+      let told = c.told_without_breaks.ensures.known some in
       told.1 (up.untold (ap₂ (λ a b. a && b) (sym c.in_ok-finish.ensures.known) told.0)),
 )

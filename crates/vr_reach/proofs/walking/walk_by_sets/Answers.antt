@@ -63,8 +63,8 @@ loop-k-preserved g c =
     }
 
 pub returns-clause-exact : goal.returns-clause-exact
-returns-clause-exact g c = feasible_as_tested chosen_where_feasible (line_of_leg c.args.leg.now) c.meets-passed.result
-    (c.meets-passed.ensures.exact (line_of_leg c.args.leg.now) c.args.leg.now.last
+returns-clause-exact g c = feasible_as_tested chosen_where_feasible (line_of_leg c.args.leg.now) c.meets.result
+    (c.meets.ensures.exact (line_of_leg c.args.leg.now) c.args.leg.now.last
     (meets_on c.args.leg.now.stops.of c.args.leg.now.stops.ends.now.breaks c.args.leg.now.stops.ends_are.breaks_are.same
     c.loop-k.k c.args.leg.now.last c.args.leg.now.within (omega (arith, c.loop-k.invariant.within)) c.loop-k.walk c.args.leg.now.to.now c.loop-k.invariant.form (form_of c.args.leg.now.to.now c.args.leg.now.stops.ends_are.breaks_are.same c.args.leg.now.met.form) c.loop-k.invariant.reached (leg_to c.args.leg.now)))
 
@@ -86,6 +86,6 @@ pub returns-clause-count : goal.returns-clause-count
 returns-clause-count g c =
     let L = line_of_leg c.args.leg.now in
     let at : c.loop-k.k ≡ c.args.leg.now.last = omega (arith, c.loop-k.invariant.within) in
-    with_join c.args.steps.now (steps_between L c.args.leg.now.begin c.args.leg.now.last) (steps_between L c.loop-k.k c.args.leg.now.last) (join_steps L c.args.leg.now.last) c.loop-k.steps c.loop-k.invariant.count c.meets-passed.ensures.count
-    (join_counts runs_are_counted reached_as_tested end_reached_as_tested L c.args.leg.now.last c.loop-k.walk c.args.leg.now.to.now c.args.leg.now.stops.ends.now.breaks c.args.leg.now.stops.ends_are.breaks_are.same c.loop-k.invariant.form (form_of c.args.leg.now.to.now c.args.leg.now.stops.ends_are.breaks_are.same c.args.leg.now.met.form) c.meets-passed.ensures.normal c.meets-passed.ensures.normal_behind
+    with_join c.args.steps.now (steps_between L c.args.leg.now.begin c.args.leg.now.last) (steps_between L c.loop-k.k c.args.leg.now.last) (join_steps L c.args.leg.now.last) c.loop-k.steps c.loop-k.invariant.count c.meets.ensures.count
+    (join_counts runs_are_counted reached_as_tested end_reached_as_tested L c.args.leg.now.last c.loop-k.walk c.args.leg.now.to.now c.args.leg.now.stops.ends.now.breaks c.args.leg.now.stops.ends_are.breaks_are.same c.loop-k.invariant.form (form_of c.args.leg.now.to.now c.args.leg.now.stops.ends_are.breaks_are.same c.args.leg.now.met.form) c.meets.ensures.normal c.meets.ensures.normal_behind
     (subst (λ i. AreReached L i c.loop-k.walk) at c.loop-k.invariant.reached) (leg_to c.args.leg.now))
