@@ -14,12 +14,12 @@ use Rattle.vr_model.specs.schedules.Levels.{FitBefore, FitAfter}
 use Rattle.vr_spans.specs.declared.runs.Run.{Run}
 use Rattle.vr_spans.specs.Runs.{has, in_run, IsStretched}
 use Rattle.vr_steps.specs.declared.hops.Hop.{Hop}
-use Rattle.vr_steps.specs.Levels.{IsCumuls, AreLevels, AreStartLevels, AreEndLevels, AreCrossed, AreCrossedBack, level_at, forward_steps, backward_steps_from}
+use Rattle.vr_steps.specs.Levels.{IsCumuls, AreLevels, AreCrossed, AreCrossedBack, level_at, forward_steps, backward_steps_from}
 use Rattle.vr_steps.specs.Arcs.{Leads, between}
 use Rattle.vr_steps.specs.Passages.{AreArrivals, AreDepartures, ArrivesAt, DepartsAt, upto, onward}
 use Rattle.vr_steps.specs.declared.ways.Way.{Way}
 use Rattle.vr_steps.specs.declared.ways.Way.TheVariants.{On, Back}
-use Rattle.vr_steps.specs.Ways.{AreCrossedBy, IsLedTo, IsLevelBy}
+use Rattle.vr_steps.specs.Ways.{AreBegunBy, AreCrossedBy, IsBegunBy, IsLedTo, IsLevelBy}
 use Rattle.vr_steps.specs.Fits.{IsEarliest, IsLatest, FitsBefore, FitsAfter}
 use Rattle.vr_steps.proofs.ArcLemmas.{plainly, leads}
 use Rattle.vr_steps.proofs.ImageLemmas.{slice_between, first_arrivals, first_departures}
@@ -104,18 +104,18 @@ plain_crossed way from hop to [] level set others more none whole is =
     (crossed_by way (level ∷ others) hop to [] set more (plain_level way (level ∷ others) hop to set is) (λ j low. absurd (omega (arith, low))))
 plain_crossed way from hop to (r ∷ rs) level set others more none whole is = absurd (cc)
 
-module _ (allowed : List Run) (rows : List BreakRow) (first : List Run) (more : List (List Run)) (long : length more ≡ length rows) (cumuls : IsCumuls allowed) where
-  pub start_levels : FitsBefore allowed (take 0 rows) first → ((j : ℕ) → j < length rows → FitsBefore allowed (take (suc j) rows) (level_at more j)) → AreStartLevels allowed rows (first ∷ more)
-  start_levels here each = all_levels (λ b set. FitsBefore allowed (take b rows) set) (length rows) first more here each
+-- the levels of the stop where a walk in one direction begins
+pub begun_by : (way : Way) (allowed : List Run) (rows : List BreakRow) (first : List Run) (more : List (List Run)) → IsBegunBy way allowed rows 0 first → ((j : ℕ) → j < length rows → IsBegunBy way allowed rows (suc j) (level_at more j)) → AreBegunBy way allowed rows (first ∷ more)
+begun_by On allowed rows first more here each = all_levels (λ b set. FitsBefore allowed (take b rows) set) (length rows) first more here each
+begun_by Back allowed rows first more here each = all_levels (λ b set. FitsAfter allowed (drop b rows) set) (length rows) first more here each
 
-  pub start_levels_are : AreStartLevels allowed rows (first ∷ more) → AreLevels rows (first ∷ more)
-  start_levels_are are = record { one_more = ap suc long; cumuls = parts_are_cumuls (first ∷ more) allowed (length rows) (ap suc long) cumuls (λ b few x there. ((are b few x).0 there).0) }
-
-  pub end_levels : FitsAfter allowed (drop 0 rows) first → ((j : ℕ) → j < length rows → FitsAfter allowed (drop (suc j) rows) (level_at more j)) → AreEndLevels allowed rows (first ∷ more)
-  end_levels here each = all_levels (λ b set. FitsAfter allowed (drop b rows) set) (length rows) first more here each
-
-  pub end_levels_are : AreEndLevels allowed rows (first ∷ more) → AreLevels rows (first ∷ more)
-  end_levels_are are = record { one_more = ap suc long; cumuls = parts_are_cumuls (first ∷ more) allowed (length rows) (ap suc long) cumuls (λ b few x there. ((are b few x).0 there).0) }
+-- each is part of what the stop allows
+pub begun_are : (way : Way) (allowed : List Run) (rows : List BreakRow) (levels : List (List Run)) → AreBegunBy way allowed rows levels → length levels ≡ suc (length rows) → IsCumuls allowed → AreLevels rows levels
+begun_are way allowed rows levels are long cumuls = record { one_more = long; cumuls = parts_are_cumuls levels allowed (length rows) long cumuls (part way are) }
+  where
+    part : (w : Way) → AreBegunBy w allowed rows levels → (b : ℕ) → b ≤ length rows → (x : ℤ) → IsTrue (has (level_at levels b) x) → IsTrue (has allowed x)
+    part On begun b few x there = ((begun b few x).0 there).0
+    part Back begun b few x there = ((begun b few x).0 there).0
 
 inside_from : (lo hi x : ℤ) → lo ≤ℤ x → x ≤ℤ hi → IsTrue (within lo hi x)
 inside_from lo hi x low high = grind (arith, ints, low, high)

@@ -1,5 +1,5 @@
--- Crossing an arc on and back, under one name.
-use Rattle.std.specs.Prelude.{ℕ, IsTrue, List, length, ℤ, neg_ℤ, ◌≤ℤ◌}
+-- Walks on and back, under one name.
+use Rattle.std.specs.Prelude.{ℕ, IsTrue, List, drop, length, take, ℤ, neg_ℤ, ◌≤ℤ◌}
 use Rattle.vr_spans.specs.declared.runs.Run.{Run}
 use Rattle.vr_spans.specs.Runs.{has, IsRun, farthest}
 use Rattle.vr_model.specs.declared.records.BreakRow.{BreakRow}
@@ -9,7 +9,8 @@ use Rattle.vr_steps.specs.declared.ways.Way.TheVariants.{On, Back}
 use Rattle.vr_steps.specs.declared.passages.Passage.{Passage}
 use Rattle.vr_steps.specs.declared.passages.Pass.{Pass}
 use Rattle.vr_steps.specs.Arcs.{Leads}
-use Rattle.vr_steps.specs.Levels.{AreCrossed, AreCrossedBack}
+use Rattle.vr_steps.specs.Fits.{FitsBefore, FitsAfter}
+use Rattle.vr_steps.specs.Levels.{AreCrossed, AreCrossedBack, AreEndLevels, AreStartLevels}
 use Rattle.vr_steps.specs.Passages.{AreArrivals, AreDepartures, upto, onward}
 
 -- an arc with these breaks inside leads from x on to y, or from x back to y
@@ -31,6 +32,16 @@ IsLevelBy Back to hop here breaks a set = AreDepartures to hop here breaks a (le
 abbrev pub AreCrossedBy : Way → List (List Run) → Hop → List Run → List BreakRow → List (List Run) → Type 0
 AreCrossedBy On from hop next breaks reached = AreCrossed from hop next breaks reached
 AreCrossedBy Back to hop here breaks reached = AreCrossedBack to hop here breaks reached
+
+-- the set of the allowed cumuls at which a walk in that direction may begin with b breaks taken there
+abbrev pub IsBegunBy : Way → List Run → List BreakRow → ℕ → List Run → Type 0
+IsBegunBy On allowed breaks b set = FitsBefore allowed (take b breaks) set
+IsBegunBy Back allowed breaks b set = FitsAfter allowed (drop b breaks) set
+
+-- the levels of the stop where it begins
+abbrev pub AreBegunBy : Way → List Run → List BreakRow → List (List Run) → Type 0
+AreBegunBy On allowed breaks levels = AreStartLevels allowed breaks levels
+AreBegunBy Back allowed breaks levels = AreEndLevels allowed breaks levels
 
 -- what a passage asks of the number from which it leads and of that to which it leads
 abbrev pub pass_by : Way → Passage → Pass

@@ -1,14 +1,15 @@
 //! The levels at the two ends of a line.
 
-ghost use Rattle.std.specs.Prelude.{◌≡◌, ◌<◌, ◌≤◌, ◌↔◌, ℕ, suc, ℤ, [], ◌∷◌, All, IfOk, OnOk, IsTrue, length, take};
-ghost use Rattle.std.specs.Prelude.{drop};
-ghost use Rattle.vr_model.specs.schedules.Levels.{FitBefore, FitAfter};
+ghost use Rattle.std.specs.Prelude.{◌≡◌, ◌<◌, ◌≤◌, ◌↔◌, ℕ, suc, ℤ, All, IfOk, OnOk, IsTrue, length};
+ghost use Rattle.vr_model.specs.schedules.Levels.{FitAfter};
 ghost use Rattle.vr_model.specs.tables.WellFormed.{IsBreak};
 ghost use Rattle.vr_spans.specs.Runs.{has};
 ghost use Rattle.vr_steps.specs.Levels.{IsCumuls, AreLevels, AreStartLevels, AreEndLevels, level_at};
-ghost use Rattle.vr_steps.specs.Fits.{FitsBefore, FitsAfter, CanEnd, CanEndBelow};
+ghost use Rattle.vr_steps.specs.Fits.{FitsBefore, FitsAfter, CanEnd};
+ghost use Rattle.vr_steps.specs.Ways.{AreBegunBy, IsBegunBy};
 
 use crate::chains::{earliest, last};
+use crate::ways::Way;
 use crate::{Breaks, Levels};
 use std::alloc::Global;
 use vr_model::limits::HORIZON;
@@ -36,17 +37,7 @@ pub fn start_levels_into(allowed: &Spans, breaks: &Breaks, out: &mut Levels) -> 
     ensures exact { OnOk result (AreStartLevels allowed.now breaks.now out.new) }
     ensures levels { OnOk result (AreLevels breaks.now out.new) }
 {
-    let rows = breaks.rows.as_slice();
-    if out.fit(rows.len()).is_err() {
-        return Err(NoMemory);
-    }
-    if write_before(allowed, &rows[..0], &mut out.first).is_err() {
-        return Err(NoMemory);
-    }
-    if write_starts(allowed, rows, &mut out.more).is_err() {
-        return Err(NoMemory);
-    }
-    Ok(())
+    write_all(Way::On, allowed, breaks, out)
 }
 
 /// The levels of an end: with `b` breaks taken, the allowed cumuls after which the other breaks fit.
@@ -70,17 +61,7 @@ pub fn end_levels_into(allowed: &Spans, breaks: &Breaks, out: &mut Levels) -> Re
     ensures exact { OnOk result (AreEndLevels allowed.now breaks.now out.new) }
     ensures levels { OnOk result (AreLevels breaks.now out.new) }
 {
-    let rows = breaks.rows.as_slice();
-    if out.fit(rows.len()).is_err() {
-        return Err(NoMemory);
-    }
-    if write_after(allowed, rows, &mut out.first).is_err() {
-        return Err(NoMemory);
-    }
-    if write_ends(allowed, rows, &mut out.more).is_err() {
-        return Err(NoMemory);
-    }
-    Ok(())
+    write_all(Way::Back, allowed, breaks, out)
 }
 
 /// Whether, with some number of breaks taken, a cumul of the levels is there after which the other breaks can all be
@@ -119,30 +100,50 @@ fn fit_behind(set: &Spans, rows: &[BreakRow]) -> bool
     false
 }
 
-// Writes the sets of one break taken and more over `sets`, at a start.
-fn write_starts(
-    allowed: &Spans,
-    rows: &[BreakRow],
-    sets: &mut Vec<Spans>,
-) -> Result<(), vr_spans::NoMemory>
-    requires rows { All IsBreak rows.now }
-    requires few { length rows.now ≤ 8 }
+// Writes the levels of the stop where a walk in that direction begins over `out`: on from a start, or back from an end.
+fn write_all(way: Way, allowed: &Spans, breaks: &Breaks, out: &mut Levels) -> Result<(), NoMemory>
+    requires breaks { All IsBreak breaks.now }
+    requires few { length breaks.now ≤ 8 }
     requires allowed { IsCumuls allowed.now }
-    requires long { length sets.old.items ≡ length rows.now }
-    ensures each { OnOk result ((k : ℕ) → k < length rows.now →
-        FitsBefore allowed.now (take (suc k) rows.now) (level_at sets.new.items k)) }
-    ensures long { OnOk result (length sets.new.items ≡ length rows.now) }
+    ensures exact { OnOk result (AreBegunBy way allowed.now breaks.now out.new) }
+    ensures levels { OnOk result (AreLevels breaks.now out.new) }
 {
-    let mut b = 0;
-    'levels: while b < rows.len() {
-        write_before(allowed, &rows[..b + 1], &mut sets[b])?;
-        b += 1;
+    let rows = breaks.rows.as_slice();
+    if out.fit(rows.len()).is_err() {
+        return Err(NoMemory);
+    }
+    if write_level(way, allowed, rows, 0, &mut out.first).is_err() {
+        return Err(NoMemory);
+    }
+    if write_further(way, allowed, rows, &mut out.more).is_err() {
+        return Err(NoMemory);
     }
     Ok(())
 }
 
-// Writes the sets of one break taken and more over `sets`, at an end.
-fn write_ends(
+// Writes the allowed cumuls over `set` at which such a walk may begin with `b` breaks taken there.
+fn write_level(
+    way: Way,
+    allowed: &Spans,
+    rows: &[BreakRow],
+    b: usize,
+    set: &mut Spans,
+) -> Result<(), vr_spans::NoMemory>
+    requires rows { All IsBreak rows.now }
+    requires few { length rows.now ≤ 8 }
+    requires allowed { IsCumuls allowed.now }
+    requires taken { b ≤ length rows.now }
+    ensures { OnOk result (IsBegunBy way allowed.now rows.now b set.new) }
+{
+    match way {
+        Way::On => write_before(allowed, &rows[..b], set),
+        Way::Back => write_after(allowed, &rows[b..], set),
+    }
+}
+
+// Writes the sets of one break taken and more over `sets`.
+fn write_further(
+    way: Way,
     allowed: &Spans,
     rows: &[BreakRow],
     sets: &mut Vec<Spans>,
@@ -152,12 +153,12 @@ fn write_ends(
     requires allowed { IsCumuls allowed.now }
     requires long { length sets.old.items ≡ length rows.now }
     ensures each { OnOk result ((k : ℕ) → k < length rows.now →
-        FitsAfter allowed.now (drop (suc k) rows.now) (level_at sets.new.items k)) }
+        IsBegunBy way allowed.now rows.now (suc k) (level_at sets.new.items k)) }
     ensures long { OnOk result (length sets.new.items ≡ length rows.now) }
 {
     let mut b = 0;
     'levels: while b < rows.len() {
-        write_after(allowed, &rows[b + 1..], &mut sets[b])?;
+        write_level(way, allowed, rows, b + 1, &mut sets[b])?;
         b += 1;
     }
     Ok(())
