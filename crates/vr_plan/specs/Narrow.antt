@@ -9,6 +9,7 @@ use Rattle.vr_model.specs.schedules.Schedules.{break_at, no_break, IsFeasible}
 use Rattle.vr_model.specs.declared.records.BreakRow.{BreakRow}
 use Rattle.vr_steps.specs.declared.lines.Line.{Line as Made}
 use Rattle.vr_steps.specs.declared.hops.Hop.{Hop}
+use Rattle.vr_steps.specs.Lines.{IsLineOf}
 use Rattle.vr_plan.specs.Plans.{no_hop}
 use Rattle.vr_plan.specs.Settled.{IsOnly}
 
@@ -58,6 +59,13 @@ IsLeastTried line i to firsts n None = (p : ℕ) → p < n → firsts p ≤ℤ t
 IsLeastTried line i to firsts n (Some x) = ((p : ℕ) × (p < n) × (x ≡ firsts p)) × (x ≤ℤ to)
     × IsFeasible (row_pinned line i x)
     × ((p : ℕ) → p < n → firsts p ≤ℤ to → IsFeasible (row_pinned line i (firsts p)) → x ≤ℤ firsts p)
+
+-- the least of the starts in all places of break i, where it may not start before ready, with which a line has a
+-- schedule that the code holds so
+abbrev pub IsLeastStart : Made → List ℤ → ℕ → ℤ → Option ℤ → Type 0
+IsLeastStart line cumuls i ready best = (defined : Line) → IsLineOf defined line →
+    IsLeastTried defined i (slice_index_or line.breaks i no_break).to
+    (first_at line.hops cumuls (slice_index_or line.breaks i no_break) ready) (suc (length cumuls)) best
 
 -- the break may start at x
 pub record IsStartOf (row : BreakRow) (x : ℤ) : Type 0 where

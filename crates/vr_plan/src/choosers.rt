@@ -85,8 +85,7 @@ impl Chooser {
             return Ok(false);
         };
         let inner = SoundLine { line: &narrow };
-        let goes = self.choose_earliest(alloc, inner)?;
-        Ok(goes)
+        self.choose_earliest(alloc, inner)
     }
 
     // The cumuls that are least, compared from the start on.

@@ -27,8 +27,7 @@ fn least_end(alloc: Global, sound: SoundLine<'_>, ahead: &Levels) -> Result<Opti
     let line = sound.line;
     let allowed = line.allowed.get(line.hops.len());
     let ends = end_levels(alloc, allowed, &line.breaks)?;
-    let end = least_shared(ahead, &ends);
-    Ok(end)
+    Ok(least_shared(ahead, &ends))
 }
 
 // The greatest cumul at the start of all schedules of a line, by what the end is reached from at its first stop; `None`
@@ -47,8 +46,7 @@ fn latest_start(
     let allowed = line.allowed.get(0);
     let starts = start_levels(alloc, allowed, &line.breaks)?;
     let mut scratch = Spans::new(alloc);
-    let start = greatest_shared(&starts, behind, &mut scratch)?;
-    Ok(start)
+    greatest_shared(&starts, behind, &mut scratch)
 }
 
 // The line whose end allows its least cumul alone, and whose start the greatest with it, by what the last stop is

@@ -1,7 +1,7 @@
 //! Schedules.
 
-ghost use Rattle.std.specs.Prelude.{◌≡◌, ◌<◌, ℕ, suc, ℤ, pos, ◌-ℤ◌, All, IfOk, length, slice_index_or};
-ghost use Rattle.vr_model.specs.tables.Numbers.{horizon, number_at};
+ghost use Rattle.std.specs.Prelude.{◌≡◌, ◌<◌, suc, pos, All, IfOk, length};
+ghost use Rattle.vr_model.specs.tables.Numbers.{horizon};
 ghost use Rattle.vr_model.specs.tables.WellFormed.{IsIn};
 ghost use Rattle.vr_steps.specs.Arcs.{IsSoundHop};
 ghost use Rattle.vr_plan.specs.Plans.{AreSlacks};

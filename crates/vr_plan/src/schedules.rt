@@ -114,8 +114,7 @@ fn tight_ahead(
         return Ok(None);
     };
     let inner = SoundLine { line: &narrow };
-    let plan = earliest(alloc, inner)?;
-    Ok(plan)
+    earliest(alloc, inner)
 }
 
 // The earliest schedule of a line, by what its end is reached from.

@@ -8,7 +8,7 @@ ghost use Rattle.vr_steps.specs.Arcs.{IsSoundHop};
 ghost use Rattle.vr_model.specs.schedules.Lines.{Line as Defined};
 ghost use Rattle.vr_model.specs.schedules.Schedules.{IsFeasible, no_break};
 ghost use Rattle.vr_steps.specs.Lines.{IsLineOf, IsSoundLine};
-ghost use Rattle.vr_plan.specs.Narrow.{row_pinned, place_begin, first_at, IsTried, IsLeastTried, IsStartOf, with_start};
+ghost use Rattle.vr_plan.specs.Narrow.{row_pinned, place_begin, IsTried, IsLeastStart, IsStartOf, with_start};
 ghost use Rattle.vr_plan.specs.Starts.{HaveCumuls, HaveStarts, HaveChosenStarts};
 ghost use Rattle.vr_plan.specs.Settled.{Goes, HaveChosenCumuls, IsUnfeasible};
 
@@ -102,10 +102,7 @@ fn least_start(
     requires range { All (IsIn (pos 0) horizon) cumuls.now }
     requires place { i < length line.old.breaks }
     requires ready { IsIn (pos 0) (pos (2 ^ 40)) ready }
-    ensures exact { IfOk result (λ best. (defined : Defined) → IsLineOf defined line.old →
-        IsLeastTried defined i (slice_index_or line.old.breaks i no_break).to
-        (first_at line.old.hops cumuls.now (slice_index_or line.old.breaks i no_break) ready)
-        (suc (length cumuls.now)) best) }
+    ensures exact { IfOk result (IsLeastStart line.old cumuls.now i ready) }
     ensures range { IfOk result (λ best. IfSome best (IsStartOf (slice_index_or line.old.breaks i no_break))) }
     ensures same { OnOk result (line.new ≡ line.old) }
 {
@@ -183,8 +180,7 @@ pub(crate) fn chosen_starts(
         return Ok(Some(Seq::new(alloc)));
     }
     let mut narrow = with_cumuls(alloc, sound, cumuls)?;
-    let starts = starts_of(alloc, &mut narrow, cumuls)?;
-    Ok(starts)
+    starts_of(alloc, &mut narrow, cumuls)
 }
 
 // The break starts of the chosen schedule of a line whose schedules have these cumuls; `None` only where it has none.

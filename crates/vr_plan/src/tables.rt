@@ -31,8 +31,11 @@ pub struct Table {
 /// A dimension of a model, and what is looked up of it.
 #[derive(Drop)]
 pub struct KnownDimension<'m> {
+    /// The model.
     pub model: &'m Model,
+    /// What is looked up of the dimension.
     pub table: &'m Table,
+    /// The number of the dimension.
     pub d: u32,
 }
 
