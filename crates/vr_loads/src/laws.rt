@@ -5,6 +5,4 @@ ghost use Rattle.vr_loads.specs.Loads.{LoadsDecide};
 /// In a load, a vehicle can drive a list exactly where it can carry what it takes.
 pub fn loads_decide()
     ensures { LoadsDecide }
-{
-    vr_model::laws::chosen_where_feasible();
-}
+{}
