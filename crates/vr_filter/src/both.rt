@@ -36,8 +36,7 @@ impl<A: PathFilter, B: PathFilter> PathFilter for Both<A, B> {
         if !self.a.passes(routes, change, steps)? {
             return Ok(false);
         }
-        let passed = self.b.passes(routes, change, steps)?;
-        Ok(passed)
+        self.b.passes(routes, change, steps)
     }
 
     fn prepare(&mut self, routes: &Routes, change: &Change) -> Result<(), NoMemory> {
