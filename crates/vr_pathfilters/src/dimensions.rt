@@ -171,8 +171,7 @@ impl<'m> DimensionFilter<'m> {
                     stops: &self.lookups.table(self.d).stops,
                     routes,
                 };
-                let passed = all_pass(&at, &self.known, change, &mut self.room, steps, tries)?;
-                Ok(passed)
+                all_pass(&at, &self.known, change, &mut self.room, steps, tries)
             }
         }
     }
@@ -204,8 +203,7 @@ impl<'m> DimensionFilter<'m> {
             (changed routes.now.lists change.now) }
     {
         let mut tries = Steps::<M>::new(blank);
-        let passed = self.passes_within(routes, change, steps, &mut tries)?;
-        Ok(passed)
+        self.passes_within(routes, change, steps, &mut tries)
     }
 }
 
@@ -225,8 +223,7 @@ impl<'m> PathFilter for DimensionFilter<'m> {
         change: &Change,
         steps: &mut Steps<L>,
     ) -> Result<bool, NoMemory> {
-        let passed = self.passes_untried::<L, Brand>(routes, change, steps, Blank::new(1))?;
-        Ok(passed)
+        self.passes_untried::<L, Brand>(routes, change, steps, Blank::new(1))
     }
 
     fn prepare(&mut self, routes: &Routes, change: &Change) -> Result<(), NoMemory> {
@@ -380,14 +377,12 @@ fn part_passes<L: Ledger, M: Ledger>(
     ensures answer { IfOk result (λ passed. passed
         ≡ is_feasible_list at.now.closed.model.now at.now.d (part_at change.now k).vehicle
         (joined at.now.routes.now.lists (part_at change.now k).pieces)) }
-    ensures count { steps.new ≤ steps.old
-        + list_weight at.now.closed.model.now at.now.d (part_at change.now k).vehicle
-        (route at.now.routes.now.lists (part_at change.now k).vehicle)
-        (joined at.now.routes.now.lists (part_at change.now k).pieces) }
-    ensures tries { tries.new ≤ tries.old
-        + list_tries at.now.closed.model.now at.now.d (part_at change.now k).vehicle
-        (route at.now.routes.now.lists (part_at change.now k).vehicle)
-        (joined at.now.routes.now.lists (part_at change.now k).pieces) }
+    ensures count { let part = part_at change.now k in
+        steps.new ≤ steps.old + list_weight at.now.closed.model.now at.now.d part.vehicle
+        (route at.now.routes.now.lists part.vehicle) (joined at.now.routes.now.lists part.pieces) }
+    ensures tries { let part = part_at change.now k in
+        tries.new ≤ tries.old + list_tries at.now.closed.model.now at.now.d part.vehicle
+        (route at.now.routes.now.lists part.vehicle) (joined at.now.routes.now.lists part.pieces) }
 {
     let ends = write_between(at.closed, at.routes, change, k, &mut room.list);
     let v = ends.vehicle;
@@ -406,6 +401,5 @@ fn part_passes<L: Ledger, M: Ledger>(
         behind: ends.behind as usize,
         middle: room.list.as_slice(),
     };
-    let passed = passes_along(&stops, &before, &splice, &mut room.walk, steps, tries)?;
-    Ok(passed)
+    passes_along(&stops, &before, &splice, &mut room.walk, steps, tries)
 }

@@ -77,7 +77,6 @@ fn part_carried(
     ensures { result ≡ is_feasible_list model.now d (part_at change.now k).vehicle
         (joined routes.now.lists (part_at change.now k).pieces) }
 {
-    vr_loads::laws::loads_decide();
     loads.can_carry(model, d, routes, change.vehicle(k), change.pieces(k))
 }
 

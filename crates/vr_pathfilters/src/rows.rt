@@ -49,8 +49,7 @@ fn write_list<L: Ledger>(
     ensures count { lists.new ≡ lists.old + 1 }
 {
     lists.tick();
-    write_rows(alloc, stops, list, rows)?;
-    Ok(())
+    write_rows(alloc, stops, list, rows)
 }
 
 /// Writes the rows of the list of part `k` of a change over others, where there is that part. After `NoMemory` nothing
@@ -101,8 +100,7 @@ pub(crate) fn rows_unless<L: Ledger>(
     if loads.is_some() {
         return Ok(Vec::new(alloc));
     }
-    let known = know_all(alloc, at, lists)?;
-    Ok(known)
+    know_all(alloc, at, lists)
 }
 
 /// More stops than the line of any list has: room for so many is never too little.

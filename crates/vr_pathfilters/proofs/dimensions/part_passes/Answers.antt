@@ -1,4 +1,5 @@
 use Rattle.std.proofs.Common.{◌≡◌, ◌∙◌, ℕ, ◌+◌, ◌<◌, ◌≤◌, List, length, refl, ap, ap₂, sym, subst, arith}
+use Rattle.std.proofs.lemmas.Result.{IfOk-weaker}
 use Rattle.std.specs.Prelude.{IsTrue}
 use Rattle.vr_model.specs.routes.Routes.{route}
 use Rattle.vr_model.specs.schedules.Weights.{list_weight}
@@ -52,18 +53,12 @@ passes_along-requires-clause-tour g c =
     subst (λ l. IsTour c.args.at.now.closed.model.now (spliced l ends.result.front ends.result.behind c.as_slice.result.now)) (sym c.list.ensures.value)
     (part_seen ends.ensures c.as_slice.ensures.value).tour
 
-pub returns-in_err-passed-clause-count : goal.returns-in_err-passed-clause-count
-returns-in_err-passed-clause-count g c = counted (list_weight c.args.at.now.closed.model.now c.args.at.now.d) c.args.steps.now c.write_between-ends.ensures c.list.ensures.value c.as_slice.ensures.value c.passes_along.ensures.count
-
-pub returns-in_err-passed-clause-tries : goal.returns-in_err-passed-clause-tries
-returns-in_err-passed-clause-tries g c = counted (list_tries c.args.at.now.closed.model.now c.args.at.now.d) c.args.tries.now c.write_between-ends.ensures c.list.ensures.value c.as_slice.ensures.value c.passes_along.ensures.tries
-
 pub returns-clause-answer : goal.returns-clause-answer
 returns-clause-answer g c =
     let feasible = is_feasible_list c.args.at.now.closed.model.now c.args.at.now.d in
     let ends = c.write_between-ends in
-    c.in_ok-passed.ensures.exact ∙ (ap₂ (λ l s. feasible ends.result.vehicle (spliced l ends.result.front ends.result.behind s)) c.list.ensures.value c.as_slice.ensures.value
-    ∙ ap₂ feasible ends.ensures.same ends.ensures.whole)
+    IfOk-weaker c.passes_along.result _ _ (λ passed is. is ∙ (ap₂ (λ l s. feasible ends.result.vehicle (spliced l ends.result.front ends.result.behind s)) c.list.ensures.value c.as_slice.ensures.value
+    ∙ ap₂ feasible ends.ensures.same ends.ensures.whole)) c.passes_along.ensures.exact
 
 pub returns-clause-count : goal.returns-clause-count
 returns-clause-count g c = counted (list_weight c.args.at.now.closed.model.now c.args.at.now.d) c.args.steps.now c.write_between-ends.ensures c.list.ensures.value c.as_slice.ensures.value c.passes_along.ensures.count
