@@ -16,7 +16,7 @@ pub(crate) fn text(alloc: Global, text: &str) -> Result<Value, NoMemory>
     Ok(Value::String(String::from_str(alloc, text)?))
 }
 
-/// An array of nodes.
+/// An array of natural numbers: of nodes.
 pub(crate) fn counts(alloc: Global, nodes: &[u32]) -> Result<Value, NoMemory>
     ensures { IfOk result (λ v. view v ≡ numbers.counts nodes.now) }
 {

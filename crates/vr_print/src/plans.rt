@@ -61,7 +61,7 @@ fn plan_tree(alloc: Global, dimension: &Dimension, plan: &Plan) -> Result<Value,
     Ok(tree.finish())
 }
 
-/// The route of a vehicle.
+/// The route of vehicle `v`.
 #[derive(Clone, Copy)]
 pub(crate) struct RouteOf<'m, 'r> {
     pub(crate) closed: Closed<'m>,
@@ -80,8 +80,7 @@ fn dimension_tree(alloc: Global, of: &RouteOf<'_, '_>, d: u32) -> Result<Value, 
 {
     let (closed, v) = (of.closed, of.v);
     let plan = chosen_plan(alloc, closed, d, v, of.routes.list(v))?;
-    let tree = plan_tree(alloc, closed.model.dimensions.get(d as usize), &plan)?;
-    Ok(tree)
+    plan_tree(alloc, closed.model.dimensions.get(d as usize), &plan)
 }
 
 // The chosen plans of a used vehicle, one in each dimension.
@@ -107,6 +106,5 @@ pub(crate) fn plans_tree(alloc: Global, of: &RouteOf<'_, '_>) -> Result<Value, N
     if of.routes.len(of.v) == 0 {
         return Ok(Value::Array(Vec::new(alloc)));
     }
-    let tree = used_plans_tree(alloc, of)?;
-    Ok(tree)
+    used_plans_tree(alloc, of)
 }

@@ -43,8 +43,7 @@ fn nodes_tree(alloc: Global, model: &Model, vehicle: u32, list: &[u32]) -> Resul
     ensures { IfOk result (λ tree. view tree ≡ numbers.counts (solution.route_nodes model.now vehicle list.now)) }
 {
     let nodes = route_nodes(alloc, model, vehicle, list)?;
-    let tree = counts(alloc, &nodes)?;
-    Ok(tree)
+    counts(alloc, &nodes)
 }
 
 // The route of a vehicle.
@@ -99,7 +98,8 @@ fn note_inactive(
     Ok(())
 }
 
-/// The visits that stand in no list, ascending.
+/// The visits that stand in no list, ascending. The model says which nodes are visits: nothing is asked of those that
+/// the routes keep.
 pub(crate) fn inactive(alloc: Global, model: &Model, routes: &Routes) -> Result<Vec<u32>, NoMemory>
     ensures { IfOk result (λ nodes. nodes.items ≡ inactive model.now routes.now.lists) }
 {

@@ -116,8 +116,7 @@ pub fn solution_tree_over(
     let parts = parts_of(alloc, lookups, routes)?;
     let dropped = inactive(alloc, lookups.closed.model, routes)?;
     let trees = routes_tree(alloc, lookups.closed, routes)?;
-    let tree = tree_of(alloc, &parts, &dropped, trees, first_cost, report)?;
-    Ok(tree)
+    tree_of(alloc, &parts, &dropped, trees, first_cost, report)
 }
 
 // What valid routes cost.
@@ -169,8 +168,7 @@ pub fn solution_line_over(
         report in IfOk result (λ line. read line ≡ Some wanted) }
 {
     let tree = solution_tree_over(alloc, lookups, routes, first_cost, report)?;
-    let line = to_line(alloc, &tree)?;
-    Ok(line)
+    to_line(alloc, &tree)
 }
 
 /// The line of valid routes of a model: the text of their tree, and a line feed. Reading it gives the tree back.

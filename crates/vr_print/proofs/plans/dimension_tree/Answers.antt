@@ -1,4 +1,5 @@
 use Rattle.std.proofs.Common.{◌∙◌, sym, ap, ap₂}
+use Rattle.std.proofs.lemmas.Result.{IfOk-weaker}
 use Rattle.std.specs.List.{list_all}
 use Rattle.vr_model.specs.routes.Routes.{is_distinct}
 use Rattle.vr_model.specs.tables.Tables.{is_visit, no_dimension}
@@ -24,4 +25,4 @@ returns c =
     let model = c.args.of.now.closed.model.now in
     let plan = c.in_ok-plan.ensures ∙ ap (λ list. unwrap_or (chosen (chosen_line model c.args.d c.args.of.now.v list)) no_plan) c.list.ensures.value
     ∙ sym (plan-at model c.args.of.now.routes.now.lists c.args.d c.args.of.now.v c.requires.dimension c.args.of.now.vehicle c.requires.used) in
-    c.in_ok-tree.ensures ∙ ap₂ plan_tree (sym (c.get.ensures.value no_dimension)) plan
+    IfOk-weaker c.plan_tree.result _ _ (λ tree is. is ∙ ap₂ plan_tree (sym (c.get.ensures.value no_dimension)) plan) c.plan_tree.ensures
