@@ -1,4 +1,4 @@
-use Rattle.std.proofs.Common.{◌≡◌, ◌∙◌, ◌≤◌, ap, sym, subst, w64, rules}
+use Rattle.std.proofs.Common.{◌∙◌, ◌≤◌, ap, sym, subst, w64, rules}
 use Rattle.std.specs.Prelude.{FitsSigned, ℤ}
 use Rattle.std.proofs.lemmas.Int.{to_z-of_z}
 use Rattle.std.proofs.lemmas.Result.{IfOk-weaker}
@@ -9,7 +9,7 @@ use Rattle.serde_json.specs.Written.{has_float}
 use Rattle.vr_model.specs.routes.Costs.{assigned, parts_at}
 use Rattle.vr_model.specs.routes.Routes.{inactive}
 use Rattle.vr_model.proofs.routes.Lists.{are-lists}
-use Rattle.vr_print.specs.Solution.{assignment_tree, solution_tree, tree_of}
+use Rattle.vr_print.specs.Solution.{assignment_tree, tree_of}
 use Rattle.vr_print.proofs.TreeLemmas.{IsPrintable, assignment-printable}
 use Rattle.vr_print.proofs.solution.solution_tree_over.Goals as goal
 
