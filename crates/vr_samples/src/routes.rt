@@ -20,8 +20,7 @@ pub fn routes_of(alloc: Global, model: &Model, lists: &[&[u32]]) -> Result<Optio
     ensures lists { IfOk result (λ answer. IfSome answer (λ routes. routes.lists ≡ map (λ list. list.now) lists.now)) }
 {
     let seqs = seqs_of(alloc, lists)?;
-    let answer = Routes::from_lists(alloc, model, &seqs)?;
-    Ok(answer)
+    Routes::from_lists(alloc, model, &seqs)
 }
 
 // The same lists.
