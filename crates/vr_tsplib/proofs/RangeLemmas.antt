@@ -16,8 +16,8 @@ use Rattle.vr_tsplib.specs.declared.heads.Keyword.{Keyword}
 use Rattle.vr_tsplib.specs.declared.heads.Keyword.TheVariants as keyword
 use Rattle.vr_tsplib.specs.declared.heads.Heading.{Heading}
 use Rattle.vr_tsplib.specs.declared.heads.Heading.TheVariants as heading
-use Rattle.vr_tsplib.specs.declared.heads.Place.{Place}
-use Rattle.vr_tsplib.specs.declared.heads.Place.TheVariants as place
+use Rattle.vr_tsplib.specs.declared.heads.LinePlace.{LinePlace}
+use Rattle.vr_tsplib.specs.declared.heads.LinePlace.TheVariants as place
 use Rattle.vr_tsplib.specs.declared.rows.SiteRow.{SiteRow}
 use Rattle.vr_tsplib.specs.declared.rows.DemandRow.{DemandRow}
 use Rattle.vr_tsplib.specs.declared.files.State.{State}
@@ -195,7 +195,7 @@ with_range : (state : State) (head : Head) → IsSound state → IsInRange head 
 with_range state head h within = record { head = within; sites = h.sites; demands = h.demands; weights = h.weights }
 
 module _ (state : State) (h : IsSound state) where
-  at_place_range : (next : Place) → IsInRange (record (state.head) { place = next })
+  at_place_range : (next : LinePlace) → IsInRange (record (state.head) { place = next })
   at_place_range next = same_numbers state.head (record (state.head) { place = next }) h.head refl refl refl
 
   sites_sound : (left : ℕ) (line : List ℕ) → Ensures IsSound (sites_line left state line)
@@ -220,7 +220,7 @@ module _ (state : State) (h : IsSound state) where
   unfolding head_line
   head_sound read line keeps = after keeps λ head within. gives (with_range state head h within)
 
-  line_sound : (at : Place) (line : List ℕ) → Ensures IsSound (line_at at state line)
+  line_sound : (at : LinePlace) (line : List ℕ) → Ensures IsSound (line_at at state line)
   line_sound place.Outside line = head_sound outside_line line (outside_keeps state.head h.head line)
   line_sound (place.Sites left) line = sites_sound left line
   line_sound (place.Weights left) line = weights_sound left line

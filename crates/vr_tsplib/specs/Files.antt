@@ -7,8 +7,8 @@ use Rattle.vr_json.specs.Reading.{◌>>=◌}
 use Rattle.vr_tsplib.specs.declared.flaws.Flaw.{Flaw}
 use Rattle.vr_tsplib.specs.declared.flaws.Flaw.TheVariants.{Missing, DepotDemand}
 use Rattle.vr_tsplib.specs.declared.heads.Head.{Head}
-use Rattle.vr_tsplib.specs.declared.heads.Place.{Place}
-use Rattle.vr_tsplib.specs.declared.heads.Place.TheVariants as place
+use Rattle.vr_tsplib.specs.declared.heads.LinePlace.{LinePlace}
+use Rattle.vr_tsplib.specs.declared.heads.LinePlace.TheVariants as place
 use Rattle.vr_tsplib.specs.declared.heads.WeightType.{WeightType}
 use Rattle.vr_tsplib.specs.declared.heads.WeightType.TheVariants.{Euclidean, Explicit}
 use Rattle.vr_tsplib.specs.declared.heads.WeightFormat.{WeightFormat}
@@ -30,7 +30,7 @@ start = record { head = no_head; sites = []; demands = []; weights = [] }
 abbrev pub with_head : State → Head → State
 with_head state head = record state { head = head }
 
-abbrev pub at_place : State → Place → State
+abbrev pub at_place : State → LinePlace → State
 at_place state next = with_head state (record (state.head) { place = next })
 
 -- ---- lines
@@ -56,7 +56,7 @@ head_line read state line = do
   Ok (with_head state head)
 
 -- a line with words, by where it stands; behind EOF it has no meaning
-abbrev pub line_at : Place → State → List ℕ → Result State Flaw
+abbrev pub line_at : LinePlace → State → List ℕ → Result State Flaw
 line_at place.Outside state line = head_line outside_line state line
 line_at (place.Sites left) state line = sites_line left state line
 line_at (place.Weights left) state line = weights_line left state line
@@ -79,7 +79,7 @@ read_lines state number (line ∷ rest) = do
 -- ---- whole files
 
 -- whether the file ended within a section
-abbrev pub is_inside : Place → Bool
+abbrev pub is_inside : LinePlace → Bool
 is_inside place.Outside = false
 is_inside place.Ended = false
 is_inside _ = true

@@ -14,8 +14,8 @@ use Rattle.vr_tsplib.specs.declared.heads.WeightType.{WeightType}
 use Rattle.vr_tsplib.specs.declared.heads.WeightType.TheVariants.{Euclidean, Explicit}
 use Rattle.vr_tsplib.specs.declared.heads.WeightFormat.{WeightFormat}
 use Rattle.vr_tsplib.specs.declared.heads.WeightFormat.TheVariants.{FullMatrix, LowerRow, Function}
-use Rattle.vr_tsplib.specs.declared.heads.Place.{Place}
-use Rattle.vr_tsplib.specs.declared.heads.Place.TheVariants.{Outside, Sites, Weights, Demands, Depot, Ended}
+use Rattle.vr_tsplib.specs.declared.heads.LinePlace.{LinePlace}
+use Rattle.vr_tsplib.specs.declared.heads.LinePlace.TheVariants.{Outside, Sites, Weights, Demands, Depot, Ended}
 use Rattle.vr_tsplib.specs.declared.heads.Head.{Head}
 use Rattle.vr_tsplib.specs.Flaws.{refuse_if}
 use Rattle.vr_tsplib.specs.Numbers.{one_word, one_number, count_in}
@@ -162,7 +162,7 @@ weights_wanted None n = None
 weights_wanted (Some format) n = weights_of format n
 
 -- a section of weights, of which so many are to come
-abbrev pub weights_left : ℕ → Place
+abbrev pub weights_left : ℕ → LinePlace
 weights_left left = if left == 0 then Outside else Weights left
 
 -- how many nodes there are, where a section begins that must not have stood before

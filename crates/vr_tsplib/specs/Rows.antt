@@ -6,8 +6,8 @@ use Rattle.std.specs.Ordering.{int_eq}
 use Rattle.vr_json.specs.Reading.{◌>>=◌}
 use Rattle.vr_tsplib.specs.declared.flaws.Flaw.{Flaw}
 use Rattle.vr_tsplib.specs.declared.flaws.Flaw.TheVariants.{FaultyLine, NodeAgain}
-use Rattle.vr_tsplib.specs.declared.heads.Place.{Place}
-use Rattle.vr_tsplib.specs.declared.heads.Place.TheVariants.{Outside, Sites, Demands, DepotEnd}
+use Rattle.vr_tsplib.specs.declared.heads.LinePlace.{LinePlace}
+use Rattle.vr_tsplib.specs.declared.heads.LinePlace.TheVariants.{Outside, Sites, Demands, DepotEnd}
 use Rattle.vr_tsplib.specs.declared.heads.Head.{Head}
 use Rattle.vr_tsplib.specs.declared.rows.SiteRow.{SiteRow}
 use Rattle.vr_tsplib.specs.declared.rows.DemandRow.{DemandRow}
@@ -81,10 +81,10 @@ depot_end head ws = do
   Ok (record head { place = Outside })
 
 -- where the reading goes on behind a row, of so many that were to come
-abbrev pub sites_left : ℕ → Place
+abbrev pub sites_left : ℕ → LinePlace
 sites_left left = if nat_le left 1 then Outside else Sites (left - 1)
 
-abbrev pub demands_left : ℕ → Place
+abbrev pub demands_left : ℕ → LinePlace
 demands_left left = if nat_le left 1 then Outside else Demands (left - 1)
 
 -- the row of a node, and the demand of a node

@@ -8,7 +8,7 @@ ghost use Rattle.vr_tsplib.specs.Ranges.{IsSound};
 ghost use Rattle.vr_tsplib.specs.Texts.{lines};
 
 use crate::flaws::{LineFail, refusal};
-use crate::heads::{Head, Place};
+use crate::heads::{Head, LinePlace};
 use crate::rows::{DemandRow, SiteRow, demand_row, demands_left, site_row, sites_left};
 use crate::sections::weights_left;
 use crate::texts::is_wordless;
@@ -78,13 +78,13 @@ impl State {
         ensures { AnswersLine (seen (λ u. self.new) result) (files.line_at self.old.head.place self.old line.now) }
     {
         match self.head.place {
-            Place::Outside => self.head = self.head.outside_line(line)?,
-            Place::Sites(left) => self.sites_line(left, line)?,
-            Place::Weights(left) => self.weights_line(left, line)?,
-            Place::Demands(left) => self.demands_line(left, line)?,
-            Place::Depot => self.head = self.head.depot_row(line)?,
-            Place::DepotEnd => self.head = self.head.depot_end(line)?,
-            Place::Ended => (),
+            LinePlace::Outside => self.head = self.head.outside_line(line)?,
+            LinePlace::Sites(left) => self.sites_line(left, line)?,
+            LinePlace::Weights(left) => self.weights_line(left, line)?,
+            LinePlace::Demands(left) => self.demands_line(left, line)?,
+            LinePlace::Depot => self.head = self.head.depot_row(line)?,
+            LinePlace::DepotEnd => self.head = self.head.depot_end(line)?,
+            LinePlace::Ended => (),
         }
         Ok(())
     }

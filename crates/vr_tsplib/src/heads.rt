@@ -6,6 +6,7 @@ ghost use Rattle.vr_tsplib.specs.Heads as heads;
 use crate::flaws::{Flaw, refuse_if};
 use crate::numbers::count_in;
 use crate::words::{meaning, one_number, one_word};
+use vr_model::limits::{HORIZON, MOST_NODES};
 
 /// A keyword.
 #[derive(Clone, Copy)]
@@ -53,7 +54,7 @@ pub enum WeightFormat {
 
 /// Where the next line stands.
 #[derive(Clone, Copy)]
-pub enum Place {
+pub enum LinePlace {
     /// Outside the sections.
     Outside,
     /// In the section of coordinates, of which so many rows are to come.
@@ -87,7 +88,7 @@ pub struct Head {
     pub has_depot: bool,
     /// The depot, as the file numbers the nodes, from 1.
     pub depot: Option<u32>,
-    pub place: Place,
+    pub place: LinePlace,
 }
 
 const WEIGHT_TYPES: [(&str, WeightType); 2] = [
@@ -109,14 +110,8 @@ fn once_number(stood: bool, lo: u64, hi: u64, value: &[u8]) -> Result<u64, Flaw>
 {
     let number = one_number(value)?;
     refuse_if(stood, Flaw::Repeated)?;
-    let count = count_in(number, lo, hi)?;
-    Ok(count)
+    count_in(number, lo, hi)
 }
-
-// The most nodes, and the greatest capacity.
-const MOST_NODES: u64 = 1000;
-
-const GREATEST_CAPACITY: u64 = 68_719_476_736;
 
 impl Head {
     /// What is known before the first line.
@@ -137,7 +132,7 @@ impl Head {
             has_demands: false,
             has_depot: false,
             depot: None,
-            place: Place::Outside,
+            place: LinePlace::Outside,
         }
     }
 
@@ -200,7 +195,7 @@ impl Head {
     fn keep_dimension(self, value: &[u8]) -> Result<Head, Flaw>
         ensures { result ≡ heads.keep_dimension self value.now }
     {
-        let count = once_number(self.nodes.is_some(), 1, MOST_NODES, value)?;
+        let count = once_number(self.nodes.is_some(), 1, u64::from(MOST_NODES), value)?;
         Ok(Head {
             nodes: Some(count as u32),
             ..self
@@ -212,7 +207,7 @@ impl Head {
     fn keep_capacity(self, value: &[u8]) -> Result<Head, Flaw>
         ensures { result ≡ heads.keep_capacity self value.now }
     {
-        let count = once_number(self.capacity.is_some(), 0, GREATEST_CAPACITY, value)?;
+        let count = once_number(self.capacity.is_some(), 0, HORIZON as u64, value)?;
         Ok(Head {
             capacity: Some(count),
             ..self

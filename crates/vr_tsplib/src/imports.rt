@@ -3,6 +3,7 @@
 ghost use Rattle.std.specs.Prelude.{◌≤◌};
 ghost use Rattle.serde_json.specs.View.{view};
 ghost use Rattle.vr_json.specs.Reading.{Answers, seen};
+ghost use Rattle.vr_model.specs.tables.Limits.{most_vehicles};
 ghost use Rattle.vr_tsplib.specs.Imported.{imported, model_of};
 ghost use Rattle.vr_tsplib.specs.Ranges.{IsSound};
 
@@ -34,7 +35,7 @@ fn model(alloc: Global, vehicles: u32, state: &State) -> Result<Value, ReadFail>
 /// the path is `/0` where something is missing at the end of the file, and where the depot has a demand.
 pub fn import(alloc: Global, bytes: &[u8], vehicles: u32) -> Result<Value, ReadFail>
     requires some { 1 ≤ vehicles }
-    requires few { vehicles ≤ 100 }
+    requires few { vehicles ≤ most_vehicles }
     ensures { Answers (seen view result) (imported vehicles bytes.now) }
 {
     let state = read_lines(alloc, bytes)?;

@@ -22,7 +22,7 @@ mod words;
 
 pub use files::State;
 pub use flaws::Flaw;
-pub use heads::{Head, Heading, Keyword, Place, WeightFormat, WeightType};
+pub use heads::{Head, Heading, Keyword, LinePlace, WeightFormat, WeightType};
 pub use imports::import;
 pub use roots::nearest_root;
 pub use rows::{DemandRow, SiteRow};

@@ -5,9 +5,10 @@ ghost use Rattle.vr_tsplib.specs.Rows as row_tables;
 ghost use Rattle.vr_tsplib.specs.Texts.{words};
 
 use crate::flaws::{Flaw, refuse_if};
-use crate::heads::{Head, Place};
+use crate::heads::{Head, LinePlace};
 use crate::numbers::{count_in, whole_in};
 use crate::words::{one_number, three_numbers, two_numbers};
+use vr_model::limits::GREATEST_VALUE;
 
 /// Where a node stands; nodes as the file numbers them, from 1.
 #[derive(Clone, Copy)]
@@ -24,10 +25,8 @@ pub struct DemandRow {
     pub demand: u32,
 }
 
-// The greatest coordinate, and the greatest demand.
+// The greatest coordinate, and minus the least one.
 const GREATEST_COORDINATE: i64 = 1_000_000;
-
-const GREATEST_DEMAND: u64 = 1_073_741_824;
 
 // A number that must be one of `n` nodes.
 fn node_in(number: i64, n: u32) -> Result<u32, Flaw>
@@ -78,7 +77,7 @@ pub(crate) fn demand_row(n: u32, earlier: &[DemandRow], line: &[u8]) -> Result<D
 {
     let (node, demand) = two_numbers(line)?;
     let node = node_in(node, n)?;
-    let demand = count_in(demand, 0, GREATEST_DEMAND)?;
+    let demand = count_in(demand, 0, GREATEST_VALUE as u64)?;
     refuse_if(has_demand(earlier, node), Flaw::NodeAgain)?;
     Ok(DemandRow {
         node,
@@ -87,24 +86,24 @@ pub(crate) fn demand_row(n: u32, earlier: &[DemandRow], line: &[u8]) -> Result<D
 }
 
 /// Where the reading goes on behind a row of coordinates, of so many that were to come.
-pub(crate) fn sites_left(left: u32) -> Place
+pub(crate) fn sites_left(left: u32) -> LinePlace
     ensures { result ≡ row_tables.sites_left left }
 {
     if left <= 1 {
-        Place::Outside
+        LinePlace::Outside
     } else {
-        Place::Sites(left - 1)
+        LinePlace::Sites(left - 1)
     }
 }
 
 /// Where the reading goes on behind the row of a demand, of so many that were to come.
-pub(crate) fn demands_left(left: u32) -> Place
+pub(crate) fn demands_left(left: u32) -> LinePlace
     ensures { result ≡ row_tables.demands_left left }
 {
     if left <= 1 {
-        Place::Outside
+        LinePlace::Outside
     } else {
-        Place::Demands(left - 1)
+        LinePlace::Demands(left - 1)
     }
 }
 
@@ -118,7 +117,7 @@ impl Head {
         let node = node_in(number, self.node_count())?;
         Ok(Head {
             depot: Some(node),
-            place: Place::DepotEnd,
+            place: LinePlace::DepotEnd,
             ..self
         })
     }
@@ -131,7 +130,7 @@ impl Head {
         let number = one_number(line)?;
         refuse_if(number != -1, Flaw::NodeAgain)?;
         Ok(Head {
-            place: Place::Outside,
+            place: LinePlace::Outside,
             ..self
         })
     }

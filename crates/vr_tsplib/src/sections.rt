@@ -4,7 +4,7 @@ ghost use Rattle.std.specs.Prelude.{◌≡◌};
 ghost use Rattle.vr_tsplib.specs.Heads as heads;
 
 use crate::flaws::{Flaw, refuse_if};
-use crate::heads::{Head, Heading, Keyword, Place, WeightFormat};
+use crate::heads::{Head, Heading, Keyword, LinePlace, WeightFormat};
 use crate::texts::cut_at;
 use crate::words::{meaning, one_word};
 
@@ -51,13 +51,13 @@ fn weights_wanted(format: Option<WeightFormat>, n: u32) -> Option<u64>
 }
 
 /// The section of weights where so many are to come.
-pub(crate) fn weights_left(left: u64) -> Place
+pub(crate) fn weights_left(left: u64) -> LinePlace
     ensures { result ≡ heads.weights_left left }
 {
     if left == 0 {
-        Place::Outside
+        LinePlace::Outside
     } else {
-        Place::Weights(left)
+        LinePlace::Weights(left)
     }
 }
 
@@ -68,8 +68,7 @@ impl Head {
         ensures { result ≡ heads.section_nodes self stood }
     {
         refuse_if(stood, Flaw::Repeated)?;
-        let n = self.nodes.ok_or(Flaw::Missing)?;
-        Ok(n)
+        self.nodes.ok_or(Flaw::Missing)
     }
 
     // The section of coordinates begins.
@@ -80,7 +79,7 @@ impl Head {
         let n = self.section_nodes(self.has_sites)?;
         Ok(Head {
             has_sites: true,
-            place: Place::Sites(n),
+            place: LinePlace::Sites(n),
             ..self
         })
     }
@@ -107,7 +106,7 @@ impl Head {
         let n = self.section_nodes(self.has_demands)?;
         Ok(Head {
             has_demands: true,
-            place: Place::Demands(n),
+            place: LinePlace::Demands(n),
             ..self
         })
     }
@@ -120,7 +119,7 @@ impl Head {
         self.section_nodes(self.has_depot)?;
         Ok(Head {
             has_depot: true,
-            place: Place::Depot,
+            place: LinePlace::Depot,
             ..self
         })
     }
@@ -135,7 +134,7 @@ impl Head {
             Heading::DemandSection => self.begin_demands(),
             Heading::DepotSection => self.begin_depot(),
             Heading::Eof => Ok(Head {
-                place: Place::Ended,
+                place: LinePlace::Ended,
                 ..self
             }),
         }

@@ -6,7 +6,7 @@ ghost use Rattle.vr_tsplib.specs.Rows as row_tables;
 
 use crate::files::State;
 use crate::flaws::{Flaw, refuse_if};
-use crate::heads::{Head, Place, WeightFormat, WeightType};
+use crate::heads::{Head, LinePlace, WeightFormat, WeightType};
 use crate::rows::DemandRow;
 
 /// How the distances of nodes are given.
@@ -43,11 +43,11 @@ pub(crate) fn demand_of(rows: &[DemandRow], node: u32) -> u32
 }
 
 // Whether a file that ended here ended within a section.
-fn is_inside(place: Place) -> bool
+fn is_inside(place: LinePlace) -> bool
     ensures { result ≡ files.is_inside place }
 {
     match place {
-        Place::Outside | Place::Ended => false,
+        LinePlace::Outside | LinePlace::Ended => false,
         _ => true,
     }
 }

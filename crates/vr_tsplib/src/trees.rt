@@ -3,6 +3,7 @@
 ghost use Rattle.std.specs.Prelude.{◌≡◌, ◌≤◌, ◌<◌, All, IfOk, map};
 ghost use Rattle.std.specs.List.{range_with_len};
 ghost use Rattle.serde_json.specs.View.{view};
+ghost use Rattle.vr_model.specs.tables.Limits.{most_nodes};
 ghost use Rattle.vr_model.specs.tables.Numbers.{below};
 ghost use Rattle.vr_tsplib.specs.Trees as trees;
 ghost use Rattle.vr_tsplib.specs.Rows as row_tables;
@@ -94,7 +95,7 @@ pub(crate) struct FileWeights<'a> {
     pub(crate) lower: bool,
     pub(crate) n: u64,
     pub(crate) weights: &'a [u64],
-    pub ghost few: { n ≤ 1000 },
+    pub ghost few: { n ≤ most_nodes },
 }
 
 // The weight of two nodes, where the weights stand in a full matrix.
@@ -158,7 +159,7 @@ fn square(alloc: Global, of: &FileWeights<'_>) -> Result<Value, NoMemory>
 
 // The matrix of the weights that a file has.
 fn weighed(alloc: Global, lower: bool, n: u32, state: &State) -> Result<Value, NoMemory>
-    requires { n ≤ 1000 }
+    requires { n ≤ most_nodes }
     ensures { IfOk result (λ tree. view tree ≡ trees.square lower n state.now.weights) }
 {
     let weights = state.weights.as_slice();
@@ -172,7 +173,7 @@ fn weighed(alloc: Global, lower: bool, n: u32, state: &State) -> Result<Value, N
 
 // The matrix.
 fn matrix(alloc: Global, distances: Distances, n: u32, state: &State) -> Result<Value, NoMemory>
-    requires few { n ≤ 1000 }
+    requires few { n ≤ most_nodes }
     requires near { All IsNear state.now.sites }
     ensures { IfOk result (λ tree. view tree ≡ trees.matrix distances n state.now) }
 {
@@ -238,7 +239,7 @@ pub(crate) fn tree(
     state: &State,
     problem: Problem,
 ) -> Result<Value, NoMemory>
-    requires few { problem.nodes ≤ 1000 }
+    requires few { problem.nodes ≤ most_nodes }
     requires near { All IsNear state.now.sites }
     ensures { IfOk result (λ tree. view tree ≡ trees.tree_of vehicles state.now problem) }
 {

@@ -10,9 +10,7 @@ use crate::flaws::{Flaw, LineFail, refuse_if};
 use crate::numbers::{count_in, number};
 use crate::texts::first_word;
 use vr_model::Seq;
-
-// The greatest weight.
-const GREATEST_WEIGHT: u64 = 1_099_511_627_776;
+use vr_model::limits::GREATEST_COST;
 
 // Whether the words of a line are numbers, and no more than `left`.
 fn are_numbers(left: u64, line: &[u8]) -> bool
@@ -36,7 +34,7 @@ fn weight(word: &[u8]) -> Result<u64, Flaw>
     ensures { result ≡ row_tables.weight word.now }
 {
     let found = number(word)?;
-    count_in(found, 0, GREATEST_WEIGHT)
+    count_in(found, 0, GREATEST_COST as u64)
 }
 
 // Puts the words of a line behind the weights. After an error nothing is said of the weights.
