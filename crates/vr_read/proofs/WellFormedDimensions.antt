@@ -16,8 +16,8 @@ use Rattle.vr_model.specs.declared.records.Dimension.{Dimension}
 use Rattle.vr_model.specs.declared.records.StopRow.{StopRow}
 use Rattle.vr_read.specs.StopRows.{interval, soft, limits, stop_row, break_row, vehicle_breaks}
 use Rattle.vr_read.specs.declared.dimensions.Transits.{Transits}
-use Rattle.vr_read.specs.declared.dimensions.Bounds.{Bounds}
-use Rattle.vr_read.specs.declared.dimensions.Rows.{Rows}
+use Rattle.vr_read.specs.declared.dimensions.DimensionBounds.{DimensionBounds}
+use Rattle.vr_read.specs.declared.dimensions.DimensionRows.{DimensionRows}
 use Rattle.vr_read.specs.declared.dimensions.SpanCosts.{SpanCosts}
 use Rattle.vr_read.specs.declared.stop_rows.StopLimits.{StopLimits}
 use Rattle.vr_read.specs.Dimensions.{evaluator, capped, name, transits, bounds, rows as stop_tables, span_costs, dimension}
@@ -176,7 +176,7 @@ module _ (model : Model) where
       gives (record { number_of_evaluators = evaluators_ok.0; each_evaluator = evaluators_ok.1; numbers = numbers_ok })
 
   -- the bounds and visit times that are read
-  record AreBounds (read : Bounds) : Type 0 where
+  record AreBounds (read : DimensionBounds) : Type 0 where
     slack_max_in_range : IsIn (pos 0) horizon read.slack_max
     capacities : IsFull (length model.vehicles) (IsIn (pos 0) horizon) read.capacities
     visit_times : IsFull model.nodes (IsIn (pos 0) greatest_value) read.visit
@@ -192,7 +192,7 @@ module _ (model : Model) where
       gives (record { slack_max_in_range = slack_ok; capacities = capacities_ok; visit_times = times_ok })
 
   -- the rows and breaks that are read
-  record AreStopTables (read : Rows) : Type 0 where
+  record AreStopTables (read : DimensionRows) : Type 0 where
     rows_of_visits : AreVisitRows model read.nodes
     rows_of_starts : AreVehicleRows model read.starts
     rows_of_ends : AreVehicleRows model read.ends

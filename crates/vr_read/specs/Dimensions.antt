@@ -13,8 +13,8 @@ use Rattle.vr_model.specs.declared.records.Dimension.{Dimension}
 use Rattle.vr_model.specs.declared.records.Evaluator.{Evaluator}
 use Rattle.vr_model.specs.declared.records.StopRow.{StopRow}
 use Rattle.vr_read.specs.declared.dimensions.Transits.{Transits}
-use Rattle.vr_read.specs.declared.dimensions.Bounds.{Bounds}
-use Rattle.vr_read.specs.declared.dimensions.Rows.{Rows}
+use Rattle.vr_read.specs.declared.dimensions.DimensionBounds.{DimensionBounds}
+use Rattle.vr_read.specs.declared.dimensions.DimensionRows.{DimensionRows}
 use Rattle.vr_read.specs.declared.dimensions.SpanCosts.{SpanCosts}
 use Rattle.vr_read.specs.Vehicles.{visit}
 use Rattle.vr_read.specs.StopRows.{stop_row, vehicle_breaks}
@@ -61,7 +61,7 @@ transits n matrices fleet path d = do
   Ok (record { evaluators = evaluators; vehicle_evaluators = numbers })
 
 -- the bounds of slacks and cumuls, and the visit times
-unfoldable pub bounds : ℕ → ℕ → ReaderOf Bounds
+unfoldable pub bounds : ℕ → ℕ → ReaderOf DimensionBounds
 bounds n fleet path d = do
   slack_max ← required (codes "slack_max") capped path d
   capacities ← required (codes "capacity") (for_each fleet (λ so_far. capped)) path d
@@ -74,7 +74,7 @@ abbrev pub vehicle_rows : List ℕ → ℕ → ReaderOf (List StopRow)
 vehicle_rows field fleet = optional field [] (array 0 100 (stop_row (codes "vehicle") (below fleet)))
 
 -- the rows of stops, and the breaks
-unfoldable pub rows : ℕ → ℕ → List Vehicle → ReaderOf Rows
+unfoldable pub rows : ℕ → ℕ → List Vehicle → ReaderOf DimensionRows
 rows n fleet vehicles path d = do
   nodes ← optional (codes "nodes") [] (array 0 1000 (stop_row (codes "node") (visit n vehicles))) path d
   starts ← vehicle_rows (codes "starts") fleet path d

@@ -12,7 +12,10 @@ use vr_json::{
     Array, Below, Cause, Datum, Fields, Flag, ForEach, Object, ReadFail, Reader, Table, TextOf,
     Whole, copies,
 };
-use vr_model::limits::{GREATEST_COEFFICIENT, GREATEST_VALUE, HORIZON, LEAST_VALUE};
+use vr_model::limits::{
+    GREATEST_COEFFICIENT, GREATEST_VALUE, HORIZON, LEAST_VALUE, MOST_EVALUATORS, MOST_NAME_BYTES,
+    MOST_NODES, MOST_VEHICLES,
+};
 use vr_model::{Dimension, Evaluator, Seq, StopRow, Text, Vehicle, VehicleBreaks};
 
 /// An evaluator, in a model of so many nodes and matrices.
@@ -99,7 +102,11 @@ impl Reader for Name<'_> {
     ghost reads = { λ it earlier path d. dimension_tables.name it.earlier.now path d };
 
     fn read(&self, _earlier: &[Self::Item], datum: Datum<'_, '_>) -> Result<Self::Item, ReadFail> {
-        let name = TextOf { lo: 1, hi: 64 }.read(&[], datum)?;
+        let text = TextOf {
+            lo: 1,
+            hi: MOST_NAME_BYTES as usize,
+        };
+        let name = text.read(&[], datum)?;
         datum.refuse_if(has_name(self.earlier, &name), Cause::Repeated)?;
         Ok(name)
     }
@@ -114,7 +121,7 @@ pub struct Transits {
 
 /// The bounds of slacks and cumuls, and the visit times.
 #[derive(Drop)]
-pub struct Bounds {
+pub struct DimensionBounds {
     pub slack_max: i64,
     pub capacities: Seq<i64>,
     pub fix_start: bool,
@@ -123,7 +130,7 @@ pub struct Bounds {
 
 /// The rows of stops, and the breaks.
 #[derive(Drop)]
-pub struct Rows {
+pub struct DimensionRows {
     pub nodes: Seq<StopRow>,
     pub starts: Seq<StopRow>,
     pub ends: Seq<StopRow>,
@@ -145,7 +152,7 @@ impl DimensionTable<'_> {
     {
         let evaluators = Array {
             lo: 1,
-            hi: 8,
+            hi: MOST_EVALUATORS as usize,
             entry: Object(EvaluatorTable {
                 nodes: self.nodes,
                 matrices: self.matrices,
@@ -168,7 +175,7 @@ impl DimensionTable<'_> {
 
     // The bounds and visit times.
     #[tactic(auto, unfolding(vr_json::specs::Reading::and_then, crate::specs::Dimensions::bounds))]
-    fn bounds(&self, fields: Fields<'_, '_>) -> Result<Bounds, ReadFail>
+    fn bounds(&self, fields: Fields<'_, '_>) -> Result<DimensionBounds, ReadFail>
         ensures { Answers result (dimension_tables.bounds self.now.nodes self.now.fleet
             fields.entry.path.now (view fields.entry.value.now)) }
     {
@@ -189,7 +196,7 @@ impl DimensionTable<'_> {
         let fix_start = fields.optional("fix_start", false, &Flag)?;
         let zeros = copies(fields.alloc, 0i64, self.nodes as usize)?;
         let visit = fields.optional("visit", zeros, &times)?;
-        Ok(Bounds {
+        Ok(DimensionBounds {
             slack_max,
             capacities,
             fix_start,
@@ -205,7 +212,7 @@ impl DimensionTable<'_> {
         let key = Below { count: self.fleet };
         let rows = Array {
             lo: 0,
-            hi: 100,
+            hi: MOST_VEHICLES as usize,
             entry: Object(StopTable {
                 name: "vehicle",
                 key,
@@ -216,7 +223,7 @@ impl DimensionTable<'_> {
 
     // The rows of stops, and the breaks.
     #[tactic(auto, unfolding(vr_json::specs::Reading::and_then, crate::specs::Dimensions::rows))]
-    fn rows(&self, fields: Fields<'_, '_>) -> Result<Rows, ReadFail>
+    fn rows(&self, fields: Fields<'_, '_>) -> Result<DimensionRows, ReadFail>
         ensures { Answers result (dimension_tables.rows self.now.nodes self.now.fleet self.now.vehicles.now
             fields.entry.path.now (view fields.entry.value.now)) }
     {
@@ -226,12 +233,12 @@ impl DimensionTable<'_> {
         };
         let of_visits = Array {
             lo: 0,
-            hi: 1000,
+            hi: MOST_NODES as usize,
             entry: Object(StopTable { name: "node", key }),
         };
         let of_breaks = Array {
             lo: 0,
-            hi: 100,
+            hi: MOST_VEHICLES as usize,
             entry: Object(VehicleBreaksTable {
                 vehicles: self.fleet,
             }),
@@ -240,7 +247,7 @@ impl DimensionTable<'_> {
         let starts = self.vehicle_rows(fields, "starts")?;
         let ends = self.vehicle_rows(fields, "ends")?;
         let breaks = fields.optional_array("breaks", &of_breaks)?;
-        Ok(Rows {
+        Ok(DimensionRows {
             nodes,
             starts,
             ends,

@@ -7,7 +7,7 @@ ghost use Rattle.vr_read.specs.Visits as visit_tables;
 
 use crate::Visit;
 use vr_json::{Array, Below, Cause, Count, Datum, Fields, ReadFail, Reader, Table, Whole};
-use vr_model::limits::GREATEST_COST;
+use vr_model::limits::{GREATEST_COST, MOST_NODES};
 use vr_model::{Allowed, Group, Pair, Vehicle};
 
 /// A node of a group, which stands in no earlier group.
@@ -98,7 +98,7 @@ impl Table for GroupTable<'_> {
     fn read(&self, earlier: &[Self::Row], fields: Fields<'_, '_>) -> Result<Self::Row, ReadFail> {
         let members = Array {
             lo: 1,
-            hi: 1000,
+            hi: MOST_NODES as usize,
             entry: GroupNode {
                 visit: self.visit,
                 groups: earlier,

@@ -17,6 +17,9 @@ use crate::{
 use serde_json::Value;
 use std::alloc::Global;
 use vr_json::{Array, Count, Fields, Object, Path, ReadFail};
+use vr_model::limits::{
+    MOST_DIMENSIONS, MOST_GROUPS, MOST_MATRICES, MOST_NODES, MOST_PAIRS, MOST_VEHICLES,
+};
 use vr_model::{Allowed, Dimension, Group, Matrix, Model, Pair, SearchRow, Seq, Vehicle};
 
 // The fields of a model up to its vehicles.
@@ -55,19 +58,19 @@ fn read_visit_tables(
 {
     let table = Array {
         lo: 0,
-        hi: 1000,
+        hi: MOST_GROUPS as usize,
         entry: Object(GroupTable { visit }),
     };
     let groups = fields.optional_array("groups", &table)?;
     let table = Array {
         lo: 0,
-        hi: 500,
+        hi: MOST_PAIRS as usize,
         entry: Object(PairTable { visit }),
     };
     let pairs = fields.optional_array("pairs", &table)?;
     let table = Array {
         lo: 0,
-        hi: 1000,
+        hi: MOST_NODES as usize,
         entry: Object(AllowedTable { visit, fleet }),
     };
     let allowed = fields.optional_array("allowed", &table)?;
@@ -93,7 +96,7 @@ fn read_parts(fields: Fields<'_, '_>, table: DimensionTable<'_>) -> Result<Model
     let fleet = table.fleet;
     let table = Array {
         lo: 0,
-        hi: 4,
+        hi: MOST_DIMENSIONS as usize,
         entry: Object(table),
     };
     let dimensions = fields.optional_array("dimensions", &table)?;
@@ -113,17 +116,21 @@ fn read_base(fields: Fields<'_, '_>) -> Result<ModelBase, ReadFail>
     ensures { Answers result (models.base fields.entry.path.now (view fields.entry.value.now)) }
 {
     let format = fields.required("format", &FormatNumber)?;
-    let nodes = fields.required("nodes", &Count { lo: 1, hi: 1000 })?;
+    let number = Count {
+        lo: 1,
+        hi: MOST_NODES,
+    };
+    let nodes = fields.required("nodes", &number)?;
     let table = Array {
         lo: 1,
-        hi: 16,
+        hi: MOST_MATRICES as usize,
         entry: MatrixTable { nodes },
     };
     let matrices = fields.required("matrices", &table)?;
     let count = matrices.len() as u32;
     let table = Array {
         lo: 1,
-        hi: 100,
+        hi: MOST_VEHICLES as usize,
         entry: Object(VehicleTable {
             format,
             nodes,

@@ -11,6 +11,7 @@ use std::alloc::Global;
 use vr_json::{
     Array, Cause, Choice, Count, Datum, Fields, ReadFail, Reader, Table, TwoEntries, Whole,
 };
+use vr_model::limits::{GREATEST_LAMBDA, MOST_CUT, MOST_NEIGHBOURHOODS, MOST_TENURE, MOST_TRIES};
 use vr_model::{First, Improve, Neighbourhood, NoMemory, SearchRow, Seq};
 
 /// A neighbourhood, named by a word that stands nowhere earlier in its array.
@@ -61,7 +62,7 @@ const TRIES: u32 = 100_000;
 
 // The greatest number of tries, and of solutions; so many solutions are found where a model does not
 // say how many.
-const MOST: u32 = 1_000_000_000;
+const MOST: u32 = MOST_TRIES as u32;
 
 // How many visits a cut takes out of a path at most, where a model does not say it.
 const CUT: u32 = 10;
@@ -70,7 +71,7 @@ const CUT: u32 = 10;
 const TENURE: u32 = 10;
 
 // Whether two neighbourhoods are the same.
-fn is_same(one: Neighbourhood, other: Neighbourhood) -> bool
+fn is_same_neighbourhood(one: Neighbourhood, other: Neighbourhood) -> bool
     ensures { result ≡ (number_of one == number_of other) }
 {
     one as u8 == other as u8
@@ -80,7 +81,8 @@ fn is_same(one: Neighbourhood, other: Neighbourhood) -> bool
 fn has_neighbourhood(some: &[Neighbourhood], neighbourhood: Neighbourhood) -> bool
     ensures { result ≡ list_any (λ other. number_of other == number_of neighbourhood) some.now }
 {
-    some.iter().any(|other| is_same(*other, neighbourhood))
+    some.iter()
+        .any(|other| is_same_neighbourhood(*other, neighbourhood))
 }
 
 impl Reader for NeighbourhoodTable {
@@ -158,19 +160,28 @@ impl Table for SearchTable {
     fn read(&self, _earlier: &[Self::Row], fields: Fields<'_, '_>) -> Result<Self::Row, ReadFail> {
         let choices = choices(fields)?;
         let weight = TwoEntries {
-            entry: Whole { lo: 1, hi: 1000 },
+            entry: Whole {
+                lo: 1,
+                hi: GREATEST_LAMBDA,
+            },
         };
         let lambda = fields.optional("lambda", (1, 10), &weight)?;
         let words = Array {
             lo: 0,
-            hi: 11,
+            hi: MOST_NEIGHBOURHOODS as usize,
             entry: NeighbourhoodTable,
         };
         let all = Neighbourhood::all(fields.alloc)?;
         let neighbourhoods = fields.optional("neighbourhoods", all, &words)?;
-        let count = Count { lo: 1, hi: 100 };
+        let count = Count {
+            lo: 1,
+            hi: MOST_CUT,
+        };
         let cut = fields.optional("cut", CUT, &count)?;
-        let count = Count { lo: 1, hi: 1000 };
+        let count = Count {
+            lo: 1,
+            hi: MOST_TENURE,
+        };
         let tenure = fields.optional("tenure", TENURE, &count)?;
         fields.known(&FIELDS)?;
         Ok(SearchRow {

@@ -10,7 +10,7 @@ use vr_json::{
     Array, Below, Cause, Datum, Fields, Object, ReadFail, Reader, Table, TwoEntries, Whole,
     refuse_if,
 };
-use vr_model::limits::{GREATEST_COEFFICIENT, HORIZON};
+use vr_model::limits::{GREATEST_COEFFICIENT, HORIZON, MOST_BREAKS, MOST_FORBIDDEN};
 use vr_model::{BreakRow, Interval, Seq, Soft, StopRow, VehicleBreaks};
 
 // A cumul.
@@ -90,7 +90,7 @@ fn limits(fields: Fields<'_, '_>) -> Result<StopLimits, ReadFail>
 {
     let intervals = Array {
         lo: 0,
-        hi: 16,
+        hi: MOST_FORBIDDEN as usize,
         entry: IntervalTable,
     };
     let window = fields.maybe("window", &IntervalTable)?;
@@ -166,7 +166,7 @@ impl Table for VehicleBreaksTable {
         };
         let breaks = Array {
             lo: 1,
-            hi: 8,
+            hi: MOST_BREAKS as usize,
             entry: Object(BreakTable),
         };
         let vehicle = fields.required("vehicle", &number)?;
