@@ -22,7 +22,7 @@ use Rattle.vr_printed.specs.Shape.{plan_in, are_routes_shaped, is_route_shaped}
 use Rattle.vr_printed.specs.declared.printed.PrintedRoute.{PrintedRoute}
 use Rattle.vr_printed.proofs.Shaped.{lengths_of, plans_there, visits_long, route_shaped}
 use Rattle.vr_check.specs.Terms.{soft_at, soft_along, soft_in, first_cumul, last_cumul, span_in, widened, ends_with, span_of_ends}
-use Rattle.vr_check.specs.declared.spans.Ends.{Ends}
+use Rattle.vr_check.specs.declared.spans.SpanEnds.{SpanEnds}
 use Rattle.vr_check.proofs.PrintedLists.{route_is}
 use Rattle.vr_check.proofs.Scheduled.{plan_is_printed, long_enough}
 use Rattle.vr_check.proofs.Walks.{keeps, leaves_out}
@@ -65,24 +65,24 @@ no_plans model v r shaped none = elim (cases_lt 0 (length r.plans)) [
 
 -- ---- the least start and the greatest end
 
-abbrev pub greatest_from : Option Ends → List ℤ → ℤ
+abbrev pub greatest_from : Option SpanEnds → List ℤ → ℤ
 greatest_from None xs = greatest xs
 greatest_from (Some ends) xs = fold int_max ends.last xs
 
-abbrev pub least_from : Option Ends → List ℤ → ℤ
+abbrev pub least_from : Option SpanEnds → List ℤ → ℤ
 least_from None xs = least xs
 least_from (Some ends) xs = fold int_min ends.first xs
 
 -- the span of the ends so far and of further vehicles
-abbrev pub span_from : Assignment → ℕ → Option Ends → List ℕ → ℤ
+abbrev pub span_from : Assignment → ℕ → Option SpanEnds → List ℕ → ℤ
 span_from assignment d ends vs = greatest_from ends (map (end_at assignment d) vs) -ℤ least_from ends (map (start_at assignment d) vs)
 
-span_opens : (assignment : Assignment) (d : ℕ) (ends : Option Ends) (v : ℕ) (vs : List ℕ)
+span_opens : (assignment : Assignment) (d : ℕ) (ends : Option SpanEnds) (v : ℕ) (vs : List ℕ)
     → span_from assignment d ends (v ∷ vs) ≡ span_from assignment d (Some (widened ends (start_at assignment d v) (end_at assignment d v))) vs
 span_opens assignment d None v vs = refl
 span_opens assignment d (Some ends) v vs = refl
 
-span_closes : (assignment : Assignment) (d : ℕ) (ends : Option Ends) → span_from assignment d ends [] ≡ span_of_ends ends
+span_closes : (assignment : Assignment) (d : ℕ) (ends : Option SpanEnds) → span_from assignment d ends [] ≡ span_of_ends ends
 span_closes assignment d None = omega (arith, ints)
 span_closes assignment d (Some ends) = refl
 
@@ -165,7 +165,7 @@ module _ (model : Model) (routes : List PrintedRoute) (shaped : IsTrue (are_rout
   -- ---- the span of all routes
 
   -- the ends of the routes so far, with those of further vehicles
-  pub span_next : (d v : ℕ) → v < length routes → d < length model.dimensions → (ends : Option Ends)
+  pub span_next : (d v : ℕ) → v < length routes → d < length model.dimensions → (ends : Option SpanEnds)
       → span_from (assignment_of routes) d (ends_with d ends (route_at routes v)) (filter (is_used routes) (from_to (v + 1) (length routes))) ≡ span_from (assignment_of routes) d ends (filter (is_used routes) (from_to v (length routes)))
   span_next d v low known ends = go (is_empty (route (lists_of routes) v)) refl
     where
@@ -191,5 +191,5 @@ module _ (model : Model) (routes : List PrintedRoute) (shaped : IsTrue (are_rout
       ap (λ n. span_from (assignment_of routes) d None (filter (is_used routes) (from_to 0 n))) (sym (length-map routes visits_of))
       ∙ ap (span_from (assignment_of routes) d None) (walk_begins (filter (is_used routes)) (length (lists_of routes)))
 
-  pub span_done : (d v : ℕ) → length routes ≤ v → (ends : Option Ends) → span_from (assignment_of routes) d ends (filter (is_used routes) (from_to v (length routes))) ≡ span_of_ends ends
+  pub span_done : (d v : ℕ) → length routes ≤ v → (ends : Option SpanEnds) → span_from (assignment_of routes) d ends (filter (is_used routes) (from_to v (length routes))) ≡ span_of_ends ends
   span_done d v high ends = ap (λ vs. span_from (assignment_of routes) d ends (filter (is_used routes) vs)) (none_left v (length routes) high) ∙ span_closes (assignment_of routes) d ends

@@ -6,32 +6,32 @@ use Rattle.vr_model.specs.tables.Tables.{dimension_at}
 use Rattle.vr_model.specs.routes.Routes.{stops}
 use Rattle.vr_model.specs.schedules.Lines.{Line, line, stop_rows, stop_allows}
 use Rattle.vr_model.specs.declared.records.StopRow.{StopRow}
-use Rattle.vr_check.specs.declared.asked.Asked.{Asked}
+use Rattle.vr_check.specs.declared.asked.AskedLine.{AskedLine}
 
 -- the line that is asked
-abbrev pub line_of : Asked → Line
+abbrev pub line_of : AskedLine → Line
 line_of it = line it.model.now it.d it.v it.list.now
 
 -- how many arcs it has
-abbrev pub arcs_of : Asked → ℕ
+abbrev pub arcs_of : AskedLine → ℕ
 arcs_of it = length it.list.now + 1
 
 -- the node at stop k
-abbrev pub stop_node : Asked → ℕ → ℕ
+abbrev pub stop_node : AskedLine → ℕ → ℕ
 stop_node it k = slice_index_or (stops it.model.now it.v it.list.now) k 0
 
 -- the rows of its stops
-abbrev pub stop_rows_of : Asked → List (Option StopRow)
+abbrev pub stop_rows_of : AskedLine → List (Option StopRow)
 stop_rows_of it = stop_rows (dimension_at it.model.now it.d) it.v it.list.now
 
 -- the row of stop k
-abbrev pub row_at_stop : Asked → ℕ → Option StopRow
+abbrev pub row_at_stop : AskedLine → ℕ → Option StopRow
 row_at_stop it k = slice_index_or (stop_rows_of it) k None
 
 -- the capacity of the vehicle and the row of stop k allow a cumul
-abbrev pub is_let : Asked → ℕ → ℤ → Bool
+abbrev pub is_let : AskedLine → ℕ → ℤ → Bool
 is_let it k x = stop_allows (number_at (dimension_at it.model.now it.d).capacities it.v) (row_at_stop it k) x
 
 -- the start is 0 where the dimension fixes it
-abbrev pub is_start_free : Asked → ℕ → ℤ → Bool
+abbrev pub is_start_free : AskedLine → ℕ → ℤ → Bool
 is_start_free it k x = not (k == 0) || (not (dimension_at it.model.now it.d).fix_start || is_same_number x (pos 0))

@@ -18,25 +18,25 @@ use Rattle.vr_model.specs.declared.records.StopRow.{StopRow}
 use Rattle.vr_printed.specs.Printed.{visits_of}
 use Rattle.vr_printed.specs.Shape.{plan_in}
 use Rattle.vr_printed.specs.declared.printed.PrintedRoute.{PrintedRoute}
-use Rattle.vr_check.specs.declared.pairs.Places.{Places}
-use Rattle.vr_check.specs.declared.spans.Ends.{Ends}
+use Rattle.vr_check.specs.declared.pairs.PlacesOfPair.{PlacesOfPair}
+use Rattle.vr_check.specs.declared.spans.SpanEnds.{SpanEnds}
 
 -- the node stands at place k of a list
 abbrev pub is_next : List ℕ → ℕ → ℕ → Bool
 is_next list k node = nat_lt k (length list) && (slice_index_or list k 0 == node)
 
 -- the places of a pair in a list
-abbrev pub places_of : List ℕ → Pair → Places
+abbrev pub places_of : List ℕ → Pair → PlacesOfPair
 places_of list pair = record { pickup = place_of list pair.pickup; delivery = place_of list pair.delivery }
 
 -- what a policy asks of two pairs, by their places
-abbrev pub are_in_order : Policy → Places → Places → Bool
+abbrev pub are_in_order : Policy → PlacesOfPair → PlacesOfPair → Bool
 are_in_order Any x y = true
 are_in_order Lifo x y = not (nat_lt x.pickup y.pickup && nat_lt y.pickup x.delivery) || nat_lt y.delivery x.delivery
 are_in_order Fifo x y = not (nat_lt x.pickup y.pickup) || nat_lt x.delivery y.delivery
 
 -- what a policy asks of a pair and of each of some others
-abbrev pub is_in_order : Policy → List Places → Places → Bool
+abbrev pub is_in_order : Policy → List PlacesOfPair → PlacesOfPair → Bool
 is_in_order policy places x = list_all (are_in_order policy x) places
 
 -- what the cumuls of arc k leave over its transit
@@ -70,18 +70,18 @@ abbrev pub span_in : Model → ℕ → PrintedRoute → ℕ → ℤ
 span_in model v route d = number_at (dimension_at model d).span_costs v *ℤ span_along (plan_in route d).cumuls
 
 -- the ends of some routes with a further start and end
-abbrev pub widened : Option Ends → ℤ → ℤ → Ends
+abbrev pub widened : Option SpanEnds → ℤ → ℤ → SpanEnds
 widened None first last = record { first = first; last = last }
 widened (Some ends) first last = record { first = int_min ends.first first; last = int_max ends.last last }
 
 -- the ends with a further route, where it has a plan in dimension d
-abbrev pub ends_with : ℕ → Option Ends → PrintedRoute → Option Ends
+abbrev pub ends_with : ℕ → Option SpanEnds → PrintedRoute → Option SpanEnds
 ends_with d ends route =
     cond (nat_lt d (length route.plans))
     (Some (widened ends (first_cumul (plan_in route d).cumuls) (last_cumul (plan_in route d).cumuls))) ends
 
 -- from the least start to the greatest end, 0 of no routes
-abbrev pub span_of_ends : Option Ends → ℤ
+abbrev pub span_of_ends : Option SpanEnds → ℤ
 span_of_ends None = pos 0
 span_of_ends (Some ends) = ends.last -ℤ ends.first
 

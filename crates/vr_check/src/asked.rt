@@ -17,7 +17,7 @@ use vr_model::{BreakRow, Dimension, Interval, Model, StopRow};
 
 /// The line of a vehicle with a list in a dimension.
 #[derive(Clone, Copy)]
-pub(crate) struct Asked<'a> {
+pub(crate) struct AskedLine<'a> {
     pub(crate) model: &'a Model,
     pub(crate) d: usize,
     pub(crate) v: usize,
@@ -82,7 +82,7 @@ fn capacity_of(dimension: &Dimension, v: usize) -> i64
     *dimension.capacities.get(v)
 }
 
-impl<'a> Asked<'a> {
+impl<'a> AskedLine<'a> {
     ghost use Rattle.vr_check.specs.Asked as asked_lines;
     ghost use Rattle.vr_check.specs.Asked.{arcs_of, line_of, row_at_stop};
 

@@ -10,7 +10,7 @@ ghost use Rattle.vr_check.specs.Kept.{FitsLine};
 ghost use Rattle.vr_check.specs.Plans as plans;
 ghost use Rattle.vr_printed.specs.Printed.{plan_of};
 
-use crate::asked::Asked;
+use crate::asked::AskedLine;
 use crate::printed::LinePlan;
 use vr_model::BreakRow;
 use vr_printed::PrintedPlan;
@@ -18,7 +18,7 @@ use vr_printed::PrintedPlan;
 /// The breaks of a line as a plan takes them.
 #[derive(Clone, Copy)]
 pub(crate) struct Taken<'a> {
-    pub(crate) asked: Asked<'a>,
+    pub(crate) asked: AskedLine<'a>,
     pub(crate) rows: &'a [BreakRow],
     pub(crate) plan: &'a PrintedPlan,
     pub ghost rows_are: { rows.now ≡ (line_of asked).breaks } by { Prim.hlevel props },

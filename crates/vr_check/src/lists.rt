@@ -1,6 +1,7 @@
 //! The rules on the printed nodes: ends, and that no visit stands twice.
 
 ghost use Rattle.std.specs.Prelude.{◌≡◌, ◌<◌, ◌≤◌, length};
+ghost use Rattle.vr_model.specs.tables.Limits.{most_vehicles};
 ghost use Rattle.vr_check.specs.Lists as rules;
 ghost use Rattle.vr_check.specs.Lists.{ends_broken, ends_broken_of, once_broken, once_broken_of};
 
@@ -65,7 +66,7 @@ fn stands_before(lists: &[Seq<u32>], vehicle: usize, list: &[u32], k: usize) -> 
 // The first place of a list whose visit stood earlier.
 fn repeated_visit(lists: &[Seq<u32>], vehicle: usize, list: &[u32]) -> Option<Spot>
     requires vehicle { vehicle < length lists.now }
-    requires few { length lists.now ≤ 100 }
+    requires few { length lists.now ≤ most_vehicles }
     ensures { result ≡ once_broken_of lists.now vehicle list.now }
 {
     for k in 0..list.len() {
@@ -78,7 +79,7 @@ fn repeated_visit(lists: &[Seq<u32>], vehicle: usize, list: &[u32]) -> Option<Sp
 
 /// Where a visit stands that stood earlier.
 pub(crate) fn repeated(lists: &[Seq<u32>]) -> Option<Spot>
-    requires few { length lists.now ≤ 100 }
+    requires few { length lists.now ≤ most_vehicles }
     ensures { result ≡ once_broken lists.now }
 {
     for v in 0..lists.len() {

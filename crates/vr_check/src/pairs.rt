@@ -58,7 +58,7 @@ pub(crate) fn wrong_pair(closed: Closed<'_>, lists: &[Seq<u32>]) -> Option<Spot>
 
 /// The places of a pair in a list.
 #[derive(Clone, Copy)]
-pub(crate) struct Places {
+pub(crate) struct PlacesOfPair {
     pub(crate) pickup: usize,
     pub(crate) delivery: usize,
 }
@@ -76,13 +76,13 @@ fn place_of(list: &[u32], node: u32) -> usize
 }
 
 // The places of the pairs that are picked up in a list.
-fn places_in(alloc: Global, model: &Model, list: &[u32]) -> Result<Seq<Places>, NoMemory>
+fn places_in(alloc: Global, model: &Model, list: &[u32]) -> Result<Seq<PlacesOfPair>, NoMemory>
     ensures { IfOk result (λ places. places ≡ map (places_of list.now) (pairs_in model.now list.now)) }
 {
     let mut places = Seq::new(alloc);
     for pair in model.pairs.as_slice() {
         if holds(list, pair.pickup) {
-            places.push(Places {
+            places.push(PlacesOfPair {
                 pickup: place_of(list, pair.pickup),
                 delivery: place_of(list, pair.delivery),
             })?;
@@ -92,7 +92,7 @@ fn places_in(alloc: Global, model: &Model, list: &[u32]) -> Result<Seq<Places>, 
 }
 
 // Whether a policy lets two pairs stand at these places.
-fn are_in_order(policy: Policy, x: Places, y: Places) -> bool
+fn are_in_order(policy: Policy, x: PlacesOfPair, y: PlacesOfPair) -> bool
     ensures { result ≡ terms.are_in_order policy x y }
 {
     match policy {
@@ -105,14 +105,14 @@ fn are_in_order(policy: Policy, x: Places, y: Places) -> bool
 }
 
 // Whether a policy lets a pair and each of some others stand at their places.
-fn is_in_order(policy: Policy, x: Places, places: &[Places]) -> bool
+fn is_in_order(policy: Policy, x: PlacesOfPair, places: &[PlacesOfPair]) -> bool
     ensures { result ≡ terms.is_in_order policy places.now x }
 {
     places.iter().all(|&y| are_in_order(policy, x, y))
 }
 
 // Whether a policy lets each two of some pairs stand at their places.
-fn all_in_order(policy: Policy, places: &[Places]) -> bool
+fn all_in_order(policy: Policy, places: &[PlacesOfPair]) -> bool
     ensures { result ≡ list_all (terms.is_in_order policy places.now) places.now }
 {
     places.iter().all(|&x| is_in_order(policy, x, places))

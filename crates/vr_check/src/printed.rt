@@ -4,7 +4,7 @@ ghost use Rattle.std.proofs.Props.{props};
 ghost use Rattle.std.specs.Prelude.{◌≡◌, ◌<◌, length};
 ghost use Rattle.vr_check.specs.Kept.{FitsLine, IsRouteOf, IsSolutionOf};
 
-use crate::asked::Asked;
+use crate::asked::AskedLine;
 use vr_model::{Closed, Seq};
 use vr_printed::{Printed, PrintedPlan, PrintedRoute};
 
@@ -55,7 +55,7 @@ impl<'a> VehicleRoute<'a> {
         requires { d < length self.now.route.now.plans }
         ensures { parts_of_plan result ≡ plan_at self.now d }
     {
-        let asked = Asked {
+        let asked = AskedLine {
             model: self.closed.model,
             d,
             v: self.v,
@@ -71,7 +71,7 @@ impl<'a> VehicleRoute<'a> {
 /// A printed plan, and the line that it is of.
 #[derive(Clone, Copy)]
 pub(crate) struct LinePlan<'a> {
-    pub(crate) asked: Asked<'a>,
+    pub(crate) asked: AskedLine<'a>,
     pub(crate) plan: &'a PrintedPlan,
     pub ghost fits: { FitsLine asked.model.now asked.d asked.v asked.list.now plan.now },
 }

@@ -64,18 +64,18 @@ pub(crate) fn span_cost(on: &VehicleRoute<'_>, d: usize) -> i128
 
 /// The least start and the greatest end of some routes in a dimension.
 #[derive(Clone, Copy)]
-pub(crate) struct Ends {
+pub(crate) struct SpanEnds {
     pub(crate) first: i64,
     pub(crate) last: i64,
 }
 
 // The ends with a further start and end.
-fn widened(ends: Option<Ends>, first: i64, last: i64) -> Ends
+fn widened(ends: Option<SpanEnds>, first: i64, last: i64) -> SpanEnds
     ensures { result ≡ terms.widened ends first last }
 {
     match ends {
-        None => Ends { first, last },
-        Some(ends) => Ends {
+        None => SpanEnds { first, last },
+        Some(ends) => SpanEnds {
             first: ends.first.min(first),
             last: ends.last.max(last),
         },
@@ -83,7 +83,7 @@ fn widened(ends: Option<Ends>, first: i64, last: i64) -> Ends
 }
 
 // The ends with a further route, where it is used.
-fn ends_with(ends: Option<Ends>, route: &PrintedRoute, d: usize) -> Option<Ends>
+fn ends_with(ends: Option<SpanEnds>, route: &PrintedRoute, d: usize) -> Option<SpanEnds>
     requires { d < length route.now.plans → 0 < length (plan_in route.now d).cumuls }
     ensures { result ≡ terms.ends_with d ends route.now }
 {
@@ -96,7 +96,7 @@ fn ends_with(ends: Option<Ends>, route: &PrintedRoute, d: usize) -> Option<Ends>
 }
 
 // From the least start to the greatest end, 0 where there is no route.
-fn span_of_ends(ends: Option<Ends>) -> i128
+fn span_of_ends(ends: Option<SpanEnds>) -> i128
     ensures value { result ≡ terms.span_of_ends ends }
     ensures range { IsAround (2 ^ 66) result }
 {
