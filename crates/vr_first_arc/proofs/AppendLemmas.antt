@@ -27,7 +27,7 @@ use Rattle.vr_model.proofs.routes.Lists.{visit_below}
 use Rattle.vr_rules.proofs.LocalOpenness.{is_open-local}
 use Rattle.vr_rules.proofs.LazyLeast.{IsBest, IsBest-none, IsBest-more}
 use Rattle.vr_rules.proofs.PlacingLemmas.{IsAdded, item-inactive, inactive-route, is_distinct-both, fits_beside-marks, built-count, built-visits, built-distinct, AreBuilt-empty}
-use Rattle.vr_first_arc.specs.declared.choice.Choice.{Choice}
+use Rattle.vr_first_arc.specs.declared.choice.ArcChoice.{ArcChoice}
 use Rattle.vr_first_arc.specs.Choices.{all_filled, key_of, item_of_choice, nodes_of_choice, choice_of, chosen_beside, may_append, MayBeAppended}
 use Rattle.vr_rules.specs.Fronts.{tail, IsDriven}
 
@@ -52,7 +52,7 @@ abbrev pub seen : List (List ℕ) → List Candidate → ℕ → List (List ℕ)
 seen lists candidates i = filter (λ item. not (is_active lists (first_node item))) (map (λ candidate. nodes_of candidate.item) (take i candidates))
 
 -- the best choice among the first candidates
-abbrev pub IsBestOf : Model → List (List ℕ) → ℕ → List Candidate → ℕ → Option Choice → Type 0
+abbrev pub IsBestOf : Model → List (List ℕ) → ℕ → List Candidate → ℕ → Option ArcChoice → Type 0
 IsBestOf model lists v candidates i best =
     IsBest nodes_of_choice (append_key model lists v) key_of (λ item. is_open model (appended lists v item)) (λ choice. MayBeAppended model lists v choice.item) best (seen lists candidates i)
 
@@ -113,7 +113,7 @@ module _ (model : Model) (lists : List (List ℕ)) (v : ℕ) (built : AreBuilt m
     pub best-begin : (candidates : List Candidate) → IsBestOf model lists v candidates 0 None
     best-begin candidates = IsBest-none nodes_of_choice (append_key model lists v) key_of (λ item. is_open model (appended lists v item)) (λ choice. MayBeAppended model lists v choice.item)
 
-    pub best-more : (candidates : List Candidate) (i : ℕ) (candidate : Candidate) (best chosen : Option Choice) → i < length candidates → get_or candidates i candidate ≡ candidate
+    pub best-more : (candidates : List Candidate) (i : ℕ) (candidate : Candidate) (best chosen : Option ArcChoice) → i < length candidates → get_or candidates i candidate ≡ candidate
         → IsCandidate model candidate → IsBestOf model lists v candidates i best → chosen ≡ chosen_beside model v (route lists v) marks candidate best → IsBestOf model lists v candidates (i + 1) chosen
     best-more candidates i candidate best chosen within is valid before e = by (is_marked marks (first_node (nodes_of candidate.item))) refl
       where
@@ -126,13 +126,13 @@ module _ (model : Model) (lists : List (List ℕ)) (v : ℕ) (built : AreBuilt m
         active : is_marked marks number ≡ is_active lists number
         active = are.each number false (first-below model candidate.item valid.item)
 
-        next : Choice
+        next : ArcChoice
         next = choice_of model v (tail model v (route lists v)) candidate
 
         passes : Bool
         passes = may_append model v (route lists v) marks candidate.item
 
-        Best : Option Choice → List (List ℕ) → Type 0
+        Best : Option ArcChoice → List (List ℕ) → Type 0
         Best = IsBest nodes_of_choice (append_key model lists v) key_of (λ item. is_open model (appended lists v item)) (λ choice. MayBeAppended model lists v choice.item)
 
         by : (b : Bool) → is_marked marks number ≡ b → IsBestOf model lists v candidates (i + 1) chosen
@@ -153,18 +153,18 @@ module _ (model : Model) (lists : List (List ℕ)) (v : ℕ) (built : AreBuilt m
             subst (λ c. Best c (seen lists candidates (i + 1))) (sym decided) (subst (Best (cond passes (better key_of best next) best)) (sym longer) more)
 
     -- after all candidates
-    pub best-end : (candidates : List Candidate) (i : ℕ) (best : Option Choice) → AreCandidates model candidates → length candidates ≤ i → IsBestOf model lists v candidates i best
+    pub best-end : (candidates : List Candidate) (i : ℕ) (best : Option ArcChoice) → AreCandidates model candidates → length candidates ≤ i → IsBestOf model lists v candidates i best
         → option_map nodes_of (option_map item_of_choice best) ≡ next_appended model lists v
     best-end candidates i best all high before =
         let whole : seen lists candidates i ≡ unplaced model lists = ap (λ cs. filter (λ item. not (is_active lists (first_node item))) (map (λ candidate. nodes_of candidate.item) cs)) (take_all i candidates high)
         ∙ ap (filter (λ item. not (is_active lists (first_node item)))) all.all in
         images best ∙ before.least ∙ ap (λ xs. least_by (append_key model lists v) (filter (λ item. is_open model (appended lists v item)) xs)) whole
       where
-        images : (best : Option Choice) → option_map nodes_of (option_map item_of_choice best) ≡ option_map nodes_of_choice best
+        images : (best : Option ArcChoice) → option_map nodes_of (option_map item_of_choice best) ≡ option_map nodes_of_choice best
         images None = refl
         images (Some choice) = refl
 
-pub may-of-best : (P : Item → Type 0) (best : Option Choice) → IfSome best (λ choice. P choice.item) → IfSome (option_map item_of_choice best) P
+pub may-of-best : (P : Item → Type 0) (best : Option ArcChoice) → IfSome best (λ choice. P choice.item) → IfSome (option_map item_of_choice best) P
 may-of-best P None h = h
 may-of-best P (Some choice) h = h
 

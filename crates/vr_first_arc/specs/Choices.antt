@@ -14,22 +14,22 @@ use Rattle.vr_rules.specs.declared.items.Item.{Item}
 use Rattle.vr_rules.specs.declared.items.Candidate.{Candidate}
 use Rattle.vr_rules.specs.Fronts.{tail}
 use Rattle.vr_rules.specs.Placing.{nodes_of, has_room, is_marked, IsItem}
-use Rattle.vr_first_arc.specs.declared.choice.Choice.{Choice}
+use Rattle.vr_first_arc.specs.declared.choice.ArcChoice.{ArcChoice}
 
 -- what a choice is compared by: the class, the cost of the arc, the number
-abbrev pub key_of : Choice → List ℤ
+abbrev pub key_of : ArcChoice → List ℤ
 key_of choice = pos choice.class ∷ choice.cost ∷ pos (first_node (nodes_of choice.item)) ∷ []
 
 -- the item of a choice
-abbrev pub item_of_choice : Choice → Item
+abbrev pub item_of_choice : ArcChoice → Item
 item_of_choice choice = choice.item
 
 -- the nodes of a choice
-abbrev pub nodes_of_choice : Choice → List ℕ
+abbrev pub nodes_of_choice : ArcChoice → List ℕ
 nodes_of_choice choice = nodes_of choice.item
 
 -- the choice of a candidate behind a node
-abbrev pub choice_of : Model → ℕ → ℕ → Candidate → Choice
+abbrev pub choice_of : Model → ℕ → ℕ → Candidate → ArcChoice
 choice_of model v at candidate = record {
   item = candidate.item;
   class = candidate.class;
@@ -48,7 +48,7 @@ pub record MayBeAppended (model : Model) (lists : List (List ℕ)) (v : ℕ) (it
   pub stays_open : IsTrue (is_open model (appended lists v (nodes_of item)))
 
 -- the better of the best choice so far and a candidate, which counts only where its first node is not marked
-abbrev pub chosen_beside : Model → ℕ → List ℕ → List Bool → Candidate → Option Choice → Option Choice
+abbrev pub chosen_beside : Model → ℕ → List ℕ → List Bool → Candidate → Option ArcChoice → Option ArcChoice
 chosen_beside model v list marks candidate best = let next = choice_of model v (tail model v list) candidate in
     cond (is_marked marks (first_node (nodes_of candidate.item))) best
     (cond (may_append model v list marks candidate.item) (better key_of best next) best)

@@ -9,14 +9,14 @@ use vr_rules::Item;
 
 // An item that may be next, its class, and the cost of the arc to its first node.
 #[derive(Clone, Copy)]
-pub(crate) struct Choice {
+pub(crate) struct ArcChoice {
     pub(crate) item: Item,
     pub(crate) class: u32,
     pub(crate) cost: i64,
 }
 
 // Whether a choice comes before another: by class, then by cost, then by number.
-fn comes_before(one: Choice, other: Choice) -> bool
+fn comes_before(one: ArcChoice, other: ArcChoice) -> bool
     ensures { result ≡ is_lex_less (key_of one) (key_of other) }
 {
     let (number, others) = (one.item.number(), other.item.number());
@@ -26,7 +26,7 @@ fn comes_before(one: Choice, other: Choice) -> bool
 }
 
 // Whether a choice is better than the best so far, or the first.
-pub(crate) fn improves(best: Option<Choice>, next: Choice) -> bool
+pub(crate) fn improves(best: Option<ArcChoice>, next: ArcChoice) -> bool
     ensures { result ≡ improves_by key_of best next }
 {
     match best {
@@ -36,7 +36,7 @@ pub(crate) fn improves(best: Option<Choice>, next: Choice) -> bool
 }
 
 // The item of a choice, where there is one.
-pub(crate) fn item_of(best: Option<Choice>) -> Option<Item>
+pub(crate) fn item_of(best: Option<ArcChoice>) -> Option<Item>
     ensures { result ≡ option_map item_of_choice best }
 {
     best.map(|choice| choice.item)

@@ -12,7 +12,7 @@ ghost use Rattle.vr_rules.specs.Fronts.{AreFrontsOf, IsDriven};
 ghost use Rattle.vr_model.specs.routes.Routes.{route};
 
 use crate::append::{append, may_append};
-use crate::choice::{Choice, improves, item_of};
+use crate::choice::{ArcChoice, improves, item_of};
 use crate::growing::{Filling, Growing};
 use vr_model::{Closed, NoMemory, Seq};
 use vr_rules::{Candidate, Fronts, Item, Room, last_stop, mark_item};
@@ -21,9 +21,9 @@ use vr_rules::{Candidate, Fronts, Item, Room, last_stop, mark_item};
 fn consider(
     growing: &Growing<'_, '_, '_, '_>,
     room: &mut Room,
-    next: Choice,
-    best: Option<Choice>,
-) -> Result<Option<Choice>, NoMemory>
+    next: ArcChoice,
+    best: Option<ArcChoice>,
+) -> Result<Option<ArcChoice>, NoMemory>
     requires growing { IsGrowing growing.now }
     requires longer { IsDriven (filling_model growing.now.filling) (growing.now.list.now ++ nodes_of next.item) }
     ensures { IfOk result (λ chosen. chosen ≡ cond (may_append_of (filling_model growing.now.filling) growing.now.v
@@ -44,8 +44,8 @@ fn consider_candidate(
     growing: &Growing<'_, '_, '_, '_>,
     room: &mut Room,
     candidate: Candidate,
-    best: Option<Choice>,
-) -> Result<Option<Choice>, NoMemory>
+    best: Option<ArcChoice>,
+) -> Result<Option<ArcChoice>, NoMemory>
     requires growing { IsGrowing growing.now }
     requires first { first_node (nodes_of candidate.item) < (filling_model growing.now.filling).nodes }
     requires longer { is_marked growing.now.marks.now (first_node (nodes_of candidate.item)) ≡ false
@@ -59,7 +59,7 @@ fn consider_candidate(
     }
     let lookups = growing.filling.lookups;
     let (model, v) = (lookups.closed.model, growing.v);
-    let next = Choice {
+    let next = ArcChoice {
         item: candidate.item,
         class: candidate.class,
         cost: model.arc_cost(v, last_stop(model, v, growing.list), number),
@@ -94,7 +94,7 @@ fn next_item(
         fronts,
         marks,
     };
-    let mut best: Option<Choice> = None;
+    let mut best: Option<ArcChoice> = None;
     for &candidate in filling.candidates {
         best = consider_candidate(&growing, room, candidate, best)?;
     }
