@@ -14,7 +14,7 @@ use vr_plan::Lookups;
 use vr_routes::Routes;
 
 // Whether a node is no visit, or marked, or in a group.
-fn may_stay_so(lookups: &Lookups<'_>, marks: &[bool], node: u32) -> bool
+fn is_not_missing(lookups: &Lookups<'_>, marks: &[bool], node: u32) -> bool
     requires { node < length marks.now }
     ensures { result ≡ (not (is_visit lookups.now.closed.model.now node)
         || (is_grouped_of lookups.now.closed.model.now node || is_marked marks.now node)) }
@@ -29,7 +29,7 @@ fn has_required(lookups: &Lookups<'_>, marks: &[bool]) -> bool
         (visits lookups.now.closed.model.now) }
 {
     for node in 0..lookups.closed.model.nodes {
-        if !may_stay_so(lookups, marks, node) {
+        if !is_not_missing(lookups, marks, node) {
             return false;
         }
     }

@@ -69,8 +69,7 @@ fn visit_set(alloc: Global, of: &VehicleIn<'_>, node: u32) -> Result<Spans, NoMe
     if !model.is_visit(node) {
         return Ok(Spans::new(alloc));
     }
-    let set = allowed_at(alloc, model, of.d, of.v, StopName::Visit(node))?;
-    Ok(set)
+    allowed_at(alloc, model, of.d, of.v, StopName::Visit(node))
 }
 
 // What each visit allows.
@@ -94,8 +93,7 @@ fn levels_at_start(alloc: Global, of: &VehicleIn<'_>, breaks: &Breaks) -> Result
     ensures reached { IfOk result (AreReachedBehind of.now.closed.model.now of.now.d of.now.v []) }
 {
     let start = allowed_at(alloc, of.closed.model, of.d, of.v, StopName::Start)?;
-    let levels = start_levels(alloc, &start, breaks)?;
-    Ok(levels)
+    start_levels(alloc, &start, breaks)
 }
 
 // A list, and an item that may stand at its end.
@@ -146,8 +144,7 @@ impl Front {
         let origin = last_stop(closed.model, self.vehicle, list);
         let arc = hop(closed.model, self.dimension, self.vehicle, origin, node);
         let next = &self.visits[node as usize];
-        walk.cross_from(&self.here, arc, next, &self.breaks)?;
-        Ok(())
+        walk.cross_from(&self.here, arc, next, &self.breaks)
     }
 
     // Lets a walk go on from a visit behind the list to another.
@@ -171,8 +168,7 @@ impl Front {
     {
         let arc = hop(closed.model, self.dimension, self.vehicle, before, node);
         let next = &self.visits[node as usize];
-        walk.cross(arc, next, &self.breaks)?;
-        Ok(())
+        walk.cross(arc, next, &self.breaks)
     }
 
     // Lets a walk stand at the last node of an item behind the list.
@@ -184,13 +180,12 @@ impl Front {
     {
         let (closed, list) = (longer.closed, longer.list);
         match longer.item {
-            Item::Visit(node) => self.leave(walk, closed, list, node)?,
+            Item::Visit(node) => self.leave(walk, closed, list, node),
             Item::PickupAndDelivery(pickup, delivery) => {
                 self.leave(walk, closed, list, pickup)?;
-                self.go_on(walk, closed, list, pickup, delivery)?
+                self.go_on(walk, closed, list, pickup, delivery)
             }
         }
-        Ok(())
     }
 
     // Whether the line of the list with the item at its end has a schedule, where the walk stands at the last node of
@@ -222,8 +217,7 @@ impl Front {
             (longer.now.list.now ++ nodes_of longer.now.item))) }
     {
         self.walk_item(walk, longer)?;
-        let feasible = self.ends(walk, longer)?;
-        Ok(feasible)
+        self.ends(walk, longer)
     }
 
     // Moves to the end of the list with the item at its end.
@@ -419,8 +413,7 @@ impl Fronts {
         if !is_feasible_with(&self.each, &mut room.walk, v, &longer)? {
             return Ok(false);
         }
-        let keeps = keeps_pairs_with(room, v, &longer)?;
-        Ok(keeps)
+        keeps_pairs_with(room, v, &longer)
     }
 
     /// Moves to the end of the list with an item at its end. After `NoMemory` nothing is said of what is reached.
@@ -437,7 +430,6 @@ impl Fronts {
         ensures { OnOk result (AreFrontsOf closed.entry.model.now v (list.now ++ nodes_of item) self.new) }
     {
         let longer = Longer { closed, list, item };
-        advance_each(&mut self.each, &mut room.walk, v, &longer)?;
-        Ok(())
+        advance_each(&mut self.each, &mut room.walk, v, &longer)
     }
 }

@@ -17,7 +17,7 @@ pub(crate) enum GroupRule {
 }
 
 // How many nodes are marked.
-pub(crate) fn marked(marks: &[bool], nodes: &[u32]) -> usize
+pub(crate) fn count_marked(marks: &[bool], nodes: &[u32]) -> usize
     requires { All (λ node. node < length marks.now) nodes.now }
     ensures { result ≡ count_by (is_marked marks.now) nodes.now }
 {
@@ -37,7 +37,7 @@ fn is_filled(marks: &[bool], group: &Group) -> bool
 {
     match group.penalty {
         Some(_) => true,
-        None => marked(marks, group.nodes.as_slice()) == group.max as usize,
+        None => count_marked(marks, group.nodes.as_slice()) == group.max as usize,
     }
 }
 
@@ -46,7 +46,7 @@ fn fits(marks: &[bool], group: &Group) -> bool
     requires { All (λ node. node < length marks.now) group.now.nodes }
     ensures { result ≡ fits_by marks.now group.now }
 {
-    marked(marks, group.nodes.as_slice()) <= group.max as usize
+    count_marked(marks, group.nodes.as_slice()) <= group.max as usize
 }
 
 // Whether a group is as a rule asks.

@@ -1,8 +1,8 @@
 //! Which nodes are active, and whether the groups have room for an item.
 
-ghost use Rattle.std.specs.Prelude.{◌≡◌, ℕ, ◌<◌, ◌||◌, Bool, All, IfOk, IsTrue, OnOk, length, slice_index_or};
+ghost use Rattle.std.specs.Prelude.{◌≡◌, ◌<◌, ◌||◌, All, IfOk, IsTrue, OnOk, length};
 ghost use Rattle.std.specs.List.{list_all};
-ghost use Rattle.vr_model.specs.routes.Routes.{are_lists, holds};
+ghost use Rattle.vr_model.specs.routes.Routes.{are_lists};
 ghost use Rattle.vr_rules.specs.Placing.{has_room as has_room_of, is_taken as is_taken_of, nodes_of, AreMarkedToo};
 ghost use Rattle.vr_rules.specs.Placing.{fits_by, has_room_at, AreMarks};
 
@@ -12,7 +12,7 @@ use vr_model::{Group, Model, NoMemory};
 use vr_plan::Lookups;
 use vr_routes::Routes;
 
-/// Routes of a model, and for each node whether it is active in them.
+// Routes of a model, and for each node whether it is active in them.
 #[derive(Clone, Copy)]
 pub(crate) struct Marked<'l, 'm, 'r, 'k> {
     pub(crate) lookups: &'l Lookups<'m>,
@@ -102,11 +102,7 @@ pub fn active_marks(alloc: Global, model: &Model, routes: &Routes) -> Result<Vec
 }
 
 // Writes for each node whether it is active over marks.
-pub(crate) fn write_marks(
-    model: &Model,
-    routes: &Routes,
-    marks: &mut Vec<bool>,
-) -> Result<(), NoMemory>
+fn write_marks(model: &Model, routes: &Routes, marks: &mut Vec<bool>) -> Result<(), NoMemory>
     ensures { OnOk result (AreMarks model.now.nodes routes.now.lists marks.new.items) }
 {
     marks.clear();
@@ -114,6 +110,24 @@ pub(crate) fn write_marks(
         marks.push(routes.is_active(node))?;
     }
     Ok(())
+}
+
+// Routes with their marks, which are written over others.
+pub(crate) fn with_marks<'l, 'm, 'r, 'k>(
+    lookups: &'l Lookups<'m>,
+    routes: &'r Routes,
+    marks: &'k mut Vec<bool>,
+) -> Result<Marked<'l, 'm, 'r, 'k>, NoMemory>
+    requires { IsTrue (are_lists lookups.now.closed.model.now routes.now.lists) }
+    ensures model { IfOk result (λ of. of.lookups.now.closed.model.now ≡ lookups.now.closed.model.now) }
+    ensures lists { IfOk result (λ of. of.routes.now.lists ≡ routes.now.lists) }
+{
+    write_marks(lookups.closed.model, routes, marks)?;
+    Ok(Marked {
+        lookups,
+        routes,
+        marks,
+    })
 }
 
 /// Marks the nodes of an item.

@@ -1,14 +1,14 @@
 //! What groups cost whose nodes are not all active.
 
 ghost use Rattle.std.specs.Prelude.{◌≡◌, ◌<◌, ◌≤◌, ◌*◌, ◌^◌, ◌-ℤ◌, ◌≤ℤ◌};
-ghost use Rattle.std.specs.Prelude.{pos, All, IsTrue, count_by, length, nat_le};
+ghost use Rattle.std.specs.Prelude.{pos, All, IsTrue, count_by, length};
 ghost use Rattle.std.specs.List.{list_all};
 ghost use Rattle.vr_model.specs.tables.Numbers.{total_by};
 ghost use Rattle.vr_model.specs.tables.Limits.{greatest_cost};
 ghost use Rattle.vr_model.specs.tables.WellFormed.{IsIn, WherePresent};
 ghost use Rattle.vr_rules.specs.Placing.{fits_by, is_marked, penalty_by};
 
-use crate::groups::marked;
+use crate::groups::count_marked;
 use vr_model::{Closed, Group};
 
 // How many nodes fewer of a group are marked than may be.
@@ -20,7 +20,7 @@ fn missing(marks: &[bool], group: &Group) -> i64
     ensures low { pos 0 ≤ℤ result }
     ensures high { result ≤ℤ pos 1000 }
 {
-    group.max as i64 - marked(marks, group.nodes.as_slice()) as i64
+    group.max as i64 - count_marked(marks, group.nodes.as_slice()) as i64
 }
 
 // What a group costs with its marked nodes: nothing without a penalty.

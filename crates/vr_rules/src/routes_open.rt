@@ -53,8 +53,7 @@ pub fn is_route_open(
     if !keeps_pairs(lookups.closed.model, v, list, &mut driving.pairs) {
         return Ok(false);
     }
-    let feasible = is_feasible_in_each(lookups, v, list, &mut driving.walk)?;
-    Ok(feasible)
+    is_feasible_in_each(lookups, v, list, &mut driving.walk)
 }
 
 // Whether the line of a list has a schedule in each dimension.

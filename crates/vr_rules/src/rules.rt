@@ -12,10 +12,10 @@ ghost use Rattle.vr_rules.specs.Placing.{AreBuilt};
 ghost use Rattle.vr_rules.specs.Totals.{HasTotal};
 
 use crate::costs::total_cost;
-use crate::marks::{Marked, write_marks};
+use crate::marks::with_marks;
 use crate::parts::parts_of;
 use crate::routes_open::{Driving, is_route_open};
-use crate::validity::{is_open, is_open_beside, is_valid, is_valid_where_open};
+use crate::validity::{is_open, is_valid, is_valid_where_open};
 use std::alloc::Global;
 use std::marker::Model;
 use vr_model::{Closed, Model as RoutingModel, NoMemory, Parts};
@@ -97,8 +97,7 @@ impl<'m> Rules<'m> {
         ensures answer { IfOk result (λ answer. answer ≡ is_route_open_of self.old v list.now) }
         ensures model { self.new ≡ self.old }
     {
-        let answer = is_route_open(&self.lookups, v, list, &mut self.kept.driving)?;
-        Ok(answer)
+        is_route_open(&self.lookups, v, list, &mut self.kept.driving)
     }
 
     /// Whether routes of the model are open: each vehicle may drive its list, and no group has more active nodes than
@@ -109,14 +108,8 @@ impl<'m> Rules<'m> {
         ensures model { self.new ≡ self.old }
     {
         let kept = &mut *self.kept;
-        write_marks(self.lookups.closed.model, routes, &mut kept.marks)?;
-        let of = Marked {
-            lookups: &self.lookups,
-            routes,
-            marks: &kept.marks,
-        };
-        let answer = is_open(&of, &mut kept.driving)?;
-        Ok(answer)
+        let of = with_marks(&self.lookups, routes, &mut kept.marks)?;
+        is_open(&of, None, &mut kept.driving)
     }
 
     /// The same, where other routes of the model are open. A list that is the same there is not asked again.
@@ -127,14 +120,8 @@ impl<'m> Rules<'m> {
         ensures model { self.new ≡ self.old }
     {
         let kept = &mut *self.kept;
-        write_marks(self.lookups.closed.model, routes, &mut kept.marks)?;
-        let of = Marked {
-            lookups: &self.lookups,
-            routes,
-            marks: &kept.marks,
-        };
-        let answer = is_open_beside(&of, others, &mut kept.driving)?;
-        Ok(answer)
+        let of = with_marks(&self.lookups, routes, &mut kept.marks)?;
+        is_open(&of, Some(others), &mut kept.driving)
     }
 
     /// Whether routes of the model are valid, where they are open: each visit in no group is active, and each group
@@ -145,14 +132,8 @@ impl<'m> Rules<'m> {
         ensures model { self.new ≡ self.old }
     {
         let kept = &mut *self.kept;
-        write_marks(self.lookups.closed.model, routes, &mut kept.marks)?;
-        let of = Marked {
-            lookups: &self.lookups,
-            routes,
-            marks: &kept.marks,
-        };
-        let answer = is_valid_where_open(&of);
-        Ok(answer)
+        let of = with_marks(&self.lookups, routes, &mut kept.marks)?;
+        Ok(is_valid_where_open(&of))
     }
 
     /// Whether routes of the model are valid: they are open, each visit in no group is active, and each group without a
@@ -163,14 +144,8 @@ impl<'m> Rules<'m> {
         ensures model { self.new ≡ self.old }
     {
         let kept = &mut *self.kept;
-        write_marks(self.lookups.closed.model, routes, &mut kept.marks)?;
-        let of = Marked {
-            lookups: &self.lookups,
-            routes,
-            marks: &kept.marks,
-        };
-        let answer = is_valid(&of, &mut kept.driving)?;
-        Ok(answer)
+        let of = with_marks(&self.lookups, routes, &mut kept.marks)?;
+        is_valid(&of, &mut kept.driving)
     }
 
     /// What valid routes cost at their chosen schedules: the six parts of the cost, none of them negative, with a sum
@@ -182,14 +157,8 @@ impl<'m> Rules<'m> {
         ensures model { self.new ≡ self.old }
     {
         let kept = &mut *self.kept;
-        write_marks(self.lookups.closed.model, routes, &mut kept.marks)?;
-        let of = Marked {
-            lookups: &self.lookups,
-            routes,
-            marks: &kept.marks,
-        };
-        let parts = parts_of(&of, &mut kept.timer)?;
-        Ok(parts)
+        let of = with_marks(&self.lookups, routes, &mut kept.marks)?;
+        parts_of(&of, &mut kept.timer)
     }
 
     /// What valid routes cost in all, in `0..=2^63 - 1`.

@@ -1,4 +1,5 @@
 use Rattle.std.proofs.Common.{◌∙◌, ◌++◌, ◌∷◌, [], append_assoc, ap, sym, subst}
+use Rattle.std.proofs.lemmas.Result.{on_ok_weaker}
 use Rattle.vr_model.specs.tables.Tables.{vehicle_at}
 use Rattle.vr_steps.specs.Lines.{hop_between}
 use Rattle.vr_rules.specs.Fronts.{AreReachedBehind}
@@ -18,6 +19,6 @@ returns-clause-reached c =
     let front = c.requires.front in
     let set = visit_set_at model d v _ front.visits c.args.node c.index-next.result.now c.index-next.ensures c.requires.visit in
     let arc = c.hop-arc.ensures.exact ∙ ap (λ origin. hop_between model d v origin c.args.node) (sym (last_behind (vehicle_at model v).start c.args.list.now (c.args.before ∷ []))) in
-    subst (λ list. AreReachedBehind model d v list c.cross.new.self) (append_assoc c.args.list.now (c.args.before ∷ []) (c.args.node ∷ []))
+    on_ok_weaker _ (λ exact. subst (λ list. AreReachedBehind model d v list c.cross.new.self) (append_assoc c.args.list.now (c.args.before ∷ []) (c.args.node ∷ []))
     (behind_visit model c.args.closed.well_formed d v front.dimension front.vehicle before c.args.walk.now c.cross.new.self c.hop-arc.result c.index-next.result.now
-    c.args.self.now.breaks c.requires.here front.breaks c.in_ok-cross.ensures.exact c.args.node arc set)
+    c.args.self.now.breaks c.requires.here front.breaks exact c.args.node arc set)) c.cross.ensures.exact

@@ -1,4 +1,5 @@
 use Rattle.std.proofs.Common.{◌∙◌, ap}
+use Rattle.std.proofs.lemmas.Result.{on_ok_weaker}
 use Rattle.vr_steps.specs.Lines.{hop_between}
 use Rattle.vr_rules.proofs.FrontLemmas.{behind_visit, tail_is, to_visit, visit_set_at}
 use Rattle.vr_rules.proofs.fronts.Front.leave.Goals as goal
@@ -16,5 +17,5 @@ returns-clause-reached c =
     let front = c.requires.front in
     let set = visit_set_at model d v _ front.visits c.args.node c.index-next.result.now c.index-next.ensures c.requires.visit in
     let arc = c.hop-arc.ensures.exact ∙ ap (λ origin. hop_between model d v origin c.args.node) (c.last_stop-origin.ensures ∙ tail_is model v list) in
-    behind_visit model c.args.closed.well_formed d v front.dimension front.vehicle list c.args.self.now.here c.cross_from.new.self c.hop-arc.result c.index-next.result.now
-    c.args.self.now.breaks front.reached front.breaks c.in_ok-cross_from.ensures.exact c.args.node arc set
+    on_ok_weaker _ (λ exact. behind_visit model c.args.closed.well_formed d v front.dimension front.vehicle list c.args.self.now.here c.cross_from.new.self c.hop-arc.result c.index-next.result.now
+    c.args.self.now.breaks front.reached front.breaks exact c.args.node arc set) c.cross_from.ensures.exact

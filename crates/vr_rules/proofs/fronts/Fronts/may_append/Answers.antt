@@ -1,5 +1,6 @@
-use Rattle.std.proofs.Common.{◌∙◌, ap, sym}
+use Rattle.std.proofs.Common.{◌≡◌, ◌∙◌, ap, subst, sym}
 use Rattle.std.specs.List.{list_all}
+use Rattle.std.specs.Prelude.{IfOk}
 use Rattle.vr_model.specs.routes.Rules.{allows_vehicle}
 use Rattle.vr_rules.specs.Placing.{nodes_of}
 use Rattle.vr_rules.proofs.FrontLemmas.{closed_by_dimension, closed_by_vehicle, open_by_pairs, visits_after, visits_before}
@@ -23,5 +24,5 @@ returns-then-not-branch c =
 pub returns : goal.returns
 returns c =
     let of_model = ap (λ model. list_all (allows_vehicle model c.args.v) (nodes_of c.args.item)) c.nodes.ensures in
-    c.in_ok-keeps.ensures
-    ∙ sym (open_by_pairs c.args.lookups.now.closed.model.now c.args.v c.args.list.now (nodes_of c.args.item) c.requires.stands c.requires.driven.some (sym of_model ∙ sym c.allows_item.ensures ∙ c.if-not-allows_item.false) (sym c.in_ok-is_feasible_with.ensures ∙ c.if-not-branch.false))
+    let same = sym (open_by_pairs c.args.lookups.now.closed.model.now c.args.v c.args.list.now (nodes_of c.args.item) c.requires.stands c.requires.driven.some (sym of_model ∙ sym c.allows_item.ensures ∙ c.if-not-allows_item.false) (sym c.in_ok-is_feasible_with.ensures ∙ c.if-not-branch.false)) in
+    subst (λ y. IfOk c.keeps_pairs_with.result (λ may. may ≡ y)) same c.keeps_pairs_with.ensures

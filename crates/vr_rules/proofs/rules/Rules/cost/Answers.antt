@@ -1,14 +1,20 @@
-use Rattle.std.proofs.Common.{◌∙◌, ap, subst, sym}
-use Rattle.std.specs.Prelude.{IsTrue}
+use Rattle.std.proofs.Common.{◌≡◌, ◌∙◌, ap₂, subst, sym}
+use Rattle.std.specs.Prelude.{IfOk, IsTrue}
 use Rattle.vr_model.specs.routes.Costs.{assigned, parts_at}
 use Rattle.vr_model.specs.routes.Routes.{are_lists}
+use Rattle.vr_model.specs.routes.Rules.{is_valid}
 use Rattle.vr_model.proofs.routes.Lists.{are-lists}
 use Rattle.vr_rules.proofs.rules.Rules.cost.Goals as goal
 
-pub invariant_of-of-clause-lists : goal.invariant_of-of-clause-lists
-invariant_of-of-clause-lists c =
+pub with_marks-requires : goal.with_marks-requires
+with_marks-requires c =
     let lists = c.args.routes.now.lists in
     subst (λ model. IsTrue (are_lists model lists)) (sym c.self.view_is) (are-lists c.args.self.now lists c.requires.valid)
 
+pub parts_of-requires : goal.parts_of-requires
+parts_of-requires c = ap₂ is_valid (c.in_ok-of.ensures.model ∙ c.self.view_is) c.in_ok-of.ensures.lists ∙ c.requires.valid
+
 pub returns-clause-parts : goal.returns-clause-parts
-returns-clause-parts c = c.in_ok-parts.ensures.parts ∙ ap (λ model. parts_at model (assigned model c.args.routes.now.lists)) c.self.view_is
+returns-clause-parts c =
+    let same = ap₂ (λ model lists. parts_at model (assigned model lists)) (c.in_ok-of.ensures.model ∙ c.self.view_is) c.in_ok-of.ensures.lists in
+    subst (λ y. IfOk c.parts_of.result (λ parts. parts ≡ y)) same c.parts_of.ensures.parts
