@@ -1,6 +1,6 @@
 -- Paths along the pieces of a list.
-use Rattle.std.proofs.Common.{◌≡◌, ◌∙◌, ℕ, zero, suc, ◌+◌, ◌-◌, ◌<◌, ◌≤◌, false, cond, List, [], ◌∷◌, ◌++◌, length, take, drop, refl, sym, ap, arith, length-append}
-use Rattle.std.specs.Prelude.{ℤ, pos, ◌+ℤ◌, ◌-ℤ◌, slice_index_or, slice_range, All}
+use Rattle.std.proofs.Common.{◌≡◌, ◌∙◌, ℕ, zero, suc, ◌+◌, ◌-◌, ◌<◌, ◌≤◌, cond, List, [], ◌∷◌, ◌++◌, length, take, drop, refl, sym, ap, arith, length-append}
+use Rattle.std.specs.Prelude.{ℤ, pos, ◌+ℤ◌, ◌-ℤ◌, slice_index_or, slice_range}
 use Rattle.std.proofs.lemmas.Int.{ints}
 use Rattle.std.proofs.lemmas.List.{get_or-take, drop-drop, drop_all, length-drop, length-take-le, take-append-drop}
 use Rattle.vr_model.specs.declared.records.Model.{Model}
@@ -8,12 +8,12 @@ use Rattle.vr_model.specs.tables.Numbers.{total_by}
 use Rattle.vr_model.specs.tables.Tables.{arc_cost, vehicle_at, no_vehicle}
 use Rattle.vr_model.specs.tables.WellFormed.{IsWellFormed}
 use Rattle.vr_model.specs.routes.Routes.{arcs_from, cost_of_arc, is_empty, route_cost}
-use Rattle.vr_balance.specs.Sums.{path_sum, last_of, IsUpTo}
+use Rattle.vr_balance.specs.Sums.{path_sum, last_of}
 use Rattle.vr_balance.proofs.Paths.{path-append, last-append}
 use Rattle.vr_parts.proofs.EmptyLemmas.{empty-where, some-where}
 use Rattle.vr_arccosts.specs.Chains.{first_of}
 use Rattle.vr_arccosts.specs.Along.{between_cost}
-use Rattle.vr_arccosts.proofs.ChainLemmas.{path-bounds, costs-of, last-at}
+use Rattle.vr_arccosts.proofs.ChainLemmas.{last-at}
 
 pub as-path : (model : Model) (v at : ℕ) (xs : List ℕ) → total_by (cost_of_arc model) (arcs_from v at xs) ≡ path_sum (arc_cost model v) at xs
 as-path model v at [] = refl
@@ -37,13 +37,6 @@ start-below model well v known = (well.each_vehicle v no_vehicle known).start_in
 
 pub end-below : (model : Model) → IsWellFormed model → (v : ℕ) → v < length model.vehicles → (vehicle_at model v).end < model.nodes
 end-below model well v known = (well.each_vehicle v no_vehicle known).end_in_range
-
--- a path of a vehicle from a node through nodes of the model
-pub path-up : (model : Model) → IsWellFormed model → (v : ℕ) → v < length model.vehicles → (at : ℕ) → at < model.nodes → (xs : List ℕ) → All (λ node. node < model.nodes) xs → length xs ≤ 8000
-    → IsUpTo 8000 (path_sum (arc_cost model v) at xs)
-path-up model well v known at here xs all few =
-    let b = path-bounds model.nodes (arc_cost model v) (costs-of model well v known false) at xs here all in
-    record { low = b.low; high = omega (arith, ints, few, b.high) }
 
 -- ---- a list of which both ends are kept
 

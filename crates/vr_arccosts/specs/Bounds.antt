@@ -10,13 +10,13 @@ IsChainCost = IsUpTo 1000
 abbrev pub IsPieceFurther : ℤ → ℤ → Type 0
 IsPieceFurther before after = (n : ℕ) → IsUpTo n before → IsUpTo (n + 1001) after
 
--- what the arcs along eight pieces at most come to
+-- what the arcs along six pieces at most come to
 abbrev pub IsPathCost : ℤ → Type 0
-IsPathCost = IsUpTo 8008
+IsPathCost = IsUpTo 6006
 
 -- what they come to with the arc to the stop behind
 abbrev pub IsGapCost : ℤ → Type 0
-IsGapCost = IsUpTo 8009
+IsGapCost = IsUpTo 6007
 
 -- sums have room for one stop more of a line, which has 1002: the ends, and 1000 nodes at most
 abbrev pub HasRoomForStop : List ℤ → Type 0

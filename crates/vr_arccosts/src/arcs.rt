@@ -17,10 +17,9 @@ use crate::lines::Along;
 use crate::walks::{Driven, Gap};
 use std::alloc::Global;
 use std::marker::Model;
-use vr_balance::strip;
 use vr_model::{Model as RoutingModel, NoMemory, Pair};
 use vr_parts::{InfallibleCost, ListCost, added_by};
-use vr_routes::{Change, Piece, Routes, Row};
+use vr_routes::{Change, Piece, Routes, Row, Splice};
 
 /// The arc costs of used vehicles (`SetArcCostEvaluatorOfVehicle` in OR-Tools). To tell what a change adds takes no
 /// longer for long lists than for short ones, where the vehicles have the same costs; a commit goes along the changed
@@ -83,7 +82,7 @@ impl<'m> ArcCost<'m> {
         requires order { front ≤ behind }
         requires place { behind ≤ length (route routes.now.lists v) }
         requires known { All (IsKnownPiece self.now.model routes.now.lists) pieces.now }
-        requires few { length pieces.now ≤ 8 }
+        requires few { length pieces.now ≤ 6 }
         ensures value { result ≡ costs_more self.now.model routes.now.lists v
             (with_between (route routes.now.lists v) front behind (joined routes.now.lists pieces.now)) }
         ensures range { IsAddedByList result }
@@ -173,9 +172,14 @@ impl<'m> ListCost for ArcCost<'m> {
     ghost keeps = { StandsAlong };
 
     #[inline]
-    fn list_adds(&self, routes: &Routes, v: u32, pieces: &[Piece]) -> i64 {
-        let ends = strip(routes, v, pieces);
-        self.between_adds(routes, v, ends.front, ends.behind, ends.middle)
+    fn list_adds(&self, routes: &Routes, splice: Splice<'_>) -> i64 {
+        self.between_adds(
+            routes,
+            splice.vehicle,
+            splice.front,
+            splice.behind,
+            splice.middle,
+        )
     }
 }
 

@@ -1,10 +1,10 @@
 //! Paths of vehicles along pieces of lists.
 
 ghost use Rattle.std.proofs.Props.{props};
-ghost use Rattle.std.specs.Prelude.{◌≡◌, ◌<◌, ◌≤◌, ◌+◌, ◌+ℤ◌, ◌++◌};
+ghost use Rattle.std.specs.Prelude.{◌≡◌, ◌<◌, ◌≤◌, ◌+◌, ◌+ℤ◌};
 ghost use Rattle.std.specs.Prelude.{ℕ, All, drop, length, slice_index_or, take};
 ghost use Rattle.vr_model.specs.tables.Tables.{arc_cost, vehicle_at};
-ghost use Rattle.vr_model.specs.routes.Routes.{is_empty, route};
+ghost use Rattle.vr_model.specs.routes.Routes.{route};
 ghost use Rattle.vr_routes.specs.declared.pieces.Piece.TheVariants.{Chain};
 ghost use Rattle.vr_routes.specs.Pieces.{joined, nodes_of, IsWithin};
 ghost use Rattle.vr_balance.specs.Sums.{last_of, path_sum};
@@ -14,7 +14,8 @@ ghost use Rattle.vr_arccosts.specs.Bounds.{IsChainCost, IsGapCost, IsPathCost, I
 
 use crate::costs::ArcCosts;
 use crate::lines::Along;
-use vr_routes::{Piece, Routes};
+use vr_parts::is_left_empty;
+use vr_routes::{Piece, Routes, Splice};
 
 /// A vehicle of the committed lists: what its arcs cost, and the sums along the lines of all of them.
 #[derive(Clone, Copy)]
@@ -42,7 +43,7 @@ impl<'a, 'm> Gap<'a, 'm> {
     #[inline(always)]
     pub fn cost_along(&self, pieces: &[Piece]) -> i64
         requires within { All (IsWithin self.now.of.routes.now.lists) pieces.now }
-        requires few { length pieces.now ≤ 8 }
+        requires few { length pieces.now ≤ 6 }
         requires nodes { All (λ node. node < self.now.of.costs.now.model.now.nodes)
             (joined self.now.of.routes.now.lists pieces.now) }
         ensures value { let of = self.now.of in
@@ -51,31 +52,19 @@ impl<'a, 'm> Gap<'a, 'm> {
             (joined of.routes.now.lists pieces.now) }
         ensures range { IsGapCost result }
     {
-        if self.is_left_empty(pieces) {
+        let splice = Splice {
+            vehicle: self.of.costs.vehicle,
+            front: self.front,
+            behind: self.behind,
+            middle: pieces,
+        };
+        if is_left_empty(self.of.routes, splice) {
             return 0;
         }
         let from = self.node_before();
         let to = self.node_behind();
         let path = self.of.path_along(from, pieces);
         path.cost + self.of.costs.cost(path.at, to)
-    }
-
-    // Whether no node is left of the list with pieces in the gap.
-    #[inline(always)]
-    fn is_left_empty(&self, pieces: &[Piece]) -> bool
-        requires within { All (IsWithin self.now.of.routes.now.lists) pieces.now }
-        requires few { length pieces.now ≤ 8 }
-        ensures { let of = self.now.of in let list = route of.routes.now.lists of.costs.now.vehicle in
-            result ≡ is_empty (take self.now.front list
-            ++ (joined of.routes.now.lists pieces.now ++ drop self.now.behind list)) }
-    {
-        if self.front > 0 {
-            return false;
-        }
-        if self.behind < self.of.routes.len(self.of.costs.vehicle) {
-            return false;
-        }
-        Piece::nodes_in(self.of.routes, pieces) == 0
     }
 
     // The node of the stop before the gap.
@@ -114,7 +103,7 @@ impl<'a, 'm> Driven<'a, 'm> {
     #[inline(always)]
     fn path_along(&self, at: u32, pieces: &[Piece]) -> Path
         requires within { All (IsWithin self.now.routes.now.lists) pieces.now }
-        requires few { length pieces.now ≤ 8 }
+        requires few { length pieces.now ≤ 6 }
         requires nodes { All (λ node. node < self.now.costs.now.model.now.nodes)
             (joined self.now.routes.now.lists pieces.now) }
         requires at { at < self.now.costs.now.model.now.nodes }

@@ -8,6 +8,19 @@ use Rattle.vr_balance.specs.Sums.{last_of, path_sum}
 use Rattle.vr_arccosts.specs.Chains.{first_of}
 use Rattle.vr_arccosts.proofs.walks.Gap.cost_along.Goals as goal
 
+pub is_left_empty-requires : goal.is_left_empty-requires
+is_left_empty-requires c =
+    let of = c.args.self.now.of in
+    let there = of.costs.now.there in
+    let many = of.have.as_many in
+    record {
+      vehicle = omega (arith, there, many);
+      order = c.args.self.now.order;
+      high = c.args.self.now.place;
+      within = c.requires.within;
+      few = c.requires.few;
+    }
+
 pub returns-then-is_left_empty-clause-value : goal.returns-then-is_left_empty-clause-value
 returns-then-is_left_empty-clause-value c =
     let list : List ℕ = route c.args.self.now.of.routes.now.lists c.args.self.now.of.costs.now.vehicle in
