@@ -1,5 +1,4 @@
 pub mod BalanceLemmas
 pub mod ApartLemmas
 pub mod ActiveLemmas
-pub mod EndLemmas
 pub mod Paths

@@ -1,3 +1,2 @@
 pub mod Balances
-pub mod Ends
 pub mod Sums

@@ -1,5 +1,5 @@
-//! What a change brings into lists, what it takes out of them, and what it keeps of a list at its ends; how many nodes
-//! of a group are active; sums along paths.
+//! What a change brings into lists and what it takes out of them; how many nodes of a group are active; sums along
+//! paths.
 //!
 //! [`Sums`] keeps, for each node of a path, what a measure gives of the arcs before it: what a stretch of the path
 //! comes to is one subtraction. The filters of loads and groups, the costs of arcs and the penalties of guided search
@@ -8,10 +8,8 @@
 
 mod active;
 mod balance;
-mod ends;
 mod sums;
 
 pub use active::active_in;
 pub use balance::Balance;
-pub use ends::{Ends, strip};
 pub use sums::Sums;
