@@ -7,23 +7,28 @@ use Rattle.vr_model.specs.schedules.Lines.{line}
 use Rattle.vr_model.specs.schedules.Schedules.{IsFeasible}
 use Rattle.vr_model.specs.declared.records.Model.{Model}
 use Rattle.vr_reach.specs.Lists.{IsUsed}
-use Rattle.vr_routes.specs.Pieces.{joined, IsWithin}
+use Rattle.vr_routes.specs.Pieces.{joined, IsSplice, IsWithin}
 use Rattle.vr_routes.specs.declared.pieces.Piece.{Piece}
 use Rattle.vr_routes.specs.declared.pieces.Piece.TheVariants.{Chain, Node}
+use Rattle.vr_routes.specs.declared.pieces.Splice.{Splice}
 
--- these pieces, each within its list, are joined to another list of vehicle v than it has here, of distinct visits
-pub record AreJoined (model : Model) (v : ℕ) (lists : List (List ℕ)) (pieces : List Piece) : Type 0 where
-  pub known : v < length lists
-  pub short : length (route lists v) ≤ 1000
-  pub within : All (IsWithin lists) pieces
-  pub used : IsUsed model (joined lists pieces)
-  pub few : length (joined lists pieces) ≤ 1000
+-- these pieces, each within its list, are joined to another list of vehicle v than it has here, of distinct visits, and
+-- are a splice of that one
+pub record AreJoined (model : Model) (v : ℕ) (lists : List (List ℕ)) (pieces : List Piece) (splice : Splice) : Type 0
+  where
+    pub known : v < length lists
+    pub short : length (route lists v) ≤ 1000
+    pub within : All (IsWithin lists) pieces
+    pub spliced : IsSplice lists v pieces splice.front splice.behind splice.middle.now
+    pub used : IsUsed model (joined lists pieces)
+    pub few : length (joined lists pieces) ≤ 1000
 
--- the same of a vehicle of the model, whose line with that list is feasible in dimension d
-pub record AreJoinedFeasibly (model : Model) (d v : ℕ) (lists : List (List ℕ)) (pieces : List Piece) : Type 0 where
-  pub vehicle : v < length model.vehicles
-  pub are : AreJoined model v lists pieces
-  pub feasible : IsFeasible (line model d v (joined lists pieces))
+-- the same of the vehicle of the splice, one of the model, whose line with that list is feasible in dimension d
+pub record AreJoinedFeasibly (model : Model) (d : ℕ) (lists : List (List ℕ)) (pieces : List Piece) (splice : Splice)
+    : Type 0 where
+  pub vehicle : splice.vehicle < length model.vehicles
+  pub are : AreJoined model splice.vehicle lists pieces splice
+  pub feasible : IsFeasible (line model d splice.vehicle (joined lists pieces))
 
 -- a piece lies within its list in one way at most
 pub IsWithin-prop : (lists : List (List ℕ)) (piece : Piece) → IsProp (IsWithin lists piece)

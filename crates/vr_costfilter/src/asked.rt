@@ -11,23 +11,24 @@ use crate::kept_ways::KeptWays;
 use crate::led::LedPieces;
 use crate::tight::TightEnds;
 use crate::trails::Trail;
-use vr_balance::strip;
 use vr_earliest::along_pieces;
 use vr_plan::Timing;
-use vr_routes::{Piece, Routes};
+use vr_routes::{Piece, Routes, Splice};
 
 /// The list that pieces are joined to, in the place of the one that the vehicle of a guide has.
 #[derive(Drop)]
-pub struct Asked<'a, 'm> {
+pub struct Asked<'a, 'm, 's> {
     pub guide: &'a Guide<'m>,
     pub routes: &'a Routes,
     pub pieces: &'a [Piece],
+    /// The list as a splice of the one that the vehicle has.
+    pub splice: Splice<'s>,
     /// The pieces lie within their lists, and are joined to a list of distinct visits.
-    pub ghost sound: { AreJoined guide.now.model.now guide.now.v routes.now.lists pieces.now } by { Prim.hlevel
+    pub ghost sound: { AreJoined guide.now.model.now guide.now.v routes.now.lists pieces.now splice } by { Prim.hlevel
         (props, IsWithin-prop) },
 }
 
-impl<'a, 'm> Asked<'a, 'm> {
+impl<'a, 'm, 's> Asked<'a, 'm, 's> {
     ghost use Rattle.vr_costfilter.specs.Asked.{new_line, old_list, ChoiceAllows, IsNewTimingFound};
     ghost use Rattle.vr_costfilter.specs.GuideRuns.{runs_of, HasItsRuns};
     ghost use Rattle.vr_costfilter.specs.KeptWays.{AreWays, HasCumuls};
@@ -46,6 +47,7 @@ impl<'a, 'm> Asked<'a, 'm> {
             guide: &guide,
             routes: self.routes,
             pieces: self.pieces,
+            splice: self.splice,
         };
         asked.timing_along(trail)
     }
@@ -83,10 +85,10 @@ impl<'a, 'm> Asked<'a, 'm> {
         ensures last { IsLeastEnd (new_line self.now) result.last }
         ensures start { IsLatestStart (new_line self.now) result.last result.start }
     {
-        let ends = strip(self.routes, self.guide.v, self.pieces);
-        let front = kept.way(ends.front);
-        let left = kept.rest(ends.behind);
-        let way = along_pieces(self.guide, self.routes, ends.middle, front);
+        let splice = self.splice;
+        let front = kept.way(splice.front);
+        let left = kept.rest(splice.behind);
+        let way = along_pieces(self.guide, self.routes, splice.middle, front);
         let whole = self.guide.way_through(way, left);
         self.guide.ends_by(whole)
     }

@@ -104,7 +104,7 @@ impl AllCumuls {
             table,
             d,
         };
-        kept.timing_after(&at, part.vehicle(), part.routes, part.pieces(), trail)
+        kept.timing_after(&at, part.routes, part.pieces(), part.splice(), trail)
     }
 
     /// Commits the lists after a change, where they are valid. It is called before the routes are changed, and takes no
@@ -159,8 +159,7 @@ fn kept_in(
     if !is_paid(closed, table, d, paid) {
         return Ok(KeptCumuls::none(alloc));
     }
-    let kept = KeptCumuls::open(alloc, closed, table, d, routes)?;
-    Ok(kept)
+    KeptCumuls::open(alloc, closed, table, d, routes)
 }
 
 // Vehicle `v` gets another list, in all dimensions.

@@ -159,10 +159,8 @@ impl<'m> GlobalSpan<'m> {
         if self.rules.is_idle() {
             return Ok([None; 4]);
         }
-        let row = self
-            .rules
-            .row_after(&self.cumuls, routes, change, k, &mut self.scratch)?;
-        Ok(row)
+        self.rules
+            .row_after(&self.cumuls, routes, change, k, &mut self.scratch)
     }
 
     // Writes the rows of the lists after a change, and makes none ready.

@@ -41,7 +41,7 @@ use std::marker::Model;
 use vr_earliest::write_ways;
 use vr_model::{Closed, NoMemory, ScheduleRule};
 use vr_plan::{KnownDimension, Table, Timing};
-use vr_routes::{Piece, Routes};
+use vr_routes::{Piece, Routes, Splice};
 
 /// What is kept of the list of a vehicle.
 #[derive(Drop)]
@@ -200,6 +200,7 @@ impl KeptList {
             guide: &kept,
             routes: asked.routes,
             pieces: asked.pieces,
+            splice: asked.splice,
         };
         self.steps.after(&asked, Some(start), trail)
     }
@@ -297,28 +298,30 @@ impl KeptCumuls {
         }
     }
 
-    /// What the chosen schedule of the list that pieces are joined to comes to, for vehicle `v` in a dimension.
-    /// Nothing exactly where what is kept does not tell: where nothing is kept, the vehicle has breaks, or a stop
-    /// allows several runs of cumuls. Of an earliest schedule what the change keeps of the front of the list is walked
-    /// as far back as it gets another floor, and of its end as much as gets another cumul. Of a tight one what it keeps
-    /// is not walked; where soft upper bounds may cost anything it is, from the start until a cumul is as kept, and
-    /// wholly where the list ends at another cumul. The trail is written over.
+    /// What the chosen schedule of the list that pieces are joined to comes to in a dimension, where they are a splice
+    /// of the list that its vehicle has. Nothing exactly where what is kept does not tell: where nothing is kept, the
+    /// vehicle has breaks, or a stop allows several runs of cumuls. Of an earliest schedule what the change keeps of
+    /// the front of the list is walked as far back as it gets another floor, and of its end as much as gets another
+    /// cumul. Of a tight one what it keeps is not walked; where soft upper bounds may cost anything it is, from the
+    /// start until a cumul is as kept, and wholly where the list ends at another cumul. The trail is written over.
     pub fn timing_after(
         &self,
         at: &KnownDimension,
-        v: u32,
         routes: &Routes,
         pieces: &[Piece],
+        splice: Splice<'_>,
         trail: &mut Trail,
     ) -> Option<Timing>
         requires at { IsKnownDimension at.now }
         requires kept { AreKept at.now.model.now at.now.d routes.now.lists self.now }
-        requires joined { AreJoinedFeasibly at.now.model.now at.now.d v routes.now.lists pieces.now }
-        ensures known { IsTrue (is_some result)
-            ↔ IsKnown at.now.model.now at.now.d v (route routes.now.lists v) self.now }
-        ensures timing { IfSome result (IsTiming at.now.model.now at.now.d v (joined routes.now.lists pieces.now)) }
+        requires joined { AreJoinedFeasibly at.now.model.now at.now.d routes.now.lists pieces.now splice }
+        ensures known { IsTrue (is_some result) ↔ IsKnown at.now.model.now at.now.d splice.entry.vehicle
+            (route routes.now.lists splice.entry.vehicle) self.now }
+        ensures timing { IfSome result
+            (IsTiming at.now.model.now at.now.d splice.entry.vehicle (joined routes.now.lists pieces.now)) }
         ensures range { IfSome result (IsTimingOf (length (joined routes.now.lists pieces.now) + 2)) }
     {
+        let v = splice.vehicle;
         if v as usize >= self.lists.len() {
             return None;
         }
@@ -327,6 +330,7 @@ impl KeptCumuls {
             guide: &guide,
             routes,
             pieces,
+            splice,
         };
         let kept = &self.lists[v as usize];
         let vehicle = at.model.vehicles.get(v as usize);

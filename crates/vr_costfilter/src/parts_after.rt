@@ -6,12 +6,12 @@ ghost use Rattle.std.specs.List.{list_all};
 ghost use Rattle.vr_model.specs.routes.Routes.{is_distinct, is_empty};
 ghost use Rattle.vr_model.specs.tables.Tables.{is_visit};
 ghost use Rattle.vr_model.specs.tables.WellFormedOnce.{IsWellFormed-prop};
-ghost use Rattle.vr_routes.specs.Pieces.{part_at, IsWithin};
+ghost use Rattle.vr_routes.specs.Pieces.{part_at, IsSplice, IsWithin};
 ghost use Rattle.vr_costfilter.specs.Joined.{IsWithin-prop};
 ghost use Rattle.vr_costfilter.specs.ValidParts.{IsValidPart};
 
 use vr_model::Model;
-use vr_routes::{Change, Piece, Routes, Row};
+use vr_routes::{Change, Piece, Routes, Row, Splice};
 
 /// Part `k` of a change of routes, before which and after which the lists are valid.
 #[derive(Drop)]
@@ -43,6 +43,16 @@ impl<'a> PartAfter<'a> {
         ensures few { length result.now ≤ 8 }
     {
         self.change.pieces(self.k)
+    }
+
+    /// Its list as a splice of the one before.
+    pub fn splice(&self) -> Splice<'_>
+        ensures vehicle { result.vehicle ≡ vehicle_after self.now }
+        ensures known { result.vehicle < length self.now.model.now.vehicles }
+        ensures ends { IsSplice self.now.routes.now.lists (vehicle_after self.now)
+            (part_at self.now.change.now self.now.k).pieces result.front result.behind result.middle.now }
+    {
+        self.change.splice(self.routes, self.k)
     }
 
     /// Whether its list is empty.

@@ -166,8 +166,7 @@ impl<'m> SpanRules<'m> {
             change,
             k,
         };
-        let timings = row_of_part(&part, self.lookups.tables(), cumuls, scratch)?;
-        Ok(timings)
+        row_of_part(&part, self.lookups.tables(), cumuls, scratch)
     }
 
     /// What the global spans cost, where these vehicles get lists of which these rows tell.
@@ -320,8 +319,7 @@ fn kept_after(
         v: part.vehicle(),
         list: scratch.row.as_slice(),
     };
-    let timing = kept_in(&tour, table, d, &mut scratch.timer)?;
-    Ok(timing)
+    kept_in(&tour, table, d, &mut scratch.timer)
 }
 
 // What the global spans cost in all dimensions.

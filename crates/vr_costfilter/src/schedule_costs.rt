@@ -148,8 +148,7 @@ impl<'m> PlanRules<'m> {
         if part.is_empty() {
             return Ok(0);
         }
-        let cost = cost_of_part(&part, self.lookups.tables(), cumuls, scratch)?;
-        Ok(cost)
+        cost_of_part(&part, self.lookups.tables(), cumuls, scratch)
     }
 
     /// What the spans of the list cost at least that part `k` of a change gives its vehicle. No schedule is built.
@@ -240,8 +239,7 @@ fn cost_of_plan_after(
         v,
         list: scratch.row.as_slice(),
     };
-    let cost = cost_of_plan(&tour, table, d, &mut scratch.timer)?;
-    Ok(cost)
+    cost_of_plan(&tour, table, d, &mut scratch.timer)
 }
 
 // What the spans of a list that has nodes cost at least.

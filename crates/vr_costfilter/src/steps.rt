@@ -24,7 +24,6 @@ use crate::led::{LedChain, LedList, LedPieces};
 use crate::tight::only;
 use crate::trails::{Step, Trail};
 use arrayvec::ArrayVec;
-use vr_balance::strip;
 use vr_plan::Timing;
 
 /// The steps and the stages of a list.
@@ -158,15 +157,15 @@ impl KeptSteps {
             list,
             kept: self,
         };
-        let ends = strip(asked.routes, guide.v, asked.pieces);
-        let front = ends.front as usize;
-        let behind = ends.behind as usize;
+        let splice = asked.splice;
+        let front = splice.front as usize;
+        let behind = splice.behind as usize;
         trail.steps.clear();
         let next = known.step_behind(behind);
         let led = LedPieces {
             guide,
             routes: asked.routes,
-            pieces: ends.middle,
+            pieces: splice.middle,
         };
         let first = led.back_along(next, trail)?;
         let lead = known.lead(front, first, trail)?;

@@ -1,7 +1,7 @@
 use Rattle.std.proofs.Common.{◌∙◌, ap, sym, subst, refl, arith}
 use Rattle.std.proofs.lemmas.Int.{ints}
+use Rattle.std.specs.Prelude.{IfOk}
 use Rattle.vr_model.specs.tables.Tables.{no_dimension}
-use Rattle.vr_routes.specs.Pieces.{joined, part_at}
 use Rattle.vr_costfilter.specs.GlobalCosts.{IsToldIfPaid}
 use Rattle.vr_costfilter.proofs.KnownLemmas.{tour-of}
 use Rattle.vr_costfilter.proofs.PartLemmas.{list-of-part}
@@ -41,7 +41,6 @@ invariant_of-tour c =
 pub returns : goal.returns
 returns c =
     let m = c.args.part.now.model.now in
-    let part = part_at c.args.part.now.change.now c.args.part.now.k in
-    let timing = c.in_ok-timing.timing in
-    subst (λ v. IsToldIfPaid m c.args.d v (joined c.args.part.now.routes.now.lists part.pieces) timing) c.vehicle.ensures.value
-    (subst (λ l. IsToldIfPaid m c.args.d c.vehicle.result l timing) (c.as_slice.ensures.value ∙ c.write.ensures.list) c.in_ok-timing.ensures)
+    let found = c.kept_in.result in
+    subst (λ v. IfOk found (IsToldIfPaid m c.args.d v (list_after c.args.part.now))) c.vehicle.ensures.value
+    (subst (λ l. IfOk found (IsToldIfPaid m c.args.d c.vehicle.result l)) (c.as_slice.ensures.value ∙ c.write.ensures.list) c.kept_in.ensures)

@@ -1,6 +1,6 @@
-use Rattle.std.proofs.Common.{◌≡◌, ◌∙◌, ◌+◌, ℕ, List, length, ap, arith, to_z, of_z, w64}
+use Rattle.std.proofs.Common.{◌≡◌, ◌∙◌, ◌+◌, ℕ, List, length, ap, subst, arith}
 use Rattle.std.proofs.lemmas.Int.{ints}
-use Rattle.std.specs.Prelude.{◌+ℤ◌, ◌-ℤ◌, ◌*ℤ◌}
+use Rattle.std.specs.Prelude.{◌+ℤ◌, ◌-ℤ◌, ◌*ℤ◌, IfOk}
 use Rattle.vr_model.specs.tables.Numbers.{number_at}
 use Rattle.vr_model.specs.tables.Tables.{dimension_at}
 use Rattle.vr_routes.specs.Pieces.{joined, part_at}
@@ -47,10 +47,7 @@ pub returns-clause-value : goal.returns-clause-value
 returns-clause-value c =
     let m = c.args.part.now.model.now in
     let d = c.args.d in
-    let part = part_at c.args.part.now.change.now c.args.part.now.k in
-    let e = c.in_ok-cost.ensures in
-    let low = e.range.low in
-    let high = e.range.high in
-    let read : to_z w64 (of_z w64 c.in_ok-cost.cost) ≡ c.in_ok-cost.cost = omega (arith, ints, low, high) in
-    read ∙ e.value ∙ ap (λ l. soft_with m d c.vehicle-v.result l +ℤ span_with m d c.vehicle-v.result l) (c.as_slice.ensures.value ∙ c.write.ensures.list)
-    ∙ ap (λ v. soft_with m d v (joined c.args.part.now.routes.now.lists part.pieces) +ℤ span_with m d v (joined c.args.part.now.routes.now.lists part.pieces)) c.vehicle-v.ensures.value
+    let list = list_after c.args.part.now in
+    let found = c.cost_of_plan.result in
+    subst (λ v. IfOk found (λ cost. cost ≡ soft_with m d v list +ℤ span_with m d v list)) c.vehicle-v.ensures.value
+    (subst (λ l. IfOk found (λ cost. cost ≡ soft_with m d c.vehicle-v.result l +ℤ span_with m d c.vehicle-v.result l)) (c.as_slice.ensures.value ∙ c.write.ensures.list) c.cost_of_plan.ensures.value)

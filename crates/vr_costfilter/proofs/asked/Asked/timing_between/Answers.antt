@@ -9,7 +9,7 @@ pub invariant_of-asked : goal.invariant_of-asked
 invariant_of-asked c =
     let asked = c.args.self.now in
     let e = c.between-guide.ensures in
-    record { sound = of-guide c.between-guide.result e.model e.dimension e.vehicle e.runs (λ model d v runs. AreJoined model v asked.routes.now.lists asked.pieces.now) asked.sound }
+    record { sound = of-guide c.between-guide.result e.model e.dimension e.vehicle e.runs (λ model d v runs. AreJoined model v asked.routes.now.lists asked.pieces.now asked.splice) asked.sound }
 
 pub timing_along-requires : goal.timing_along-requires
 timing_along-requires c =

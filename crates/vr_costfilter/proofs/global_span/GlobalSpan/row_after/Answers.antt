@@ -1,4 +1,5 @@
 use Rattle.std.proofs.Common.{List, ℕ, ap, subst, sym, ◌∙◌}
+use Rattle.std.specs.Prelude.{IfOk}
 use Rattle.vr_model.specs.declared.records.Model.{Model}
 use Rattle.vr_routes.specs.Pieces.{joined, part_at}
 use Rattle.vr_costfilter.specs.GlobalCosts.{IsRow}
@@ -16,3 +17,8 @@ returns-then-is_idle-clause-kept c =
 
 pub row_after-requires-clause-change : goal.row_after-requires-clause-change
 row_after-requires-clause-change c = subst (λ (s : KeptSpans). IsValidChange (AreCumulsAt s.model s.cumuls) s.model c.args.routes.now c.args.change.now) (sym c.self.view_is) (spans-cumuls c.args.self.now c.args.routes.now c.args.change.now c.requires.change)
+
+pub returns-clause-kept : goal.returns-clause-kept
+returns-clause-kept c =
+    let part = part_at c.args.change.now c.args.k in
+    subst (λ (m : Model). IfOk c.row_after.result (IsRow m part.vehicle (joined c.args.routes.now.lists part.pieces))) (ap (λ s. s.model) c.self.view_is) c.row_after.ensures

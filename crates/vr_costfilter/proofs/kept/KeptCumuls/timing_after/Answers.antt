@@ -37,7 +37,7 @@ pub invariant_of-asked : goal.invariant_of-asked
 invariant_of-asked c =
     let e = c.in_ok-guide.ensures in
     let lists : List (List ℕ) = c.args.routes.now.lists in
-    record { sound = subst (λ m. AreJoined m c.in_ok-guide.guide.v lists c.args.pieces.now) (sym e.model) (subst (λ v. AreJoined c.args.at.now.model.now v lists c.args.pieces.now) (sym e.vehicle) c.requires.joined.are) }
+    record { sound = subst (λ m. AreJoined m c.in_ok-guide.guide.v lists c.args.pieces.now c.args.splice) (sym e.model) (subst (λ v. AreJoined c.args.at.now.model.now v lists c.args.pieces.now c.args.splice) (sym e.vehicle) c.requires.joined.are) }
 
 pub returns-then-v-len-clause-known : goal.returns-then-v-len-clause-known
 returns-then-v-len-clause-known c =
@@ -68,13 +68,13 @@ returns-in-Earliest-clause-known c =
     let new : List ℕ = joined c.args.routes.now.lists c.args.pieces.now in
     let feasible = subst (λ u. IsFeasible (line c.args.at.now.model.now c.args.at.now.d u new)) (sym e.vehicle) c.requires.joined.feasible in
     let by_guide = subst (λ w. IsFeasible (line w guide.d guide.v new)) (sym e.model) (subst (λ n. IsFeasible (line c.args.at.now.model.now n guide.v new)) (sym e.dimension) feasible) in
-    told-so c.args.at.now.model.now c.args.at.now.d c.args.v guide.v c.args.routes.now.lists c.self.inside.lists.items c.args.self.now c.self.view_is c.index-kept.result.now (omega (arith, c.len.ensures, c.if-v-len.false)) c.index-kept.ensures (sym e.known) e.vehicle
+    told-so c.args.at.now.model.now c.args.at.now.d c.args.splice.vehicle guide.v c.args.routes.now.lists c.self.inside.lists.items c.args.self.now c.self.view_is c.index-kept.result.now (omega (arith, c.len.ensures, c.if-v-len.false)) c.index-kept.ensures (sym e.known) e.vehicle
     (c.get-vehicle.ensures.value no_vehicle) c.in-Earliest.is (is_some c.earliest_after.result) (c.earliest_after.ensures.known by_guide)
 
 pub returns-in-Tight-clause-known : goal.returns-in-Tight-clause-known
 returns-in-Tight-clause-known c =
     let e = c.in_ok-guide.ensures in
-    told-so c.args.at.now.model.now c.args.at.now.d c.args.v c.in_ok-guide.guide.v c.args.routes.now.lists c.self.inside.lists.items c.args.self.now c.self.view_is c.index-kept.result.now (omega (arith, c.len.ensures, c.if-v-len.false)) c.index-kept.ensures (sym e.known) e.vehicle
+    told-so c.args.at.now.model.now c.args.at.now.d c.args.splice.vehicle c.in_ok-guide.guide.v c.args.routes.now.lists c.self.inside.lists.items c.args.self.now c.self.view_is c.index-kept.result.now (omega (arith, c.len.ensures, c.if-v-len.false)) c.index-kept.ensures (sym e.known) e.vehicle
     (c.get-vehicle.ensures.value no_vehicle) c.in-Tight.is (is_some c.tight_after.result) c.tight_after.ensures.known
 
 pub earliest_after-requires : goal.earliest_after-requires

@@ -15,7 +15,7 @@ pub invariant_of-asked : goal.invariant_of-asked
 invariant_of-asked c =
     let asked = c.args.asked.now in
     let e = c.between-kept.ensures in
-    record { sound = of-guide c.between-kept.result e.model e.dimension e.vehicle e.runs (λ model d v runs. AreJoined model v asked.routes.now.lists asked.pieces.now) asked.sound }
+    record { sound = of-guide c.between-kept.result e.model e.dimension e.vehicle e.runs (λ model d v runs. AreJoined model v asked.routes.now.lists asked.pieces.now asked.splice) asked.sound }
 
 pub after-requires-clause-allows : goal.after-requires-clause-allows
 after-requires-clause-allows c =

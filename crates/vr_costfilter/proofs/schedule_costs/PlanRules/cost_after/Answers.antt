@@ -1,5 +1,9 @@
-use Rattle.std.proofs.Common.{◌∙◌, sym, subst}
+use Rattle.std.proofs.Common.{◌≡◌, ◌∙◌, sym, subst}
+use Rattle.std.specs.Prelude.{IfOk}
+use Rattle.vr_model.specs.declared.records.Model.{Model}
+use Rattle.vr_routes.specs.Pieces.{part_at}
 use Rattle.vr_costfilter.specs.Kept.{AreAllKept}
+use Rattle.vr_costfilter.specs.PlanCosts.{cost_after}
 use Rattle.vr_costfilter.proofs.KnownLemmas.{valid-part}
 use Rattle.vr_costfilter.proofs.schedule_costs.PlanRules.cost_after.Goals as goal
 
@@ -12,3 +16,6 @@ cost_of_part-requires-clause-used c =
       some = sym c.is_empty.ensures ∙ c.if-is_empty.false;
       cumuls = subst (λ m. AreAllKept m c.args.routes.now.lists c.args.cumuls.now) (sym c.self.view_is) c.requires.change.stands.cumuls;
     }
+
+pub returns-clause-value : goal.returns-clause-value
+returns-clause-value c = subst (λ (m : Model). IfOk c.cost_of_part.result (λ cost. cost ≡ cost_after m c.args.routes.now.lists (part_at c.args.change.now c.args.k))) c.self.view_is c.cost_of_part.ensures.value
