@@ -14,7 +14,7 @@ use Rattle.vr_model.proofs.tables.Tests.{clash}
 use Rattle.vr_model.proofs.tables.Members.{In, from_map, of_below}
 use Rattle.vr_model.proofs.tables.Ranges.{below-more}
 use Rattle.vr_rules.proofs.LazyLeast.{IsBest, IsBest-none, IsBest-fold, IsKnown}
-use Rattle.vr_first_savings.specs.declared.choice.Choice.{Choice}
+use Rattle.vr_first_savings.specs.declared.choice.JoinChoice.{JoinChoice}
 use Rattle.vr_first_savings.specs.Joins.{MayBeJoined, join_of, key_of, choice_at, best_behind, best_of_joins}
 use Rattle.vr_first_savings.proofs.JoinLemmas.{not-itself}
 
@@ -35,10 +35,10 @@ abbrev row : List (List ℕ) → List ℕ → List Join
 row routes front = map (λ back. record { front = front; back = back }) routes
 
 module _ (model : Model) (routes : List (List ℕ)) where
-  abbrev IsBestJoin : Option Choice → List Join → Type 0
+  abbrev IsBestJoin : Option JoinChoice → List Join → Type 0
   IsBestJoin = IsBest (join_of routes) (join_key model) key_of (may_join model) (MayBeJoined model routes)
 
-  abbrev Known : Choice → Type 0
+  abbrev Known : JoinChoice → Type 0
   Known = IsKnown (join_of routes) (join_key model) key_of (may_join model) (MayBeJoined model routes) (λ choice. may_join model (join_of routes choice))
 
   known : (i j : ℕ) → i < length routes → j < length routes → Known (choice_at model routes i j)
@@ -60,14 +60,14 @@ module _ (model : Model) (routes : List (List ℕ)) where
       ∙ sym (map-map (λ back. record { front = route routes i; back = back }) (route routes) (below (length routes)))
       ∙ ap (map (λ back. record { front = route routes i; back = back })) (routes-at routes)
 
-  best-row : (i : ℕ) → i < length routes → (best : Option Choice) (xs : List Join) → IsBestJoin best xs → IsBestJoin (best_behind model routes i (length routes) best) (xs ++ row routes (route routes i))
+  best-row : (i : ℕ) → i < length routes → (best : Option JoinChoice) (xs : List Join) → IsBestJoin best xs → IsBestJoin (best_behind model routes i (length routes) best) (xs ++ row routes (route routes i))
   best-row i low best xs before =
       subst (λ ys. IsBestJoin (best_behind model routes i (length routes) best) (xs ++ ys)) (same-row i)
       (IsBest-fold (join_of routes) (join_key model) key_of (may_join model) (MayBeJoined model routes) (λ choice. may_join model (join_of routes choice))
       best (map (choice_at model routes i) (below (length routes))) xs before
       (λ choice there. from_map (choice_at model routes i) (below (length routes)) choice there (λ j j_in is. subst Known (sym is) (known i j low (of_below (length routes) j j_in)))))
 
-  best-rows : (is : List ℕ) → ((i : ℕ) → In is i → i < length routes) → (best : Option Choice) (xs : List Join) → IsBestJoin best xs
+  best-rows : (is : List ℕ) → ((i : ℕ) → In is i → i < length routes) → (best : Option JoinChoice) (xs : List Join) → IsBestJoin best xs
       → IsBestJoin (fold (λ best i. best_behind model routes i (length routes) best) best is) (xs ++ each is (λ i. row routes (route routes i)))
   best-rows [] low best xs before = subst (IsBestJoin best) (sym (append-nil xs)) before
   best-rows (i ∷ is) low best xs before =

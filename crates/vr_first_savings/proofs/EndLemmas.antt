@@ -8,7 +8,7 @@ use Rattle.vr_model.specs.tables.WellFormed.{IsWellFormed}
 use Rattle.vr_model.specs.routes.Routes.{route}
 use Rattle.vr_model.specs.first.Items.{first_node, last_node}
 use Rattle.vr_model.proofs.tables.Bounds.{arc_cost_in_range}
-use Rattle.vr_first_savings.specs.declared.ends.Ends.{Ends}
+use Rattle.vr_first_savings.specs.declared.ends.EndsOfRoute.{EndsOfRoute}
 use Rattle.vr_first_savings.specs.Joins.{AreApart}
 use Rattle.vr_first_savings.specs.RouteEnds.{ends_of, unread, AreEnds}
 use Rattle.vr_first_savings.proofs.JoinLemmas.{last-below, first-below}
@@ -27,9 +27,9 @@ are_ends model routes i well are low =
     }
 
 -- the ends that code reads
-pub ends_read : (model : Model) (routes : List (List ℕ)) (ends : List Ends) (i : ℕ) → ends ≡ map (ends_of model) routes → i < length routes → slice_index_or ends i unread ≡ ends_of model (route routes i)
+pub ends_read : (model : Model) (routes : List (List ℕ)) (ends : List EndsOfRoute) (i : ℕ) → ends ≡ map (ends_of model) routes → i < length routes → slice_index_or ends i unread ≡ ends_of model (route routes i)
 ends_read model routes ends i are low = ap (λ es. slice_index_or es i unread) are ∙ get_or-map (ends_of model) routes i [] unread low
 
 -- they are ends
-pub read_are_ends : (model : Model) (routes : List (List ℕ)) (ends : List Ends) (i : ℕ) → IsWellFormed model → AreApart model routes → ends ≡ map (ends_of model) routes → i < length routes → AreEnds model (slice_index_or ends i unread)
+pub read_are_ends : (model : Model) (routes : List (List ℕ)) (ends : List EndsOfRoute) (i : ℕ) → IsWellFormed model → AreApart model routes → ends ≡ map (ends_of model) routes → i < length routes → AreEnds model (slice_index_or ends i unread)
 read_are_ends model routes ends i well apart are low = subst (AreEnds model) (sym (ends_read model routes ends i are low)) (are_ends model routes i well apart low)

@@ -20,7 +20,7 @@ use Rattle.vr_model.proofs.routes.Lists.{list_all-route, is_distinct-route, is_d
 use Rattle.vr_lists.proofs.VisitLists.{visits-below}
 use Rattle.vr_rules.proofs.PlacingLemmas.{inactive-route, is_distinct-apart, is_distinct-both}
 use Rattle.vr_model.proofs.routes.Lists.{is_active-concat}
-use Rattle.vr_first_savings.specs.declared.choice.Choice.{Choice}
+use Rattle.vr_first_savings.specs.declared.choice.JoinChoice.{JoinChoice}
 use Rattle.vr_first_savings.specs.Joins.{AreApart, join_of, choice_at, weigh, best_behind, best_of_joins}
 
 -- a node of one of the lists is active
@@ -68,20 +68,20 @@ firsts-differ model routes i j are low_i low_j other =
     (apart-nodes routes i j (first_node (route routes i)) are.distinct other (holds-first (route routes i) (some-route model routes i are low_i))))
 
 -- a route is not joined with itself
-pub not-itself : (model : Model) (routes : List (List ℕ)) (choice : Choice) → choice.front ≡ choice.back → may_join model (join_of routes choice) ≡ false
+pub not-itself : (model : Model) (routes : List (List ℕ)) (choice : JoinChoice) → choice.front ≡ choice.back → may_join model (join_of routes choice) ≡ false
 not-itself model routes choice same =
     ap (λ b. not b && is_route_open model 0 (route routes choice.front ++ route routes choice.back))
     (eq-eqb (first_node (route routes choice.front)) (first_node (route routes choice.back)) (ap (λ k. first_node (route routes k)) same))
 
 -- two others may be joined where the joined route is open
-pub where-open : (model : Model) (routes : List (List ℕ)) (choice : Choice) → AreApart model routes → choice.front < length routes → choice.back < length routes → choice.front ≢ choice.back
+pub where-open : (model : Model) (routes : List (List ℕ)) (choice : JoinChoice) → AreApart model routes → choice.front < length routes → choice.back < length routes → choice.front ≢ choice.back
     → may_join model (join_of routes choice) ≡ is_route_open model 0 (route routes choice.front ++ route routes choice.back)
 where-open model routes choice are low_front low_back other =
     ap (λ b. not b && is_route_open model 0 (route routes choice.front ++ route routes choice.back)) (firsts-differ model routes choice.front choice.back are low_front low_back other)
 
 -- ---- the best join
 
-pub best_behind-more : (model : Model) (routes : List (List ℕ)) (i j : ℕ) (best : Option Choice) → best_behind model routes i (j + 1) best ≡ weigh model routes (best_behind model routes i j best) (choice_at model routes i j)
+pub best_behind-more : (model : Model) (routes : List (List ℕ)) (i j : ℕ) (best : Option JoinChoice) → best_behind model routes i (j + 1) best ≡ weigh model routes (best_behind model routes i j best) (choice_at model routes i j)
 best_behind-more model routes i j best =
     ap (λ ks. fold (weigh model routes) best (map (choice_at model routes i) ks)) (below-more j)
     ∙ ap (fold (weigh model routes) best) (map-append (choice_at model routes i) (below j) (j ∷ []))
@@ -89,7 +89,7 @@ best_behind-more model routes i j best =
 
 pub best_of_joins-more : (model : Model) (routes : List (List ℕ)) (i : ℕ) → best_of_joins model routes (i + 1) ≡ best_behind model routes i (length routes) (best_of_joins model routes i)
 best_of_joins-more model routes i =
-    let step = λ (best : Option Choice) (i : ℕ). best_behind model routes i (length routes) best in
+    let step = λ (best : Option JoinChoice) (i : ℕ). best_behind model routes i (length routes) best in
     ap (fold step None) (below-more i) ∙ fold-append step None (below i) (i ∷ [])
 
 -- the nodes at the ends of a route are nodes of the model

@@ -16,7 +16,7 @@ use Rattle.vr_model.proofs.tables.Tests.{clash}
 use Rattle.vr_model.proofs.tables.Tests.{or-false_left, or-false_right}
 use Rattle.vr_model.proofs.routes.Lists.{is_distinct-left, is_distinct-right}
 use Rattle.vr_rules.proofs.PlacingLemmas.{is_distinct-apart, is_distinct-both}
-use Rattle.vr_first_savings.specs.declared.choice.Choice.{Choice}
+use Rattle.vr_first_savings.specs.declared.choice.JoinChoice.{JoinChoice}
 use Rattle.vr_first_savings.specs.Joins.{AreApart, MayBeJoined, join_of}
 use Rattle.vr_first_savings.proofs.JoinLemmas.{apart-nodes, joined-visits, joined-distinct, some-route}
 
@@ -68,7 +68,7 @@ kept-other false false h = (λ e. clash false e refl, λ e. clash false e refl)
 same-first : (x y : ℕ) → x ≡ y → (x == y) ≡ true
 same-first x y e = eq-eqb x y e
 
-pub AreApart-joined : (model : Model) (routes : List (List ℕ)) (choice : Choice) → AreApart model routes → MayBeJoined model routes choice → AreApart model (joined routes (join_of routes choice))
+pub AreApart-joined : (model : Model) (routes : List (List ℕ)) (choice : JoinChoice) → AreApart model routes → MayBeJoined model routes choice → AreApart model (joined routes (join_of routes choice))
 AreApart-joined model routes choice are may =
     let join : Join = join_of routes choice in
     let keep = λ (list : List ℕ). not (is_part_of join list) in

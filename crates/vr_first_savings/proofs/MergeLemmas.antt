@@ -8,7 +8,7 @@ use Rattle.vr_model.specs.declared.records.Model.{Model}
 use Rattle.vr_model.specs.first.Items.{first_node}
 use Rattle.vr_model.specs.first.Choosing.{least_by}
 use Rattle.vr_model.specs.first.SavingsJoins.{Join, joined, joined_route, is_part_of, is_wanted, join_key, joins, merged}
-use Rattle.vr_first_savings.specs.declared.choice.Choice.{Choice}
+use Rattle.vr_first_savings.specs.declared.choice.JoinChoice.{JoinChoice}
 use Rattle.vr_first_savings.specs.Joins.{join_of, MayBeJoined}
 
 -- the one of the next route that is kept
@@ -48,12 +48,12 @@ pub read-item : (routes : List (List ℕ)) (i : ℕ) (route item : List ℕ) →
 read-item routes i route item low same is = get_or_default routes i route item low ∙ sym is ∙ sym same
 
 -- the best join, as code finds it, and whether it finds it wanted
-pub record IsFound (model : Model) (routes : List (List ℕ)) (choice : Choice) (wanted : Bool) : Type 0 where
+pub record IsFound (model : Model) (routes : List (List ℕ)) (choice : JoinChoice) (wanted : Bool) : Type 0 where
   pub best : least_by (join_key model) (joins model routes) ≡ Some (join_of routes choice)
   pub may : MayBeJoined model routes choice
   pub tells : wanted ≡ is_wanted model routes (join_of routes choice)
 
-pub found-read : (model : Model) (routes read : List (List ℕ)) (choice : Choice) (found : Option Choice) (count : ℕ) (wanted : Bool) → read ≡ routes → found ≡ Some choice
+pub found-read : (model : Model) (routes read : List (List ℕ)) (choice : JoinChoice) (found : Option JoinChoice) (count : ℕ) (wanted : Bool) → read ≡ routes → found ≡ Some choice
     → option_map (join_of read) found ≡ least_by (join_key model) (joins model read) → IfSome found (MayBeJoined model read) → count ≡ length routes
     → wanted ≡ (int_lt (pos 0) choice.saving || nat_lt (length model.vehicles) count) → IsFound model routes choice wanted
 found-read model routes read choice found count wanted same is best may many tells =

@@ -9,7 +9,7 @@ use Rattle.vr_model.specs.first.Choosing.{better}
 use Rattle.vr_model.specs.first.Items.{first_node, last_node}
 use Rattle.vr_model.specs.first.SavingsJoins.{Join, may_join, saving}
 use Rattle.vr_model.specs.declared.records.Model.{Model}
-use Rattle.vr_first_savings.specs.declared.choice.Choice.{Choice}
+use Rattle.vr_first_savings.specs.declared.choice.JoinChoice.{JoinChoice}
 
 -- routes with visits, none of which stands twice
 pub record AreApart (model : Model) (routes : List (List ℕ)) : Type 0 where
@@ -18,11 +18,11 @@ pub record AreApart (model : Model) (routes : List (List ℕ)) : Type 0 where
   pub distinct : IsTrue (is_distinct (concat routes))
 
 -- the join that a choice stands for
-abbrev pub join_of : List (List ℕ) → Choice → Join
+abbrev pub join_of : List (List ℕ) → JoinChoice → Join
 join_of routes choice = record { front = route routes choice.front; back = route routes choice.back }
 
 -- what a choice is compared by: the greatest saving first, then the last node in front, then the first node behind
-abbrev pub key_of : Choice → List ℤ
+abbrev pub key_of : JoinChoice → List ℤ
 key_of choice = neg_ℤ choice.saving ∷ pos choice.last ∷ pos choice.first ∷ []
 
 -- what it saves to drive from one node to another, and not over the end and the start
@@ -31,7 +31,7 @@ saved model last first = (arc_cost model 0 last (vehicle_at model 0).end
     +ℤ arc_cost model 0 (vehicle_at model 0).start first) -ℤ arc_cost model 0 last first
 
 -- the choice of two routes
-abbrev pub choice_at : Model → List (List ℕ) → ℕ → ℕ → Choice
+abbrev pub choice_at : Model → List (List ℕ) → ℕ → ℕ → JoinChoice
 choice_at model routes i j = record {
   front = i;
   back = j;
@@ -41,19 +41,19 @@ choice_at model routes i j = record {
 }
 
 -- the better of the best so far and a choice, which counts only where the two routes may be joined
-abbrev pub weigh : Model → List (List ℕ) → Option Choice → Choice → Option Choice
+abbrev pub weigh : Model → List (List ℕ) → Option JoinChoice → JoinChoice → Option JoinChoice
 weigh model routes best next = cond (may_join model (join_of routes next)) (better key_of best next) best
 
 -- the best beside the joins of route i with the first routes
-abbrev pub best_behind : Model → List (List ℕ) → ℕ → ℕ → Option Choice → Option Choice
+abbrev pub best_behind : Model → List (List ℕ) → ℕ → ℕ → Option JoinChoice → Option JoinChoice
 best_behind model routes i count best = fold (weigh model routes) best (map (choice_at model routes i) (below count))
 
 -- the best of the joins of the first routes with all
-abbrev pub best_of_joins : Model → List (List ℕ) → ℕ → Option Choice
+abbrev pub best_of_joins : Model → List (List ℕ) → ℕ → Option JoinChoice
 best_of_joins model routes count = fold (λ best i. best_behind model routes i (length routes) best) None (below count)
 
 -- a join that may be made: two routes that there are, not one with itself
-pub record MayBeJoined (model : Model) (routes : List (List ℕ)) (choice : Choice) : Type 0 where
+pub record MayBeJoined (model : Model) (routes : List (List ℕ)) (choice : JoinChoice) : Type 0 where
   pub front : choice.front < length routes
   pub back : choice.back < length routes
   pub two : choice.front ≢ choice.back

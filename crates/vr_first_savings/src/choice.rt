@@ -7,7 +7,7 @@ ghost use Rattle.vr_first_savings.specs.Joins.{key_of};
 
 /// Two routes by their places, what joining them saves, and the nodes where they meet.
 #[derive(Clone, Copy)]
-pub(crate) struct Choice {
+pub(crate) struct JoinChoice {
     pub(crate) front: usize,
     pub(crate) back: usize,
     pub(crate) saving: i64,
@@ -16,7 +16,7 @@ pub(crate) struct Choice {
 }
 
 // Whether a choice comes before another: the greater saving, then the lesser nodes.
-fn comes_before(one: Choice, other: Choice) -> bool
+fn comes_before(one: JoinChoice, other: JoinChoice) -> bool
     ensures { result ≡ is_lex_less (key_of one) (key_of other) }
 {
     other.saving < one.saving
@@ -25,7 +25,7 @@ fn comes_before(one: Choice, other: Choice) -> bool
 }
 
 /// Whether a choice is better than the best so far, or the first.
-pub(crate) fn improves(best: Option<Choice>, next: Choice) -> bool
+pub(crate) fn improves(best: Option<JoinChoice>, next: JoinChoice) -> bool
     ensures { result ≡ improves_by key_of best next }
 {
     match best {

@@ -11,7 +11,7 @@ use vr_model::{Closed, NoMemory, Seq};
 /// The last and the first node of a route, and what the arcs cost from the last to the end and from the start to the
 /// first.
 #[derive(Clone, Copy)]
-pub(crate) struct Ends {
+pub(crate) struct EndsOfRoute {
     pub(crate) last: u32,
     pub(crate) first: u32,
     pub(crate) to_end: i64,
@@ -19,13 +19,13 @@ pub(crate) struct Ends {
 }
 
 // The ends of a route with these last and first nodes.
-fn ends_between(closed: Closed<'_>, last: u32, first: u32) -> Ends
+fn ends_between(closed: Closed<'_>, last: u32, first: u32) -> EndsOfRoute
     requires last { last < closed.model.now.nodes }
     requires first { first < closed.model.now.nodes }
     ensures { result ≡ ends_between_of closed.entry.model.now last first }
 {
     let vehicle = closed.model.vehicles.get(0);
-    Ends {
+    EndsOfRoute {
         last,
         first,
         to_end: closed.model.arc_cost(0, last, vehicle.end),
@@ -34,7 +34,7 @@ fn ends_between(closed: Closed<'_>, last: u32, first: u32) -> Ends
 }
 
 // The ends of route `i`.
-fn ends_at(closed: Closed<'_>, routes: &[Seq<u32>], i: usize) -> Ends
+fn ends_at(closed: Closed<'_>, routes: &[Seq<u32>], i: usize) -> EndsOfRoute
     requires apart { AreApart closed.model.now routes.now }
     requires within { i < length routes.now }
     ensures { result ≡ ends_of closed.entry.model.now (route routes.now i) }
@@ -48,7 +48,7 @@ pub(crate) fn ends_of_each(
     alloc: Global,
     closed: Closed<'_>,
     routes: &[Seq<u32>],
-) -> Result<Vec<Ends>, NoMemory>
+) -> Result<Vec<EndsOfRoute>, NoMemory>
     requires apart { AreApart closed.model.now routes.now }
     ensures { IfOk result (λ ends. ends.items ≡ map (ends_of closed.entry.model.now) routes.now) }
 {

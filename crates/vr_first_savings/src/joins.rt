@@ -10,15 +10,15 @@ ghost use Rattle.vr_first_savings.specs.Joins.{best_behind as best_behind_of, ch
 ghost use Rattle.vr_first_savings.specs.Joins.{weigh, AreApart, MayBeJoined};
 ghost use Rattle.vr_first_savings.specs.RouteEnds.{ends_of, AreEnds};
 
-use crate::choice::{Choice, improves};
-use crate::ends::{Ends, ends_of_each};
+use crate::choice::{JoinChoice, improves};
+use crate::ends::{EndsOfRoute, ends_of_each};
 use std::alloc::Global;
 use vr_model::{Closed, NoMemory, Seq};
 use vr_plan::Lookups;
 use vr_rules::{Driving, is_route_open};
 
 // What it saves to drive from the last node of one route to the first of another, and not over the end and the start.
-fn saved(closed: Closed<'_>, front: Ends, back: Ends) -> i64
+fn saved(closed: Closed<'_>, front: EndsOfRoute, back: EndsOfRoute) -> i64
     requires front { AreEnds closed.model.now front }
     requires back { AreEnds closed.model.now back }
     ensures value { result ≡ ((front.to_end +ℤ back.from_start) -ℤ arc_cost closed.entry.model.now 0 front.last
@@ -30,7 +30,13 @@ fn saved(closed: Closed<'_>, front: Ends, back: Ends) -> i64
 }
 
 // The choice of two routes, whose ends are known.
-fn choice_at(closed: Closed<'_>, routes: &[Seq<u32>], ends: &[Ends], i: usize, j: usize) -> Choice
+fn choice_at(
+    closed: Closed<'_>,
+    routes: &[Seq<u32>],
+    ends: &[EndsOfRoute],
+    i: usize,
+    j: usize,
+) -> JoinChoice
     requires apart { AreApart closed.model.now routes.now }
     requires ends { ends.now ≡ map (ends_of closed.model.now) routes.now }
     requires front { i < length routes.now }
@@ -39,7 +45,7 @@ fn choice_at(closed: Closed<'_>, routes: &[Seq<u32>], ends: &[Ends], i: usize, j
 {
     let front = ends[i];
     let back = ends[j];
-    Choice {
+    JoinChoice {
         front: i,
         back: j,
         saving: saved(closed, front, back),
@@ -52,7 +58,7 @@ fn choice_at(closed: Closed<'_>, routes: &[Seq<u32>], ends: &[Ends], i: usize, j
 pub(crate) fn joined(
     alloc: Global,
     routes: &[Seq<u32>],
-    choice: Choice,
+    choice: JoinChoice,
 ) -> Result<Vec<u32>, NoMemory>
     requires front { choice.front < length routes.now }
     requires back { choice.back < length routes.now }
@@ -71,10 +77,10 @@ fn consider(
     alloc: Global,
     lookups: &Lookups<'_>,
     routes: &[Seq<u32>],
-    next: Choice,
-    best: Option<Choice>,
+    next: JoinChoice,
+    best: Option<JoinChoice>,
     driving: &mut Driving,
-) -> Result<Option<Choice>, NoMemory>
+) -> Result<Option<JoinChoice>, NoMemory>
     requires apart { AreApart lookups.now.closed.model.now routes.now }
     requires front { next.front < length routes.now }
     requires back { next.back < length routes.now }
@@ -99,11 +105,11 @@ fn best_behind(
     alloc: Global,
     lookups: &Lookups<'_>,
     routes: &[Seq<u32>],
-    ends: &[Ends],
+    ends: &[EndsOfRoute],
     i: usize,
-    best: Option<Choice>,
+    best: Option<JoinChoice>,
     driving: &mut Driving,
-) -> Result<Option<Choice>, NoMemory>
+) -> Result<Option<JoinChoice>, NoMemory>
     requires apart { AreApart lookups.now.closed.model.now routes.now }
     requires ends { ends.now ≡ map (ends_of lookups.now.closed.model.now) routes.now }
     requires front { i < length routes.now }
@@ -124,14 +130,14 @@ pub(crate) fn best_join(
     lookups: &Lookups<'_>,
     routes: &[Seq<u32>],
     driving: &mut Driving,
-) -> Result<Option<Choice>, NoMemory>
+) -> Result<Option<JoinChoice>, NoMemory>
     requires apart { AreApart lookups.now.closed.model.now routes.now }
     ensures best { IfOk result (λ best. option_map (join_of routes.now) best
         ≡ least_by (join_key lookups.now.closed.model.now) (joins lookups.now.closed.model.now routes.now)) }
     ensures may { IfOk result (λ best. IfSome best (MayBeJoined lookups.now.closed.model.now routes.now)) }
 {
     let ends = ends_of_each(alloc, lookups.closed, routes)?;
-    let mut best: Option<Choice> = None;
+    let mut best: Option<JoinChoice> = None;
     for i in 0..routes.len() {
         best = best_behind(alloc, lookups, routes, &ends, i, best, driving)?;
     }

@@ -7,7 +7,7 @@ ghost use Rattle.vr_model.specs.routes.Routes.{route};
 ghost use Rattle.vr_model.specs.first.SavingsJoins.{joined as joined_by, merged as merged_of};
 ghost use Rattle.vr_first_savings.specs.Joins.{join_of, AreApart};
 
-use crate::choice::Choice;
+use crate::choice::JoinChoice;
 use crate::joins::{best_join, joined};
 use std::alloc::Global;
 use vr_model::{Model, NoMemory, Seq};
@@ -44,7 +44,7 @@ fn first_of(routes: &[Seq<u32>], i: usize) -> u32
 }
 
 // The routes after a join: the joined route, then the others in order.
-fn join(alloc: Global, routes: &[Seq<u32>], choice: Choice) -> Result<Vec<Seq<u32>>, NoMemory>
+fn join(alloc: Global, routes: &[Seq<u32>], choice: JoinChoice) -> Result<Vec<Seq<u32>>, NoMemory>
     requires front { choice.front < length routes.now }
     requires back { choice.back < length routes.now }
     requires some { All (λ route. 0 < length route) routes.now }
@@ -61,7 +61,7 @@ fn join(alloc: Global, routes: &[Seq<u32>], choice: Choice) -> Result<Vec<Seq<u3
 }
 
 // Whether a join saves, or there are more routes than vehicles.
-fn is_wanted(model: &Model, routes: usize, choice: Choice) -> bool
+fn is_wanted(model: &Model, routes: usize, choice: JoinChoice) -> bool
     ensures { result ≡ (int_lt (pos 0) choice.saving || nat_lt (length model.now.vehicles) routes) }
 {
     0 < choice.saving || model.vehicles.len() < routes

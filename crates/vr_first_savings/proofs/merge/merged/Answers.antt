@@ -2,7 +2,7 @@ use Rattle.std.proofs.Common.{◌≡◌, ◌∙◌, ◌+◌, ◌-◌, ℕ, List,
 use Rattle.std.specs.Option.{option_map}
 use Rattle.vr_model.specs.first.Choosing.{least_by}
 use Rattle.vr_model.specs.first.SavingsJoins.{Join, join_key, joins, merged, joined}
-use Rattle.vr_first_savings.specs.declared.choice.Choice.{Choice}
+use Rattle.vr_first_savings.specs.declared.choice.JoinChoice.{JoinChoice}
 use Rattle.vr_first_savings.specs.Joins.{join_of, AreApart}
 use Rattle.vr_first_savings.proofs.MergeLemmas.{found-read, merged-stops, merged-unwanted, merged-next}
 use Rattle.vr_first_savings.proofs.JoinedApart.{AreApart-joined}
@@ -20,7 +20,7 @@ pub returns-then-not-is_wanted-clause-merged : goal.returns-then-not-is_wanted-c
 returns-then-not-is_wanted-clause-merged c =
     let model = c.args.lookups.now.closed.model.now in
     let routes : List (List ℕ) = c.loop-step.routes.items in
-    let choice : Choice = c.in-Some.choice in
+    let choice : JoinChoice = c.in-Some.choice in
     let found = found-read model routes c.deref.result.now choice _ c.len.result c.is_wanted.result c.deref.ensures.value c.in-Some.is c.in_ok-choice.ensures.best c.in_ok-choice.ensures.may (omega arith) c.is_wanted.ensures in
     sym (merged-unwanted model (length c.args.routes.items - c.loop-step._step) routes (join_of routes choice) found.best (sym found.tells ∙ c.if-not-is_wanted.true)) ∙ c.loop-step.invariant.merges
 
@@ -28,7 +28,7 @@ pub loop-step-preserved : goal.loop-step-preserved
 loop-step-preserved c =
     let model = c.args.lookups.now.closed.model.now in
     let routes : List (List ℕ) = c.loop-step.routes.items in
-    let choice : Choice = c.in-Some.choice in
+    let choice : JoinChoice = c.in-Some.choice in
     let join : Join = join_of routes choice in
     let found = found-read model routes c.deref.result.now choice _ c.len.result c.is_wanted.result c.deref.ensures.value c.in-Some.is c.in_ok-choice.ensures.best c.in_ok-choice.ensures.may (omega arith) c.is_wanted.ensures in
     let n : ℕ = length c.args.routes.items in
