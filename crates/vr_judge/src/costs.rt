@@ -213,8 +213,7 @@ impl<'m> Costs<'m> {
     {
         let saved = self.saved_by_run(routes, mv)?;
         let enough = bound.checked_add(saved)?;
-        let first = self.arcs.first_below(routes, mv, from, end, enough)?;
-        Some(first)
+        self.arcs.first_below(routes, mv, from, end, enough)
     }
 
     /// What a change of the committed lists adds to their cost.

@@ -103,8 +103,7 @@ impl<'m> Judge for FilterJudge<'m> {
         mv: Move,
         steps: &mut Steps<L>,
     ) -> Result<Verdict, NoMemory> {
-        let verdict = self.judging.judge(routes, mv, steps)?;
-        Ok(verdict)
+        self.judging.judge(routes, mv, steps)
     }
 
     fn judge_change<L: Ledger>(
@@ -114,8 +113,7 @@ impl<'m> Judge for FilterJudge<'m> {
         change: &Change,
         steps: &mut Steps<L>,
     ) -> Result<Verdict, NoMemory> {
-        let verdict = self.judging.judge_change(routes, mv, change, steps)?;
-        Ok(verdict)
+        self.judging.judge_change(routes, mv, change, steps)
     }
 
     #[inline]
@@ -151,7 +149,6 @@ impl<'m> Judge for FilterJudge<'m> {
     }
 
     fn commit(&mut self, routes: &mut Routes, mv: Move) -> Result<(), NoMemory> {
-        self.judging.commit(routes, mv)?;
-        Ok(())
+        self.judging.commit(routes, mv)
     }
 }

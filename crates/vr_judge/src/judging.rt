@@ -125,14 +125,13 @@ impl<'m, F: PathFilter + Drop> Judge for Judging<'m, F> {
         steps: &mut Steps<L>,
     ) -> Result<Verdict, NoMemory> {
         Change::write(self.model, routes, mv, &mut self.change);
-        let verdict = judge_by(
+        judge_by(
             &mut self.filter,
             &mut self.costs,
             routes,
             &self.change,
             steps,
-        )?;
-        Ok(verdict)
+        )
     }
 
     fn judge_change<L: Ledger>(
@@ -142,8 +141,7 @@ impl<'m, F: PathFilter + Drop> Judge for Judging<'m, F> {
         change: &Change,
         steps: &mut Steps<L>,
     ) -> Result<Verdict, NoMemory> {
-        let verdict = judge_by(&mut self.filter, &mut self.costs, routes, change, steps)?;
-        Ok(verdict)
+        judge_by(&mut self.filter, &mut self.costs, routes, change, steps)
     }
 
     #[inline]

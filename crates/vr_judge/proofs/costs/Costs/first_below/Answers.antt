@@ -1,6 +1,7 @@
 use Rattle.std.proofs.Common.{◌≡◌, ◌∙◌, ℕ, List, ap, arith}
 use Rattle.std.specs.Prelude.{◌-ℤ◌, ◌≤ℤ◌}
 use Rattle.std.proofs.lemmas.Int.{ints}
+use Rattle.std.proofs.lemmas.Option.{IfSome_then}
 use Rattle.vr_model.specs.declared.records.Model.{Model}
 use Rattle.vr_routes.specs.Judging.{cost_change}
 use Rattle.vr_routes.specs.Runs.{with_last}
@@ -9,7 +10,7 @@ use Rattle.vr_judge.proofs.LeastLemmas.{known_of}
 use Rattle.vr_judge.proofs.costs.Costs.first_below.Goals as goal
 
 pub returns-clause-no_less : goal.returns-clause-no_less
-returns-clause-no_less c k low high one valid =
+returns-clause-no_less c = IfSome_then c.first_below.result c.first_below.ensures.no_less λ first told k low high one valid.
     let model : Model = c.args.self.now.model in
     let lists : List (List ℕ) = c.args.routes.now.lists in
     let mv = with_last c.args.mv k in
@@ -19,6 +20,6 @@ returns-clause-no_less c k low high one valid =
     let sum = c.in_ok-enough.ensures in
     let fits = sum.0 in
     let is = sum.1 in
-    let least = known_of c.self.inside.arcs.model model lists mv _ same (c.in_ok-first.ensures.no_less k low high) one in
+    let least = known_of c.self.inside.arcs.model model lists mv _ same (told k low high) one in
     let more : (arcs_added model lists mv -ℤ c.in_ok-saved.saved) ≤ℤ cost_change model lists mv = saved.least k one valid in
     omega (arith, ints, range, fits, is, least, more, saved.range.low, saved.range.high)

@@ -1,4 +1,5 @@
 use Rattle.std.proofs.Common.{◌≡◌, ◌∙◌, refl, sym, ap, subst}
+use Rattle.std.proofs.lemmas.Result.{IfOk-weaker}
 use Rattle.vr_model.specs.routes.Rules.{is_valid}
 use Rattle.vr_model.specs.declared.records.Model.{Model}
 use Rattle.vr_routes.specs.Judging.{verdict_of}
@@ -24,13 +25,9 @@ returns-clause-verdict g c =
     let lists = c.args.routes.now.lists in
     let after = changed lists c.write.new.out in
     let same : c.self.inside.costs.model ≡ c.args.self.now.model = c.self.invariant.costs_model ∙ ap (λ h. h.model) c.self.view_is in
-    c.in_ok-verdict.ensures.verdict ∙ (ap (λ (m : Model). verdict_by m lists after) c.self.invariant.costs_model
-    ∙ (as_move c.self.inside.model.now lists after c.args.mv c.write.ensures.lists_are ∙ ap (λ (h : Model). verdict_of h lists c.args.mv) (ap (λ h. h.model) c.self.view_is)))
+    IfOk-weaker c.judge_by.result _ _ (λ verdict is. is ∙ (ap (λ (m : Model). verdict_by m lists after) c.self.invariant.costs_model
+    ∙ (as_move c.self.inside.model.now lists after c.args.mv c.write.ensures.lists_are ∙ ap (λ (h : Model). verdict_of h lists c.args.mv) (ap (λ h. h.model) c.self.view_is)))) c.judge_by.ensures.verdict
 
 pub invariant_of-self : goal.invariant_of-self
 invariant_of-self g c =
-    stands_on c.self.invariant refl (same_held c.self.invariant c.self.view_is c.requires.holds) c.judge_by.ensures.same_rule c.judge_by.ensures.same_weight c.judge_by.ensures.filter c.judge_by.ensures.model c.judge_by.ensures.costs
-
-pub invariant_of-self-2 : goal.invariant_of-self-2
-invariant_of-self-2 g c =
     stands_on c.self.invariant refl (same_held c.self.invariant c.self.view_is c.requires.holds) c.judge_by.ensures.same_rule c.judge_by.ensures.same_weight c.judge_by.ensures.filter c.judge_by.ensures.model c.judge_by.ensures.costs
