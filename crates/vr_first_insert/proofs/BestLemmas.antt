@@ -30,7 +30,7 @@ use Rattle.vr_rules.proofs.LazyLeast.{IsBest, IsBest-none, IsBest-fold, IsBest-f
 use Rattle.vr_rules.proofs.PlacingLemmas.{fits_beside-marks}
 use Rattle.vr_first_insert.specs.declared.choice.Placing.{Placing}
 use Rattle.vr_first_insert.specs.declared.choice.Placing.TheVariants.{One, Two}
-use Rattle.vr_first_insert.specs.declared.choice.Choice.{Choice}
+use Rattle.vr_first_insert.specs.declared.choice.InsertionChoice.{InsertionChoice}
 use Rattle.vr_first_insert.specs.Placings.{item_in, placed, insertion_of, key_of, tail_key, visit_choice, pair_choice, choices_in, best_in, best_in_lists, counts, best_beside, places_in, AreWithin, MayBeInserted, MayHold}
 use Rattle.vr_first_insert.proofs.PlacedLemmas.{IsAdded-placed, MayHold-inactive}
 use Rattle.vr_first_insert.proofs.IncreaseLemmas.{increase_of, increase-is}
@@ -48,7 +48,7 @@ abbrev pub seen : List (List ℕ) → List Candidate → ℕ → List (List ℕ)
 seen lists candidates i = filter (λ item. not (is_active lists (first_node item))) (map (λ candidate. nodes_of candidate.item) (take i candidates))
 
 -- the best choice among insertions
-abbrev pub IsBestOf : Model → List (List ℕ) → Option Choice → List Insertion → Type 0
+abbrev pub IsBestOf : Model → List (List ℕ) → Option InsertionChoice → List Insertion → Type 0
 IsBestOf model lists best = IsBest insertion_of (insertion_key model lists) key_of (λ insertion. is_open model (inserted lists insertion)) (MayBeInserted model lists) best
 
 -- ---- choices stand for insertions
@@ -57,7 +57,7 @@ map-both : {B D E F : Type 0} (f : B → D) (g : D → F) (h : B → E) (k : E �
 map-both f g h k e [] = refl
 map-both f g h k e (b ∷ bs) = ap₂ (λ x xs. x ∷ xs) (e b) (map-both f g h k e bs)
 
-each-both : (f : ℕ → ℕ → Choice) (h : ℕ → ℕ → List ℕ) (k : List ℕ → Insertion) → ((s t : ℕ) → insertion_of (f s t) ≡ k (h s t)) → (ts : ℕ → List ℕ) (ss : List ℕ)
+each-both : (f : ℕ → ℕ → InsertionChoice) (h : ℕ → ℕ → List ℕ) (k : List ℕ → Insertion) → ((s t : ℕ) → insertion_of (f s t) ≡ k (h s t)) → (ts : ℕ → List ℕ) (ss : List ℕ)
     → map insertion_of (each ss (λ s. map (f s) (ts s))) ≡ map k (each ss (λ s. map (h s) (ts s)))
 each-both f h k e ts [] = refl
 each-both f h k e ts (s ∷ ss) =
@@ -73,10 +73,10 @@ choices-are model lists v cls (PickupAndDelivery p d) =
     (λ s. from_to s (suc (length (route lists v)))) (gaps (route lists v))
 
 -- a choice of an item in the list of vehicle v
-record IsChoice (model : Model) (lists : List (List ℕ)) (v cls : ℕ) (item : Item) (choice : Choice) : Type 0 where
+record IsChoice (model : Model) (lists : List (List ℕ)) (v cls : ℕ) (item : Item) (choice : InsertionChoice) : Type 0 where
   made : (placing : Placing) × (item_in placing ≡ item) × AreWithin (route lists v) placing × (choice ≡ record { placing = placing; class = cls; vehicle = v; increase = increase_of model v (route lists v) placing })
 
-choice-of : (model : Model) (lists : List (List ℕ)) (v cls : ℕ) (item : Item) (choice : Choice) → In (choices_in model v (route lists v) cls item) choice → IsChoice model lists v cls item choice
+choice-of : (model : Model) (lists : List (List ℕ)) (v cls : ℕ) (item : Item) (choice : InsertionChoice) → In (choices_in model v (route lists v) cls item) choice → IsChoice model lists v cls item choice
 choice-of model lists v cls (Visit n) choice there =
     from_map (visit_choice model v (route lists v) cls n) (gaps (route lists v)) choice there
     (λ t low is. record { made = (One n t, refl, (let l = of_below (suc (length (route lists v))) t low in omega (arith, l)), is) })
@@ -110,20 +110,20 @@ module _ (model : Model) (lists : List (List ℕ)) (well_formed : IsWellFormed m
   inserted-is v (Two p d s t) increase = refl
 
   -- what is known of a choice
-  abbrev Known : ℕ → Choice → Type 0
-  Known v = IsKnown insertion_of (insertion_key model lists) key_of (λ insertion. is_open model (inserted lists insertion)) (MayBeInserted model lists) (λ next. is_route_open model next.vehicle (placed (route lists v) next.placing))
+  abbrev KnownItem : ℕ → InsertionChoice → Type 0
+  KnownItem v = IsKnown insertion_of (insertion_key model lists) key_of (λ insertion. is_open model (inserted lists insertion)) (MayBeInserted model lists) (λ next. is_route_open model next.vehicle (placed (route lists v) next.placing))
 
-  known : list_all (has_room marks candidate.item) model.groups ≡ true → (v : ℕ) → v < length lists → (choice : Choice) → In (choices_in model v (route lists v) candidate.class candidate.item) choice → Known v choice
+  known : list_all (has_room marks candidate.item) model.groups ≡ true → (v : ℕ) → v < length lists → (choice : InsertionChoice) → In (choices_in model v (route lists v) candidate.class candidate.item) choice → KnownItem v choice
   known room v low choice there =
       let made = (choice-of model lists v candidate.class candidate.item choice there).made in
       let placing : Placing = made.0 in
       let is : item_in placing ≡ candidate.item = made.1 in
       let within : AreWithin (route lists v) placing = made.2 in
-      subst (Known v) (sym made.3) (at placing is within)
+      subst (KnownItem v) (sym made.3) (at placing is within)
     where
-      at : (placing : Placing) → item_in placing ≡ candidate.item → AreWithin (route lists v) placing → Known v (record { placing = placing; class = candidate.class; vehicle = v; increase = increase_of model v (route lists v) placing })
+      at : (placing : Placing) → item_in placing ≡ candidate.item → AreWithin (route lists v) placing → KnownItem v (record { placing = placing; class = candidate.class; vehicle = v; increase = increase_of model v (route lists v) placing })
       at placing is within =
-          let next : Choice = record { placing = placing; class = candidate.class; vehicle = v; increase = increase_of model v (route lists v) placing } in
+          let next : InsertionChoice = record { placing = placing; class = candidate.class; vehicle = v; increase = increase_of model v (route lists v) placing } in
           let after = inserted-is v placing (increase_of model v (route lists v) placing) in
           let opens : is_open model (inserted lists (insertion_of next)) ≡ is_route_open model v (placed (route lists v) placing) =
           ap (is_open model) after ∙ local v placing low is within ∙ and-true (is_route_open model v (placed (route lists v) placing)) (list_all (has_room marks candidate.item) model.groups) room in
@@ -144,7 +144,7 @@ module _ (model : Model) (lists : List (List ℕ)) (well_formed : IsWellFormed m
           }
 
   -- the best beside the choices in one list
-  best-in : list_all (has_room marks candidate.item) model.groups ≡ true → (v : ℕ) → v < length lists → (best : Option Choice) (xs : List Insertion) → IsBestOf model lists best xs
+  best-in : list_all (has_room marks candidate.item) model.groups ≡ true → (v : ℕ) → v < length lists → (best : Option InsertionChoice) (xs : List Insertion) → IsBestOf model lists best xs
       → IsBestOf model lists (best_in model v (route lists v) candidate best) (xs ++ insertions_in lists (nodes_of candidate.item) v)
   best-in room v low best xs before =
       subst (λ ys. IsBestOf model lists (best_in model v (route lists v) candidate best) (xs ++ ys)) (choices-are model lists v candidate.class candidate.item)
@@ -152,7 +152,7 @@ module _ (model : Model) (lists : List (List ℕ)) (well_formed : IsWellFormed m
       best (choices_in model v (route lists v) candidate.class candidate.item) xs before (known room v low))
 
   -- in lists in turn
-  best-in-each : list_all (has_room marks candidate.item) model.groups ≡ true → (vs : List ℕ) → ((v : ℕ) → In vs v → v < length lists) → (best : Option Choice) (xs : List Insertion) → IsBestOf model lists best xs
+  best-in-each : list_all (has_room marks candidate.item) model.groups ≡ true → (vs : List ℕ) → ((v : ℕ) → In vs v → v < length lists) → (best : Option InsertionChoice) (xs : List Insertion) → IsBestOf model lists best xs
       → IsBestOf model lists (fold (λ best v. best_in model v (route lists v) candidate best) best vs) (xs ++ each vs (insertions_in lists (nodes_of candidate.item)))
   best-in-each room [] low best xs before = subst (IsBestOf model lists best) (sym (append-nil xs)) before
   best-in-each room (v ∷ vs) low best xs before =
@@ -168,7 +168,7 @@ module _ (model : Model) (lists : List (List ℕ)) (well_formed : IsWellFormed m
       let made = (choice-of model lists v candidate.class candidate.item choice c_in).made in
       let placing : Placing = made.0 in
       let low : v < length lists = of_below (length lists) v v_in in
-      let next : Choice = record { placing = placing; class = candidate.class; vehicle = v; increase = increase_of model v (route lists v) placing } in
+      let next : InsertionChoice = record { placing = placing; class = candidate.class; vehicle = v; increase = increase_of model v (route lists v) placing } in
       let same : insertion ≡ insertion_of next = is ∙ ap insertion_of made.3 in
       ap (λ insertion. is_open model (inserted lists insertion)) same
       ∙ ap (is_open model) (inserted-is v placing (increase_of model v (route lists v) placing))
@@ -176,7 +176,7 @@ module _ (model : Model) (lists : List (List ℕ)) (well_formed : IsWellFormed m
       ∙ and-false (is_route_open model v (placed (route lists v) placing)) (list_all (has_room marks candidate.item) model.groups) full))
 
   -- the best beside all insertions of an item that stands in no list
-  best-free : (best : Option Choice) (xs : List Insertion) → IsBestOf model lists best xs → is_marked marks (first_node (nodes_of candidate.item)) ≡ false
+  best-free : (best : Option InsertionChoice) (xs : List Insertion) → IsBestOf model lists best xs → is_marked marks (first_node (nodes_of candidate.item)) ≡ false
       → IsBestOf model lists (best_beside model lists marks candidate best) (xs ++ insertions_of lists (nodes_of candidate.item))
   best-free best xs before unmarked = by (list_all (has_room marks candidate.item) model.groups) refl
     where
@@ -194,7 +194,7 @@ module _ (model : Model) (lists : List (List ℕ)) (well_formed : IsWellFormed m
 -- ---- all candidates
 
 -- the best choice among the insertions of the first candidates
-abbrev pub IsBestSoFar : Model → List (List ℕ) → List Candidate → ℕ → Option Choice → Type 0
+abbrev pub IsBestSoFar : Model → List (List ℕ) → List Candidate → ℕ → Option InsertionChoice → Type 0
 IsBestSoFar model lists candidates i best = IsBestOf model lists best (each (seen lists candidates i) (insertions_of lists))
 
 -- the first node of an item is a node
@@ -215,7 +215,7 @@ pub best-begin : (model : Model) (lists : List (List ℕ)) (candidates : List Ca
 best-begin model lists candidates = IsBest-none insertion_of (insertion_key model lists) key_of (λ insertion. is_open model (inserted lists insertion)) (MayBeInserted model lists)
 
 -- one candidate more
-pub best-more : (model : Model) (lists : List (List ℕ)) (marks : List Bool) (candidates : List Candidate) (i : ℕ) (candidate : Candidate) (best chosen : Option Choice)
+pub best-more : (model : Model) (lists : List (List ℕ)) (marks : List Bool) (candidates : List Candidate) (i : ℕ) (candidate : Candidate) (best chosen : Option InsertionChoice)
     → IsWellFormed model → AreBuilt model lists → AreMarks model.nodes lists marks → IsCandidate model candidate → i < length candidates → get_or candidates i candidate ≡ candidate
     → IsBestSoFar model lists candidates i best → chosen ≡ best_beside model lists marks candidate best → IsBestSoFar model lists candidates (i + 1) chosen
 best-more model lists marks candidates i candidate best chosen well_formed built are valid within is before e = by (is_marked marks number) refl
@@ -246,7 +246,7 @@ best-more model lists marks candidates i candidate best chosen well_formed built
         (best-free model lists well_formed built marks are candidate valid free best (each (seen lists candidates i) (insertions_of lists)) before marked))
 
 -- after all candidates
-pub best-end : (model : Model) (lists : List (List ℕ)) (candidates : List Candidate) (i : ℕ) (best : Option Choice) → AreCandidates model candidates → length candidates ≤ i → IsBestSoFar model lists candidates i best
+pub best-end : (model : Model) (lists : List (List ℕ)) (candidates : List Candidate) (i : ℕ) (best : Option InsertionChoice) → AreCandidates model candidates → length candidates ≤ i → IsBestSoFar model lists candidates i best
     → option_map insertion_of best ≡ next_inserted model lists
 best-end model lists candidates i best all high before =
     let whole : seen lists candidates i ≡ unplaced model lists = ap (λ cs. filter (λ item. not (is_active lists (first_node item))) (map (λ candidate. nodes_of candidate.item) cs)) (take_all i candidates high)
@@ -284,7 +284,7 @@ pub candidates-count : (model : Model) (candidates : List Candidate) → AreCand
 candidates-count model candidates all = sym (length-map candidates (λ candidate. nodes_of candidate.item)) ∙ ap length all.all
 
 -- the lists after a choice
-pub inserted-choice : (lists : List (List ℕ)) (choice : Choice) → inserted lists (insertion_of choice) ≡ with_route lists choice.vehicle (placed (route lists choice.vehicle) choice.placing)
+pub inserted-choice : (lists : List (List ℕ)) (choice : InsertionChoice) → inserted lists (insertion_of choice) ≡ with_route lists choice.vehicle (placed (route lists choice.vehicle) choice.placing)
 inserted-choice lists choice = by choice.placing
   where
     by : (placing : Placing) → inserted lists (record { item = nodes_of (item_in placing); vehicle = choice.vehicle; places = places_in placing }) ≡ with_route lists choice.vehicle (placed (route lists choice.vehicle) placing)

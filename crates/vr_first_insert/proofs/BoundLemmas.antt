@@ -11,30 +11,30 @@ use Rattle.vr_model.specs.tables.Tables.{arc_cost}
 use Rattle.vr_model.proofs.tables.Members.{In, from_map, of_from_to}
 use Rattle.vr_rules.specs.Placing.{improves}
 use Rattle.vr_rules.proofs.LazyLeast.{untested}
-use Rattle.vr_first_insert.specs.declared.choice.Choice.{Choice}
+use Rattle.vr_first_insert.specs.declared.choice.InsertionChoice.{InsertionChoice}
 use Rattle.vr_first_insert.specs.Increases.{arc_at, detour, node_before, node_behind, visit_increase, pair_increase}
 use Rattle.vr_first_insert.specs.Placings.{key_of, tail_key, may_improve, pair_choice, placed, weigh, AreLeastAhead, IsAddedAhead, IsLeast, IsLeastAhead, IsLeastIncrease}
-use Rattle.vr_first_insert.specs.declared.vehicle_list.VehicleList.{VehicleList}
+use Rattle.vr_first_insert.specs.declared.vehicle_list.LookedUpList.{LookedUpList}
 
 not-before : (n c : ℕ) (i l b : ℤ) (tail : Bool) → (nat_lt n c || (nat_le n c && int_le l b)) ≡ false → l ≤ℤ i
     → (int_lt (pos n) (pos c) || (int_le (pos n) (pos c) && (int_lt i b || (int_le i b && tail)))) ≡ false
 not-before n c i l b tail h low = Prim.grind arith
 
 -- a choice of the class that adds no less
-pub none-improves : (best : Option Choice) (class : ℕ) (least : ℤ) → may_improve best class least ≡ false → (next : Choice) → next.class ≡ class → least ≤ℤ next.increase → improves key_of best next ≡ false
+pub none-improves : (best : Option InsertionChoice) (class : ℕ) (least : ℤ) → may_improve best class least ≡ false → (next : InsertionChoice) → next.class ≡ class → least ≤ℤ next.increase → improves key_of best next ≡ false
 none-improves None class least h next same low = absurd (cc)
 none-improves (Some b) class least h next same low =
     not-before next.class b.class next.increase least b.increase (is_lex_less (tail_key next) (tail_key b)) (ap (λ n. nat_lt n b.class || (nat_le n b.class && int_le least b.increase)) same ∙ h) low
 
 -- choices none of which is better
-pub passed-over : (model : Model) (list : List ℕ) (best : Option Choice) (choices : List Choice) → ((choice : Choice) → In choices choice → improves key_of best choice ≡ false) → best ≡ fold (weigh model list) best choices
+pub passed-over : (model : Model) (list : List ℕ) (best : Option InsertionChoice) (choices : List InsertionChoice) → ((choice : InsertionChoice) → In choices choice → improves key_of best choice ≡ false) → best ≡ fold (weigh model list) best choices
 passed-over model list best [] h = refl
 passed-over model list best (c ∷ cs) h =
     let here : best ≡ weigh model list best c = untested key_of best c (is_route_open model c.vehicle (placed list c.placing)) (h c (inl refl)) in
     passed-over model list best cs (λ d there. h d (inr there)) ∙ ap (λ b. fold (weigh model list) b cs) here
 
 -- deliveries from a place on, none of which is better
-pub deliveries-passed_over : (model : Model) (v : ℕ) (list : List ℕ) (class pickup delivery s from : ℕ) (best : Option Choice) (least : ℤ) → ((t : ℕ) → from ≤ t → t ≤ length list → least ≤ℤ pair_increase model v list pickup delivery s t)
+pub deliveries-passed_over : (model : Model) (v : ℕ) (list : List ℕ) (class pickup delivery s from : ℕ) (best : Option InsertionChoice) (least : ℤ) → ((t : ℕ) → from ≤ t → t ≤ length list → least ≤ℤ pair_increase model v list pickup delivery s t)
     → may_improve best class least ≡ false → best ≡ fold (weigh model list) best (map (pair_choice model v list class pickup delivery s) (from_to from (suc (length list))))
 deliveries-passed_over model v list class pickup delivery s from best least low h =
     passed-over model list best (map (pair_choice model v list class pickup delivery s) (from_to from (suc (length list)))) (λ choice there.
@@ -125,14 +125,14 @@ ahead-read model v list node k ahead x are read within =
     subst (IsLeastAhead model v list node k) (sym fits) is
 
 -- what code reads of all places
-pub all-read : (list : VehicleList) (node : ℕ) (ahead : List ℤ) (x : ℤ) → AreLeastAhead list.lookups.now.closed.model.now list.vehicle list.nodes.now node ahead → slice_index_or ahead (length list.nodes.now) (pos 0) ≡ x
+pub all-read : (list : LookedUpList) (node : ℕ) (ahead : List ℤ) (x : ℤ) → AreLeastAhead list.lookups.now.closed.model.now list.vehicle list.nodes.now node ahead → slice_index_or ahead (length list.nodes.now) (pos 0) ≡ x
     → IsLeastIncrease list.lookups.now.closed.model.now list.vehicle list.nodes.now node (to_z w64 (of_z w64 x))
 all-read list node ahead x are read =
     let is = ahead-read list.lookups.now.closed.model.now list.vehicle list.nodes.now node (length list.nodes.now) ahead x are read (omega arith) in
     record { adds = λ t within. is.behind t (omega arith) within; small = record { low = is.low; high = is.high } }
 
 -- the least of all places, as code hands it on
-pub least-read : (list : VehicleList) (node : ℕ) (x : ℤ) → IsLeast list.lookups.now.closed.model.now list.vehicle list.nodes.now node x → neg_ℤ (pos (2 ^ 40)) ≤ℤ x → x ≤ℤ pos (2 ^ 41)
+pub least-read : (list : LookedUpList) (node : ℕ) (x : ℤ) → IsLeast list.lookups.now.closed.model.now list.vehicle list.nodes.now node x → neg_ℤ (pos (2 ^ 40)) ≤ℤ x → x ≤ℤ pos (2 ^ 41)
     → IsLeastIncrease list.lookups.now.closed.model.now list.vehicle list.nodes.now node (to_z w64 (of_z w64 x))
 least-read list node x is low high =
     let fits : to_z w64 (of_z w64 x) ≡ x = omega (arith, ints, low, high) in

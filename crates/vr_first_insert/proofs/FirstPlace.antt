@@ -12,7 +12,7 @@ use Rattle.vr_model.proofs.tables.Ranges.{below-more}
 use Rattle.vr_rules.specs.Placing.{improves}
 use Rattle.vr_rules.proofs.LazyLeast.{taken, untested}
 use Rattle.vr_first_insert.specs.declared.bound.Cheapest.{Cheapest}
-use Rattle.vr_first_insert.specs.declared.choice.Choice.{Choice}
+use Rattle.vr_first_insert.specs.declared.choice.InsertionChoice.{InsertionChoice}
 use Rattle.vr_first_insert.specs.declared.choice.Placing.TheVariants.{One}
 use Rattle.vr_first_insert.specs.Increases.{visit_increase}
 use Rattle.vr_first_insert.specs.Placings.{key_of, placed, visit_choice, weigh, IsFirstLeast}
@@ -91,7 +91,7 @@ least-more f n at next is same here = by (int_lt next at.least) refl
 -- ---- the choice of the first place
 
 module _ (model : Model) (v : ℕ) (list : List ℕ) (class node place : ℕ) (is : IsFirstLeast model v list node place) where
-  choice : ℕ → Choice
+  choice : ℕ → InsertionChoice
   choice t = visit_choice model v list class node t
 
   -- the choices before it come behind it
@@ -103,33 +103,33 @@ module _ (model : Model) (v : ℕ) (list : List ℕ) (class node place : ℕ) (i
   behind t late within = not-less class node v t place (visit_increase model v list node place) (visit_increase model v list node t) (is.least t within) late
 
   -- it stays better than the best so far
-  stays : (best : Option Choice) (t : ℕ) → t < place → improves key_of best (visit_choice model v list class node place) ≡ true
+  stays : (best : Option InsertionChoice) (t : ℕ) → t < place → improves key_of best (visit_choice model v list class node place) ≡ true
       → improves key_of (weigh model list best (visit_choice model v list class node t)) (visit_choice model v list class node place) ≡ true
   stays best t low less = by (is_route_open model v (placed list (One node t))) best less
     where
-      next : Choice
+      next : InsertionChoice
       next = visit_choice model v list class node t
 
-      picked : (b : Bool) (c : Choice) → is_lex_less (key_of (visit_choice model v list class node place)) (key_of c) ≡ true → is_lex_less (key_of (visit_choice model v list class node place)) (key_of (cond b next c)) ≡ true
+      picked : (b : Bool) (c : InsertionChoice) → is_lex_less (key_of (visit_choice model v list class node place)) (key_of c) ≡ true → is_lex_less (key_of (visit_choice model v list class node place)) (key_of (cond b next c)) ≡ true
       picked true c h = before t low
       picked false c h = h
 
-      by : (passes : Bool) (best : Option Choice) → improves key_of best (visit_choice model v list class node place) ≡ true
+      by : (passes : Bool) (best : Option InsertionChoice) → improves key_of best (visit_choice model v list class node place) ≡ true
           → improves key_of (cond passes (better key_of best next) best) (visit_choice model v list class node place) ≡ true
       by true None h = before t low
       by true (Some c) h = picked (is_lex_less (key_of next) (key_of c)) c h
       by false best h = h
 
   -- the best of the first n places
-  abbrev best_to : Option Choice → ℕ → Option Choice
+  abbrev best_to : Option InsertionChoice → ℕ → Option InsertionChoice
   best_to best n = fold (weigh model list) best (map (visit_choice model v list class node) (below n))
 
-  one-more : (best : Option Choice) (n : ℕ) → best_to best (n + 1) ≡ weigh model list (best_to best n) (visit_choice model v list class node n)
+  one-more : (best : Option InsertionChoice) (n : ℕ) → best_to best (n + 1) ≡ weigh model list (best_to best n) (visit_choice model v list class node n)
   one-more best n =
       ap (λ ks. fold (weigh model list) best (map (visit_choice model v list class node) ks)) (below-more n)
       ∙ fold-one (weigh model list) best (visit_choice model v list class node) (below n) n
 
-  up_to : (best : Option Choice) (n : ℕ) → n ≤ place → improves key_of best (visit_choice model v list class node place) ≡ true → improves key_of (best_to best n) (visit_choice model v list class node place) ≡ true
+  up_to : (best : Option InsertionChoice) (n : ℕ) → n ≤ place → improves key_of best (visit_choice model v list class node place) ≡ true → improves key_of (best_to best n) (visit_choice model v list class node place) ≡ true
   up_to best zero low less = less
   up_to best (suc n) low less =
       ap (λ k. improves key_of (best_to best k) (visit_choice model v list class node place)) (suc-is n)
@@ -139,7 +139,7 @@ module _ (model : Model) (v : ℕ) (list : List ℕ) (class node place : ℕ) (i
       suc-is : (n : ℕ) → suc n ≡ n + 1
       suc-is n = omega arith
 
-  module _ (best : Option Choice) (less : improves key_of best (visit_choice model v list class node place) ≡ true) (opens : is_route_open model v (placed list (One node place)) ≡ true) where
+  module _ (best : Option InsertionChoice) (less : improves key_of best (visit_choice model v list class node place) ≡ true) (opens : is_route_open model v (placed list (One node place)) ≡ true) where
     here : best_to best (place + 1) ≡ Some (visit_choice model v list class node place)
     here = one-more best place ∙ sym (taken key_of (best_to best place) (visit_choice model v list class node place) (is_route_open model v (placed list (One node place))) (up_to best place (omega arith) less) opens)
 

@@ -11,11 +11,11 @@ use Rattle.vr_rules.specs.declared.items.Candidate.{Candidate}
 use Rattle.vr_model.specs.declared.records.Model.{Model}
 use Rattle.vr_model.specs.tables.Numbers.{below, from_to, each}
 use Rattle.vr_model.proofs.tables.Ranges.{below-more}
-use Rattle.vr_first_insert.specs.declared.choice.Choice.{Choice}
+use Rattle.vr_first_insert.specs.declared.choice.InsertionChoice.{InsertionChoice}
 use Rattle.vr_first_insert.specs.Placings.{best_in, best_in_lists, pair_choice}
 
 -- the choices of a pair with its pickup before place s
-abbrev pub deliveries : Model → ℕ → List ℕ → ℕ → ℕ → ℕ → ℕ → List Choice
+abbrev pub deliveries : Model → ℕ → List ℕ → ℕ → ℕ → ℕ → ℕ → List InsertionChoice
 deliveries model v list class pickup delivery s = map (pair_choice model v list class pickup delivery s) (from_to s (suc (length list)))
 
 range-more : (a n : ℕ) → range_with_len a (suc n) ≡ range_with_len a n ++ (a + n) ∷ []
@@ -28,19 +28,19 @@ from_to-more a b h =
     let f : a + (b - a) ≡ b = omega arith in
     ap (range_with_len a) e ∙ range-more a (b - a) ∙ ap (λ k. range_with_len a (b - a) ++ k ∷ []) f
 
-module _ {S : Type 0} (step : S → Choice → S) (begin : S) where
+module _ {S : Type 0} (step : S → InsertionChoice → S) (begin : S) where
   -- one choice more
-  pub fold-one : (f : ℕ → Choice) (ks : List ℕ) (k : ℕ) → fold step begin (map f (ks ++ k ∷ [])) ≡ step (fold step begin (map f ks)) (f k)
+  pub fold-one : (f : ℕ → InsertionChoice) (ks : List ℕ) (k : ℕ) → fold step begin (map f (ks ++ k ∷ [])) ≡ step (fold step begin (map f ks)) (f k)
   fold-one f ks k = ap (fold step begin) (map-append f ks (k ∷ [])) ∙ fold-append step begin (map f ks) (f k ∷ [])
 
   -- the choices of one number more
-  pub fold-each : (f : ℕ → List Choice) (ks : List ℕ) (k : ℕ) → fold step begin (each (ks ++ k ∷ []) f) ≡ fold step (fold step begin (each ks f)) (f k)
+  pub fold-each : (f : ℕ → List InsertionChoice) (ks : List ℕ) (k : ℕ) → fold step begin (each (ks ++ k ∷ []) f) ≡ fold step (fold step begin (each ks f)) (f k)
   fold-each f ks k =
       ap (fold step begin) (flat_map-append f ks (k ∷ []) ∙ ap (λ ys. each ks f ++ ys) (append-nil (f k))) ∙ fold-append step begin (each ks f) (f k)
 
 -- one list more
-pub best_in_lists-more : (model : Model) (lists : List (List ℕ)) (candidate : Candidate) (v : ℕ) (best : Option Choice)
+pub best_in_lists-more : (model : Model) (lists : List (List ℕ)) (candidate : Candidate) (v : ℕ) (best : Option InsertionChoice)
     → best_in_lists model lists candidate (v + 1) best ≡ best_in model v (route lists v) candidate (best_in_lists model lists candidate v best)
 best_in_lists-more model lists candidate v best =
-    let step = λ (best : Option Choice) (v : ℕ). best_in model v (route lists v) candidate best in
+    let step = λ (best : Option InsertionChoice) (v : ℕ). best_in model v (route lists v) candidate best in
     ap (fold step best) (below-more v) ∙ fold-append step best (below v) (v ∷ [])

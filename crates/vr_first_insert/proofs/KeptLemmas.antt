@@ -16,10 +16,10 @@ use Rattle.vr_rules.specs.Placing.{nodes_of}
 use Rattle.vr_rules.specs.declared.items.Item.{Item}
 use Rattle.vr_rules.specs.declared.items.Item.TheVariants.{Visit, PickupAndDelivery}
 use Rattle.vr_rules.specs.declared.items.Candidate.{Candidate}
-use Rattle.vr_first_insert.specs.declared.choice.Choice.{Choice}
+use Rattle.vr_first_insert.specs.declared.choice.InsertionChoice.{InsertionChoice}
 use Rattle.vr_first_insert.specs.declared.choice.Placing.TheVariants.{One, Two}
-use Rattle.vr_first_insert.specs.declared.known.Known.{Known}
-use Rattle.vr_first_insert.specs.declared.known.Known.TheVariants.{Nothing, AtLeast, Best}
+use Rattle.vr_first_insert.specs.declared.known.KnownItem.{KnownItem}
+use Rattle.vr_first_insert.specs.declared.known.KnownItem.TheVariants.{Nothing, AtLeast, Best}
 use Rattle.vr_model.proofs.tables.Tests.{clash}
 use Rattle.vr_first_insert.specs.Kept.{best_of, candidate_at, is_settled, row_at, AreKnown, AreRows, IsForgotten, IsKnown}
 use Rattle.vr_first_insert.specs.Placings.{best_in, choices_in, may_improve, pair_choice, placed, visit_choice}
@@ -27,7 +27,7 @@ use Rattle.vr_first_insert.proofs.ReadyLemmas.{closed-by_vehicle, passed-closed}
 use Rattle.vr_first_insert.proofs.ToldLemmas.{best-merged, bound-passed_over}
 
 -- an item of which the vehicle may not visit some node
-pub item-closed : (model : Model) (v : ℕ) (list : List ℕ) (candidate : Candidate) (best : Option Choice) → is_route_open model v list ≡ true
+pub item-closed : (model : Model) (v : ℕ) (list : List ℕ) (candidate : Candidate) (best : Option InsertionChoice) → is_route_open model v list ≡ true
     → list_all (allows_vehicle model v) (nodes_of candidate.item) ≡ false → best ≡ best_in model v list candidate best
 item-closed model v list candidate best stands = by candidate.item
   where
@@ -47,13 +47,13 @@ no-better false h = refl
 no-better true h = absurd (clash false h refl)
 
 -- where what is known tells the best, it is so beside the best so far
-pub settled-is : (model : Model) (v : ℕ) (list : List ℕ) (candidate : Candidate) (known : Known) (best : Option Choice) → is_settled known candidate.class best ≡ true → IsKnown model v list candidate known → best_of known best ≡ best_in model v list candidate best
+pub settled-is : (model : Model) (v : ℕ) (list : List ℕ) (candidate : Candidate) (known : KnownItem) (best : Option InsertionChoice) → is_settled known candidate.class best ≡ true → IsKnown model v list candidate known → best_of known best ≡ best_in model v list candidate best
 settled-is model v list candidate Nothing best h is = absurd (clash false h refl)
 settled-is model v list candidate (AtLeast bound) best h is = bound-passed_over model v list candidate best bound.least is (no-better (may_improve best candidate.class bound.least) h)
 settled-is model v list candidate (Best found) best h is = best-merged model v list candidate found best is
 
 -- what is known of one candidate is written
-pub known-written : (model : Model) (v : ℕ) (list : List ℕ) (candidates : List Candidate) (row : List Known) (i : ℕ) (known : Known) → AreKnown model v list candidates row → IsKnown model v list (candidate_at candidates i) known
+pub known-written : (model : Model) (v : ℕ) (list : List ℕ) (candidates : List Candidate) (row : List KnownItem) (i : ℕ) (known : KnownItem) → AreKnown model v list candidates row → IsKnown model v list (candidate_at candidates i) known
     → AreKnown model v list candidates (slice_set row i known)
 known-written model v list candidates row i known are is = record {
   many = length-set row i known ∙ are.many;
@@ -65,7 +65,7 @@ known-written model v list candidates row i known are is = record {
 }
 
 -- one row is written
-pub row-written : (model : Model) (lists : List (List ℕ)) (candidates : List Candidate) (rows : List (List Known)) (v : ℕ) (row : List Known) → AreRows model lists candidates rows
+pub row-written : (model : Model) (lists : List (List ℕ)) (candidates : List Candidate) (rows : List (List KnownItem)) (v : ℕ) (row : List KnownItem) → AreRows model lists candidates rows
     → AreKnown model v (route lists v) candidates row → AreRows model lists candidates (slice_set rows v row)
 row-written model lists candidates rows v row are is = record {
   many = length-set rows v row ∙ are.many;
@@ -77,21 +77,21 @@ row-written model lists candidates rows v row are is = record {
 }
 
 -- one candidate more is forgotten
-pub nothing-more : (row : List Known) (i : ℕ) → i < length row → ((k : ℕ) → k < i → slice_index_or row k Nothing ≡ Nothing) → (k : ℕ) → k < i + 1 → slice_index_or (slice_set row i Nothing) k Nothing ≡ Nothing
+pub nothing-more : (row : List KnownItem) (i : ℕ) → i < length row → ((k : ℕ) → k < i → slice_index_or row k Nothing ≡ Nothing) → (k : ℕ) → k < i + 1 → slice_index_or (slice_set row i Nothing) k Nothing ≡ Nothing
 nothing-more row i there done k low = elim (cases_lt k i) [
   | inl earlier ↦ get_or-set_other row i k Nothing Nothing (λ e. omega (arith, earlier, e)) ∙ done k earlier
   | inr at ↦ (let e : i ≡ k = omega (arith, low, at) in subst (λ j. slice_index_or (slice_set row i Nothing) j Nothing ≡ Nothing) e (get_or-set_same row i Nothing Nothing there))
 ]
 
 -- nothing is known of a list
-known-nothing : (model : Model) (v : ℕ) (list : List ℕ) (candidates : List Candidate) (row : List Known) → length row ≡ length candidates → ((i : ℕ) → slice_index_or row i Nothing ≡ Nothing) → AreKnown model v list candidates row
+known-nothing : (model : Model) (v : ℕ) (list : List ℕ) (candidates : List Candidate) (row : List KnownItem) → length row ≡ length candidates → ((i : ℕ) → slice_index_or row i Nothing ≡ Nothing) → AreKnown model v list candidates row
 known-nothing model v list candidates row many nothing = record {
   many = many;
   each = λ i low. subst (IsKnown model v list (candidate_at candidates i)) (sym (nothing i)) tt;
 }
 
 -- a list has changed, and nothing is known of it
-pub rows-forgotten : (model : Model) (lists : List (List ℕ)) (candidates : List Candidate) (rows after : List (List Known)) (v : ℕ) (list : List ℕ) → v < length lists → AreRows model lists candidates rows
+pub rows-forgotten : (model : Model) (lists : List (List ℕ)) (candidates : List Candidate) (rows after : List (List KnownItem)) (v : ℕ) (list : List ℕ) → v < length lists → AreRows model lists candidates rows
     → IsForgotten v rows after → AreRows model (with_route lists v list) candidates after
 rows-forgotten model lists candidates rows after v list there are is = subst (AreRows model (with_route lists v list) candidates) (sym is.rows_are) (record {
   many = length-set rows v is.row ∙ are.many ∙ sym (length-set lists v list);

@@ -28,8 +28,8 @@ use Rattle.vr_first_insert.proofs.InsertedLemmas.{pair_front, pair_long}
 use Rattle.vr_first_insert.proofs.RowLemmas.{reached_in_each}
 use Rattle.vr_first_insert.specs.declared.choice.Placing.{Placing}
 use Rattle.vr_first_insert.specs.declared.choice.Placing.TheVariants.{One, Two}
-use Rattle.vr_first_insert.specs.declared.choice.Choice.{Choice}
-use Rattle.vr_first_insert.specs.declared.vehicle_list.VehicleList.{VehicleList}
+use Rattle.vr_first_insert.specs.declared.choice.InsertionChoice.{InsertionChoice}
+use Rattle.vr_first_insert.specs.declared.vehicle_list.LookedUpList.{LookedUpList}
 use Rattle.vr_first_insert.specs.declared.vehicle_list.PairIn.{PairIn}
 use Rattle.vr_first_insert.specs.Placings.{item_in, key_of, pair_choice, placed, weigh, AreWithin, MayHold}
 use Rattle.vr_first_insert.proofs.PlacedLemmas.{placed-distinct, placed-visits, split-three}
@@ -59,7 +59,7 @@ MayHold-pickup model list p d may = record {
 }
 
 -- a list that may hold an item is short
-pub few-held : (list : VehicleList) {item : Item} → MayHold list.lookups.now.closed.model.now list.nodes.now item → length list.nodes.now ≤ 1000
+pub few-held : (list : LookedUpList) {item : Item} → MayHold list.lookups.now.closed.model.now list.nodes.now item → length list.nodes.now ≤ 1000
 few-held list may = omega (arith, visits-few list.lookups.now.closed.model.now list.nodes.now may.visits may.distinct, list.lookups.now.closed.well_formed.number_of_nodes.1)
 
 -- ---- a list with the pickup of a pair
@@ -149,14 +149,14 @@ module _ (model : Model) (v : ℕ) (list : List ℕ) (placing : Placing) (within
 -- ---- choices that are passed over
 
 -- choices none of which is open
-pub passed-closed : (model : Model) (list : List ℕ) (best : Option Choice) (choices : List Choice) → ((choice : Choice) → In choices choice → is_route_open model choice.vehicle (placed list choice.placing) ≡ false) → best ≡ fold (weigh model list) best choices
+pub passed-closed : (model : Model) (list : List ℕ) (best : Option InsertionChoice) (choices : List InsertionChoice) → ((choice : InsertionChoice) → In choices choice → is_route_open model choice.vehicle (placed list choice.placing) ≡ false) → best ≡ fold (weigh model list) best choices
 passed-closed model list best [] h = refl
 passed-closed model list best (c ∷ cs) h =
     let here : best ≡ weigh model list best c = sym (ap (λ b. cond b (better key_of best c) best) (h c (inl refl))) in
     passed-closed model list best cs (λ d there. h d (inr there)) ∙ ap (λ b. fold (weigh model list) b cs) here
 
 -- deliveries from a place on, where nothing is reached before it
-pub deliveries-stuck : (model : Model) (v : ℕ) (list : List ℕ) (class p d s t : ℕ) (best : Option Choice) (probes : Probes) → v < length model.vehicles → MayHold model list (PickupAndDelivery p d) → s ≤ t → t ≤ length list
+pub deliveries-stuck : (model : Model) (v : ℕ) (list : List ℕ) (class p d s t : ℕ) (best : Option InsertionChoice) (probes : Probes) → v < length model.vehicles → MayHold model list (PickupAndDelivery p d) → s ≤ t → t ≤ length list
     → AreReachedAt model v (insert list s p) (t + 1) probes → ReachNoEnd model probes → best ≡ fold (weigh model list) best (map (pair_choice model v list class p d s) (from_to t (suc (length list))))
 deliveries-stuck model v list class p d s t best probes low may order within at no_end =
     passed-closed model list best (map (pair_choice model v list class p d s) (from_to t (suc (length list)))) (λ choice there.

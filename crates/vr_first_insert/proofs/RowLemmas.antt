@@ -10,7 +10,7 @@ use Rattle.vr_reach.specs.Rows.{BothWays}
 use Rattle.vr_reach.specs.KnownRows.{AreRowsIfUsed}
 use Rattle.vr_reach.specs.Stretches.{SharesFront}
 use Rattle.vr_reach.proofs.StandingLemmas.{reached_in}
-use Rattle.vr_first_insert.specs.declared.kept.Kept.{Kept}
+use Rattle.vr_first_insert.specs.declared.list_rows.ListRows.{ListRows}
 use Rattle.vr_first_insert.specs.declared.probes.Probes.{Probes}
 use Rattle.vr_first_insert.specs.KeptRows.{AreKept, AreKeptOf, IsKept, IsKeptOf}
 use Rattle.vr_first_insert.specs.Probes.{AreReachedAt}
@@ -20,16 +20,16 @@ pub list_at : (lists : List (List ℕ)) (v : ℕ) (list read : List ℕ) → lis
 list_at lists v list read same is low = same ∙ is ∙ get_or_default lists v read _ low
 
 -- what is kept in one dimension, as code reads it
-pub kept_at : (model : Model) (v : ℕ) (list : List ℕ) (keeps : List Kept) → AreKeptOf model v list keeps → (d : ℕ) (kept : Kept) → kept ≡ get_or keeps d kept → d < length keeps → IsKeptOf model d v list kept
-kept_at model v list keeps are d kept is low = subst (IsKeptOf model d v list) (sym is) (are.each d kept low)
+pub kept_at : (model : Model) (v : ℕ) (list : List ℕ) (list_rows : List ListRows) → AreKeptOf model v list list_rows → (d : ℕ) (kept : ListRows) → kept ≡ get_or list_rows d kept → d < length list_rows → IsKeptOf model d v list kept
+kept_at model v list list_rows are d kept is low = subst (IsKeptOf model d v list) (sym is) (are.each d kept low)
 
 -- the rows of the list, as code reads them
-pub rows_at : (model : Model) (d v : ℕ) (list : List ℕ) (kept : Kept) → IsKeptOf model d v list kept → (rows : BothWays) → rows ≡ get_or kept.rows.items v rows → AreRowsIfUsed model d v list rows
+pub rows_at : (model : Model) (d v : ℕ) (list : List ℕ) (kept : ListRows) → IsKeptOf model d v list kept → (rows : BothWays) → rows ≡ get_or kept.rows.items v rows → AreRowsIfUsed model d v list rows
 rows_at model d v list kept is rows read = subst (AreRowsIfUsed model d v list) (sym read) (is.rows_of_list rows)
 
 -- what is kept of all lists is kept of each
-pub kept_of : (model : Model) (lists : List (List ℕ)) (keeps : List Kept) → AreKept model lists keeps → (v : ℕ) → v < length lists → AreKeptOf model v (route lists v) keeps
-kept_of model lists keeps are v low = record {
+pub kept_of : (model : Model) (lists : List (List ℕ)) (list_rows : List ListRows) → AreKept model lists list_rows → (v : ℕ) → v < length lists → AreKeptOf model v (route lists v) list_rows
+kept_of model lists list_rows are v low = record {
   one_of_each = are.one_of_each;
   each = λ d other d_low.
       let kept = are.each d other d_low in
@@ -38,7 +38,7 @@ kept_of model lists keeps are v low = record {
 }
 
 -- the rows of one list were written over those of another
-pub kept_again : (model : Model) (d : ℕ) (lists : List (List ℕ)) (v : ℕ) (list : List ℕ) (before after : Kept) (rows : BothWays) → after.rows.items ≡ set before.rows.items v rows
+pub kept_again : (model : Model) (d : ℕ) (lists : List (List ℕ)) (v : ℕ) (list : List ℕ) (before after : ListRows) (rows : BothWays) → after.rows.items ≡ set before.rows.items v rows
     → v < length lists → AreRowsIfUsed model d v list rows → IsKept model d lists before → IsKept model d (with_route lists v list) after
 kept_again model d lists v list before after rows written there new kept = record {
   many = ap length written ∙ length-set before.rows.items v rows ∙ kept.many ∙ sym (length-set lists v list);

@@ -6,11 +6,11 @@ use Rattle.vr_model.specs.routes.Routes.{route}
 use Rattle.vr_model.specs.declared.records.Model.{Model}
 use Rattle.vr_rules.specs.declared.items.Candidate.{Candidate}
 use Rattle.vr_rules.specs.Placing.{fits_by, nodes_of, AreBuilt, AreCandidates, AreMarks}
-use Rattle.vr_first_insert.specs.declared.choice.Choice.{Choice}
-use Rattle.vr_first_insert.specs.declared.kept.Kept.{Kept}
-use Rattle.vr_first_insert.specs.declared.known.Known.{Known}
+use Rattle.vr_first_insert.specs.declared.choice.InsertionChoice.{InsertionChoice}
+use Rattle.vr_first_insert.specs.declared.list_rows.ListRows.{ListRows}
+use Rattle.vr_first_insert.specs.declared.known.KnownItem.{KnownItem}
 use Rattle.vr_first_insert.specs.declared.search.Items.{Items}
-use Rattle.vr_first_insert.specs.declared.search.Asked.{Asked}
+use Rattle.vr_first_insert.specs.declared.search.AskedLists.{AskedLists}
 use Rattle.vr_first_insert.specs.Kept.{candidate_at, AreKnown, AreRows}
 use Rattle.vr_first_insert.specs.KeptRows.{AreKept}
 use Rattle.vr_first_insert.specs.Placings.{best_in, best_in_lists, counts, MayHold}
@@ -25,34 +25,34 @@ abbrev pub AreItems : Items → Type 0
 AreItems items = AreCandidates (items_model items) items.candidates.now
 
 -- a list for each vehicle, which it may drive, and what is kept is that of the lists
-pub record AreAsked (on : Asked) : Type 0 where
-  pub ready : AreReady (items_model on.items) on.lists.now on.keeps.now
+pub record AreAsked (on : AskedLists) : Type 0 where
+  pub ready : AreReady (items_model on.items) on.lists.now on.list_rows.now
   pub vehicles : length on.lists.now ≡ length (items_model on.items).vehicles
 
 -- each list may hold candidate i
-abbrev pub MayBeHeld : Asked → ℕ → Type 0
+abbrev pub MayBeHeld : AskedLists → ℕ → Type 0
 MayBeHeld on i = (v : ℕ) → v < length on.lists.now
     → MayHold (items_model on.items) (route on.lists.now v) (candidate_at on.items.candidates.now i).item
 
 -- the best beside candidate i in the list of vehicle v
-abbrev pub best_asked : Asked → ℕ → ℕ → Option Choice → Option Choice
+abbrev pub best_asked : AskedLists → ℕ → ℕ → Option InsertionChoice → Option InsertionChoice
 best_asked on v i = best_in (items_model on.items) v (route on.lists.now v) (candidate_at on.items.candidates.now i)
 
 -- the best beside candidate i in each list
-abbrev pub best_asked_of_each : Asked → ℕ → Option Choice → Option Choice
+abbrev pub best_asked_of_each : AskedLists → ℕ → Option InsertionChoice → Option InsertionChoice
 best_asked_of_each on i = best_in_lists (items_model on.items) on.lists.now (candidate_at on.items.candidates.now i)
     (length on.lists.now)
 
 -- a row has what is known of the candidates in the list of vehicle v
-abbrev pub AreKnownIn : Asked → ℕ → List Known → Type 0
+abbrev pub AreKnownIn : AskedLists → ℕ → List KnownItem → Type 0
 AreKnownIn on v = AreKnown (items_model on.items) v (route on.lists.now v) on.items.candidates.now
 
 -- the same of each list
-abbrev pub AreKnownInEach : Asked → List (List Known) → Type 0
+abbrev pub AreKnownInEach : AskedLists → List (List KnownItem) → Type 0
 AreKnownInEach on = AreRows (items_model on.items) on.lists.now on.items.candidates.now
 
 -- the list of vehicle v may be asked for candidate i, where the row has what is known of the candidates in it
-pub record MayAsk (on : Asked) (v i : ℕ) (known : List Known) : Type 0 where
+pub record MayAsk (on : AskedLists) (v i : ℕ) (known : List KnownItem) : Type 0 where
   pub asked : AreAsked on
   pub candidate : i < length on.items.candidates.now
   pub may_hold : MayBeHeld on i
@@ -60,7 +60,7 @@ pub record MayAsk (on : Asked) (v i : ℕ) (known : List Known) : Type 0 where
   pub row : AreKnownIn on v known
 
 -- the same of each list
-pub record MayAskEach (on : Asked) (i : ℕ) (known : List (List Known)) : Type 0 where
+pub record MayAskEach (on : AskedLists) (i : ℕ) (known : List (List KnownItem)) : Type 0 where
   pub asked : AreAsked on
   pub candidate : i < length on.items.candidates.now
   pub may_hold : MayBeHeld on i
@@ -73,7 +73,7 @@ pub record MayCount (items : Items) (marked : List Bool) (candidate : Candidate)
   pub first : first_node (nodes_of candidate.item) < (items_model items).nodes
 
 -- the best so far may be set beside candidate i: each list may be asked for it where it counts
-pub record MayWeigh (on : Asked) (marked : List Bool) (i : ℕ) (known : List (List Known)) : Type 0 where
+pub record MayWeigh (on : AskedLists) (marked : List Bool) (i : ℕ) (known : List (List KnownItem)) : Type 0 where
   pub asked : AreAsked on
   pub marks : length marked ≡ (items_model on.items).nodes
   pub fit : IsTrue (list_all (fits_by marked) (items_model on.items).groups)
@@ -85,20 +85,20 @@ pub record MayWeigh (on : Asked) (marked : List Bool) (i : ℕ) (known : List (L
 
 -- items may be inserted into lists: the lists are open, and their rows, the marks of their nodes and what is known of
 -- the items in them are those of the lists
-pub record MayInsert (items : Items) (keeps : List Kept) (marked : List Bool) (lists : List (List ℕ))
-    (known : List (List Known)) : Type 0 where
+pub record MayInsert (items : Items) (list_rows : List ListRows) (marked : List Bool) (lists : List (List ℕ))
+    (known : List (List KnownItem)) : Type 0 where
   pub items_are : AreItems items
-  pub kept : AreKept (items_model items) lists keeps
+  pub kept : AreKept (items_model items) lists list_rows
   pub built : AreBuilt (items_model items) lists
   pub marks : AreMarks (items_model items).nodes lists marked
   pub rows : AreRows (items_model items) lists items.candidates.now known
 
 -- other open lists may be taken over, whose nodes are marked, and items be inserted into them
-pub record MayTakeOver (items : Items) (others : List (List ℕ)) (keeps : List Kept) (lists : List (List ℕ))
-    (marked : List Bool) (known : List (List Known)) : Type 0 where
+pub record MayTakeOver (items : Items) (others : List (List ℕ)) (list_rows : List ListRows) (lists : List (List ℕ))
+    (marked : List Bool) (known : List (List KnownItem)) : Type 0 where
   pub items_are : AreItems items
   pub vehicles : length lists ≡ length (items_model items).vehicles
-  pub kept : AreKept (items_model items) lists keeps
+  pub kept : AreKept (items_model items) lists list_rows
   pub rows : AreRows (items_model items) lists items.candidates.now known
   pub built : AreBuilt (items_model items) others
   pub marks : AreMarks (items_model items).nodes others marked

@@ -11,8 +11,8 @@ use Rattle.vr_first_insert.specs.declared.solution.Rebuilder.{Rebuilder}
 pub record IsKeeper (model : Model) (keeper : Keeper) : Type 0 where
   pub candidates : AreCandidates model keeper.candidates.items
   pub vehicles : length keeper.lists.items ≡ length model.vehicles
-  pub kept : AreKept model keeper.lists.items keeper.keeps.items
-  pub rows : AreRows model keeper.lists.items keeper.candidates.items keeper.rows.items
+  pub kept : AreKept model keeper.lists.items keeper.list_rows.items
+  pub rows : AreRows model keeper.lists.items keeper.candidates.items keeper.known_items.items
 
 -- the same of what rebuilds routes
 abbrev pub IsRebuilder : Model → Rebuilder → Type 0

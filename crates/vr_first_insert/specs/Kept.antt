@@ -8,26 +8,26 @@ use Rattle.vr_model.specs.declared.records.Model.{Model}
 use Rattle.vr_rules.specs.declared.items.Item.{Item}
 use Rattle.vr_rules.specs.declared.items.Item.TheVariants.{Visit, PickupAndDelivery}
 use Rattle.vr_rules.specs.declared.items.Candidate.{Candidate}
-use Rattle.vr_first_insert.specs.declared.choice.Choice.{Choice}
+use Rattle.vr_first_insert.specs.declared.choice.InsertionChoice.{InsertionChoice}
 use Rattle.vr_first_insert.specs.declared.known.Bound.{Bound}
-use Rattle.vr_first_insert.specs.declared.known.Known.{Known}
-use Rattle.vr_first_insert.specs.declared.known.Known.TheVariants.{Nothing, AtLeast, Best}
+use Rattle.vr_first_insert.specs.declared.known.KnownItem.{KnownItem}
+use Rattle.vr_first_insert.specs.declared.known.KnownItem.TheVariants.{Nothing, AtLeast, Best}
 use Rattle.vr_first_insert.specs.Increases.{pair_increase}
 use Rattle.vr_first_insert.specs.Placings.{key_of, best_in, may_improve, IsLeast}
 
 -- the better of two choices, the first of equal ones
-abbrev pub better_choice : Option Choice → Choice → Option Choice
+abbrev pub better_choice : Option InsertionChoice → InsertionChoice → Option InsertionChoice
 better_choice best next = better key_of best next
 
 -- the better of the best so far and what is known to be best
-abbrev pub best_of : Known → Option Choice → Option Choice
+abbrev pub best_of : KnownItem → Option InsertionChoice → Option InsertionChoice
 best_of Nothing best = best
 best_of (AtLeast bound) best = best
 best_of (Best None) best = best
 best_of (Best (Some next)) best = better_choice best next
 
 -- what is known tells the best beside the best so far: it is the best in the list, or none there is better
-abbrev pub is_settled : Known → ℕ → Option Choice → Bool
+abbrev pub is_settled : KnownItem → ℕ → Option InsertionChoice → Bool
 is_settled Nothing class best = false
 is_settled (AtLeast bound) class best = not (may_improve best class bound.least)
 is_settled (Best found) class best = true
@@ -45,36 +45,36 @@ BestAddsAtLeast model v list candidate least = IfSome (best_in model v list cand
 
 -- what a search of a list tells that began with the best so far: what is better is the best of the list, and where
 -- nothing is, the best of the list adds no less than the best so far. A search that began with some best found one.
-abbrev pub told_by : Option Choice → Option Choice → Known
+abbrev pub told_by : Option InsertionChoice → Option InsertionChoice → KnownItem
 told_by None found = Best found
 told_by (Some best) None = Best None
 told_by (Some best) (Some next) = cond (is_lex_less (key_of next) (key_of best)) (Best (Some next))
     (AtLeast (record { least = best.increase; searched = true }))
 
 -- what a search for an item begins with: for a pair whose bound no search told the best so far, and else nothing
-abbrev pub begun_with : Item → Bool → Option Choice → Option Choice
+abbrev pub begun_with : Item → Bool → Option InsertionChoice → Option InsertionChoice
 begun_with item true best = None
 begun_with (Visit node) false best = None
 begun_with (PickupAndDelivery pickup delivery) false best = best
 
 -- what a search of the list of vehicle v tells of a candidate that begins with the best so far
-abbrev pub sought : Model → ℕ → List ℕ → Candidate → Option Choice → Known
+abbrev pub sought : Model → ℕ → List ℕ → Candidate → Option InsertionChoice → KnownItem
 sought model v list candidate best = told_by best (best_in model v list candidate best)
 
 -- what is known once a candidate of which a bound is known was asked whether it is better than the best so far: the
 -- bound, where that is not better, and else what a search tells
-abbrev pub tried : Model → ℕ → List ℕ → Candidate → Bound → Option Choice → Known
+abbrev pub tried : Model → ℕ → List ℕ → Candidate → Bound → Option InsertionChoice → KnownItem
 tried model v list candidate bound best = cond (may_improve best candidate.class bound.least)
     (sought model v list candidate (begun_with candidate.item bound.searched best)) (AtLeast bound)
 
 -- what is known of a candidate in the list of vehicle v is so
-abbrev pub IsKnown : Model → ℕ → List ℕ → Candidate → Known → Type 0
+abbrev pub IsKnown : Model → ℕ → List ℕ → Candidate → KnownItem → Type 0
 IsKnown model v list candidate Nothing = ⊤
 IsKnown model v list candidate (AtLeast bound) = BestAddsAtLeast model v list candidate bound.least
 IsKnown model v list candidate (Best best) = best ≡ best_in model v list candidate None
 
 -- row v of rows
-abbrev pub row_at : List (List Known) → ℕ → List Known
+abbrev pub row_at : List (List KnownItem) → ℕ → List KnownItem
 row_at rows v = slice_index_or rows v []
 
 -- the candidate that is read where there is none
@@ -87,20 +87,20 @@ candidate_at candidates i = slice_index_or candidates i unread
 
 -- what is known of each candidate in the list of vehicle v is so
 pub record AreKnown (model : Model) (v : ℕ) (list : List ℕ) (candidates : List Candidate)
-    (row : List Known) : Type 0 where
+    (row : List KnownItem) : Type 0 where
   pub many : length row ≡ length candidates
   pub each : (i : ℕ) → i < length candidates
       → IsKnown model v list (candidate_at candidates i) (slice_index_or row i Nothing)
 
 -- the same of each list
 pub record AreRows (model : Model) (lists : List (List ℕ)) (candidates : List Candidate)
-    (rows : List (List Known)) : Type 0 where
+    (rows : List (List KnownItem)) : Type 0 where
   pub many : length rows ≡ length lists
   pub each : (v : ℕ) → v < length lists → AreKnown model v (route lists v) candidates (row_at rows v)
 
 -- nothing is known of any candidate in the list of vehicle v any more
-pub record IsForgotten (v : ℕ) (rows after : List (List Known)) : Type 0 where
-  pub row : List Known
+pub record IsForgotten (v : ℕ) (rows after : List (List KnownItem)) : Type 0 where
+  pub row : List KnownItem
   pub many : length row ≡ length (row_at rows v)
   pub nothing : (i : ℕ) → slice_index_or row i Nothing ≡ Nothing
   pub rows_are : after ≡ slice_set rows v row

@@ -6,11 +6,11 @@ use Rattle.vr_reach.specs.Rows.{BothWays}
 use Rattle.vr_reach.specs.KnownRows.{AreRowsIfUsed}
 use Rattle.vr_reach.specs.Lists.{IsTour, IsUsed}
 use Rattle.vr_reach.specs.Stretches.{SharesBack, SharesFront}
-use Rattle.vr_first_insert.specs.declared.kept.Kept.{Kept}
-use Rattle.vr_first_insert.specs.declared.vehicle_list.VehicleList.{VehicleList}
+use Rattle.vr_first_insert.specs.declared.list_rows.ListRows.{ListRows}
+use Rattle.vr_first_insert.specs.declared.vehicle_list.LookedUpList.{LookedUpList}
 
 -- the model whose lists are asked
-abbrev pub list_model : VehicleList → Model
+abbrev pub list_model : LookedUpList → Model
 list_model list = list.lookups.now.closed.model.now
 
 -- each list holds distinct visits
@@ -23,27 +23,28 @@ AreRowsOfEach model d lists rows = (v : ℕ) (other : BothWays) → v < length r
     → AreRowsIfUsed model d v (route lists v) (slice_index_or rows v other)
 
 -- the rows that are kept in dimension d are those of the lists
-pub record IsKept (model : Model) (d : ℕ) (lists : List (List ℕ)) (kept : Kept) : Type 0 where
+pub record IsKept (model : Model) (d : ℕ) (lists : List (List ℕ)) (kept : ListRows) : Type 0 where
   pub many : length kept.rows.items ≡ length lists
   pub rows_of_each : AreRowsOfEach model d lists kept.rows.items
 
 -- those of vehicle v are those of its list
-pub record IsKeptOf (model : Model) (d v : ℕ) (list : List ℕ) (kept : Kept) : Type 0 where
+pub record IsKeptOf (model : Model) (d v : ℕ) (list : List ℕ) (kept : ListRows) : Type 0 where
   pub there : v < length kept.rows.items
   pub rows_of_list : (other : BothWays) → AreRowsIfUsed model d v list (slice_index_or kept.rows.items v other)
 
 -- in each dimension
-pub record AreKept (model : Model) (lists : List (List ℕ)) (keeps : List Kept) : Type 0 where
-  pub one_of_each : length keeps ≡ length model.dimensions
-  pub each : (d : ℕ) (other : Kept) → d < length keeps → IsKept model d lists (slice_index_or keeps d other)
+pub record AreKept (model : Model) (lists : List (List ℕ)) (list_rows : List ListRows) : Type 0 where
+  pub one_of_each : length list_rows ≡ length model.dimensions
+  pub each : (d : ℕ) (other : ListRows) → d < length list_rows → IsKept model d lists (slice_index_or list_rows d other)
 
-pub record AreKeptOf (model : Model) (v : ℕ) (list : List ℕ) (keeps : List Kept) : Type 0 where
-  pub one_of_each : length keeps ≡ length model.dimensions
-  pub each : (d : ℕ) (other : Kept) → d < length keeps → IsKeptOf model d v list (slice_index_or keeps d other)
+pub record AreKeptOf (model : Model) (v : ℕ) (list : List ℕ) (list_rows : List ListRows) : Type 0 where
+  pub one_of_each : length list_rows ≡ length model.dimensions
+  pub each : (d : ℕ) (other : ListRows) → d < length list_rows
+      → IsKeptOf model d v list (slice_index_or list_rows d other)
 
 -- a list may be walked between its first and its last nodes, which it shares with the one before, whose rows are kept
-pub record MayGoBetween (old : VehicleList) (new : List ℕ) (first last : ℕ) (keeps : List Kept) : Type 0 where
-  pub kept : AreKeptOf (list_model old) old.vehicle old.nodes.now keeps
+pub record MayGoBetween (old : LookedUpList) (new : List ℕ) (first last : ℕ) (list_rows : List ListRows) : Type 0 where
+  pub kept : AreKeptOf (list_model old) old.vehicle old.nodes.now list_rows
   pub used : IsUsed (list_model old) new
   pub front : SharesFront old.nodes.now new first
   pub back : SharesBack old.nodes.now new last

@@ -19,7 +19,7 @@ use Rattle.vr_rules.specs.Placing.{nodes_of, has_room, is_marked, IsItem}
 use Rattle.vr_reach.specs.Lists.{IsTour}
 use Rattle.vr_first_insert.specs.declared.choice.Placing.{Placing}
 use Rattle.vr_first_insert.specs.declared.choice.Placing.TheVariants.{One, Two}
-use Rattle.vr_first_insert.specs.declared.choice.Choice.{Choice}
+use Rattle.vr_first_insert.specs.declared.choice.InsertionChoice.{InsertionChoice}
 use Rattle.vr_first_insert.specs.Increases.{visit_increase, pair_increase, IsIncrease}
 
 -- the item that is placed
@@ -43,7 +43,7 @@ AreWithin list (One node t) = t ≤ length list
 AreWithin list (Two pickup delivery s t) = (s ≤ t) × (t ≤ length list)
 
 -- the insertion that a choice stands for
-abbrev pub insertion_of : Choice → Insertion
+abbrev pub insertion_of : InsertionChoice → Insertion
 insertion_of choice = record {
   item = nodes_of (item_in choice.placing);
   vehicle = choice.vehicle;
@@ -51,16 +51,16 @@ insertion_of choice = record {
 }
 
 -- what choices of one class and increase are compared by: the number of the item, the vehicle, the places
-abbrev pub tail_key : Choice → List ℤ
+abbrev pub tail_key : InsertionChoice → List ℤ
 tail_key choice = pos (first_node (nodes_of (item_in choice.placing))) ∷ pos choice.vehicle ∷
     map pos (places_in choice.placing)
 
 -- what a choice is compared by: the class, the increase, the number of the item, the vehicle, the places
-abbrev pub key_of : Choice → List ℤ
+abbrev pub key_of : InsertionChoice → List ℤ
 key_of choice = pos choice.class ∷ choice.increase ∷ tail_key choice
 
 -- a visit before place t of the list of vehicle v
-abbrev pub visit_choice : Model → ℕ → List ℕ → ℕ → ℕ → ℕ → Choice
+abbrev pub visit_choice : Model → ℕ → List ℕ → ℕ → ℕ → ℕ → InsertionChoice
 visit_choice model v list class node t = record {
   placing = One node t;
   class = class;
@@ -69,7 +69,7 @@ visit_choice model v list class node t = record {
 }
 
 -- a pair before places s and t
-abbrev pub pair_choice : Model → ℕ → List ℕ → ℕ → ℕ → ℕ → ℕ → ℕ → Choice
+abbrev pub pair_choice : Model → ℕ → List ℕ → ℕ → ℕ → ℕ → ℕ → ℕ → InsertionChoice
 pair_choice model v list class pickup delivery s t = record {
   placing = Two pickup delivery s t;
   class = class;
@@ -78,23 +78,23 @@ pair_choice model v list class pickup delivery s t = record {
 }
 
 -- the choices of an item of a class in the list of vehicle v
-abbrev pub choices_in : Model → ℕ → List ℕ → ℕ → Item → List Choice
+abbrev pub choices_in : Model → ℕ → List ℕ → ℕ → Item → List InsertionChoice
 choices_in model v list class (Visit node) = map (visit_choice model v list class node) (gaps list)
 choices_in model v list class (PickupAndDelivery pickup delivery) = each (gaps list) λ s. map
     (pair_choice model v list class pickup delivery s) (from_to s (suc (length list)))
 
 -- the better of the best so far and a choice in a list, which counts only where the list stays open
-abbrev pub weigh : Model → List ℕ → Option Choice → Choice → Option Choice
+abbrev pub weigh : Model → List ℕ → Option InsertionChoice → InsertionChoice → Option InsertionChoice
 weigh model list best next = cond (is_route_open model next.vehicle (placed list next.placing))
     (better key_of best next) best
 
 -- the best beside the choices of an item in the list of vehicle v
-abbrev pub best_in : Model → ℕ → List ℕ → Candidate → Option Choice → Option Choice
+abbrev pub best_in : Model → ℕ → List ℕ → Candidate → Option InsertionChoice → Option InsertionChoice
 best_in model v list candidate best = fold (weigh model list) best
     (choices_in model v list candidate.class candidate.item)
 
 -- the same in the lists of the first vehicles
-abbrev pub best_in_lists : Model → List (List ℕ) → Candidate → ℕ → Option Choice → Option Choice
+abbrev pub best_in_lists : Model → List (List ℕ) → Candidate → ℕ → Option InsertionChoice → Option InsertionChoice
 best_in_lists model lists candidate count best = fold (λ best v. best_in model v (route lists v) candidate best) best
     (below count)
 
@@ -104,7 +104,7 @@ counts model marks candidate = cond (is_marked marks (first_node (nodes_of candi
     (list_all (has_room marks candidate.item) model.groups)
 
 -- the best beside all choices of a candidate
-abbrev pub best_beside : Model → List (List ℕ) → List Bool → Candidate → Option Choice → Option Choice
+abbrev pub best_beside : Model → List (List ℕ) → List Bool → Candidate → Option InsertionChoice → Option InsertionChoice
 best_beside model lists marks candidate best = cond (counts model marks candidate)
     (best_in_lists model lists candidate (length lists) best) best
 
@@ -116,7 +116,7 @@ pub record MayHold (model : Model) (list : List ℕ) (item : Item) : Type 0 wher
   pub absent : (node : ℕ) → holds (nodes_of item) node ≡ true → holds list node ≡ false
 
 -- an insertion that may be made: its item stands in no list, its places are there, and the lists stay open
-pub record MayBeInserted (model : Model) (lists : List (List ℕ)) (choice : Choice) : Type 0 where
+pub record MayBeInserted (model : Model) (lists : List (List ℕ)) (choice : InsertionChoice) : Type 0 where
   pub is_item : IsItem model (item_in choice.placing)
   pub inactive : is_active lists (first_node (nodes_of (item_in choice.placing))) ≡ false
   pub vehicle : choice.vehicle < length lists
@@ -124,7 +124,7 @@ pub record MayBeInserted (model : Model) (lists : List (List ℕ)) (choice : Cho
   pub stays_open : IsTrue (is_open model (inserted lists (insertion_of choice)))
 
 -- choices of a class that add at least so much may be better than the best so far
-abbrev pub may_improve : Option Choice → ℕ → ℤ → Bool
+abbrev pub may_improve : Option InsertionChoice → ℕ → ℤ → Bool
 may_improve None class least = true
 may_improve (Some best) class least = nat_lt class best.class || (nat_le class best.class && int_le least best.increase)
 

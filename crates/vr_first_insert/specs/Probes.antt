@@ -8,9 +8,9 @@ use Rattle.vr_reach.specs.Lists.{IsUsed}
 use Rattle.vr_reach.specs.Standing.{is_stuck, IsReachedAt}
 use Rattle.vr_reach.specs.Stretches.{SharesBack, SharesFront}
 use Rattle.vr_rules.specs.RoutesOpen.{is_feasible_in_each}
-use Rattle.vr_first_insert.specs.declared.kept.Kept.{Kept}
+use Rattle.vr_first_insert.specs.declared.list_rows.ListRows.{ListRows}
 use Rattle.vr_first_insert.specs.declared.probes.Probes.{Probes}
-use Rattle.vr_first_insert.specs.declared.vehicle_list.VehicleList.{VehicleList}
+use Rattle.vr_first_insert.specs.declared.vehicle_list.LookedUpList.{LookedUpList}
 use Rattle.vr_first_insert.specs.KeptRows.{list_model, AreKeptOf}
 
 -- the levels are what vehicle v reaches at stop k of a list, in each dimension
@@ -30,19 +30,19 @@ is_stuck_in_some model probes =
     list_any (λ d. is_stuck (slice_index_or probes.here.items d [])) (below (length model.dimensions))
 
 -- a list may leave the one before behind its first nodes, which it shares with it and whose rows are kept
-pub record MayLeave (old : VehicleList) (new : List ℕ) (shared : ℕ) (keeps : List Kept) : Type 0 where
-  pub kept : AreKeptOf (list_model old) old.vehicle old.nodes.now keeps
+pub record MayLeave (old : LookedUpList) (new : List ℕ) (shared : ℕ) (list_rows : List ListRows) : Type 0 where
+  pub kept : AreKeptOf (list_model old) old.vehicle old.nodes.now list_rows
   pub used : IsUsed (list_model old) new
   pub front : SharesFront old.nodes.now new shared
 
 -- a walk that stands at stop k of a list may go to its last nodes, which it shares with the one before
-pub record MayGoFrom (old : VehicleList) (new : List ℕ) (k shared : ℕ) (keeps : List Kept) (probes : Probes) : Type 0
-  where
-    pub kept : AreKeptOf (list_model old) old.vehicle old.nodes.now keeps
-    pub used : IsUsed (list_model old) new
-    pub here : AreReachedAt (list_model old) old.vehicle new k probes
-    pub back : SharesBack old.nodes.now new shared
-    pub apart : k + shared ≤ length new
+pub record MayGoFrom (old : LookedUpList) (new : List ℕ) (k shared : ℕ) (list_rows : List ListRows)
+    (probes : Probes) : Type 0 where
+  pub kept : AreKeptOf (list_model old) old.vehicle old.nodes.now list_rows
+  pub used : IsUsed (list_model old) new
+  pub here : AreReachedAt (list_model old) old.vehicle new k probes
+  pub back : SharesBack old.nodes.now new shared
+  pub apart : k + shared ≤ length new
 
 -- a walk that stands at stop k of a list may go on to the next
 pub record MayGoOn (model : Model) (v : ℕ) (list : List ℕ) (k : ℕ) (probes : Probes) : Type 0 where

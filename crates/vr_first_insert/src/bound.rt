@@ -6,11 +6,11 @@ ghost use Rattle.vr_first_insert.specs.Placings.{AreLeastAhead, IsFirstLeast, Is
 ghost use Rattle.vr_first_insert.specs.KeptRows.{list_model};
 
 use crate::increase::{pair_increase, visit_increase};
-use crate::vehicle_list::VehicleList;
+use crate::vehicle_list::LookedUpList;
 use vr_model::{NoMemory, Seq};
 
 /// The least that a visit adds to a list.
-pub(crate) fn least_visit(list: &VehicleList<'_, '_, '_>, node: u32) -> i64
+pub(crate) fn least_visit(list: &LookedUpList<'_, '_, '_>, node: u32) -> i64
     requires { node < (list_model list.now).nodes }
     ensures least { IsLeast (list_model list.now) list.now.vehicle list.now.nodes.now node result }
     ensures low { neg_ℤ (pos (2 ^ 40)) ≤ℤ result }
@@ -45,7 +45,7 @@ fn cheaper(at: Cheapest, t: usize, next: i64) -> Cheapest
 }
 
 /// The first of the places of a list before which a visit adds least.
-pub(crate) fn least_place(list: &VehicleList<'_, '_, '_>, node: u32) -> usize
+pub(crate) fn least_place(list: &LookedUpList<'_, '_, '_>, node: u32) -> usize
     requires { node < (list_model list.now).nodes }
     ensures { IsFirstLeast (list_model list.now) list.now.vehicle list.now.nodes.now node result }
 {
@@ -62,7 +62,7 @@ pub(crate) fn least_place(list: &VehicleList<'_, '_, '_>, node: u32) -> usize
 /// Writes the least that a visit adds to a list before its last places: before the last one, before
 /// the last two, and so on up to all.
 pub(crate) fn write_ahead(
-    list: &VehicleList<'_, '_, '_>,
+    list: &LookedUpList<'_, '_, '_>,
     node: u32,
     ahead: &mut Seq<i64>,
 ) -> Result<(), NoMemory>
@@ -92,7 +92,7 @@ pub(crate) fn least_apart(pickup: i64, least: i64) -> i64
 
 /// What a pair adds at least with its pickup before place `s`, where the delivery alone adds `least` at least.
 pub(crate) fn least_behind(
-    list: &VehicleList<'_, '_, '_>,
+    list: &LookedUpList<'_, '_, '_>,
     pickup: u32,
     delivery: u32,
     s: usize,
@@ -116,7 +116,7 @@ pub(crate) fn least_behind(
 /// What a pair adds at least with its pickup before place `s` and its delivery behind, where the delivery alone adds
 /// `least` at least.
 pub(crate) fn least_further(
-    list: &VehicleList<'_, '_, '_>,
+    list: &LookedUpList<'_, '_, '_>,
     pickup: u32,
     s: usize,
     least: i64,
@@ -136,7 +136,7 @@ pub(crate) fn least_further(
 }
 
 /// The least that a pair adds to a list.
-pub(crate) fn least_pair(list: &VehicleList<'_, '_, '_>, pickup: u32, delivery: u32) -> i64
+pub(crate) fn least_pair(list: &LookedUpList<'_, '_, '_>, pickup: u32, delivery: u32) -> i64
     requires pickup { pickup < (list_model list.now).nodes }
     requires delivery { delivery < (list_model list.now).nodes }
     ensures { (s t : ℕ) → s ≤ length list.now.nodes.now → t ≤ length list.now.nodes.now

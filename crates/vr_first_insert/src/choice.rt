@@ -18,7 +18,7 @@ pub(crate) enum Placing {
 
 /// An insertion with its class, its vehicle, and what it adds to the arc costs.
 #[derive(Clone, Copy)]
-pub(crate) struct Choice {
+pub(crate) struct InsertionChoice {
     pub(crate) placing: Placing,
     pub(crate) class: u32,
     pub(crate) vehicle: u32,
@@ -50,7 +50,7 @@ fn places_before(one: Placing, other: Placing) -> bool
 }
 
 // Whether the item comes before another, then the vehicle, then the places.
-fn tail_before(one: Choice, other: Choice) -> bool
+fn tail_before(one: InsertionChoice, other: InsertionChoice) -> bool
     ensures { result ≡ is_lex_less (tail_key one) (tail_key other) }
 {
     let (number, others) = (one.placing.item().number(), other.placing.item().number());
@@ -61,7 +61,7 @@ fn tail_before(one: Choice, other: Choice) -> bool
 }
 
 // Whether a choice comes before another: by class, increase, item, vehicle and places.
-fn comes_before(one: Choice, other: Choice) -> bool
+fn comes_before(one: InsertionChoice, other: InsertionChoice) -> bool
     ensures { result ≡ is_lex_less (key_of one) (key_of other) }
 {
     one.class < other.class
@@ -71,7 +71,7 @@ fn comes_before(one: Choice, other: Choice) -> bool
 }
 
 /// Whether a choice is better than the best so far, or the first.
-pub(crate) fn improves(best: Option<Choice>, next: Choice) -> bool
+pub(crate) fn improves(best: Option<InsertionChoice>, next: InsertionChoice) -> bool
     ensures { result ≡ improves_by key_of best next }
 {
     match best {
@@ -81,7 +81,7 @@ pub(crate) fn improves(best: Option<Choice>, next: Choice) -> bool
 }
 
 /// Whether choices of a class that add at least so much may be better than the best so far.
-pub(crate) fn may_improve(best: Option<Choice>, class: u32, least: i64) -> bool
+pub(crate) fn may_improve(best: Option<InsertionChoice>, class: u32, least: i64) -> bool
     ensures { result ≡ may_improve_by best class least }
 {
     match best {

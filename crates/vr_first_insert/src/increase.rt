@@ -9,10 +9,10 @@ ghost use Rattle.vr_first_insert.specs.Increases.{pair_increase as pair_increase
 ghost use Rattle.vr_first_insert.specs.Increases.{visit_increase as visit_increase_of};
 ghost use Rattle.vr_first_insert.specs.KeptRows.{list_model};
 
-use crate::vehicle_list::VehicleList;
+use crate::vehicle_list::LookedUpList;
 
 // The node before a place: the start before the first.
-fn node_before(list: &VehicleList<'_, '_, '_>, t: usize) -> u32
+fn node_before(list: &LookedUpList<'_, '_, '_>, t: usize) -> u32
     requires { t ≤ length list.now.nodes.now }
     ensures node { result ≡ node_before_of (list_model list.now) list.now.vehicle list.now.nodes.now t }
     ensures below { result < (list_model list.now).nodes }
@@ -31,7 +31,7 @@ fn node_before(list: &VehicleList<'_, '_, '_>, t: usize) -> u32
 }
 
 // The node at a place, the end behind the last.
-fn node_behind(list: &VehicleList<'_, '_, '_>, t: usize) -> u32
+fn node_behind(list: &LookedUpList<'_, '_, '_>, t: usize) -> u32
     requires { t ≤ length list.now.nodes.now }
     ensures node { result ≡ node_behind_of (list_model list.now) list.now.vehicle list.now.nodes.now t }
     ensures below { result < (list_model list.now).nodes }
@@ -45,7 +45,7 @@ fn node_behind(list: &VehicleList<'_, '_, '_>, t: usize) -> u32
 }
 
 // What the arc between two neighbours costs, nothing in an empty list.
-fn arc_between(list: &VehicleList<'_, '_, '_>, a: u32, b: u32) -> i64
+fn arc_between(list: &LookedUpList<'_, '_, '_>, a: u32, b: u32) -> i64
     requires first { a < (list_model list.now).nodes }
     requires second { b < (list_model list.now).nodes }
     ensures value { result ≡ cond (is_empty list.now.nodes.now) (pos 0)
@@ -61,7 +61,7 @@ fn arc_between(list: &VehicleList<'_, '_, '_>, a: u32, b: u32) -> i64
 }
 
 // From a node over another to a third, less what was driven there before.
-fn detour(list: &VehicleList<'_, '_, '_>, a: u32, x: u32, b: u32, before: i64) -> i64
+fn detour(list: &LookedUpList<'_, '_, '_>, a: u32, x: u32, b: u32, before: i64) -> i64
     requires first { a < (list_model list.now).nodes }
     requires second { x < (list_model list.now).nodes }
     requires third { b < (list_model list.now).nodes }
@@ -77,7 +77,7 @@ fn detour(list: &VehicleList<'_, '_, '_>, a: u32, x: u32, b: u32, before: i64) -
 }
 
 /// What a visit before a place adds: three arcs, whatever the length of the list.
-pub(crate) fn visit_increase(list: &VehicleList<'_, '_, '_>, x: u32, t: usize) -> i64
+pub(crate) fn visit_increase(list: &LookedUpList<'_, '_, '_>, x: u32, t: usize) -> i64
     requires within { t ≤ length list.now.nodes.now }
     requires visit { x < (list_model list.now).nodes }
     ensures value { result ≡ visit_increase_of (list_model list.now) list.now.vehicle list.now.nodes.now x t }
@@ -90,7 +90,7 @@ pub(crate) fn visit_increase(list: &VehicleList<'_, '_, '_>, x: u32, t: usize) -
 }
 
 // What a pair before one place adds.
-fn together(list: &VehicleList<'_, '_, '_>, pickup: u32, delivery: u32, s: usize) -> i64
+fn together(list: &LookedUpList<'_, '_, '_>, pickup: u32, delivery: u32, s: usize) -> i64
     requires within { s ≤ length list.now.nodes.now }
     requires pickup { pickup < (list_model list.now).nodes }
     requires delivery { delivery < (list_model list.now).nodes }
@@ -110,7 +110,7 @@ fn together(list: &VehicleList<'_, '_, '_>, pickup: u32, delivery: u32, s: usize
 }
 
 // What a pair before two places adds.
-fn apart(list: &VehicleList<'_, '_, '_>, pickup: u32, delivery: u32, s: usize, t: usize) -> i64
+fn apart(list: &LookedUpList<'_, '_, '_>, pickup: u32, delivery: u32, s: usize, t: usize) -> i64
     requires first { s ≤ length list.now.nodes.now }
     requires second { t ≤ length list.now.nodes.now }
     requires pickup { pickup < (list_model list.now).nodes }
@@ -126,7 +126,7 @@ fn apart(list: &VehicleList<'_, '_, '_>, pickup: u32, delivery: u32, s: usize, t
 
 /// What a pair adds, the pickup before place `s` and the delivery before place `t`: six arcs at most.
 pub(crate) fn pair_increase(
-    list: &VehicleList<'_, '_, '_>,
+    list: &LookedUpList<'_, '_, '_>,
     pickup: u32,
     delivery: u32,
     s: usize,

@@ -12,31 +12,32 @@ ghost use Rattle.vr_first_insert.specs.KeptRows.{list_model, AreKept};
 ghost use Rattle.vr_first_insert.specs.Keeping.{IsKeeper};
 ghost use Rattle.vr_first_insert.specs.Kept.{AreRows};
 
-use crate::kept::{Kept, change_list, keep_each};
-use crate::known::{forget, rows_of};
-use crate::row::Row;
-use crate::scratch::Scratch;
+use crate::known::{forget, nothing_known};
+use crate::known_items::KnownItems;
+use crate::list_rows::{ListRows, change_list, keep_each};
+use crate::scratch::InsertScratch;
 use crate::search::{Items, insert_all};
-use crate::vehicle_list::VehicleList;
+use crate::vehicle_list::LookedUpList;
 use std::alloc::Global;
 use vr_model::{NoMemory, Seq};
 use vr_plan::Lookups;
 use vr_routes::Routes;
 use vr_rules::{Candidate, active_marks, candidates, empty_lists};
 
-/// Lists of a model, and what is known of them: their rows, and the best of each item in each.
+/// Lists of a model, and what is kept of them: what each reaches, and the best place of each item in each.
 #[derive(Drop)]
 pub(crate) struct Keeper {
     candidates: Vec<Candidate>,
     pub(crate) lists: Vec<Seq<u32>>,
-    keeps: Vec<Kept>,
-    // what is known of the candidates in each list
-    rows: Vec<Row>,
-    scratch: Scratch,
+    // of each dimension, the rows of the lists
+    list_rows: Vec<ListRows>,
+    // of each list, what is known of the candidates in it
+    known_items: Vec<KnownItems>,
+    scratch: InsertScratch,
 }
 
 // Whether two lists have the same nodes in the same order.
-fn is_same(one: &[u32], other: &[u32]) -> bool
+fn is_same_list(one: &[u32], other: &[u32]) -> bool
     ensures { IsTrue result → one.now ≡ other.now }
 {
     one == other
@@ -46,56 +47,56 @@ fn is_same(one: &[u32], other: &[u32]) -> bool
 // nothing is known any more.
 fn take_list(
     alloc: Global,
-    keeps: &mut [Kept],
+    list_rows: &mut [ListRows],
     lists: &mut [Seq<u32>],
-    new: &VehicleList<'_, '_, '_>,
-    rows: &mut [Row],
+    new: &LookedUpList<'_, '_, '_>,
+    known_items: &mut [KnownItems],
 ) -> Result<(), NoMemory>
     requires there { new.now.vehicle < length lists.old }
-    requires kept { AreKept (list_model new.now) lists.old keeps.old }
-    requires row { new.now.vehicle < length rows.old }
+    requires kept { AreKept (list_model new.now) lists.old list_rows.old }
+    requires known { new.now.vehicle < length known_items.old }
     ensures lists { OnOk result (lists.new ≡ with_route lists.old new.now.vehicle new.now.nodes.now) }
-    ensures kept { OnOk result (AreKept (list_model new.now) lists.new keeps.new) }
-    ensures rows { OnOk result ((known : List AnyCandidate)
-        → AreRows (list_model new.now) lists.old known rows.old
-        → AreRows (list_model new.now) lists.new known rows.new) }
+    ensures kept { OnOk result (AreKept (list_model new.now) lists.new list_rows.new) }
+    ensures known { OnOk result ((known : List AnyCandidate)
+        → AreRows (list_model new.now) lists.old known known_items.old
+        → AreRows (list_model new.now) lists.new known known_items.new) }
 {
     let v = new.vehicle;
     let before = lists[v as usize].as_slice();
-    if is_same(before, new.nodes) {
+    if is_same_list(before, new.nodes) {
         return Ok(());
     }
-    change_list(alloc, keeps, lists, new)?;
-    forget(rows, v);
+    change_list(alloc, list_rows, lists, new)?;
+    forget(known_items, v);
     Ok(())
 }
 
 // Takes the lists of routes over, and inserts items into them as long as one may be inserted.
 fn insert_into(
-    scratch: &mut Scratch,
+    scratch: &mut InsertScratch,
     items: &Items<'_, '_, '_>,
     routes: &Routes,
-    keeps: &mut [Kept],
+    list_rows: &mut [ListRows],
     lists: &mut [Seq<u32>],
     marks: &mut [bool],
-    rows: &mut [Row],
+    known_items: &mut [KnownItems],
 ) -> Result<(), NoMemory>
-    requires { MayTakeOver items.now routes.now.lists keeps.old lists.old marks.old rows.old }
+    requires { MayTakeOver items.now routes.now.lists list_rows.old lists.old marks.old known_items.old }
     ensures rebuilt { OnOk result (lists.new
         ≡ rebuilt (items_model items.now) (length (items_of (items_model items.now))) routes.now.lists) }
     ensures built { OnOk result (AreBuilt (items_model items.now) lists.new) }
-    ensures kept { OnOk result (AreKept (items_model items.now) lists.new keeps.new) }
-    ensures rows { OnOk result (AreRows (items_model items.now) lists.new items.now.candidates.now rows.new) }
+    ensures kept { OnOk result (AreKept (items_model items.now) lists.new list_rows.new) }
+    ensures known { OnOk result (AreRows (items_model items.now) lists.new items.now.candidates.now known_items.new) }
 {
     for v in 0..routes.vehicles() {
-        let new = VehicleList {
+        let new = LookedUpList {
             lookups: items.lookups,
             vehicle: v,
             nodes: routes.list(v),
         };
-        take_list(scratch.alloc, keeps, lists, &new, rows)?;
+        take_list(scratch.alloc, list_rows, lists, &new, known_items)?;
     }
-    insert_all(scratch, items, keeps, lists, marks, rows)?;
+    insert_all(scratch, items, list_rows, lists, marks, known_items)?;
     Ok(())
 }
 
@@ -107,14 +108,14 @@ impl Keeper {
         let model = lookups.closed.model;
         let candidates = candidates(alloc, lookups.nodes())?;
         let lists = empty_lists(alloc, model)?;
-        let rows = rows_of(alloc, model.vehicles.len(), candidates.len())?;
-        let keeps = keep_each(alloc, lookups, &lists)?;
+        let known_items = nothing_known(alloc, model.vehicles.len(), candidates.len())?;
+        let list_rows = keep_each(alloc, lookups, &lists)?;
         Ok(Keeper {
             candidates,
             lists,
-            keeps,
-            rows,
-            scratch: Scratch::new(alloc),
+            list_rows,
+            known_items,
+            scratch: InsertScratch::new(alloc),
         })
     }
 
@@ -137,10 +138,10 @@ impl Keeper {
             &mut self.scratch,
             &items,
             routes,
-            &mut self.keeps,
+            &mut self.list_rows,
             &mut self.lists,
             &mut marks,
-            &mut self.rows,
+            &mut self.known_items,
         )?;
         Ok(())
     }

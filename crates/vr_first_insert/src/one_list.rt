@@ -14,11 +14,11 @@ ghost use Rattle.vr_first_insert.specs.VehicleLists.{IsReadyList, IsReadyPair, M
 ghost use Rattle.vr_first_insert.specs.KeptRows.{list_model};
 
 use crate::bound::{least_apart, least_behind, least_further, least_place, write_ahead};
-use crate::choice::{Choice, Placing, improves, may_improve};
+use crate::choice::{InsertionChoice, Placing, improves, may_improve};
 use crate::increase::{pair_increase, visit_increase};
 use crate::place::{move_on, write_placed};
 use crate::probes::Probes;
-use crate::scratch::Scratch;
+use crate::scratch::InsertScratch;
 use crate::trying::{Trying, may_serve, may_visit};
 use crate::vehicle_list::{CandidateIn, PairIn, VisitIn};
 use std::alloc::Global;
@@ -26,11 +26,11 @@ use vr_model::{NoMemory, Seq};
 use vr_rules::{Item, allows_item};
 
 // A visit before place `t`.
-fn visit_at(visit: &VisitIn<'_, '_, '_>, t: usize) -> Choice
+fn visit_at(visit: &VisitIn<'_, '_, '_>, t: usize) -> InsertionChoice
     requires { t ≤ length visit.now.list.nodes.now }
     ensures { result ≡ visit_before visit.now t }
 {
-    Choice {
+    InsertionChoice {
         placing: Placing::One(visit.node, t as u32),
         class: visit.class,
         vehicle: visit.list.vehicle,
@@ -43,8 +43,8 @@ fn weigh_visit(
     trying: &mut Trying,
     visit: &VisitIn<'_, '_, '_>,
     t: usize,
-    best: Option<Choice>,
-) -> Result<Option<Choice>, NoMemory>
+    best: Option<InsertionChoice>,
+) -> Result<Option<InsertionChoice>, NoMemory>
     requires { MayTestVisit visit.now t trying.old.longer }
     ensures best { IfOk result (λ chosen. chosen ≡ weigh_in visit.now.list best (visit_before visit.now t)) }
     ensures longer { trying.new.longer ≡ trying.old.longer }
@@ -65,7 +65,7 @@ fn is_visit_taken(
     trying: &mut Trying,
     visit: &VisitIn<'_, '_, '_>,
     t: usize,
-    best: Option<Choice>,
+    best: Option<InsertionChoice>,
 ) -> Result<bool, NoMemory>
     requires { MayTestVisit visit.now t trying.old.longer }
     ensures { IfOk result (λ taken. taken ≡ (improves_by key_of best (visit_before visit.now t)
@@ -81,11 +81,11 @@ fn is_visit_taken(
 // The best beside a visit before each place of a list. The first place at which it adds least comes first: where that
 // is taken, no other is looked at.
 fn best_visit(
-    scratch: &mut Scratch,
+    scratch: &mut InsertScratch,
     visit: &VisitIn<'_, '_, '_>,
-    best: Option<Choice>,
-) -> Result<Option<Choice>, NoMemory>
-    requires { IsReadyList visit.now.list visit.now.keeps.now }
+    best: Option<InsertionChoice>,
+) -> Result<Option<InsertionChoice>, NoMemory>
+    requires { IsReadyList visit.now.list visit.now.list_rows.now }
     ensures { IfOk result (λ chosen. chosen ≡ fold (weigh_in visit.now.list) best
         (map (visit_before visit.now) (gaps visit.now.list.nodes.now))) }
 {
@@ -104,11 +104,11 @@ fn best_visit(
 
 // The same, by one place after another.
 fn best_of_places(
-    scratch: &mut Scratch,
+    scratch: &mut InsertScratch,
     visit: &VisitIn<'_, '_, '_>,
-    best: Option<Choice>,
-) -> Result<Option<Choice>, NoMemory>
-    requires { IsReadyList visit.now.list visit.now.keeps.now }
+    best: Option<InsertionChoice>,
+) -> Result<Option<InsertionChoice>, NoMemory>
+    requires { IsReadyList visit.now.list visit.now.list_rows.now }
     ensures { IfOk result (λ chosen. chosen ≡ fold (weigh_in visit.now.list) best
         (map (visit_before visit.now) (gaps visit.now.list.nodes.now))) }
 {
@@ -125,12 +125,12 @@ fn best_of_places(
 }
 
 // A pickup before place `s` and its delivery before place `t`.
-fn pair_at(pair: &PairIn<'_, '_, '_>, s: usize, t: usize) -> Choice
+fn pair_at(pair: &PairIn<'_, '_, '_>, s: usize, t: usize) -> InsertionChoice
     requires order { s ≤ t }
     requires within { t ≤ length pair.now.list.nodes.now }
     ensures { result ≡ pair_before pair.now s t }
 {
-    Choice {
+    InsertionChoice {
         placing: Placing::Two(pair.pickup, pair.delivery, s as u32, t as u32),
         class: pair.class,
         vehicle: pair.list.vehicle,
@@ -146,8 +146,8 @@ fn weigh_pair(
     pair: &PairIn<'_, '_, '_>,
     s: usize,
     t: usize,
-    best: Option<Choice>,
-) -> Result<Option<Choice>, NoMemory>
+    best: Option<InsertionChoice>,
+) -> Result<Option<InsertionChoice>, NoMemory>
     requires { MayTestPair pair.now s t probes.now trying.old.longer }
     ensures best { IfOk result (λ chosen. chosen ≡ weigh_in pair.now.list best (pair_before pair.now s t)) }
     ensures longer { trying.new.longer ≡ trying.old.longer }
@@ -183,8 +183,8 @@ fn best_further(
     trying: &mut Trying,
     probes: &mut Probes,
     begun: &Begun<'_, '_, '_, '_>,
-    best: Option<Choice>,
-) -> Result<Option<Choice>, NoMemory>
+    best: Option<InsertionChoice>,
+) -> Result<Option<InsertionChoice>, NoMemory>
     requires ready { IsReadyPair begun.now.pair begun.now.ahead.now }
     requires here { AreReachedAt (list_model begun.now.pair.list) begun.now.pair.list.vehicle begun.now.half.now
         (begun.now.s + 2) probes.old }
@@ -227,8 +227,8 @@ fn best_behind(
     probes: &mut Probes,
     begun: &Begun<'_, '_, '_, '_>,
     least: i64,
-    best: Option<Choice>,
-) -> Result<Option<Choice>, NoMemory>
+    best: Option<InsertionChoice>,
+) -> Result<Option<InsertionChoice>, NoMemory>
     requires ready { IsReadyPair begun.now.pair begun.now.ahead.now }
     requires least { IsLeastIncrease (list_model begun.now.pair.list) begun.now.pair.list.vehicle
         begun.now.pair.list.nodes.now begun.now.pair.delivery least }
@@ -239,7 +239,7 @@ fn best_behind(
     let pair = &begun.pair;
     let list = &pair.list;
     let s = begun.s;
-    probes.leave(alloc, pair.keeps, list, begun.half, s, &mut trying.walk)?;
+    probes.leave(alloc, pair.list_rows, list, begun.half, s, &mut trying.walk)?;
     if probes.is_stuck(list.lookups.closed) {
         return Ok(best);
     }
@@ -256,18 +256,17 @@ fn best_behind(
         s + 1,
         &mut trying.walk,
     )?;
-    let best = best_further(trying, probes, begun, near)?;
-    Ok(best)
+    best_further(trying, probes, begun, near)
 }
 
 // The best beside a pickup before place `s` and its delivery before each place from there on, where the least that the
 // delivery adds is in the scratch: then no place is looked at where none can be better.
 fn best_delivery(
-    scratch: &mut Scratch,
+    scratch: &mut InsertScratch,
     pair: &PairIn<'_, '_, '_>,
     s: usize,
-    best: Option<Choice>,
-) -> Result<Option<Choice>, NoMemory>
+    best: Option<InsertionChoice>,
+) -> Result<Option<InsertionChoice>, NoMemory>
     requires ready { IsReadyPair pair.now scratch.old.ahead }
     requires within { s ≤ length pair.now.list.nodes.now }
     ensures best { IfOk result (λ chosen. chosen ≡ fold (weigh_in pair.now.list) best
@@ -302,11 +301,11 @@ fn best_delivery(
 
 // The best beside a pair before each two places of a list.
 fn best_pair(
-    scratch: &mut Scratch,
+    scratch: &mut InsertScratch,
     pair: &PairIn<'_, '_, '_>,
-    best: Option<Choice>,
-) -> Result<Option<Choice>, NoMemory>
-    requires { IsReadyList pair.now.list pair.now.keeps.now }
+    best: Option<InsertionChoice>,
+) -> Result<Option<InsertionChoice>, NoMemory>
+    requires { IsReadyList pair.now.list pair.now.list_rows.now }
     ensures { IfOk result (λ chosen. chosen ≡ fold (weigh_in pair.now.list) best
         (each (gaps pair.now.list.nodes.now) (λ s. map (pair_before pair.now s)
         (from_to s (suc (length pair.now.list.nodes.now)))))) }
@@ -321,24 +320,24 @@ fn best_pair(
 
 // The best beside an item in a list, whose vehicle may visit its nodes.
 fn best_where_allowed(
-    scratch: &mut Scratch,
+    scratch: &mut InsertScratch,
     of: &CandidateIn<'_, '_, '_>,
-    best: Option<Choice>,
-) -> Result<Option<Choice>, NoMemory>
-    requires ready { IsReadyList of.now.list of.now.keeps.now }
+    best: Option<InsertionChoice>,
+) -> Result<Option<InsertionChoice>, NoMemory>
+    requires ready { IsReadyList of.now.list of.now.list_rows.now }
     requires allowed { IsTrue (list_all (allows_vehicle (list_model of.now.list) of.now.list.vehicle)
         (nodes_of of.now.candidate.item)) }
     ensures { IfOk result (λ chosen. chosen ≡ best_of_candidate of.now best) }
 {
     let list = of.list;
-    let keeps = of.keeps;
+    let list_rows = of.list_rows;
     let candidate = of.candidate;
     let class = candidate.class;
     let best = match candidate.item {
         Item::Visit(node) => {
             let visit = VisitIn {
                 list,
-                keeps,
+                list_rows,
                 class,
                 node,
             };
@@ -347,7 +346,7 @@ fn best_where_allowed(
         Item::PickupAndDelivery(pickup, delivery) => {
             let pair = PairIn {
                 list,
-                keeps,
+                list_rows,
                 class,
                 pickup,
                 delivery,
@@ -360,11 +359,11 @@ fn best_where_allowed(
 
 /// The best beside an item in a list. Whether its vehicle may visit the nodes of the item is asked once.
 pub(crate) fn best_in_list(
-    scratch: &mut Scratch,
+    scratch: &mut InsertScratch,
     of: &CandidateIn<'_, '_, '_>,
-    best: Option<Choice>,
-) -> Result<Option<Choice>, NoMemory>
-    requires { IsReadyList of.now.list of.now.keeps.now }
+    best: Option<InsertionChoice>,
+) -> Result<Option<InsertionChoice>, NoMemory>
+    requires { IsReadyList of.now.list of.now.list_rows.now }
     ensures { IfOk result (λ chosen. chosen ≡ best_of_candidate of.now best) }
 {
     if !allows_item(of.list.lookups.nodes(), of.list.vehicle, of.candidate.item) {

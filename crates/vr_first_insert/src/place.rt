@@ -3,13 +3,14 @@
 ghost use Rattle.std.specs.Prelude.{◌≡◌, ◌+◌, ◌<◌, ◌≤◌, ℕ, List, OnOk, insert, length};
 ghost use Rattle.vr_model.specs.moves.Moves.{with_route};
 ghost use Rattle.vr_model.specs.routes.Routes.{route};
+ghost use Rattle.vr_model.specs.tables.Limits.{most_nodes};
 ghost use Rattle.vr_rules.specs.Placing.{AreBuilt};
 ghost use Rattle.vr_first_insert.specs.KeptRows.{AreKept};
 ghost use Rattle.vr_first_insert.specs.Placings.{placed as placed_of, AreWithin, MayBeInserted};
 
-use crate::choice::{Choice, Placing};
-use crate::kept::{Kept, change_list};
-use crate::vehicle_list::VehicleList;
+use crate::choice::{InsertionChoice, Placing};
+use crate::list_rows::{ListRows, change_list};
+use crate::vehicle_list::LookedUpList;
 use std::alloc::Global;
 use vr_model::{NoMemory, Seq};
 use vr_plan::Lookups;
@@ -21,7 +22,7 @@ pub(crate) fn write_placed(
     longer: &mut Seq<u32>,
 ) -> Result<(), NoMemory>
     requires within { AreWithin list.now placing }
-    requires few { length list.now ≤ 1000 }
+    requires few { length list.now ≤ most_nodes }
     ensures { OnOk result (longer.new ≡ placed_of list.now placing) }
 {
     longer.truncate(0);
@@ -68,26 +69,26 @@ pub(crate) fn place_in(
     longer: &mut Seq<u32>,
     alloc: Global,
     lookups: &Lookups<'_>,
-    keeps: &mut [Kept],
+    list_rows: &mut [ListRows],
     lists: &mut [Seq<u32>],
-    choice: Choice,
+    choice: InsertionChoice,
 ) -> Result<(), NoMemory>
     requires may { MayBeInserted lookups.now.closed.model.now lists.old choice }
     requires built { AreBuilt lookups.now.closed.model.now lists.old }
-    requires kept { AreKept lookups.now.closed.model.now lists.old keeps.old }
+    requires kept { AreKept lookups.now.closed.model.now lists.old list_rows.old }
     ensures lists { OnOk result (lists.new ≡ with_route lists.old choice.vehicle
         (placed_of (route lists.old choice.vehicle) choice.placing)) }
-    ensures kept { OnOk result (AreKept lookups.now.closed.model.now lists.new keeps.new) }
+    ensures kept { OnOk result (AreKept lookups.now.closed.model.now lists.new list_rows.new) }
 {
     let v = choice.vehicle;
     let before = lists[v as usize].as_slice();
     write_placed(before, choice.placing, longer)?;
     let nodes = longer.as_slice();
-    let list = VehicleList {
+    let list = LookedUpList {
         lookups,
         vehicle: v,
         nodes,
     };
-    change_list(alloc, keeps, lists, &list)?;
+    change_list(alloc, list_rows, lists, &list)?;
     Ok(())
 }

@@ -6,8 +6,8 @@ ghost use Rattle.vr_first_insert.specs.Probes.{is_stuck_in_some, AreReachedAt, R
 ghost use Rattle.vr_first_insert.specs.Probes.{MayGoFrom, MayGoOn, MayLeave};
 ghost use Rattle.vr_first_insert.specs.KeptRows.{list_model};
 
-use crate::kept::Kept;
-use crate::vehicle_list::VehicleList;
+use crate::list_rows::ListRows;
+use crate::vehicle_list::LookedUpList;
 use std::alloc::Global;
 use vr_model::{Closed, NoMemory};
 use vr_plan::Lookups;
@@ -36,17 +36,17 @@ impl Probes {
     pub(crate) fn leave(
         &mut self,
         alloc: Global,
-        keeps: &[Kept],
-        old: &VehicleList<'_, '_, '_>,
+        list_rows: &[ListRows],
+        old: &LookedUpList<'_, '_, '_>,
         new: &[u32],
         front: usize,
         walk: &mut Walk,
     ) -> Result<(), NoMemory>
-        requires { MayLeave old.now new.now front keeps.now }
+        requires { MayLeave old.now new.now front list_rows.now }
         ensures { OnOk result (AreReachedAt (list_model old.now) old.now.vehicle new.now (front + 1) self.new) }
     {
-        fit(alloc, self, keeps.len())?;
-        leave_each(self, keeps, old, new, front, walk)
+        fit(alloc, self, list_rows.len())?;
+        leave_each(self, list_rows, old, new, front, walk)
     }
 
     /// Whether nothing is reached in some dimension: then no list that reaches this at a stop has a feasible line
@@ -71,21 +71,21 @@ impl Probes {
     /// `NoMemory` as of `is_feasible_between`.
     pub(crate) fn goes_from(
         &self,
-        keeps: &[Kept],
-        old: &VehicleList<'_, '_, '_>,
+        list_rows: &[ListRows],
+        old: &LookedUpList<'_, '_, '_>,
         new: &[u32],
         k: usize,
         back: usize,
         walk: &mut Walk,
     ) -> Result<bool, NoMemory>
-        requires { MayGoFrom old.now new.now k back keeps.now self.now }
+        requires { MayGoFrom old.now new.now k back list_rows.now self.now }
         ensures { IfOk result (λ answer. answer
             ≡ is_feasible_in_each (list_model old.now) old.now.vehicle new.now) }
     {
         let v = old.vehicle;
-        for d in 0..keeps.len() {
+        for d in 0..list_rows.len() {
             let table = old.lookups.table(d as u32);
-            let kept = &keeps[d];
+            let kept = &list_rows[d];
             let rows = &kept.rows[v as usize];
             let here = &self.here[d];
             let stops = StopsFor {
@@ -149,20 +149,20 @@ fn fit(alloc: Global, probes: &mut Probes, wanted: usize) -> Result<(), NoMemory
 // Stands in each dimension behind the arc by which a list leaves the list of the vehicle before.
 fn leave_each(
     probes: &mut Probes,
-    keeps: &[Kept],
-    old: &VehicleList<'_, '_, '_>,
+    list_rows: &[ListRows],
+    old: &LookedUpList<'_, '_, '_>,
     new: &[u32],
     front: usize,
     walk: &mut Walk,
 ) -> Result<(), NoMemory>
-    requires leaves { MayLeave old.now new.now front keeps.now }
-    requires enough { length keeps.now ≤ length probes.old.here.items }
+    requires leaves { MayLeave old.now new.now front list_rows.now }
+    requires enough { length list_rows.now ≤ length probes.old.here.items }
     ensures { OnOk result (AreReachedAt (list_model old.now) old.now.vehicle new.now (front + 1) probes.new) }
 {
     let v = old.vehicle;
-    for d in 0..keeps.len() {
+    for d in 0..list_rows.len() {
         let table = old.lookups.table(d as u32);
-        let kept = &keeps[d];
+        let kept = &list_rows[d];
         let rows = &kept.rows[v as usize];
         let stops = StopsFor {
             closed: old.lookups.closed,

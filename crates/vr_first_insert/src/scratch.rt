@@ -7,7 +7,7 @@ use vr_model::Seq;
 
 /// What is written over while places are tried.
 #[derive(Drop)]
-pub(crate) struct Scratch {
+pub(crate) struct InsertScratch {
     pub(crate) alloc: Global,
     /// The least that the delivery of a pair adds before the last places of a list, as `write_ahead` writes it.
     pub(crate) ahead: Seq<i64>,
@@ -18,10 +18,10 @@ pub(crate) struct Scratch {
     pub(crate) trying: Trying,
 }
 
-impl Scratch {
+impl InsertScratch {
     /// It takes no memory.
-    pub(crate) fn new(alloc: Global) -> Scratch {
-        Scratch {
+    pub(crate) fn new(alloc: Global) -> InsertScratch {
+        InsertScratch {
             alloc,
             ahead: Seq::new(alloc),
             half: Seq::new(alloc),

@@ -10,13 +10,13 @@ ghost use Rattle.vr_first_insert.specs.Placings.{best_beside, counts as counts_o
 ghost use Rattle.vr_first_insert.specs.Asking.{best_asked, best_asked_of_each, items_model, AreKnownIn, AreKnownInEach};
 ghost use Rattle.vr_first_insert.specs.Asking.{MayAsk, MayAskEach, MayCount, MayInsert, MayWeigh};
 
-use crate::choice::Choice;
-use crate::kept::Kept;
+use crate::choice::InsertionChoice;
 use crate::known::{asked, better_of, forget, is_settled};
+use crate::known_items::KnownItems;
+use crate::list_rows::ListRows;
 use crate::place::place_in;
-use crate::row::Row;
-use crate::scratch::Scratch;
-use crate::vehicle_list::{CandidateIn, VehicleList};
+use crate::scratch::InsertScratch;
+use crate::vehicle_list::{CandidateIn, LookedUpList};
 use vr_model::{NoMemory, Seq};
 use vr_plan::Lookups;
 use vr_rules::{Candidate, groups_have_room, mark_item};
@@ -28,86 +28,86 @@ pub(crate) struct Items<'l, 'm, 'c> {
     pub(crate) candidates: &'c [Candidate],
 }
 
-// Lists of which rows are kept, and what may be put into them.
+// Lists with what is kept of them, and what may be put into them.
 #[derive(Clone, Copy)]
-struct Asked<'l, 'm, 'c, 'k> {
+struct AskedLists<'l, 'm, 'c, 'k> {
     items: Items<'l, 'm, 'c>,
-    keeps: &'k [Kept],
+    list_rows: &'k [ListRows],
     lists: &'k [Seq<u32>],
 }
 
-// The best beside candidate `i` in the list of vehicle `v`, where `row` has what is known of the candidates in it.
+// The best beside candidate `i` in the list of vehicle `v`, of whose candidates `known_here` has what is known.
 fn settle(
-    scratch: &mut Scratch,
-    on: &Asked<'_, '_, '_, '_>,
+    scratch: &mut InsertScratch,
+    on: &AskedLists<'_, '_, '_, '_>,
     v: usize,
     i: usize,
-    row: &mut Row,
-    best: Option<Choice>,
-) -> Result<Option<Choice>, NoMemory>
-    requires { MayAsk on.now v i row.old }
+    known_here: &mut KnownItems,
+    best: Option<InsertionChoice>,
+) -> Result<Option<InsertionChoice>, NoMemory>
+    requires { MayAsk on.now v i known_here.old }
     ensures best { IfOk result (λ chosen. chosen ≡ best_asked on.now v i best) }
-    ensures row { OnOk result (AreKnownIn on.now v row.new) }
+    ensures known { OnOk result (AreKnownIn on.now v known_here.new) }
 {
     let candidates = on.items.candidates;
-    let known = row.get(i);
+    let known = known_here.get(i);
     if is_settled(&known, candidates[i].class, best) {
         return Ok(better_of(best, &known));
     }
-    ask(scratch, on, v, i, row, best)
+    ask(scratch, on, v, i, known_here, best)
 }
 
 // The same, where what is known does not tell: the list is asked, and what it says is written. It stands apart, so that
 // what it needs is no burden where nothing is asked.
 #[inline(never)]
 fn ask(
-    scratch: &mut Scratch,
-    on: &Asked<'_, '_, '_, '_>,
+    scratch: &mut InsertScratch,
+    on: &AskedLists<'_, '_, '_, '_>,
     v: usize,
     i: usize,
-    row: &mut Row,
-    best: Option<Choice>,
-) -> Result<Option<Choice>, NoMemory>
-    requires { MayAsk on.now v i row.old }
+    known_here: &mut KnownItems,
+    best: Option<InsertionChoice>,
+) -> Result<Option<InsertionChoice>, NoMemory>
+    requires { MayAsk on.now v i known_here.old }
     ensures best { IfOk result (λ chosen. chosen ≡ best_asked on.now v i best) }
-    ensures row { OnOk result (AreKnownIn on.now v row.new) }
+    ensures known { OnOk result (AreKnownIn on.now v known_here.new) }
 {
     let candidates = on.items.candidates;
     let candidate = candidates[i];
-    let known = row.get(i);
+    let known = known_here.get(i);
     let lists = on.lists;
     let nodes = lists[v].as_slice();
-    let list = VehicleList {
+    let list = LookedUpList {
         lookups: on.items.lookups,
         vehicle: v as u32,
         nodes,
     };
     let of = CandidateIn {
         list,
-        keeps: on.keeps,
+        list_rows: on.list_rows,
         candidate,
     };
     let told = asked(scratch, &of, known, best)?;
-    row.set(i, told);
+    known_here.set(i, told);
     Ok(better_of(best, &told))
 }
 
-// The best beside candidate `i` in each list, where `rows` have what is known of the candidates in each.
+// The best beside candidate `i` in each list, where `known_items` has what is known of the candidates in each.
 fn best_in_lists(
-    scratch: &mut Scratch,
-    on: &Asked<'_, '_, '_, '_>,
+    scratch: &mut InsertScratch,
+    on: &AskedLists<'_, '_, '_, '_>,
     i: usize,
-    rows: &mut [Row],
-    best: Option<Choice>,
-) -> Result<Option<Choice>, NoMemory>
-    requires { MayAskEach on.now i rows.old }
+    known_items: &mut [KnownItems],
+    best: Option<InsertionChoice>,
+) -> Result<Option<InsertionChoice>, NoMemory>
+    requires { MayAskEach on.now i known_items.old }
     ensures best { IfOk result (λ chosen. chosen ≡ best_asked_of_each on.now i best) }
-    ensures rows { OnOk result (AreKnownInEach on.now rows.new) }
+    ensures known { OnOk result (AreKnownInEach on.now known_items.new) }
 {
     let mut best = best;
     for v in 0..on.lists.len() {
-        let row = &mut rows[v];
-        best = settle(scratch, on, v, i, row, best)?;
+        let known_here = &mut known_items[v];
+        best = settle(scratch, on, v, i, known_here, best)?;
     }
     Ok(best)
 }
@@ -126,48 +126,48 @@ fn counts(items: &Items<'_, '_, '_>, marks: &[bool], candidate: Candidate) -> bo
 
 // Takes the best beside all insertions of candidate `i`.
 fn beside(
-    scratch: &mut Scratch,
-    on: &Asked<'_, '_, '_, '_>,
+    scratch: &mut InsertScratch,
+    on: &AskedLists<'_, '_, '_, '_>,
     marks: &[bool],
     i: usize,
-    rows: &mut [Row],
-    best: &mut Option<Choice>,
+    known_items: &mut [KnownItems],
+    best: &mut Option<InsertionChoice>,
 ) -> Result<(), NoMemory>
-    requires { MayWeigh on.now marks.now i rows.old }
+    requires { MayWeigh on.now marks.now i known_items.old }
     ensures best { OnOk result (best.new ≡ best_beside (items_model on.now.items) on.now.lists.now marks.now
         (candidate_at on.now.items.candidates.now i) best.old) }
-    ensures rows { OnOk result (AreKnownInEach on.now rows.new) }
+    ensures known { OnOk result (AreKnownInEach on.now known_items.new) }
 {
     if !counts(&on.items, marks, on.items.candidates[i]) {
         return Ok(());
     }
-    *best = best_in_lists(scratch, on, i, rows, *best)?;
+    *best = best_in_lists(scratch, on, i, known_items, *best)?;
     Ok(())
 }
 
 // The insertion to make next, if any may be made.
 fn next_insertion(
-    scratch: &mut Scratch,
+    scratch: &mut InsertScratch,
     items: &Items<'_, '_, '_>,
-    keeps: &[Kept],
+    list_rows: &[ListRows],
     marks: &[bool],
     lists: &[Seq<u32>],
-    rows: &mut [Row],
-) -> Result<Option<Choice>, NoMemory>
-    requires { MayInsert items.now keeps.now marks.now lists.now rows.old }
+    known_items: &mut [KnownItems],
+) -> Result<Option<InsertionChoice>, NoMemory>
+    requires { MayInsert items.now list_rows.now marks.now lists.now known_items.old }
     ensures next { IfOk result (λ next. option_map insertion_of next
         ≡ next_inserted (items_model items.now) lists.now) }
     ensures may { IfOk result (λ next. IfSome next (MayBeInserted (items_model items.now) lists.now)) }
-    ensures rows { OnOk result (AreRows (items_model items.now) lists.now items.now.candidates.now rows.new) }
+    ensures known { OnOk result (AreRows (items_model items.now) lists.now items.now.candidates.now known_items.new) }
 {
-    let on = Asked {
+    let on = AskedLists {
         items: *items,
-        keeps,
+        list_rows,
         lists,
     };
-    let mut best: Option<Choice> = None;
+    let mut best: Option<InsertionChoice> = None;
     for i in 0..items.candidates.len() {
-        beside(scratch, &on, marks, i, rows, &mut best)?;
+        beside(scratch, &on, marks, i, known_items, &mut best)?;
     }
     Ok(best)
 }
@@ -177,28 +177,35 @@ fn next_insertion(
 ///
 /// After want of memory nothing is said of the lists.
 pub(crate) fn insert_all(
-    scratch: &mut Scratch,
+    scratch: &mut InsertScratch,
     items: &Items<'_, '_, '_>,
-    keeps: &mut [Kept],
+    list_rows: &mut [ListRows],
     lists: &mut [Seq<u32>],
     marks: &mut [bool],
-    rows: &mut [Row],
+    known_items: &mut [KnownItems],
 ) -> Result<(), NoMemory>
-    requires { MayInsert items.now keeps.old marks.old lists.old rows.old }
+    requires { MayInsert items.now list_rows.old marks.old lists.old known_items.old }
     ensures rebuilt { OnOk result (lists.new
         ≡ rebuilt (items_model items.now) (length (items_of (items_model items.now))) lists.old) }
     ensures built { OnOk result (AreBuilt (items_model items.now) lists.new) }
     ensures marked { OnOk result (AreMarks (items_model items.now).nodes lists.new marks.new) }
-    ensures kept { OnOk result (AreKept (items_model items.now) lists.new keeps.new) }
-    ensures rows { OnOk result (AreRows (items_model items.now) lists.new items.now.candidates.now rows.new) }
+    ensures kept { OnOk result (AreKept (items_model items.now) lists.new list_rows.new) }
+    ensures known { OnOk result (AreRows (items_model items.now) lists.new items.now.candidates.now known_items.new) }
 {
     for _step in 0..items.candidates.len() {
-        match next_insertion(scratch, items, keeps, marks, lists, rows)? {
+        match next_insertion(scratch, items, list_rows, marks, lists, known_items)? {
             Some(choice) => {
                 let longer = &mut scratch.trying.longer;
-                place_in(longer, scratch.alloc, items.lookups, keeps, lists, choice)?;
+                place_in(
+                    longer,
+                    scratch.alloc,
+                    items.lookups,
+                    list_rows,
+                    lists,
+                    choice,
+                )?;
                 mark_item(marks, choice.placing.item());
-                forget(rows, choice.vehicle);
+                forget(known_items, choice.vehicle);
             }
             None => return Ok(()),
         }

@@ -156,8 +156,7 @@ fn first_kept(
         IfSome first (λ routes. routes.visits ≡ visits lookups.now.closed.model.now)) }
 {
     rebuild_empty(alloc, keeper, lookups)?;
-    let first = complete_routes(alloc, lookups, &keeper.lists)?;
-    Ok(first)
+    complete_routes(alloc, lookups, &keeper.lists)
 }
 
 /// The first solution, as `first` gives it, over what was looked up of the model.

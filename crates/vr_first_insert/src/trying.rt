@@ -11,9 +11,9 @@ ghost use Rattle.vr_first_insert.specs.VehicleLists.{MayTestPair, MayTestVisit};
 ghost use Rattle.vr_first_insert.specs.declared.choice.Placing.TheVariants.{One, Two};
 ghost use Rattle.vr_first_insert.specs.KeptRows.{list_model};
 
-use crate::kept::is_feasible_between;
+use crate::list_rows::is_feasible_between;
 use crate::probes::Probes;
-use crate::vehicle_list::{PairIn, VehicleList, VisitIn};
+use crate::vehicle_list::{LookedUpList, PairIn, VisitIn};
 use std::alloc::Global;
 use vr_lists::{PairPlaces, keeps_pairs};
 use vr_model::{NoMemory, Seq};
@@ -41,7 +41,7 @@ impl Trying {
 
 // Whether the list that is written serves each pair in order, and as the policy of the vehicle of a list asks.
 #[inline(always)]
-fn keeps_its_pairs(trying: &mut Trying, list: &VehicleList<'_, '_, '_>) -> bool
+fn keeps_its_pairs(trying: &mut Trying, list: &LookedUpList<'_, '_, '_>) -> bool
     requires visits { IsTrue (list_all (is_visit (list_model list.now)) trying.old.longer) }
     requires distinct { IsTrue (is_distinct trying.old.longer) }
     ensures keeps { result ≡ keeps_pairs_of (list_model list.now) list.now.vehicle trying.old.longer }
@@ -73,7 +73,7 @@ pub(crate) fn may_visit(
     let list = &visit.list;
     let longer = trying.longer.as_slice();
     let back = list.nodes.len() - t;
-    if !is_feasible_between(visit.keeps, list, longer, t, back, &mut trying.walk)? {
+    if !is_feasible_between(visit.list_rows, list, longer, t, back, &mut trying.walk)? {
         return Ok(false);
     }
     Ok(keeps_its_pairs(trying, list))
@@ -97,7 +97,7 @@ pub(crate) fn may_serve(
     let list = &pair.list;
     let longer = trying.longer.as_slice();
     let back = list.nodes.len() - t;
-    if !probes.goes_from(pair.keeps, list, longer, t + 1, back, &mut trying.walk)? {
+    if !probes.goes_from(pair.list_rows, list, longer, t + 1, back, &mut trying.walk)? {
         return Ok(false);
     }
     Ok(keeps_its_pairs(trying, list))

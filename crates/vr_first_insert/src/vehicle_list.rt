@@ -8,13 +8,13 @@ ghost use Rattle.vr_rules.specs.declared.items.Item.TheVariants.{Visit, PickupAn
 ghost use Rattle.vr_rules.specs.Placing.{nodes_of};
 ghost use Rattle.vr_first_insert.specs.Placings.{MayHold};
 
-use crate::kept::Kept;
+use crate::list_rows::ListRows;
 use vr_plan::Lookups;
 use vr_rules::Candidate;
 
 /// The list of a vehicle, with what was looked up of the model.
 #[derive(Clone, Copy)]
-pub(crate) struct VehicleList<'l, 'm, 'k> {
+pub(crate) struct LookedUpList<'l, 'm, 'k> {
     pub(crate) lookups: &'l Lookups<'m>,
     pub(crate) vehicle: u32,
     pub(crate) nodes: &'k [u32],
@@ -26,8 +26,8 @@ pub(crate) struct VehicleList<'l, 'm, 'k> {
 /// A candidate that a list may hold, with what is kept of lists.
 #[derive(Clone, Copy)]
 pub(crate) struct CandidateIn<'l, 'm, 'k> {
-    pub(crate) list: VehicleList<'l, 'm, 'k>,
-    pub(crate) keeps: &'k [Kept],
+    pub(crate) list: LookedUpList<'l, 'm, 'k>,
+    pub(crate) list_rows: &'k [ListRows],
     pub(crate) candidate: Candidate,
     ghost may_hold: { MayHold list.lookups.now.closed.model.now list.nodes.now candidate.item },
 }
@@ -35,8 +35,8 @@ pub(crate) struct CandidateIn<'l, 'm, 'k> {
 /// A visit of a class that a list may hold, and that its vehicle may make.
 #[derive(Clone, Copy)]
 pub(crate) struct VisitIn<'l, 'm, 'k> {
-    pub(crate) list: VehicleList<'l, 'm, 'k>,
-    pub(crate) keeps: &'k [Kept],
+    pub(crate) list: LookedUpList<'l, 'm, 'k>,
+    pub(crate) list_rows: &'k [ListRows],
     pub(crate) class: u32,
     pub(crate) node: u32,
     ghost may_hold: { MayHold list.lookups.now.closed.model.now list.nodes.now (Visit node) },
@@ -47,8 +47,8 @@ pub(crate) struct VisitIn<'l, 'm, 'k> {
 /// A pair of a class that a list may hold, and that its vehicle may serve.
 #[derive(Clone, Copy)]
 pub(crate) struct PairIn<'l, 'm, 'k> {
-    pub(crate) list: VehicleList<'l, 'm, 'k>,
-    pub(crate) keeps: &'k [Kept],
+    pub(crate) list: LookedUpList<'l, 'm, 'k>,
+    pub(crate) list_rows: &'k [ListRows],
     pub(crate) class: u32,
     pub(crate) pickup: u32,
     pub(crate) delivery: u32,

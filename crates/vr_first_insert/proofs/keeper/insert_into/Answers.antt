@@ -28,12 +28,12 @@ invariant_of-new c =
       below = visits-below model c.list.result.now tour.visits;
     }
 
-pub take_list-requires-clause-row : goal.take_list-requires-clause-row
-take_list-requires-clause-row c =
+pub take_list-requires-clause-known : goal.take_list-requires-clause-known
+take_list-requires-clause-known c =
     let count = built-count c.args.items.now.lookups.now.closed.model.now c.args.routes.now.lists c.requires.built in
     let many = c.loop-v.invariant.vehicles in
-    let rows = c.loop-v.invariant.rows.many in
-    omega (arith, c.loop-v-test.true, c.vehicles-v-end.ensures.value, count, many, rows)
+    let known = c.loop-v.invariant.known.many in
+    omega (arith, c.loop-v-test.true, c.vehicles-v-end.ensures.value, count, many, known)
 
 pub loop-v-preserved : goal.loop-v-preserved
 loop-v-preserved c =
@@ -49,7 +49,7 @@ loop-v-preserved c =
       vehicles = ap length is ∙ length-set lists v list ∙ many;
       taken = λ w low. ap (λ lists. route lists w) is ∙ taken-more lists others v list there c.list.ensures.value c.loop-v.invariant.taken w low;
       kept = c.in_ok-take_list.ensures.kept;
-      rows = c.in_ok-take_list.ensures.rows c.args.items.now.candidates.now c.loop-v.invariant.rows;
+      known = c.in_ok-take_list.ensures.known c.args.items.now.candidates.now c.loop-v.invariant.known;
     }
 
 pub insert_all-requires : goal.insert_all-requires
@@ -64,7 +64,7 @@ insert_all-requires c =
       kept = so_far.kept;
       built = subst (AreBuilt model) (sym same) c.requires.built;
       marks = subst (λ lists. AreMarks model.nodes lists c.args.marks.now) (sym same) c.requires.marks;
-      rows = so_far.rows;
+      rows = so_far.known;
     }
 
 pub returns-clause-rebuilt : goal.returns-clause-rebuilt

@@ -9,6 +9,6 @@ abbrev pub invariant-loop-v : goal.invariant-loop-v
 invariant-loop-v l = record {
   vehicles : length l.lists ≡ length l.items.lookups.now.closed.model.now.vehicles;
   taken : (w : ℕ) → w < l.v → route l.lists w ≡ route l.routes.lists w;
-  kept : AreKept l.items.lookups.now.closed.model.now l.lists l.keeps;
-  rows : AreRows l.items.lookups.now.closed.model.now l.lists l.items.candidates.now l.rows;
+  kept : AreKept l.items.lookups.now.closed.model.now l.lists l.list_rows;
+  known : AreRows l.items.lookups.now.closed.model.now l.lists l.items.candidates.now l.known_items;
 }

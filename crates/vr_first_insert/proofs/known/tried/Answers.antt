@@ -1,8 +1,9 @@
 use Rattle.std.proofs.Common.{◌≡◌, ◌∙◌, ap, cond, rules, sym, subst, to_z, of_z, w64}
-use Rattle.vr_first_insert.specs.declared.known.Known.TheVariants.{AtLeast}
+use Rattle.std.proofs.lemmas.Result.{IfOk-weaker}
+use Rattle.vr_first_insert.specs.declared.known.KnownItem.TheVariants.{AtLeast}
 use Rattle.vr_first_insert.specs.Kept.{begun_with, best_of, IsKnown}
 use Rattle.vr_first_insert.specs.Placings.{may_improve}
-use Rattle.vr_first_insert.specs.VehicleLists.{sought_in}
+use Rattle.vr_first_insert.specs.VehicleLists.{best_of_candidate, sought_in, tried_in}
 use Rattle.vr_first_insert.proofs.ToldLemmas.{begun-better, begun-known, bound-passed_over}
 use Rattle.vr_first_insert.proofs.known.tried.Goals as goal
 
@@ -19,16 +20,16 @@ returns-clause-known c =
     let list = c.args.of.now.list.nodes.now in
     let v = c.args.of.now.list.vehicle in
     let fits : to_z w64 (of_z w64 c.args.bound.least) ≡ c.args.bound.least = search rules in
-    subst (IsKnown model v list c.args.of.now.candidate) (sym (c.in_ok-known.ensures ∙ ap (sought_in c.args.of.now) c.begun_with-begin.ensures))
-    (begun-known model v list c.args.of.now.candidate c.args.bound.searched c.args.best c.args.bound.least (ap (may_improve c.args.best c.args.of.now.candidate.class) (sym fits) ∙ sym c.may_improve.ensures ∙ c.if-not-may_improve.false))
+    IfOk-weaker c.sought.result (λ known. known ≡ sought_in c.args.of.now c.begun_with-begin.result) (IsKnown model v list c.args.of.now.candidate)
+    (λ known is. subst (IsKnown model v list c.args.of.now.candidate) (sym (is ∙ ap (sought_in c.args.of.now) c.begun_with-begin.ensures)) (begun-known model v list c.args.of.now.candidate c.args.bound.searched c.args.best c.args.bound.least (ap (may_improve c.args.best c.args.of.now.candidate.class) (sym fits) ∙ sym c.may_improve.ensures ∙ c.if-not-may_improve.false))) c.sought.ensures
 
 pub returns-clause-better : goal.returns-clause-better
 returns-clause-better c =
     let model = c.args.of.now.list.lookups.now.closed.model.now in
     let list = c.args.of.now.list.nodes.now in
     let v = c.args.of.now.list.vehicle in
-    ap (λ known. best_of known c.args.best) (c.in_ok-known.ensures ∙ ap (sought_in c.args.of.now) c.begun_with-begin.ensures)
-    ∙ begun-better model v list c.args.of.now.candidate c.args.bound.searched c.args.best
+    IfOk-weaker c.sought.result (λ known. known ≡ sought_in c.args.of.now c.begun_with-begin.result) (λ known. best_of known c.args.best ≡ best_of_candidate c.args.of.now c.args.best)
+    (λ known is. ap (λ known. best_of known c.args.best) (is ∙ ap (sought_in c.args.of.now) c.begun_with-begin.ensures) ∙ begun-better model v list c.args.of.now.candidate c.args.bound.searched c.args.best) c.sought.ensures
 
 pub returns-then-not-may_improve-clause-exact : goal.returns-then-not-may_improve-clause-exact
 returns-then-not-may_improve-clause-exact c =
@@ -41,6 +42,7 @@ pub returns-clause-exact : goal.returns-clause-exact
 returns-clause-exact c =
     let of = c.args.of.now in
     let fits : to_z w64 (of_z w64 c.args.bound.least) ≡ c.args.bound.least = search rules in
-    c.in_ok-known.ensures ∙ ap (sought_in of) c.begun_with-begin.ensures
+    IfOk-weaker c.sought.result (λ known. known ≡ sought_in c.args.of.now c.begun_with-begin.result) (λ known. known ≡ tried_in c.args.of.now c.args.bound c.args.best)
+    (λ known is. is ∙ ap (sought_in of) c.begun_with-begin.ensures
     ∙ ap (λ b. cond b (sought_in of (begun_with of.candidate.item c.args.bound.searched c.args.best)) (AtLeast c.args.bound))
-    (sym c.if-not-may_improve.false ∙ c.may_improve.ensures ∙ ap (may_improve c.args.best of.candidate.class) fits)
+    (sym c.if-not-may_improve.false ∙ c.may_improve.ensures ∙ ap (may_improve c.args.best of.candidate.class) fits)) c.sought.ensures

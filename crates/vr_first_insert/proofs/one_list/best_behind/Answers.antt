@@ -1,12 +1,13 @@
 use Rattle.std.proofs.Common.{to_z, of_z, w64, ◌≡◌, ◌∙◌, ◌+◌, ℕ, suc, ap, sym, subst, arith, length}
 use Rattle.std.specs.Prelude.{fold, insert, map}
+use Rattle.std.proofs.lemmas.Result.{IfOk-weaker}
 use Rattle.vr_model.specs.tables.Numbers.{from_to}
 use Rattle.vr_model.proofs.tables.Ranges.{first_left}
 use Rattle.vr_reach.specs.Stretches.{SharesFront}
 use Rattle.vr_first_insert.specs.Probes.{AreReachedAt}
 use Rattle.vr_first_insert.proofs.InsertedLemmas.{pair_is, visit_front}
 use Rattle.vr_model.specs.declared.records.Pair.{Pair}
-use Rattle.vr_first_insert.specs.declared.choice.Choice.{Choice}
+use Rattle.vr_first_insert.specs.declared.choice.InsertionChoice.{InsertionChoice}
 use Rattle.vr_first_insert.specs.Increases.{IsIncrease}
 use Rattle.std.proofs.lemmas.Int.{ints, to_z-of_z}
 use Rattle.vr_first_insert.proofs.BoundLemmas.{deliveries-passed_over}
@@ -73,7 +74,7 @@ pub returns-then-not-may_improve : goal.returns-then-not-may_improve
 returns-then-not-may_improve c =
     let model = c.args.begun.now.pair.list.lookups.now.closed.model.now in
     let list = c.args.begun.now.pair.list.nodes.now in
-    let f : ℕ → Choice = pair_choice model c.args.begun.now.pair.list.vehicle list c.args.begun.now.pair.class c.args.begun.now.pair.pickup c.args.begun.now.pair.delivery c.args.begun.now.s in
+    let f : ℕ → InsertionChoice = pair_choice model c.args.begun.now.pair.list.vehicle list c.args.begun.now.pair.class c.args.begun.now.pair.pickup c.args.begun.now.pair.delivery c.args.begun.now.s in
     let further = c.least_further.ensures in
     let least = subst (λ x. IsLeast model c.args.begun.now.pair.list.vehicle list c.args.begun.now.pair.delivery x) (sym (to_z-of_z w64 c.args.least c.ranges.least)) c.requires.least.adds in
     let fits : to_z w64 (of_z w64 c.least_further.result) ≡ c.least_further.result = omega (arith, ints, further.low, further.high) in
@@ -87,7 +88,10 @@ pub returns : goal.returns
 returns c =
     let model = c.args.begun.now.pair.list.lookups.now.closed.model.now in
     let list = c.args.begun.now.pair.list.nodes.now in
-    let f : ℕ → Choice = pair_choice model c.args.begun.now.pair.list.vehicle list c.args.begun.now.pair.class c.args.begun.now.pair.pickup c.args.begun.now.pair.delivery c.args.begun.now.s in
-    c.in_ok-best.ensures
-    ∙ ap (λ best. fold (weigh model list) best (map f (from_to (c.args.begun.now.s + 1) (suc (length list))))) c.in_ok-near.ensures.best
-    ∙ sym (first_left c.args.begun.now.s (suc (length list)) (omega (arith, c.args.begun.now.within)) (λ ks. fold (weigh model list) c.args.best (map f ks)))
+    let f : ℕ → InsertionChoice = pair_choice model c.args.begun.now.pair.list.vehicle list c.args.begun.now.pair.class c.args.begun.now.pair.pickup c.args.begun.now.pair.delivery c.args.begun.now.s in
+    IfOk-weaker c.best_further.result
+    (λ chosen. chosen ≡ fold (weigh model list) c.in_ok-near.near (map f (from_to (c.args.begun.now.s + 1) (suc (length list)))))
+    (λ chosen. chosen ≡ fold (weigh model list) c.args.best (map f (from_to c.args.begun.now.s (suc (length list)))))
+    (λ chosen is.
+    is ∙ ap (λ best. fold (weigh model list) best (map f (from_to (c.args.begun.now.s + 1) (suc (length list))))) c.in_ok-near.ensures.best
+    ∙ sym (first_left c.args.begun.now.s (suc (length list)) (omega (arith, c.args.begun.now.within)) (λ ks. fold (weigh model list) c.args.best (map f ks)))) c.best_further.ensures

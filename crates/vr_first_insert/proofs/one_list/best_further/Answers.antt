@@ -9,7 +9,7 @@ use Rattle.vr_model.proofs.tables.Ranges.{walk_ends, walk_opens}
 use Rattle.vr_first_insert.specs.Probes.{AreReachedAt}
 use Rattle.vr_first_insert.proofs.InsertedLemmas.{pair_is}
 use Rattle.vr_model.specs.declared.records.Pair.{Pair}
-use Rattle.vr_first_insert.specs.declared.choice.Choice.{Choice}
+use Rattle.vr_first_insert.specs.declared.choice.InsertionChoice.{InsertionChoice}
 use Rattle.vr_first_insert.specs.Placings.{may_improve, pair_choice, weigh}
 use Rattle.vr_first_insert.proofs.ReadyLemmas.{deliveries-stuck, half-goes_on}
 use Rattle.vr_first_insert.proofs.one_list.best_further.Goals as goal
@@ -49,7 +49,7 @@ pub loop-t-preserved : goal.loop-t-preserved
 loop-t-preserved c =
     let model = c.args.begun.now.pair.list.lookups.now.closed.model.now in
     let list = c.args.begun.now.pair.list.nodes.now in
-    let f : ℕ → Choice = pair_choice model c.args.begun.now.pair.list.vehicle list c.args.begun.now.pair.class c.args.begun.now.pair.pickup c.args.begun.now.pair.delivery c.args.begun.now.s in
+    let f : ℕ → InsertionChoice = pair_choice model c.args.begun.now.pair.list.vehicle list c.args.begun.now.pair.class c.args.begun.now.pair.pickup c.args.begun.now.pair.delivery c.args.begun.now.s in
     record {
       best = ap (λ best. fold (weigh model list) best (map f (from_to (c.loop-t.t + 1) (suc (length list))))) c.in_ok-best.ensures.best
           ∙ walk_opens (λ ks. fold (weigh model list) c.loop-t.best (map f ks)) (suc (length list)) c.loop-t.t c.loop-t.invariant.best (omega arith);
@@ -69,7 +69,7 @@ pub returns : goal.returns
 returns c =
     let model = c.args.begun.now.pair.list.lookups.now.closed.model.now in
     let list = c.args.begun.now.pair.list.nodes.now in
-    let f : ℕ → Choice = pair_choice model c.args.begun.now.pair.list.vehicle list c.args.begun.now.pair.class c.args.begun.now.pair.pickup c.args.begun.now.pair.delivery c.args.begun.now.s in
+    let f : ℕ → InsertionChoice = pair_choice model c.args.begun.now.pair.list.vehicle list c.args.begun.now.pair.class c.args.begun.now.pair.pickup c.args.begun.now.pair.delivery c.args.begun.now.s in
     walk_ends (λ ks. fold (weigh model list) c.loop-t.best (map f ks)) (suc (length list)) c.loop-t.t c.loop-t.invariant.best (omega arith)
 
 pub loop-t-init : goal.loop-t-init

@@ -3,7 +3,7 @@ use Rattle.std.specs.Prelude.{fold, map}
 use Rattle.std.proofs.lemmas.List.Edits.{length-insert}
 use Rattle.vr_model.specs.tables.Numbers.{below}
 use Rattle.vr_model.proofs.tables.Ranges.{below-more}
-use Rattle.vr_first_insert.specs.declared.choice.Choice.{Choice}
+use Rattle.vr_first_insert.specs.declared.choice.InsertionChoice.{InsertionChoice}
 use Rattle.vr_first_insert.specs.Placings.{visit_choice, weigh}
 use Rattle.vr_first_insert.proofs.InsertLemmas.{fold-one}
 use Rattle.vr_first_insert.proofs.ReadyLemmas.{few-held}
@@ -34,7 +34,7 @@ loop-t-preserved c =
     let model = c.args.visit.now.list.lookups.now.closed.model.now in
     let list = c.args.visit.now.list.nodes.now in
     let t : ℕ = c.loop-t.t in
-    let f : ℕ → Choice = visit_choice model c.args.visit.now.list.vehicle list c.args.visit.now.class c.args.visit.now.node in
+    let f : ℕ → InsertionChoice = visit_choice model c.args.visit.now.list.vehicle list c.args.visit.now.class c.args.visit.now.node in
     record {
       best = c.in_ok-best.ensures.best
           ∙ ap (λ best. weigh model list best (f (t + 1))) c.loop-t.invariant.best
@@ -46,6 +46,6 @@ pub returns : goal.returns
 returns c =
     let model = c.args.visit.now.list.lookups.now.closed.model.now in
     let list = c.args.visit.now.list.nodes.now in
-    let f : ℕ → Choice = visit_choice model c.args.visit.now.list.vehicle list c.args.visit.now.class c.args.visit.now.node in
+    let f : ℕ → InsertionChoice = visit_choice model c.args.visit.now.list.vehicle list c.args.visit.now.class c.args.visit.now.node in
     let end : c.loop-t.t + 1 ≡ suc (length list) = omega arith in
     c.loop-t.invariant.best ∙ ap (λ n. fold (weigh model list) c.args.best (map f (below n))) end

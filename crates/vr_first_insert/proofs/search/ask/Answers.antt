@@ -28,7 +28,7 @@ asked-requires-clause-ready c =
     let lists = c.args.on.now.lists.now in
     let v : ℕ = c.args.v in
     let list : c.as_slice-nodes.result.now ≡ route lists v = list_at lists v c.as_slice-nodes.result.now c.index-lists-v.result c.as_slice-nodes.ensures c.index-lists-v.is c.requires.there in
-    subst (λ list. IsReady c.args.on.now.items.lookups.now.closed.model.now v list c.args.on.now.keeps.now) (sym list) (c.requires.asked.ready v c.requires.there)
+    subst (λ list. IsReady c.args.on.now.items.lookups.now.closed.model.now v list c.args.on.now.list_rows.now) (sym list) (c.requires.asked.ready v c.requires.there)
 
 pub returns-clause-best : goal.returns-clause-best
 returns-clause-best c =
@@ -37,8 +37,8 @@ returns-clause-best c =
     let list : c.as_slice-nodes.result.now ≡ route lists v = list_at lists v c.as_slice-nodes.result.now c.index-lists-v.result c.as_slice-nodes.ensures c.index-lists-v.is c.requires.there in
     c.better_of.ensures ∙ c.in_ok-told.ensures.better ∙ ap (λ list. best_in c.args.on.now.items.lookups.now.closed.model.now v list (candidate_at c.args.on.now.items.candidates.now c.args.i) c.args.best) list
 
-pub returns-clause-row : goal.returns-clause-row
-returns-clause-row c =
+pub returns-clause-known : goal.returns-clause-known
+returns-clause-known c =
     let model = c.args.on.now.items.lookups.now.closed.model.now in
     let lists = c.args.on.now.lists.now in
     let v : ℕ = c.args.v in
@@ -46,4 +46,4 @@ returns-clause-row c =
     let told = c.in_ok-told.told in
     let list : c.as_slice-nodes.result.now ≡ route lists v = list_at lists v c.as_slice-nodes.result.now c.index-lists-v.result c.as_slice-nodes.ensures c.index-lists-v.is c.requires.there in
     subst (AreKnown model v (route lists v) c.args.on.now.items.candidates.now) (sym c.set.ensures)
-    (known-written model v (route lists v) c.args.on.now.items.candidates.now c.args.row.now c.args.i told c.requires.row (subst (λ l. IsKnown model v l candidate told) list c.in_ok-told.ensures.known))
+    (known-written model v (route lists v) c.args.on.now.items.candidates.now c.args.known_here.now c.args.i told c.requires.row (subst (λ l. IsKnown model v l candidate told) list c.in_ok-told.ensures.known))

@@ -12,16 +12,16 @@ settle-requires c =
     let model = c.args.on.now.items.lookups.now.closed.model.now in
     let lists = c.args.on.now.lists.now in
     let v : ℕ = c.loop-v.v in
-    let rows = c.loop-v.rows in
-    let known = c.loop-v.invariant.rows in
-    let many : length rows ≡ length lists = known.many in
+    let known_items = c.loop-v.known_items in
+    let known = c.loop-v.invariant.known in
+    let many : length known_items ≡ length lists = known.many in
     let there = c.loop-v-test.true in
     record {
       asked = c.requires.asked;
       candidate = c.requires.candidate;
       may_hold = c.requires.may_hold;
       there = there;
-      row = subst (AreKnown model v (route lists v) c.args.on.now.items.candidates.now) (get_or_default rows v [] c.index-rows-v.result (omega (arith, many, there))) (known.each v there);
+      row = subst (AreKnown model v (route lists v) c.args.on.now.items.candidates.now) (get_or_default known_items v [] c.index-known_items-v.result (omega (arith, many, there))) (known.each v there);
     }
 
 pub loop-v-preserved : goal.loop-v-preserved
@@ -33,5 +33,5 @@ loop-v-preserved c =
     record {
       best = c.in_ok-best.ensures.best
           ∙ ap (best_in model v (route lists v) candidate) c.loop-v.invariant.best ∙ sym (best_in_lists-more model lists candidate v c.args.best);
-      rows = row-written model lists c.args.on.now.items.candidates.now c.loop-v.rows v c.settle.new.row c.loop-v.invariant.rows c.in_ok-best.ensures.row;
+      known = row-written model lists c.args.on.now.items.candidates.now c.loop-v.known_items v c.settle.new.known_here c.loop-v.invariant.known c.in_ok-best.ensures.known;
     }

@@ -7,7 +7,7 @@ use Rattle.vr_model.specs.routes.Rules.{is_open}
 use Rattle.vr_model.specs.first.CheapestInsertion.{rebuilt, next_inserted}
 use Rattle.vr_rules.specs.Placing.{nodes_of, AreBuilt, AreMarks}
 use Rattle.vr_rules.proofs.PlacingLemmas.{IsAdded, AreBuilt-added, AreMarks-added}
-use Rattle.vr_first_insert.specs.declared.choice.Choice.{Choice}
+use Rattle.vr_first_insert.specs.declared.choice.InsertionChoice.{InsertionChoice}
 use Rattle.vr_first_insert.specs.Placings.{insertion_of, item_in, placed, MayBeInserted}
 use Rattle.vr_first_insert.proofs.PlacedLemmas.{IsAdded-placed}
 use Rattle.vr_first_insert.proofs.BestLemmas.{rebuilt-stops, rebuilt-next, candidates-count, inserted-choice}
@@ -24,7 +24,7 @@ returns-in-None-clause-rebuilt c =
 pub next_insertion-requires : goal.next_insertion-requires
 next_insertion-requires c =
     let so_far = c.loop-step.invariant in
-    record { items_are = c.requires.items_are; kept = so_far.kept; built = so_far.built; marks = so_far.marked; rows = so_far.rows }
+    record { items_are = c.requires.items_are; kept = so_far.kept; built = so_far.built; marks = so_far.marked; rows = so_far.known }
 
 pub place_in-requires-clause-may : goal.place_in-requires-clause-may
 place_in-requires-clause-may c = rw c.in-Some.is at c.in_ok-choice.ensures.may
@@ -34,7 +34,7 @@ loop-step-preserved c =
     let model = c.args.items.now.lookups.now.closed.model.now in
     let lists : List (List ℕ) = c.loop-step.lists in
     let n : ℕ = length c.args.items.now.candidates.now in
-    let choice : Choice = c.in-Some.choice in
+    let choice : InsertionChoice = c.in-Some.choice in
     let v : ℕ = choice.vehicle in
     let nodes : List ℕ = nodes_of (item_in choice.placing) in
     let list : List ℕ = placed (route lists v) choice.placing in
@@ -50,8 +50,8 @@ loop-step-preserved c =
       marked = subst (λ lists. AreMarks model.nodes lists c.mark_item.new.marks) (sym is)
           (AreMarks-added model lists v list nodes c.loop-step.marks c.mark_item.new.marks c.loop-step.invariant.marked may.vehicle added.nodes_are c.mark_item.ensures.count
           (λ node d low. c.mark_item.ensures.each node d low ∙ ap (λ item. holds (nodes_of item) node || slice_index_or c.loop-step.marks node d) c.item.ensures));
-      rows = subst (λ lists. AreRows model lists c.args.items.now.candidates.now c.forget.new.rows) (sym is)
-          (rows-forgotten model lists c.args.items.now.candidates.now c.next_insertion.new.rows c.forget.new.rows v list may.vehicle c.in_ok-choice.ensures.rows c.forget.ensures);
+      known = subst (λ lists. AreRows model lists c.args.items.now.candidates.now c.forget.new.known_items) (sym is)
+          (rows-forgotten model lists c.args.items.now.candidates.now c.next_insertion.new.known_items c.forget.new.known_items v list may.vehicle c.in_ok-choice.ensures.known c.forget.ensures);
       kept = c.in_ok-place_in-in-Some.ensures.kept;
     }
 
@@ -59,5 +59,5 @@ pub forget-requires : goal.forget-requires
 forget-requires c =
     let may : MayBeInserted c.args.items.now.lookups.now.closed.model.now c.loop-step.lists c.in-Some.choice = rw c.in-Some.is at c.in_ok-choice.ensures.may in
     let there = may.vehicle in
-    let many = c.in_ok-choice.ensures.rows.many in
+    let many = c.in_ok-choice.ensures.known.many in
     record { vehicle = omega (arith, there, many) }

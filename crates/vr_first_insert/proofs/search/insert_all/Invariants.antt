@@ -11,6 +11,6 @@ invariant-loop-step l = record {
   rebuilds : rebuilt l.items.lookups.now.closed.model.now (length l.items.candidates.now - l._step) l.lists ≡ rebuilt l.items.lookups.now.closed.model.now (length l.items.candidates.now) l.initial.lists;
   built : AreBuilt l.items.lookups.now.closed.model.now l.lists;
   marked : AreMarks l.items.lookups.now.closed.model.now.nodes l.lists l.marks;
-  rows : AreRows l.items.lookups.now.closed.model.now l.lists l.items.candidates.now l.rows;
-  kept : AreKept l.items.lookups.now.closed.model.now l.lists l.keeps;
+  known : AreRows l.items.lookups.now.closed.model.now l.lists l.items.candidates.now l.known_items;
+  kept : AreKept l.items.lookups.now.closed.model.now l.lists l.list_rows;
 }

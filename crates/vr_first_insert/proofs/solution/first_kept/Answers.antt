@@ -1,5 +1,7 @@
-use Rattle.std.proofs.Common.{◌≡◌, ◌∙◌, ℕ, List, Some, None, cond, sym, subst}
+use Rattle.std.proofs.Common.{◌≡◌, ◌∙◌, ℕ, List, Option, Some, None, cond, sym, subst}
+use Rattle.std.specs.Prelude.{IfOk}
 use Rattle.vr_model.specs.routes.Rules.{is_valid}
+use Rattle.vr_routes.specs.Tours.{Tours}
 use Rattle.vr_rules.specs.Placing.{lists_in, AreBuilt}
 use Rattle.vr_first_insert.proofs.solution.first_kept.Goals as goal
 
@@ -8,5 +10,5 @@ complete_routes-requires c = subst (AreBuilt c.args.lookups.now.closed.model.now
 
 pub returns-clause-first : goal.returns-clause-first
 returns-clause-first c =
-    let Is = λ (lists : List (List ℕ)). lists_in c.in_ok-first.first ≡ cond (is_valid c.args.lookups.now.closed.model.now lists) (Some lists) None in
-    subst Is (c.deref.ensures.value ∙ c.in_ok-rebuild_empty.ensures.lists) c.in_ok-first.ensures.lists
+    let Are = λ (lists : List (List ℕ)) (found : Option Tours). lists_in found ≡ cond (is_valid c.args.lookups.now.closed.model.now lists) (Some lists) None in
+    subst (λ lists. IfOk c.complete_routes.result (Are lists)) (c.deref.ensures.value ∙ c.in_ok-rebuild_empty.ensures.lists) c.complete_routes.ensures.lists

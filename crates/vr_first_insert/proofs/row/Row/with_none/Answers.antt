@@ -1,7 +1,0 @@
-use Rattle.std.proofs.Common.{◌∙◌, map, ap}
-use Rattle.vr_first_insert.specs.Found.{known_after}
-use Rattle.vr_first_insert.proofs.RowFacts.{nothing_found}
-use Rattle.vr_first_insert.proofs.row.Row.with_none.Goals as goal
-
-pub returns : goal.returns
-returns c = ap (map (known_after 0)) c.in_ok-found.ensures ∙ nothing_found c.args.count

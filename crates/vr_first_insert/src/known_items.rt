@@ -1,0 +1,124 @@
+//! What is known of items in one list, forgotten at once where the list changes.
+
+ghost use Rattle.std.specs.Prelude.{◌≡◌, ◌<◌, ◌≤◌, ℕ, All, IfOk, length, replicate, slice_index_or, slice_set};
+ghost use Rattle.vr_first_insert.specs.declared.known.KnownItem.TheVariants.{Nothing};
+ghost use Rattle.vr_first_insert.specs.Found.{known_after};
+
+use crate::known::KnownItem;
+use std::alloc::Global;
+use std::marker::Model;
+use vr_model::{NoMemory, Seq};
+
+// What was found of an item, and after how many changes of the list.
+#[derive(Clone, Copy, Drop)]
+pub(crate) struct FoundItem {
+    pub(crate) known: KnownItem,
+    pub(crate) since: u64,
+}
+
+/// What is known of items in a list. Contracts see it as a list, with nothing where what was found is of the list
+/// before its last change.
+#[derive(Drop)]
+pub(crate) struct KnownItems {
+    found: Seq<FoundItem>,
+    // how often the list has changed
+    changes: u64,
+}
+
+impl Model for KnownItems {
+    ghost use Rattle.std.specs.Prelude.{List, All, map, ◌≤◌};
+    ghost use Rattle.vr_first_insert.specs.declared.known.KnownItem.{KnownItem};
+    ghost use Rattle.vr_first_insert.specs.Found.{known_after, IsFoundBy};
+
+    ghost Value = { List KnownItem };
+
+    ghost view = { λ r. map (known_after r.changes) r.found };
+
+    ghost invariant = { λ r. All (IsFoundBy r.changes) r.found };
+}
+
+impl KnownItems {
+    /// That nothing is known of any of `count` items.
+    pub(crate) fn with_none(alloc: Global, count: usize) -> Result<KnownItems, NoMemory>
+        ensures { IfOk result (λ known. known ≡ replicate count Nothing) }
+    {
+        let found = none_of(alloc, count)?;
+        Ok(KnownItems { found, changes: 0 })
+    }
+
+    /// What is known of item `i`. It takes no memory.
+    #[inline]
+    pub(crate) fn get(&self, i: usize) -> KnownItem
+        requires { i < length self.now }
+        ensures { result ≡ slice_index_or self.now i Nothing }
+    {
+        let found = self.found.get(i);
+        known_of(found, self.changes)
+    }
+
+    /// Writes what is known of item `i`. It takes no memory.
+    #[inline]
+    pub(crate) fn set(&mut self, i: usize, known: KnownItem)
+        requires { i < length self.old }
+        ensures { self.new ≡ slice_set self.old i known }
+    {
+        let since = self.changes;
+        self.found.set(i, FoundItem { known, since });
+    }
+
+    /// Nothing is known any more. It takes no memory.
+    pub(crate) fn forget(&mut self)
+        ensures many { length self.new ≡ length self.old }
+        ensures nothing { (i : ℕ) → slice_index_or self.new i Nothing ≡ Nothing }
+    {
+        if self.changes < u64::MAX {
+            self.changes += 1;
+            return;
+        }
+        clear(&mut self.found);
+        self.changes = 1;
+    }
+}
+
+// What is known after so many changes of the list.
+#[inline]
+fn known_of(found: &FoundItem, changes: u64) -> KnownItem
+    ensures { result ≡ known_after changes found.now }
+{
+    if found.since == changes {
+        found.known
+    } else {
+        KnownItem::Nothing
+    }
+}
+
+// Nothing found of any of so many items.
+fn none_of(alloc: Global, count: usize) -> Result<Seq<FoundItem>, NoMemory>
+    ensures { IfOk result (λ found. found ≡ replicate count (record { known = Nothing; since = 0 })) }
+{
+    let mut found = Seq::with_capacity(alloc, count)?;
+    for _i in 0..count {
+        found.push(FoundItem {
+            known: KnownItem::Nothing,
+            since: 0,
+        })?;
+    }
+    Ok(found)
+}
+
+// Nothing is found of any item any more.
+fn clear(found: &mut Seq<FoundItem>)
+    ensures many { length found.new ≡ length found.old }
+    ensures since { (i : ℕ) → i < length found.new
+        → slice_index_or found.new i (record { known = Nothing; since = 0 }) ≡ record { known = Nothing; since = 0 } }
+{
+    for i in 0..found.len() {
+        found.set(
+            i,
+            FoundItem {
+                known: KnownItem::Nothing,
+                since: 0,
+            },
+        );
+    }
+}

@@ -1,0 +1,173 @@
+//! The rows of lists in each dimension: what each list reaches at its stops.
+
+ghost use Rattle.std.specs.Prelude.{◌≡◌, ◌<◌, length, IfOk, OnOk};
+ghost use Rattle.vr_model.specs.moves.Moves.{with_route};
+ghost use Rattle.vr_rules.specs.RoutesOpen.{is_feasible_in_each};
+ghost use Rattle.vr_first_insert.specs.KeptRows.{list_model, AreKept, AreTours, IsKept, MayGoBetween};
+
+use crate::place::write_list;
+use crate::vehicle_list::LookedUpList;
+use std::alloc::Global;
+use vr_model::{NoMemory, Seq};
+use vr_plan::Lookups;
+use vr_reach::{KnownList, Rows, StopsFor, Stretch, Walk, goes_between, rewrite_rows, write_rows};
+
+/// The rows of the list of each vehicle in one dimension.
+#[derive(Drop)]
+pub(crate) struct ListRows {
+    pub(crate) rows: Vec<Rows>,
+}
+
+impl ListRows {
+    // The rows of lists in dimension `d`.
+    fn build(
+        alloc: Global,
+        lookups: &Lookups<'_>,
+        d: u32,
+        lists: &[Seq<u32>],
+    ) -> Result<ListRows, NoMemory>
+        requires dimension { d < length lookups.now.closed.model.now.dimensions }
+        requires vehicles { length lists.now ≡ length lookups.now.closed.model.now.vehicles }
+        requires tours { AreTours lookups.now.closed.model.now lists.now }
+        ensures { IfOk result (IsKept lookups.now.closed.model.now d lists.now) }
+    {
+        let table = lookups.table(d);
+        let mut known = Vec::with_capacity(alloc, lists.len())?;
+        for v in 0..lists.len() {
+            let mut rows = Rows::new(alloc);
+            let list = lists[v].as_slice();
+            let stops = StopsFor {
+                closed: lookups.closed,
+                d,
+                v: v as u32,
+                of_dimension: &table.stops,
+            };
+            write_rows(alloc, &stops, list, &mut rows)?;
+            known.push(rows)?;
+        }
+        Ok(ListRows { rows: known })
+    }
+
+    // Writes the rows of a list of vehicle `v` over those of its list before.
+    fn learn(
+        &mut self,
+        alloc: Global,
+        d: u32,
+        lists: &[Seq<u32>],
+        new: &LookedUpList<'_, '_, '_>,
+    ) -> Result<(), NoMemory>
+        requires dimension { d < length (list_model new.now).dimensions }
+        requires there { new.now.vehicle < length lists.now }
+        requires kept { IsKept (list_model new.now) d lists.now self.old }
+        ensures { OnOk result (IsKept (list_model new.now) d
+            (with_route lists.now new.now.vehicle new.now.nodes.now) self.new) }
+    {
+        let v = new.vehicle;
+        let table = new.lookups.table(d);
+        let old = lists[v as usize].as_slice();
+        let stops = StopsFor {
+            closed: new.lookups.closed,
+            d,
+            v,
+            of_dimension: &table.stops,
+        };
+        rewrite_rows(alloc, &stops, old, new.nodes, &mut self.rows[v as usize])?;
+        Ok(())
+    }
+}
+
+/// What is kept of lists in each dimension. The only refusal is want of memory.
+pub(crate) fn keep_each(
+    alloc: Global,
+    lookups: &Lookups<'_>,
+    lists: &[Seq<u32>],
+) -> Result<Vec<ListRows>, NoMemory>
+    requires vehicles { length lists.now ≡ length lookups.now.closed.model.now.vehicles }
+    requires tours { AreTours lookups.now.closed.model.now lists.now }
+    ensures { IfOk result (λ list_rows. AreKept lookups.now.closed.model.now lists.now list_rows.items) }
+{
+    let model = lookups.closed.model;
+    let mut list_rows = Vec::with_capacity(alloc, model.dimensions.len())?;
+    for d in 0..model.dimensions.len() {
+        list_rows.push(ListRows::build(alloc, lookups, d as u32, lists)?)?;
+    }
+    Ok(list_rows)
+}
+
+/// Writes the rows of a list over those of the list of its vehicle before, in each dimension. After `NoMemory` nothing
+/// is said of what is kept.
+///
+/// It takes memory only where a list is longer than any before, or a set has more than four runs.
+pub(crate) fn learn(
+    alloc: Global,
+    list_rows: &mut [ListRows],
+    lists: &[Seq<u32>],
+    new: &LookedUpList<'_, '_, '_>,
+) -> Result<(), NoMemory>
+    requires there { new.now.vehicle < length lists.now }
+    requires kept { AreKept (list_model new.now) lists.now list_rows.old }
+    ensures { OnOk result (AreKept (list_model new.now)
+        (with_route lists.now new.now.vehicle new.now.nodes.now) list_rows.new) }
+{
+    for d in 0..list_rows.len() {
+        list_rows[d].learn(alloc, d as u32, lists, new)?;
+    }
+    Ok(())
+}
+
+/// Makes a list that of its vehicle, with its rows written over those of the list before. After want of memory nothing
+/// is said of the lists.
+pub(crate) fn change_list(
+    alloc: Global,
+    list_rows: &mut [ListRows],
+    lists: &mut [Seq<u32>],
+    new: &LookedUpList<'_, '_, '_>,
+) -> Result<(), NoMemory>
+    requires there { new.now.vehicle < length lists.old }
+    requires kept { AreKept (list_model new.now) lists.old list_rows.old }
+    ensures lists { OnOk result (lists.new ≡ with_route lists.old new.now.vehicle new.now.nodes.now) }
+    ensures kept { OnOk result (AreKept (list_model new.now) lists.new list_rows.new) }
+{
+    learn(alloc, list_rows, lists, new)?;
+    write_list(new.nodes, &mut lists[new.vehicle as usize])?;
+    Ok(())
+}
+
+/// Whether the line of a list is feasible in each dimension, found by walks through what differs from the list of the
+/// vehicle before, whose rows are kept: all but the first `front` and the last `back` nodes. Afterwards nothing is said
+/// of where the walk stands.
+///
+/// `NoMemory` where there was no memory: it is taken only where a set has more than four runs, or a vehicle more breaks
+/// than any before.
+pub(crate) fn is_feasible_between(
+    list_rows: &[ListRows],
+    old: &LookedUpList<'_, '_, '_>,
+    new: &[u32],
+    front: usize,
+    back: usize,
+    walk: &mut Walk,
+) -> Result<bool, NoMemory>
+    requires { MayGoBetween old.now new.now front back list_rows.now }
+    ensures { IfOk result (λ answer. answer ≡ is_feasible_in_each (list_model old.now) old.now.vehicle new.now) }
+{
+    let v = old.vehicle;
+    for d in 0..list_rows.len() {
+        let table = old.lookups.table(d as u32);
+        let kept = &list_rows[d];
+        let rows = &kept.rows[v as usize];
+        let stops = StopsFor {
+            closed: old.lookups.closed,
+            d: d as u32,
+            v,
+            of_dimension: &table.stops,
+        };
+        let known = KnownList {
+            list: old.nodes,
+            rows,
+        };
+        if !goes_between(&stops, &known, new, Stretch { front, back }, walk)? {
+            return Ok(false);
+        }
+    }
+    Ok(true)
+}
