@@ -21,6 +21,30 @@
 //! and lends it on. The lists that a search begins with are valid, and the judge holds them.
 //!
 //! `vr_cli` calls [`run`] with the words of its command line and the two standard streams.
+//!
+//! The way from `main` to a tried move, with what each frame adds:
+//!
+//!     main                 vr_cli: the words, and the two standard streams
+//!     run_watched          vr_cli: the watchers, a tally and a trace
+//!     run                  reply: lends the watchers, and drops them at the end
+//!     run_watched          reply: what is written, and the status
+//!     respond              reply: what the words ask for
+//!     respond_to_input     reply: the bytes of the source
+//!     answer_input         solving: the value in them; they are let go
+//!     answer_value         solving: a solution of it, or a question about one
+//!     answer_solved        solving: the model in the value, which is let go
+//!     answer_model         solving: what is looked up of the model
+//!     answer_over          solving: the reports of watchers, behind the line
+//!     line_found           solving: the first solution
+//!     line_from            solving: what this costs, and the line of what is found
+//!     search               search: as the mode asks, the first solution or a search from it
+//!     solve                search: the judge
+//!     improve_judged       search: what rebuilds open routes
+//!     improve              improving: the search that the model names, say
+//!     guide_from           improving: guided local search, by the limit and weights of the model
+//!     guide, improve       vr_guided: rounds of scans, and penalties between them
+//!     advance, scan        vr_descent: one scan: the moves of the lists, one after another
+//!     try_move             vr_descent: asks the judge, a `vr_judge::FilterJudge`, about a move
 #![tactic(auto)]
 
 mod answer;
