@@ -2,16 +2,16 @@
 use Rattle.std.proofs.Common.{◌≡◌, ◌∙◌, ◌<◌, ◌≤◌, ◌↔◌, ℕ, List, Option, Some, None, Result, Ok, Err, refl, ap, sym, subst, arith, length, option_map}
 use Rattle.std.specs.Prelude.{IsSome, ◌≢◌}
 use Rattle.serde_json.specs.Data.{Data}
-use Rattle.vr_json.specs.Trees.{line_of}
+use Rattle.vr_json.specs.Trees.{text_line}
 use Rattle.vr_json.specs.declared.fault.Fault.{Fault}
 use Rattle.vr_model.specs.declared.records.Model.{Model}
 use Rattle.vr_model.specs.declared.search.Event.{Event}
 use Rattle.vr_model.specs.first.FirstSolutions.{first_lists}
-use Rattle.vr_app.specs.Causes.{HasFault, IsNotJson, IsReadAs, IsRefused, IsTooLong}
+use Rattle.vr_app.specs.Causes.{HasFault, IsNotJson, IsReadAs, IsRefusedInput, IsTooLong}
 use Rattle.vr_app.specs.Found.{found_from}
-use Rattle.vr_app.specs.Input.{max_input, model_of, value_of}
+use Rattle.vr_app.specs.Input.{max_input, model_of_value, input_value}
 use Rattle.vr_app.specs.Reply.{reply, reply_in, reply_to_found, reply_to_input, reply_to_model, reply_to_tree, reply_to_value}
-use Rattle.vr_app.specs.Runs.{IsSolved}
+use Rattle.vr_app.specs.Runs.{IsSolutionAsked}
 use Rattle.vr_app.specs.Texts.{refused_tree}
 use Rattle.vr_app.specs.declared.words.Mode.{Mode}
 use Rattle.vr_app.specs.declared.words.Request.{Request}
@@ -24,7 +24,7 @@ use Rattle.vr_app.proofs.InputLemmas.{of_input, reply-short}
 pub record Classifies {A : Type 0} (read : Data → Result A Fault) (other : ℕ) (P Q : A → Type 0) (bytes : List ℕ) (status : ℕ) : Type 0 where
   pub too_long : (status ≡ 8) ↔ IsTooLong bytes
   pub not_json : (status ≡ 4) ↔ IsNotJson bytes
-  pub refused : (status ≡ 5) ↔ IsRefused read bytes
+  pub refused : (status ≡ 5) ↔ IsRefusedInput read bytes
   pub done : (status ≡ 0) ↔ ((x : A) × IsReadAs read bytes x × P x)
   pub undone : (status ≡ other) ↔ ((x : A) × IsReadAs read bytes x × Q x)
 
@@ -38,7 +38,7 @@ module _ {A : Type 0} (read : Data → Result A Fault) (other : ℕ) (P Q : A �
     undone = (λ e. absurd (not_8 e), λ h. absurd (omega (arith, h.1.short)));
   }
 
-  no_value-classifies : length bytes ≤ max_input → value_of bytes ≡ None → Classifies read other P Q bytes 4
+  no_value-classifies : length bytes ≤ max_input → input_value bytes ≡ None → Classifies read other P Q bytes 4
   no_value-classifies short none = record {
     too_long = (λ e. absurd (omega arith), λ h. absurd (omega arith));
     not_json = (λ e. record { short = short; no_value = none }, λ h. refl);
@@ -49,13 +49,13 @@ module _ {A : Type 0} (read : Data → Result A Fault) (other : ℕ) (P Q : A �
 
   -- of any input, where it is so of those that are JSON
   pub of_input-classifies : (it : Task) (reports : List Event → List ℕ)
-      → ((d : Data) → length bytes ≤ max_input → value_of bytes ≡ Some d → Classifies read other P Q bytes (reply_to_tree it reports d).status)
+      → ((d : Data) → length bytes ≤ max_input → input_value bytes ≡ Some d → Classifies read other P Q bytes (reply_to_tree it reports d).status)
       → Classifies read other P Q bytes (reply_to_input it reports bytes).status
   of_input-classifies it reports of_tree = of_input it reports bytes (λ reply. Classifies read other P Q bytes reply.status) long-classifies no_value-classifies of_tree
 
   -- of an input whose value this is
-  module _ (d : Data) (short : length bytes ≤ max_input) (some : value_of bytes ≡ Some d) where
-    same_read : (e : Data) → value_of bytes ≡ Some e → read d ≡ read e
+  module _ (d : Data) (short : length bytes ≤ max_input) (some : input_value bytes ≡ Some d) where
+    same_read : (e : Data) → input_value bytes ≡ Some e → read d ≡ read e
     same_read e q = let same : d ≡ e = let k = sym some ∙ q in cc in ap read same
 
     only_one : (x y : A) → read d ≡ Ok x → IsReadAs read bytes y → x ≡ y
@@ -108,33 +108,33 @@ has_no_first model = first_lists model ≡ None
 
 -- which inputs have this status, where a solution is asked for
 abbrev pub ClassifiesFirst : List ℕ → ℕ → Type 0
-ClassifiesFirst bytes status = Classifies model_of 6 has_first has_no_first bytes status
+ClassifiesFirst bytes status = Classifies model_of_value 6 has_first has_no_first bytes status
 
 module _ (asked : Mode) (reports : List Event → List ℕ) (bytes : List ℕ) where
-  module _ (d : Data) (short : length bytes ≤ max_input) (some : value_of bytes ≡ Some d) where
-    found-classifies : (model : Model) → model_of d ≡ Ok model → (o : Option (List (List ℕ))) → first_lists model ≡ o
+  module _ (d : Data) (short : length bytes ≤ max_input) (some : input_value bytes ≡ Some d) where
+    found-classifies : (model : Model) → model_of_value d ≡ Ok model → (o : Option (List (List ℕ))) → first_lists model ≡ o
         → ClassifiesFirst bytes (reply_to_found asked reports model (option_map (found_from asked model) o)).status
     found-classifies model is None none =
-        undone-classifies model_of 6 has_first has_no_first (omega arith) (λ e. absurd (omega arith)) bytes d short some model is none (λ h. let k = subst IsSome none h in absurd cc)
+        undone-classifies model_of_value 6 has_first has_no_first (omega arith) (λ e. absurd (omega arith)) bytes d short some model is none (λ h. let k = subst IsSome none h in absurd cc)
     found-classifies model is (Some lists) first =
-        done-classifies model_of 6 has_first has_no_first (omega arith) (λ e. absurd (omega arith)) bytes d short some model is (subst IsSome (sym first) refl) (λ h. let k = sym first ∙ h in absurd cc)
+        done-classifies model_of_value 6 has_first has_no_first (omega arith) (λ e. absurd (omega arith)) bytes d short some model is (subst IsSome (sym first) refl) (λ h. let k = sym first ∙ h in absurd cc)
 
-    model-classifies : (m : Result Model Fault) → model_of d ≡ m → ClassifiesFirst bytes (reply_to_model asked reports m).status
-    model-classifies (Err fault) is = fault-classifies model_of 6 has_first has_no_first (omega arith) (λ e. absurd (omega arith)) bytes d short some fault is
+    model-classifies : (m : Result Model Fault) → model_of_value d ≡ m → ClassifiesFirst bytes (reply_to_model asked reports m).status
+    model-classifies (Err fault) is = fault-classifies model_of_value 6 has_first has_no_first (omega arith) (λ e. absurd (omega arith)) bytes d short some fault is
     model-classifies (Ok model) is = found-classifies model is (first_lists model) refl
 
   pub input-classifies : ClassifiesFirst bytes (reply_to_input (task.Find asked) reports bytes).status
   input-classifies =
-      of_input-classifies model_of 6 has_first has_no_first (omega arith) (λ e. absurd (omega arith)) bytes (task.Find asked) reports (λ d short some. model-classifies d short some (model_of d) refl)
+      of_input-classifies model_of_value 6 has_first has_no_first (omega arith) (λ e. absurd (omega arith)) bytes (task.Find asked) reports (λ d short some. model-classifies d short some (model_of_value d) refl)
 
-  input-refused : (fault : Fault) → HasFault model_of bytes fault → (reply_to_input (task.Find asked) reports bytes).text ≡ line_of (refused_tree fault)
+  input-refused : (fault : Fault) → HasFault model_of_value bytes fault → (reply_to_input (task.Find asked) reports bytes).text ≡ text_line (refused_tree fault)
   input-refused fault r =
       ap (λ reply. reply.text) (reply-short (task.Find asked) reports bytes r.short ∙ ap (reply_to_value (task.Find asked) reports) r.is_value ∙ ap (reply_to_model asked reports) r.is_fault)
 
 module _ (reports : List Event → List ℕ) (words : List (List ℕ)) (bytes : List ℕ) where
-  pub solved-classifies : IsSolved words → ClassifiesFirst bytes (reply reports words bytes).status
+  pub solved-classifies : IsSolutionAsked words → ClassifiesFirst bytes (reply reports words bytes).status
   solved-classifies h = let P : Option Request → Type 0 = λ o. ClassifiesFirst bytes (reply_in reports o bytes).status in subst P (sym h.1) (input-classifies h.0 reports bytes)
 
   -- a refusal says the fault
-  pub solved-refused : (fault : Fault) → IsSolved words → HasFault model_of bytes fault → (reply reports words bytes).text ≡ line_of (refused_tree fault)
+  pub solved-refused : (fault : Fault) → IsSolutionAsked words → HasFault model_of_value bytes fault → (reply reports words bytes).text ≡ text_line (refused_tree fault)
   solved-refused fault h r = ap (λ o. (reply_in reports o bytes).text) h.1 ∙ input-refused h.0 reports bytes fault r

@@ -4,11 +4,11 @@ use Rattle.std.specs.Prelude.{nat_lt}
 use Rattle.std.proofs.lemmas.Bool.Decides.{nat_tests}
 use Rattle.serde_json.specs.Data.{Data, depth}
 use Rattle.serde_json.specs.Written.{has_float}
-use Rattle.vr_json.specs.Trees.{line_of, count, listed}
+use Rattle.vr_json.specs.Trees.{text_line, count, listed}
 use Rattle.vr_json.specs.declared.fault.Fault.{Fault}
 use Rattle.vr_json.proofs.Readings.{Ensures, after, any_value, gives}
 use Rattle.vr_model.specs.tables.Numbers.{below}
-use Rattle.vr_tsplib.specs.Imported.{imported, model_of}
+use Rattle.vr_tsplib.specs.Imported.{imported, model_of_lines}
 use Rattle.vr_tsplib.specs.Rows.{demand_of}
 use Rattle.vr_tsplib.specs.Trees.{demands, distance, file_nodes, fleet, loads, matrix, plane, plane_row, sites, square, square_row, tree_of, vehicle, weight}
 use Rattle.vr_tsplib.specs.declared.files.State.{State}
@@ -92,7 +92,7 @@ tree-printable vehicles state problem =
     }
 
 imported_ensures : (vehicles : ℕ) (bytes : List ℕ) → Ensures IsPrintable (imported vehicles bytes)
-unfolding imported model_of
+unfolding imported model_of_lines
 imported_ensures vehicles bytes =
     after any_value λ state _.
     after any_value λ problem _.
@@ -159,11 +159,11 @@ module _ (vehicles : ℕ) (bytes : List ℕ) where
   file-classifies = of_file vehicles bytes (λ reply. ClassifiesFile vehicles bytes reply.status) long-classifies imported-classifies
 
   -- a refusal says the fault
-  pub file-refused : (fault : Fault) → HasFlaw vehicles bytes fault → (reply_to_file vehicles bytes).text ≡ line_of (refused_tree fault)
+  pub file-refused : (fault : Fault) → HasFlaw vehicles bytes fault → (reply_to_file vehicles bytes).text ≡ text_line (refused_tree fault)
   file-refused fault h = ap (λ reply. reply.text) (file-short vehicles bytes h.short ∙ ap reply_to_imported h.is_fault)
 
   -- a model is reported
-  pub file-reported : (reply_to_file vehicles bytes).status ≡ 0 → (tree : Data) × IsImportedAs vehicles bytes tree × ((reply_to_file vehicles bytes).text ≡ line_of tree)
+  pub file-reported : (reply_to_file vehicles bytes).status ≡ 0 → (tree : Data) × IsImportedAs vehicles bytes tree × ((reply_to_file vehicles bytes).text ≡ text_line tree)
   file-reported zero =
       let is = file-classifies.done.0 zero in
       (is.0, is.1, ap (λ reply. reply.text) (file-short vehicles bytes is.1.short ∙ ap reply_to_imported is.1.is_tree))

@@ -4,8 +4,8 @@ use Rattle.serde_json.specs.Data.{Data, depth, items_depth}
 use Rattle.serde_json.specs.View.{items_of}
 use Rattle.serde_json.specs.Written.{has_float, items_have_float}
 use Rattle.vr_model.specs.tables.Numbers.{below}
-use Rattle.vr_gen.specs.Draws.{customers, sites}
-use Rattle.vr_gen.specs.Generated.{demand_of, distance, generated, group, loads, model_of, rest, row, search_row, services, times, vehicle, window}
+use Rattle.vr_gen.specs.Draws.{customers, drawn_sites}
+use Rattle.vr_gen.specs.Generated.{demand_of, distance_entry, generated, group, loads, model_of, rest, row, search_row, services, times, vehicle, window}
 use Rattle.vr_json.specs.Trees.{count, listed}
 use Rattle.vr_gen.specs.declared.draws.Site.{Site}
 use Rattle.vr_gen.specs.declared.draws.Customer.{Customer}
@@ -36,10 +36,10 @@ depth_counts : (ns : List ℕ) → depth (listed count ns) ≤ 1
 depth_counts ns = omega (arith, depth_items count 0 (λ n. omega arith) ns)
 
 no_float_row : (sites : List Site) (a : Site) → has_float (row sites a) ≡ false
-no_float_row sites a = no_float_items (distance a) (λ b. refl) sites
+no_float_row sites a = no_float_items (distance_entry a) (λ b. refl) sites
 
 depth_row : (sites : List Site) (a : Site) → depth (row sites a) ≤ 1
-depth_row sites a = omega (arith, depth_items (distance a) 0 (λ b. omega arith) sites)
+depth_row sites a = omega (arith, depth_items (distance_entry a) 0 (λ b. omega arith) sites)
 
 no_float_times : (customers : List Customer) → has_float (times customers) ≡ false
 unfolding times
@@ -84,8 +84,8 @@ depth_model places people =
 pub generated-printable : (n : ℕ) → IsPrintable (generated n)
 unfolding generated
 generated-printable n = record {
-  whole = no_float_model (sites n).0 (customers n);
-  nested = omega (arith, depth_model (sites n).0 (customers n));
+  whole = no_float_model (drawn_sites n).0 (customers n);
+  nested = omega (arith, depth_model (drawn_sites n).0 (customers n));
 }
 
 -- ---- the replies to numbers

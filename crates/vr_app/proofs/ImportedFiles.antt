@@ -8,16 +8,16 @@ use Rattle.vr_tsplib.specs.declared.summaries.Problem.{Problem}
 use Rattle.vr_tsplib.specs.Flaws.{at_line}
 use Rattle.vr_tsplib.specs.Texts.{lines}
 use Rattle.vr_tsplib.specs.Files.{start, complete}
-use Rattle.vr_tsplib.specs.Ranges.{IsProblem, IsSound}
+use Rattle.vr_tsplib.specs.Ranges.{IsProblem, AreLinesInRange}
 use Rattle.vr_tsplib.specs.Trees.{tree_of}
-use Rattle.vr_tsplib.specs.Imported.{model_of, imported}
+use Rattle.vr_tsplib.specs.Imported.{model_of_lines, imported}
 use Rattle.vr_tsplib.proofs.RangeLemmas.{lines_sound, start_sound, complete_ranges}
 
 -- a tree is that of lines and a problem in range
 pub record IsOfFile (vehicles : ℕ) (tree : Data) : Type 0 where
   pub state : State
   pub problem : Problem
-  pub sound : IsSound state
+  pub sound : AreLinesInRange state
   pub in_range : IsProblem problem
   pub is : tree ≡ tree_of vehicles state problem
 
@@ -26,8 +26,8 @@ unfolding at_line
 at_line_ensures number (Ok x) h = gives (h.of_value x refl)
 at_line_ensures number (Err flaw) h = fails
 
-model_of_file : (vehicles : ℕ) (state : State) → IsSound state → Ensures (IsOfFile vehicles) (model_of vehicles state)
-unfolding model_of
+model_of_file : (vehicles : ℕ) (state : State) → AreLinesInRange state → Ensures (IsOfFile vehicles) (model_of_lines vehicles state)
+unfolding model_of_lines
 model_of_file vehicles state sound =
     after (at_line_ensures 0 (complete state) (complete_ranges state sound)) λ problem within.
     gives (record { state = state; problem = problem; sound = sound; in_range = within; is = refl })

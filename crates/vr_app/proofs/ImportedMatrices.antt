@@ -20,9 +20,9 @@ use Rattle.vr_tsplib.specs.declared.rows.SiteRow.{SiteRow}
 use Rattle.vr_tsplib.specs.declared.files.State.{State}
 use Rattle.vr_tsplib.specs.declared.summaries.Distances.{Distances}
 use Rattle.vr_tsplib.specs.declared.summaries.Distances.TheVariants.{Plane, Full, Lower}
-use Rattle.vr_tsplib.specs.Ranges.{IsLight, IsNear, IsSound}
+use Rattle.vr_tsplib.specs.Ranges.{IsLight, IsSiteInRange, AreLinesInRange}
 use Rattle.vr_tsplib.specs.Roots.{floor_root, nearest}
-use Rattle.vr_tsplib.specs.Trees.{apart, distance, file_nodes, matrix, sites, weight, weight_at}
+use Rattle.vr_tsplib.specs.Trees.{axis_gap, distance, file_nodes, matrix, sites, weight, weight_at}
 use Rattle.vr_json.specs.Trees.{count, listed}
 use Rattle.vr_tsplib.proofs.RootLemmas.{floor_root_is}
 use Rattle.vr_tsplib.proofs.TreeLemmas.{apart_low, squares_low, sites_near}
@@ -97,13 +97,13 @@ nearest_light n high =
     let r = floor_root n in
     omega (arith, one_more (nat_lt r (n - r * r)) r, root_few n r (floor_root_is n).square_low high)
 
-distance_light : (a b : SiteRow) → IsNear a → IsNear b → IsLight (distance a b)
+distance_light : (a b : SiteRow) → IsSiteInRange a → IsSiteInRange b → IsLight (distance a b)
 distance_light a b h k =
-    nearest_light _ (squares_low (apart a.x b.x) (apart a.y b.y) (apart_low a.x b.x h.x_least h.x_most k.x_least k.x_most) (apart_low a.y b.y h.y_least h.y_most k.y_least k.y_most))
+    nearest_light _ (squares_low (axis_gap a.x b.x) (axis_gap a.y b.y) (apart_low a.x b.x h.x_least h.x_most k.x_least k.x_most) (apart_low a.y b.y h.y_least h.y_most k.y_least k.y_most))
 
-distances_light : (places : List SiteRow) → All IsNear places → All (λ a. All (λ b. IsLight (distance a b)) places) places
+distances_light : (places : List SiteRow) → All IsSiteInRange places → All (λ a. All (λ b. IsLight (distance a b)) places) places
 distances_light places near =
-    All-weaker IsNear (λ a. All (λ b. IsLight (distance a b)) places) (λ a h. All-weaker IsNear (λ b. IsLight (distance a b)) (λ b k. distance_light a b h k) places near) places near
+    All-weaker IsSiteInRange (λ a. All (λ b. IsLight (distance a b)) places) (λ a h. All-weaker IsSiteInRange (λ b. IsLight (distance a b)) (λ b k. distance_light a b h k) places near) places near
 
 -- ---- weights that stand in the file
 
@@ -127,7 +127,7 @@ weights_light lower n weights h =
 
 -- ---- the matrix of a file
 
-pub matrix_read : (distances : Distances) (n : ℕ) (state : State) → IsSound state → IsCostMatrix n (matrix distances n state)
+pub matrix_read : (distances : Distances) (n : ℕ) (state : State) → AreLinesInRange state → IsCostMatrix n (matrix distances n state)
 matrix_read Plane n state sound =
     let places = sites n state.sites in
     weights_read n distance places (length-map (file_nodes n) _ ∙ length-range_with_len 1 n) (distances_light places (sites_near n state.sites sound.sites))

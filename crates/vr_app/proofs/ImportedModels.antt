@@ -23,7 +23,7 @@ use Rattle.vr_gen.proofs.ExactReadings.{step, refuse_none}
 use Rattle.vr_gen.proofs.ModelRead.{for_range_passes, not_negative}
 use Rattle.vr_tsplib.specs.declared.files.State.{State}
 use Rattle.vr_tsplib.specs.declared.summaries.Problem.{Problem}
-use Rattle.vr_tsplib.specs.Ranges.{IsProblem, IsSound, IsWithin}
+use Rattle.vr_tsplib.specs.Ranges.{IsProblem, AreLinesInRange, IsCountIn}
 use Rattle.vr_tsplib.specs.Trees.{matrix, tree_of}
 use Rattle.vr_app.specs.ImportLaws.{GivesModel, ImportedTreesAreModels}
 use Rattle.vr_app.proofs.ImportedFiles.{IsOfFile, imported_of_file}
@@ -76,7 +76,7 @@ module _ (vehicles : ℕ) (state : State) (problem : Problem) (one : Matrix) whe
   unfolding rules refuse_if and_then
   rules_pass path up = step _ (costs_pass path up) (step _ (entries_pass path) (step _ (transits_pass path) refl))
 
-  module _ (some : IsWithin 1 100 vehicles) (sound : IsSound state) (within : IsProblem problem)
+  module _ (some : IsCountIn 1 100 vehicles) (sound : AreLinesInRange state) (within : IsProblem problem)
       (matrix_reads : (path : List ℕ) → matrix_of problem.nodes path (matrix problem.distances problem.nodes state) ≡ Ok one) where
     table_reads : (path : List ℕ) → model_table path (tree_of vehicles state problem) ≡ Ok model_read
     unfolding model_table base parts visit_tables tree_of format count_of required optional known if_unknown field if_present array_of list entries at_path and_then
@@ -93,7 +93,7 @@ module _ (vehicles : ℕ) (state : State) (problem : Problem) (one : Matrix) whe
     model_reads path up = step _ (table_reads path) (step _ (rules_pass path up) refl)
 
 -- the tree of a file is read as a model
-of_file_reads : (vehicles : ℕ) (tree : Data) (path : List ℕ) → IsWithin 1 100 vehicles → IsOfFile vehicles tree → GivesModel (read_model path tree)
+of_file_reads : (vehicles : ℕ) (tree : Data) (path : List ℕ) → IsCountIn 1 100 vehicles → IsOfFile vehicles tree → GivesModel (read_model path tree)
 of_file_reads vehicles tree path some file =
     let cost = matrix_read file.problem.distances file.problem.nodes file.state file.sound in
     let model = model_read vehicles file.state file.problem cost.matrix in

@@ -7,19 +7,19 @@ use Rattle.std.proofs.lemmas.Bool.Decides.{nat_tests}
 use Rattle.serde_json.specs.Data.{Data}
 use Rattle.serde_json.specs.Read.{read}
 use Rattle.vr_io.specs.Edges.{Gave}
-use Rattle.vr_app.specs.Input.{max_input, value_of}
+use Rattle.vr_app.specs.Input.{max_input, input_value}
 use Rattle.vr_app.specs.Reply.{Reply, not_json, reply_to_input, reply_to_tree, reply_to_value, too_long}
 use Rattle.vr_app.specs.declared.words.Task.{Task}
 use Rattle.vr_model.specs.declared.search.Event.{Event}
 
 -- a text that is read
-pub value_of-some : (bytes : List ℕ) (d : Data) → IsUtf8 bytes → read bytes ≡ Some d → value_of bytes ≡ Some d
-unfolding value_of
+pub value_of-some : (bytes : List ℕ) (d : Data) → IsUtf8 bytes → read bytes ≡ Some d → input_value bytes ≡ Some d
+unfolding input_value
 value_of-some bytes d u e = ap (λ b. cond b (read bytes) None) (is_utf8-from_IsUtf8 bytes u) ∙ e
 
 -- bytes that are not
-pub value_of-none : (bytes : List ℕ) → (IsUtf8 bytes → read bytes ≡ None) → value_of bytes ≡ None
-unfolding value_of
+pub value_of-none : (bytes : List ℕ) → (IsUtf8 bytes → read bytes ≡ None) → input_value bytes ≡ None
+unfolding input_value
 value_of-none bytes h = by (is_utf8 bytes) refl
   where
     by : (b : Bool) → is_utf8 bytes ≡ b → cond b (read bytes) None ≡ None
@@ -28,23 +28,23 @@ value_of-none bytes h = by (is_utf8 bytes) refl
 
 module _ (it : Task) (reports : List Event → List ℕ) (bytes : List ℕ) where
   -- the reply to an input that is not too long
-  pub reply-short : length bytes ≤ max_input → reply_to_input it reports bytes ≡ reply_to_value it reports (value_of bytes)
+  pub reply-short : length bytes ≤ max_input → reply_to_input it reports bytes ≡ reply_to_value it reports (input_value bytes)
   unfolding reply_to_input
-  reply-short h = let e : nat_lt max_input (length bytes) ≡ false = grind (arith, nat_tests) in ap (λ b. cond b too_long (reply_to_value it reports (value_of bytes))) e
+  reply-short h = let e : nat_lt max_input (length bytes) ≡ false = grind (arith, nat_tests) in ap (λ b. cond b too_long (reply_to_value it reports (input_value bytes))) e
 
   -- the same, where its value is known
-  pub reply-value : (o : Option Data) → length bytes ≤ max_input → o ≡ value_of bytes → reply_to_value it reports o ≡ reply_to_input it reports bytes
+  pub reply-value : (o : Option Data) → length bytes ≤ max_input → o ≡ input_value bytes → reply_to_value it reports o ≡ reply_to_input it reports bytes
   reply-value o h e = ap (reply_to_value it reports) e ∙ sym (reply-short h)
 
   -- the reply to one that is too long
   pub reply-long : max_input < length bytes → reply_to_input it reports bytes ≡ too_long
   unfolding reply_to_input
-  reply-long h = let e : nat_lt max_input (length bytes) ≡ true = grind (arith, nat_tests) in ap (λ b. cond b too_long (reply_to_value it reports (value_of bytes))) e
+  reply-long h = let e : nat_lt max_input (length bytes) ≡ true = grind (arith, nat_tests) in ap (λ b. cond b too_long (reply_to_value it reports (input_value bytes))) e
 
   -- what holds of the reply to each kind of input holds of the reply to the bytes
-  module _ (P : Reply → Type 0) (of_long : max_input < length bytes → P too_long) (of_none : length bytes ≤ max_input → value_of bytes ≡ None → P not_json)
-      (of_tree : (d : Data) → length bytes ≤ max_input → value_of bytes ≡ Some d → P (reply_to_tree it reports d)) where
-    of_value : length bytes ≤ max_input → (o : Option Data) → value_of bytes ≡ o → P (reply_to_value it reports o)
+  module _ (P : Reply → Type 0) (of_long : max_input < length bytes → P too_long) (of_none : length bytes ≤ max_input → input_value bytes ≡ None → P not_json)
+      (of_tree : (d : Data) → length bytes ≤ max_input → input_value bytes ≡ Some d → P (reply_to_tree it reports d)) where
+    of_value : length bytes ≤ max_input → (o : Option Data) → input_value bytes ≡ o → P (reply_to_value it reports o)
     of_value short None e = of_none short e
     of_value short (Some d) e = of_tree d short e
 
@@ -52,9 +52,9 @@ module _ (it : Task) (reports : List Event → List ℕ) (bytes : List ℕ) wher
     unfolding reply_to_input
     of_input = by (nat_lt max_input (length bytes)) refl
       where
-        by : (b : Bool) → nat_lt max_input (length bytes) ≡ b → P (cond b too_long (reply_to_value it reports (value_of bytes)))
+        by : (b : Bool) → nat_lt max_input (length bytes) ≡ b → P (cond b too_long (reply_to_value it reports (input_value bytes)))
         by true e = of_long (grind (arith, nat_tests))
-        by false e = of_value (grind (arith, nat_tests)) (value_of bytes) refl
+        by false e = of_value (grind (arith, nat_tests)) (input_value bytes) refl
 
 -- a source from which too many bytes came
 pub long-gave : (old new : Option (List ℕ)) (taken bytes : List ℕ) → max_input < length taken → Gave old new taken → old ≡ Some bytes → max_input < length bytes

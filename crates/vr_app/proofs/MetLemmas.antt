@@ -2,7 +2,7 @@
 use Rattle.std.proofs.Common.{◌≡◌, ◌∙◌, ◌≤◌, ◌↔◌, ℕ, ℤ, List, [], Bool, true, false, Option, Some, None, Result, Ok, Err, refl, ap, sym, subst, arith, length}
 use Rattle.std.specs.Prelude.{IsTrue, codes}
 use Rattle.serde_json.specs.Data.{Data}
-use Rattle.vr_json.specs.Trees.{line_of}
+use Rattle.vr_json.specs.Trees.{text_line}
 use Rattle.vr_json.specs.declared.fault.Fault.{Fault}
 use Rattle.std.specs.Result.{IsErrAnd}
 use Rattle.vr_json.specs.Reading.{Answers, and_then, required, seen}
@@ -21,7 +21,7 @@ use Rattle.vr_app.specs.Answers.{AnswersReply, replied}
 use Rattle.vr_app.specs.declared.answer.Answer.{Answer}
 use Rattle.vr_app.specs.Causes.{HasFault, IsNotJson, IsReadAs, IsTooLong}
 use Rattle.vr_app.specs.Checked.{Checked, checked_at, checked_of, found_in, is_met}
-use Rattle.vr_app.specs.Input.{max_input, value_of}
+use Rattle.vr_app.specs.Input.{max_input, input_value}
 use Rattle.vr_printed.specs.Printed.{assignment_of}
 use Rattle.vr_printed.specs.Shape.{printed_in}
 use Rattle.vr_printed.specs.declared.printed.Printed.{Printed}
@@ -113,7 +113,7 @@ abbrev pub ClassifiesMet : List ℕ → ℕ → Type 0
 ClassifiesMet bytes status = Classifies checked_of 9 meets breaks bytes status
 
 module _ (asked : Question) (reports : List Event → List ℕ) (bytes : List ℕ) where
-  module _ (d : Data) (short : length bytes ≤ max_input) (some : value_of bytes ≡ Some d) where
+  module _ (d : Data) (short : length bytes ≤ max_input) (some : input_value bytes ≡ Some d) where
     finding-classifies : (it : Checked) → checked_of d ≡ Ok it → (f : Finding) → found_in it ≡ f → ClassifiesMet bytes (reply_to_finding asked it f).status
     finding-classifies it is (Meets cost) e =
         done-classifies checked_of 9 meets breaks (omega arith) (λ e. absurd (omega arith)) bytes d short some it is (ap is_met e) (λ h. let k = sym (ap is_met e) ∙ h in absurd cc)
@@ -128,7 +128,7 @@ module _ (asked : Question) (reports : List Event → List ℕ) (bytes : List �
   check-classifies =
       of_input-classifies checked_of 9 meets breaks (omega arith) (λ e. absurd (omega arith)) bytes (task.Ask asked) reports (λ d short some. checked-classifies d short some (checked_of d) refl)
 
-  check-refused : (fault : Fault) → HasFault checked_of bytes fault → (reply_to_input (task.Ask asked) reports bytes).text ≡ line_of (refused_tree fault)
+  check-refused : (fault : Fault) → HasFault checked_of bytes fault → (reply_to_input (task.Ask asked) reports bytes).text ≡ text_line (refused_tree fault)
   check-refused fault r =
       ap (λ reply. reply.text) (reply-short (task.Ask asked) reports bytes r.short ∙ ap (reply_to_value (task.Ask asked) reports) r.is_value ∙ ap (reply_to_checked asked) r.is_fault)
 
@@ -137,7 +137,7 @@ module _ (asked : Question) (reports : List Event → List ℕ) (bytes : List �
 -- the solution keeps all rules of its model, and the text answers the question about it
 pub record IsKeptBy (asked : Question) (bytes text : List ℕ) : Type 0 where
   pub kept : HasKept bytes
-  pub text_is : text ≡ line_of (answer_tree asked kept.it kept.cost)
+  pub text_is : text ≡ text_line (answer_tree asked kept.it kept.cost)
 
 -- a reply answers the question about a solution that keeps all rules, or says the rule that is broken
 pub record Finds (asked : Question) (bytes : List ℕ) (answer : Reply) : Type 0 where
@@ -163,7 +163,7 @@ module _ (asked : Question) (reports : List Event → List ℕ) (bytes : List �
     broken = λ nine. record { it = it; rule = rule; vehicle = vehicle; place = place; is_read = is; is_found = e; text_is = refl };
   }
 
-  checked-finds : (d : Data) → length bytes ≤ max_input → value_of bytes ≡ Some d → (m : Result Checked Fault) → checked_of d ≡ m → Finds asked bytes (reply_to_checked asked m)
+  checked-finds : (d : Data) → length bytes ≤ max_input → input_value bytes ≡ Some d → (m : Result Checked Fault) → checked_of d ≡ m → Finds asked bytes (reply_to_checked asked m)
   checked-finds d short some (Err fault) is = finds_none asked bytes _ (λ e. absurd (omega arith)) (λ e. absurd (omega arith))
   checked-finds d short some (Ok it) is =
       finding-finds it (checked-well_formed d it is) (record { short = short; value = d; is_value = some; is_read = is }) (found_in it) refl
@@ -184,7 +184,7 @@ kept-spanned bytes text is =
     let kept = is.kept in record {
       kept = kept;
       shortest = reports_shortest kept.it.model (assignment_of kept.printed.routes) kept.keeps.plans_are_schedules;
-      text_is = is.text_is ∙ ap (λ printed. line_of (spans_tree kept.it.model (printed_assignment printed))) kept.is_printed;
+      text_is = is.text_is ∙ ap (λ printed. text_line (spans_tree kept.it.model (printed_assignment printed))) kept.is_printed;
     }
 
 module _ (asked : Question) (reports : List Event → List ℕ) (words : List (List ℕ)) (bytes : List ℕ) (asks : Asks asked words) where
@@ -195,7 +195,7 @@ module _ (asked : Question) (reports : List Event → List ℕ) (words : List (L
   asked_words-find = let P : Option Request → Type 0 = λ o. Finds asked bytes (reply_in reports o bytes) in subst P (sym asks) (check-finds asked reports bytes)
 
   -- a refusal says the fault
-  pub asked_words-refused : (fault : Fault) → HasFault checked_of bytes fault → (reply reports words bytes).text ≡ line_of (refused_tree fault)
+  pub asked_words-refused : (fault : Fault) → HasFault checked_of bytes fault → (reply reports words bytes).text ≡ text_line (refused_tree fault)
   asked_words-refused fault r = ap (λ o. (reply_in reports o bytes).text) asks ∙ check-refused asked reports bytes fault r
 
 -- ---- words that read

@@ -12,17 +12,17 @@ use Rattle.vr_model.specs.declared.records.Model.{Model}
 use Rattle.vr_model.specs.first.FirstSolutions.{first_lists}
 use Rattle.vr_read.proofs.WellFormedModels.{well_formed_from_read}
 use Rattle.vr_model.specs.declared.search.Event.{Event}
-use Rattle.vr_watch.specs.Told.{Told}
+use Rattle.vr_watch.specs.Told.{Reported}
 use Rattle.vr_check.specs.declared.finding.Rule.{Rule}
-use Rattle.vr_app.specs.Answers.{Answers, AnswersReply}
+use Rattle.vr_app.specs.Answers.{AnswersWith, AnswersReply}
 use Rattle.vr_app.specs.Causes.{IsAnsweredBy}
-use Rattle.vr_app.specs.Found.{Found, events_of, found_from, line_of_found}
-use Rattle.vr_app.specs.Input.{max_input, model_of, value_of}
+use Rattle.vr_app.specs.Found.{Found, found_events, found_from, line_of_found}
+use Rattle.vr_app.specs.Input.{max_input, model_of_value, input_value}
 use Rattle.vr_app.specs.Reply.{Reply, reply, reply_in, reply_to_found, reply_to_input, reply_to_model, with_reports}
-use Rattle.vr_app.specs.Reports.{joined}
+use Rattle.vr_app.specs.Reports.{joined_reports}
 use Rattle.vr_app.specs.Runs.{IsAskedFor}
 use Rattle.vr_app.specs.Texts.{met_tree, not_met_tree, refused_tree, status_tree, summary_tree}
-use Rattle.vr_app.specs.Status.{number_of}
+use Rattle.vr_app.specs.Status.{status_number}
 use Rattle.vr_app.specs.declared.answer.Answer.{Answer}
 use Rattle.vr_app.specs.declared.status.Status.TheVariants as all
 use Rattle.vr_app.specs.declared.texts.Summary.{Summary}
@@ -64,7 +64,7 @@ module _ (asked : Mode) (reports : List Event → List ℕ) (bytes : List ℕ) w
   abbrev AnsweredWhere : Reply → Type 0
   AnsweredWhere reply = reply.status ≡ 0 → IsAnsweredBy asked reports bytes reply.text
 
-  found-answered : (d : Data) (model : Model) → length bytes ≤ max_input → value_of bytes ≡ Some d → model_of d ≡ Ok model
+  found-answered : (d : Data) (model : Model) → length bytes ≤ max_input → input_value bytes ≡ Some d → model_of_value d ≡ Ok model
       → (o : Option (List (List ℕ))) → first_lists model ≡ o → AnsweredWhere (reply_to_found asked reports model (option_map (found_from asked model) o))
   found-answered d model short some is None e zero = absurd (omega arith)
   found-answered d model short some is (Some lists) e zero = record {
@@ -76,14 +76,14 @@ module _ (asked : Mode) (reports : List Event → List ℕ) (bytes : List ℕ) w
     text_is = refl;
   }
 
-  model-answered : (d : Data) → length bytes ≤ max_input → value_of bytes ≡ Some d
-      → (m : Result Model Fault) → model_of d ≡ m → AnsweredWhere (reply_to_model asked reports m)
+  model-answered : (d : Data) → length bytes ≤ max_input → input_value bytes ≡ Some d
+      → (m : Result Model Fault) → model_of_value d ≡ m → AnsweredWhere (reply_to_model asked reports m)
   model-answered d short some (Err fault) is zero = absurd (omega arith)
   model-answered d short some (Ok model) is zero = found-answered d model short some is (first_lists model) refl zero
 
   input-answered : AnsweredWhere (reply_to_input (task.Find asked) reports bytes)
   input-answered = of_input (task.Find asked) reports bytes AnsweredWhere (λ long zero. absurd (omega arith)) (λ short none zero. absurd (omega arith))
-      (λ d short some. model-answered d short some (model_of d) refl)
+      (λ d short some. model-answered d short some (model_of_value d) refl)
 
   pub reply-answered : (words : List (List ℕ)) → IsAskedFor asked words → (reply reports words bytes).status ≡ 0 → IsAnsweredBy asked reports bytes (reply reports words bytes).text
   reply-answered words is =
@@ -94,12 +94,12 @@ module _ (asked : Mode) (reports : List Event → List ℕ) (bytes : List ℕ) w
 
 -- after they were told of all events, it is what they would have reported of these
 pub told-joined : {W : Type 0} (after : W → List Event → List ℕ) (old new : List W) (events : List Event)
-    → Told after old new events → joined after new [] ≡ joined after old events
+    → Reported after old new events → joined_reports after new [] ≡ joined_reports after old events
 told-joined after old new events told =
     sym (flat_map-map (λ text. text) (λ w. after w []) new)
     ∙ ap (flat_map (λ text. text)) (told.heard [])
     ∙ flat_map-map (λ text. text) (λ w. after w (events ++ [])) old
-    ∙ ap (joined after old) (append-nil events)
+    ∙ ap (joined_reports after old) (append-nil events)
 
 -- reports count where they are asked for alone
 pub same-reports : (asked : Mode) (line old new : List ℕ) → (asked ≡ mode.Log → new ≡ old) → with_reports asked line new ≡ with_reports asked line old
@@ -109,11 +109,11 @@ same-reports mode.Log line old new same = ap (λ reports. line ++ reports) (same
 
 -- the answer that has the line of what was found, and behind it what watchers report now, is the reply
 pub done-replies : (asked : Mode) (reports : List Event → List ℕ) (model : Model) (line now : List ℕ) (given : Answer)
-    → (o : Option Found) → Some line ≡ option_map (line_of_found model) o → (asked ≡ mode.Log → now ≡ reports (events_of o))
-    → Answers all.Done (with_reports asked line now) given → AnswersReply (reply_to_found asked reports model o) given
+    → (o : Option Found) → Some line ≡ option_map (line_of_found model) o → (asked ≡ mode.Log → now ≡ reports (found_events o))
+    → AnswersWith all.Done (with_reports asked line now) given → AnswersReply (reply_to_found asked reports model o) given
 done-replies asked reports model line now given None found same is = absurd cc
 done-replies asked reports model line now given (Some found) line_is same is =
     let e : line ≡ line_of_found model found = cc in record {
-      status_is = ap number_of is.status_is;
+      status_is = ap status_number is.status_is;
       text_is = is.text_is ∙ ap (λ text. with_reports asked text now) e ∙ same-reports asked (line_of_found model found) (reports found.outcome.events) now same;
     }

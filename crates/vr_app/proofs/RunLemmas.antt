@@ -4,18 +4,18 @@ use Rattle.std.specs.Prelude.{◌≢◌}
 use Rattle.vr_io.specs.Edges.{Rose, Took}
 use Rattle.vr_io.specs.Whole.{TookFront}
 use Rattle.serde_json.specs.Data.{Data}
-use Rattle.vr_json.specs.Trees.{line_of}
+use Rattle.vr_json.specs.Trees.{text_line}
 use Rattle.vr_json.specs.declared.fault.Fault.{Fault}
 use Rattle.vr_model.specs.declared.search.Event.{Event}
 use Rattle.vr_app.specs.Answers.{AnswersReply, IsOfAnswer}
 use Rattle.vr_app.specs.Causes.{HasFault, HasFlaw, IsAnsweredBy, IsImportedAs}
 use Rattle.vr_app.specs.Checked.{checked_of}
 use Rattle.vr_app.specs.Ended.{Ends, IsCut, IsSilent, IsAnswered, Ran, Responds}
-use Rattle.vr_app.specs.Input.{model_of}
+use Rattle.vr_app.specs.Input.{model_of_value}
 use Rattle.vr_app.specs.Met.{IsBrokenBy, IsMetBy, IsSpannedBy}
 use Rattle.vr_app.specs.Reply.{Replies, Reply, reply, reply_in, reply_to_file}
-use Rattle.vr_app.specs.Runs.{Imports, IsAskedFor, IsAsking, IsChecked, IsNotAccepted, IsRead, IsSettled, IsSolved, IsSpanned, IsUnread, WhereAnswered, WhereAsked, WhereImported, WhereSolved, WhereKnown}
-use Rattle.vr_app.specs.Status.{number_of}
+use Rattle.vr_app.specs.Runs.{Imports, IsAskedFor, IsAsking, IsChecked, IsNotAccepted, IsRead, IsStatusOfAnswer, IsSolutionAsked, IsSpanned, IsUnread, WhereAnswered, WhereAsked, WhereImported, WhereSolved, WhereKnown}
+use Rattle.vr_app.specs.Status.{status_number}
 use Rattle.vr_app.specs.Texts.{refused_tree}
 use Rattle.vr_app.specs.Words.{is_read}
 use Rattle.vr_app.specs.declared.answer.Answer.{Answer}
@@ -37,7 +37,7 @@ abbrev status_of : ℕ → Status
 status_of n =
     get_or (all.Done ∷ all.Usage ∷ all.ReadFault ∷ all.WriteFault ∷ all.NotJson ∷ all.Refused ∷ all.NoneFound ∷ all.NoMemory ∷ all.TooLong ∷ all.NotMet ∷ []) n all.Done
 
-status_back : (status : Status) → status_of (number_of status) ≡ status
+status_back : (status : Status) → status_of (status_number status) ≡ status
 status_back all.Done = refl
 status_back all.Usage = refl
 status_back all.ReadFault = refl
@@ -50,39 +50,39 @@ status_back all.TooLong = refl
 status_back all.NotMet = refl
 
 -- two statuses of one number are the same
-same_status : (x y : Status) → number_of x ≡ number_of y → x ≡ y
+same_status : (x y : Status) → status_number x ≡ status_number y → x ≡ y
 same_status x y e = sym (status_back x) ∙ ap status_of e ∙ status_back y
 
-settled_0 : IsSettled 0
+settled_0 : IsStatusOfAnswer 0
 settled_0 = record { is_read = λ e. absurd (omega arith); is_written = λ e. absurd (omega arith); has_memory = λ e. absurd (omega arith) }
 
-settled_1 : IsSettled 1
+settled_1 : IsStatusOfAnswer 1
 settled_1 = record { is_read = λ e. absurd (omega arith); is_written = λ e. absurd (omega arith); has_memory = λ e. absurd (omega arith) }
 
-settled_5 : IsSettled 5
+settled_5 : IsStatusOfAnswer 5
 settled_5 = record { is_read = λ e. absurd (omega arith); is_written = λ e. absurd (omega arith); has_memory = λ e. absurd (omega arith) }
 
-settled_9 : IsSettled 9
+settled_9 : IsStatusOfAnswer 9
 settled_9 = record { is_read = λ e. absurd (omega arith); is_written = λ e. absurd (omega arith); has_memory = λ e. absurd (omega arith) }
 
-settled_by : {n status : ℕ} → IsSettled n → status ≡ n → IsSettled status
-settled_by is e = subst IsSettled (sym e) is
+settled_by : {n status : ℕ} → IsStatusOfAnswer n → status ≡ n → IsStatusOfAnswer status
+settled_by is e = subst IsStatusOfAnswer (sym e) is
 
 -- an answer has none of the statuses of failures
-answer-settles : (status : Status) → IsOfAnswer status → IsSettled (number_of status)
-answer-settles status (inl e) = settled_by settled_1 (ap number_of e)
-answer-settles status (inr (inr e)) = record { is_read = λ k. absurd (omega (arith, k, ap number_of e)); is_written = λ k. absurd (omega (arith, k, ap number_of e)); has_memory = λ k. absurd (omega (arith, k, ap number_of e)) }
-answer-settles status (inr (inl (inl (inl (inl e))))) = settled_by settled_0 (ap number_of e)
-answer-settles status (inr (inl (inl (inl (inr e))))) = record { is_read = λ k. absurd (omega (arith, k, ap number_of e)); is_written = λ k. absurd (omega (arith, k, ap number_of e)); has_memory = λ k. absurd (omega (arith, k, ap number_of e)) }
-answer-settles status (inr (inl (inl (inr e)))) = settled_by settled_5 (ap number_of e)
-answer-settles status (inr (inl (inr (inl e)))) = record { is_read = λ k. absurd (omega (arith, k, ap number_of e)); is_written = λ k. absurd (omega (arith, k, ap number_of e)); has_memory = λ k. absurd (omega (arith, k, ap number_of e)) }
-answer-settles status (inr (inl (inr (inr e)))) = settled_by settled_9 (ap number_of e)
+answer-settles : (status : Status) → IsOfAnswer status → IsStatusOfAnswer (status_number status)
+answer-settles status (inl e) = settled_by settled_1 (ap status_number e)
+answer-settles status (inr (inr e)) = record { is_read = λ k. absurd (omega (arith, k, ap status_number e)); is_written = λ k. absurd (omega (arith, k, ap status_number e)); has_memory = λ k. absurd (omega (arith, k, ap status_number e)) }
+answer-settles status (inr (inl (inl (inl (inl e))))) = settled_by settled_0 (ap status_number e)
+answer-settles status (inr (inl (inl (inl (inr e))))) = record { is_read = λ k. absurd (omega (arith, k, ap status_number e)); is_written = λ k. absurd (omega (arith, k, ap status_number e)); has_memory = λ k. absurd (omega (arith, k, ap status_number e)) }
+answer-settles status (inr (inl (inl (inr e)))) = settled_by settled_5 (ap status_number e)
+answer-settles status (inr (inl (inr (inl e)))) = record { is_read = λ k. absurd (omega (arith, k, ap status_number e)); is_written = λ k. absurd (omega (arith, k, ap status_number e)); has_memory = λ k. absurd (omega (arith, k, ap status_number e)) }
+answer-settles status (inr (inl (inr (inr e)))) = settled_by settled_9 (ap status_number e)
 
 -- ---- how a run ends, by its status
 
 module _ {K : Type 0} (written : K → Option (List ℕ)) (faults : K → ℕ) (P : Answer → Type 0) (failed : Type 0) (old new : K) (status : ℕ) where
   -- a status that is that of an answer is that of a written one
-  end-written : Ends written faults P failed old new status → IsSettled status → IsAnswered P (written old) (written new) status
+  end-written : Ends written faults P failed old new status → IsStatusOfAnswer status → IsAnswered P (written old) (written new) status
   end-written (inl is) settled = is
   end-written (inr (inl cut)) settled = absurd (settled.is_written cut.status_is)
   end-written (inr (inr (inl silent))) settled = absurd (settled.is_read silent.0.status_is)
@@ -95,7 +95,7 @@ module _ {K : Type 0} (written : K → Option (List ℕ)) (faults : K → ℕ) (
   end-whole (inr (inr (inl silent))) calm quiet = absurd (calm silent.1)
   end-whole (inr (inr (inr silent))) calm quiet = inl silent.status_is
 
-  module _ (settles : (answer : Answer) → P answer → IsSettled (number_of answer.status)) where
+  module _ (settles : (answer : Answer) → P answer → IsStatusOfAnswer (status_number answer.status)) where
     end-cut : Ends written faults P failed old new status → status ≡ 3 → IsCut P (written old) (written new) (faults old) (faults new) status
     end-cut (inl is) e = absurd ((settles is.answer is.responds).is_written (sym is.status_is ∙ e))
     end-cut (inr (inl cut)) e = cut
@@ -124,10 +124,10 @@ module _ {K : Type 0} {written : K → Option (List ℕ)} {faults : K → ℕ} {
   abbrev F : Type 0
   F = Rose failed fails × IsRead words
 
-  settles : (answer : Answer) → P answer → IsSettled (number_of answer.status)
+  settles : (answer : Answer) → P answer → IsStatusOfAnswer (status_number answer.status)
   settles answer is = answer-settles answer.status is.settled
 
-  is_written : IsSettled status → IsAnswered P (written old) (written new) status
+  is_written : IsStatusOfAnswer status → IsAnswered P (written old) (written new) status
   is_written = end-written written faults P F old new status ran.ends
 
   is_cut : status ≡ 3 → IsCut P (written old) (written new) (faults old) (faults new) status
@@ -143,10 +143,10 @@ module _ {K : Type 0} {written : K → Option (List ℕ)} {faults : K → ℕ} {
   written-replies : {r : Reply} (is : IsAnswered P (written old) (written new) status) → AnswersReply r is.answer → Replies r (written old) (written new) status
   written-replies is has = record { status = is.status_is ∙ has.status_is; written = subst (Took (written old) (written new)) has.text_is is.took }
 
-  pub replies : IsSettled status → WhereKnown left (λ bytes. Replies (reply reports words bytes) (written old) (written new) status)
+  pub replies : IsStatusOfAnswer status → WhereKnown left (λ bytes. Replies (reply reports words bytes) (written old) (written new) status)
   replies settled bytes known = let is = is_written settled in written-replies is (is.responds.replies bytes known)
 
-  pub unread : IsSettled status → IsUnread words → (bytes : List ℕ) → Replies (reply reports words bytes) (written old) (written new) status
+  pub unread : IsStatusOfAnswer status → IsUnread words → (bytes : List ℕ) → Replies (reply reports words bytes) (written old) (written new) status
   unread settled none bytes = let is = is_written settled in written-replies is (is.responds.unread none bytes)
 
   -- which inputs have the status
@@ -180,14 +180,14 @@ module _ {K : Type 0} {written : K → Option (List ℕ)} {faults : K → ℕ} {
       let r = replies (settled_by settled_0 e) bytes known in
       ((reply reports words bytes).text, kept-spanned bytes _ ((asked_words-find question.Spans reports words bytes asks).met (sym r.status ∙ e)), r.written)
 
-  pub model : status ≡ 0 → (vehicles : ℕ) → Imports vehicles words → WhereKnown left (λ bytes. (tree : Data) × IsImportedAs vehicles bytes tree × Took (written old) (written new) (line_of tree))
+  pub model : status ≡ 0 → (vehicles : ℕ) → Imports vehicles words → WhereKnown left (λ bytes. (tree : Data) × IsImportedAs vehicles bytes tree × Took (written old) (written new) (text_line tree))
   model e vehicles imports bytes known =
       let r = replies (settled_by settled_0 e) bytes known in
       let same : reply reports words bytes ≡ reply_to_file vehicles bytes = ap (λ o. reply_in reports o bytes) imports in
       let is = file-reported vehicles bytes (sym (ap (λ reply. reply.status) same) ∙ sym r.status ∙ e) in
       (is.0, is.1, subst (Took (written old) (written new)) (ap (λ reply. reply.text) same ∙ is.2) r.written)
 
-  pub flaw : status ≡ 5 → (vehicles : ℕ) → Imports vehicles words → WhereKnown left (λ bytes. (fault : Fault) → HasFlaw vehicles bytes fault → Took (written old) (written new) (line_of (refused_tree fault)))
+  pub flaw : status ≡ 5 → (vehicles : ℕ) → Imports vehicles words → WhereKnown left (λ bytes. (fault : Fault) → HasFlaw vehicles bytes fault → Took (written old) (written new) (text_line (refused_tree fault)))
   flaw e vehicles imports bytes known fault has =
       let same : reply reports words bytes ≡ reply_to_file vehicles bytes = ap (λ o. reply_in reports o bytes) imports in
       subst (Took (written old) (written new)) (ap (λ reply. reply.text) same ∙ file-refused vehicles bytes fault has) (replies (settled_by settled_5 e) bytes known).written
@@ -204,17 +204,17 @@ module _ {K : Type 0} {written : K → Option (List ℕ)} {faults : K → ℕ} {
       let asks = not_met_only e in
       ((reply reports words bytes).text, (asked_words-find asks.0 reports words bytes asks.1).broken (sym r.status ∙ e), r.written)
 
-  pub refusal : status ≡ 5 → IsSolved words → WhereKnown left (λ bytes. (fault : Fault) → HasFault model_of bytes fault → Took (written old) (written new) (line_of (refused_tree fault)))
+  pub refusal : status ≡ 5 → IsSolutionAsked words → WhereKnown left (λ bytes. (fault : Fault) → HasFault model_of_value bytes fault → Took (written old) (written new) (text_line (refused_tree fault)))
   refusal e solves bytes known fault has = subst (Took (written old) (written new)) (solved-refused reports words bytes fault solves has) (replies (settled_by settled_5 e) bytes known).written
 
-  pub check_refusal : status ≡ 5 → IsAsking words → WhereKnown left (λ bytes. (fault : Fault) → HasFault checked_of bytes fault → Took (written old) (written new) (line_of (refused_tree fault)))
+  pub check_refusal : status ≡ 5 → IsAsking words → WhereKnown left (λ bytes. (fault : Fault) → HasFault checked_of bytes fault → Took (written old) (written new) (text_line (refused_tree fault)))
   check_refusal e asks bytes known fault has = subst (Took (written old) (written new)) (asked_words-refused asks.0 reports words bytes asks.1 fault has) (replies (settled_by settled_5 e) bytes known).written
 
   -- of words that read nothing
-  pub usage : IsSettled status → IsNotAccepted words → status ≡ 1
+  pub usage : IsStatusOfAnswer status → IsNotAccepted words → status ≡ 1
   usage settled none = (unread settled (ap is_read none) []).status ∙ ap (λ o. (reply_in reports o []).status) none
 
-  pub numbered : IsSettled status → IsUnread words → IsNotAccepted words ⊎ (status ≡ 0)
+  pub numbered : IsStatusOfAnswer status → IsUnread words → IsNotAccepted words ⊎ (status ≡ 0)
   numbered settled none = or-else (λ e. (unread settled none []).status ∙ e) (unread-done reports words [] none)
 
   -- where the sink fails
@@ -242,7 +242,7 @@ module _ {K : Type 0} {written : K → Option (List ℕ)} {faults : K → ℕ} {
   emptied reads read memory long bytes known cut_long = by ran.ends
     where
       by : Ends written faults P F old new status → rest ≡ Some []
-      by (inl is) = is.responds.emptied reads (λ e. long (is.status_is ∙ ap number_of e)) bytes known
-      by (inr (inl is)) = is.responds.emptied reads (λ e. cut_long is.status_is (sym (is.responds.replies bytes known).status_is ∙ ap number_of e)) bytes known
+      by (inl is) = is.responds.emptied reads (λ e. long (is.status_is ∙ ap status_number e)) bytes known
+      by (inr (inl is)) = is.responds.emptied reads (λ e. cut_long is.status_is (sym (is.responds.replies bytes known).status_is ∙ ap status_number e)) bytes known
       by (inr (inr (inl silent))) = absurd (read silent.0.status_is)
       by (inr (inr (inr silent))) = absurd (memory silent.status_is)

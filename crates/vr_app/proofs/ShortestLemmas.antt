@@ -5,14 +5,14 @@ use Rattle.std.proofs.lemmas.Int.{ints}
 use Rattle.vr_model.specs.tables.Numbers.{is_lex_le}
 use Rattle.vr_model.specs.schedules.Lines.{Line as Defined}
 use Rattle.vr_model.specs.schedules.Schedules.{Plan as Wanted, both_sides, IsFeasible, span}
-use Rattle.vr_model.specs.deciding.ChosenSchedule.{plan_of, plan_of-key}
+use Rattle.vr_model.specs.deciding.ChosenSchedule.{plan_of_key, plan_of-key}
 use Rattle.vr_model.specs.deciding.Testing.{and_left, and_right, le_of_test, or_cases}
 use Rattle.vr_model.specs.routes.Costs.{no_plan}
-use Rattle.vr_plan.specs.Plans.{seen}
+use Rattle.vr_plan.specs.Plans.{as_defined}
 use Rattle.vr_span.specs.Spans.{IsFirstPlan, IsLeastSpanOf, IsReachedSpan}
 use Rattle.vr_span.specs.declared.least.Least.{Least}
 use Rattle.vr_steps.specs.declared.lines.Line.{Line}
-use Rattle.vr_app.specs.Shortest.{IsShortest, ShortestFound, find_shortest, shortest, shortest_found, shortest_plan}
+use Rattle.vr_app.specs.Shortest.{IsShortestSchedule, ShortestFound, find_shortest, shortest, shortest_found, shortest_plan}
 use Rattle.vr_app.specs.Scheduled.{IsShortestOf}
 
 -- ---- two lists of numbers that come no later than each other
@@ -57,7 +57,7 @@ none_of [] e = refl
 none_of (x ∷ xs) e = absurd (omega (arith, e))
 
 module _ (line : Defined) (none : line.breaks ≡ []) where
-  one_shortest : (p q : Wanted) → IsShortest line p → IsShortest line q → p ≡ q
+  one_shortest : (p q : Wanted) → IsShortestSchedule line p → IsShortestSchedule line q → p ≡ q
   one_shortest p q a b =
       let low = a.least q b.schedule in
       let high = b.least p a.schedule in
@@ -66,9 +66,9 @@ module _ (line : Defined) (none : line.breaks ≡ []) where
       lex_both p.cumuls q.cumuls (a.schedule.cumul_of_each_stop ∙ sym b.schedule.cumul_of_each_stop) (a.first q b.schedule same) (b.first p a.schedule (sym same)) in
       let breaks : p.breaks ≡ q.breaks =
       none_of p.breaks (a.schedule.start_of_each_break ∙ ap length none) ∙ sym (none_of q.breaks (b.schedule.start_of_each_break ∙ ap length none)) in
-      sym (plan_of-key both_sides line p a.schedule) ∙ (ap (plan_of line) (ap₂ (λ xs ys. xs ++ ys) cumuls breaks) ∙ plan_of-key both_sides line q b.schedule)
+      sym (plan_of-key both_sides line p a.schedule) ∙ (ap (plan_of_key line) (ap₂ (λ xs ys. xs ++ ys) cumuls breaks) ∙ plan_of-key both_sides line q b.schedule)
 
-  pub shortest_is : (plan : Wanted) → IsShortest line plan → shortest line ≡ Some plan
+  pub shortest_is : (plan : Wanted) → IsShortestSchedule line plan → shortest line ≡ Some plan
   shortest_is plan is = by (find_shortest line)
     where
       by : (f : ShortestFound line) → shortest_found line f ≡ Some plan
@@ -76,10 +76,10 @@ module _ (line : Defined) (none : line.breaks ≡ []) where
       by (inr none_there) = absurd (none_there (plan, is.schedule))
 
 -- a feasible line has a shortest schedule
-pub shortest_there : (line : Defined) → IsFeasible line → IsShortest line (shortest_plan line)
+pub shortest_there : (line : Defined) → IsFeasible line → IsShortestSchedule line (shortest_plan line)
 shortest_there line feasible = by (find_shortest line)
   where
-    by : (f : ShortestFound line) → IsShortest line (unwrap_or (shortest_found line f) no_plan)
+    by : (f : ShortestFound line) → IsShortestSchedule line (unwrap_or (shortest_found line f) no_plan)
     by (inl r) = r.1
     by (inr none) = absurd (none feasible)
 
@@ -92,9 +92,9 @@ module _ (made : Line) (none : made.breaks ≡ []) (least : Least) where
       let r = reached defined of in
       let l = is_least defined of in
       let f = first defined of in
-      let its : span defined (seen least.plan) ≡ least.span = r.span_is in
+      let its : span defined (as_defined least.plan) ≡ least.span = r.span_is in
       record {
-        plan_is = shortest_is defined (sym of.breaks ∙ none) (seen least.plan) (record {
+        plan_is = shortest_is defined (sym of.breaks ∙ none) (as_defined least.plan) (record {
           schedule = r.schedule;
           least = λ other s. let b = l.least other s in omega (arith, ints, its, b);
           first = λ other s e. f other s (e ∙ its);

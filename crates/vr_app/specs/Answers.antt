@@ -2,23 +2,23 @@
 use Rattle.std.specs.Prelude.{◌≡◌, ◌⊎◌, ℕ, List}
 use Rattle.vr_app.specs.declared.status.Status.{Status}
 use Rattle.vr_app.specs.declared.status.Status.TheVariants as all
-use Rattle.vr_app.specs.Status.{number_of}
+use Rattle.vr_app.specs.Status.{status_number}
 use Rattle.vr_app.specs.declared.answer.Answer.{Answer}
 use Rattle.vr_app.specs.Reply.{Reply}
 
 -- the answer has this status and this text
-pub record Answers (status : Status) (text : List ℕ) (answer : Answer) : Type 0 where
+pub record AnswersWith (status : Status) (text : List ℕ) (answer : Answer) : Type 0 where
   pub status_is : answer.status ≡ status
   pub text_is : answer.text ≡ text
 
 -- the answer is this reply
 pub record AnswersReply (reply : Reply) (answer : Answer) : Type 0 where
-  pub status_is : number_of answer.status ≡ reply.status
+  pub status_is : status_number answer.status ≡ reply.status
   pub text_is : answer.text ≡ reply.text
 
 -- the reply that an answer is
 abbrev pub replied : Answer → Reply
-replied answer = record { status = number_of answer.status; text = answer.text }
+replied answer = record { status = status_number answer.status; text = answer.text }
 
 -- the status of an answer to a file
 abbrev pub IsOfFile : Status → Type 0

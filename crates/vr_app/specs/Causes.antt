@@ -5,7 +5,7 @@ use Rattle.vr_json.specs.declared.fault.Fault.{Fault}
 use Rattle.vr_model.specs.first.FirstSolutions.{first_lists}
 use Rattle.vr_model.specs.declared.records.Model.{Model}
 use Rattle.vr_model.specs.declared.search.Event.{Event}
-use Rattle.vr_app.specs.Input.{max_input, value_of, model_of}
+use Rattle.vr_app.specs.Input.{max_input, input_value, model_of_value}
 use Rattle.vr_app.specs.Found.{Found, answer, line_of_found}
 use Rattle.vr_app.specs.Reply.{with_reports}
 use Rattle.vr_app.specs.Solutions.{PrintsSolution}
@@ -19,25 +19,25 @@ IsTooLong bytes = max_input < length bytes
 -- it has no more bytes than it may, and is no JSON
 pub record IsNotJson (bytes : List ℕ) : Type 0 where
   pub short : length bytes ≤ max_input
-  pub no_value : value_of bytes ≡ None
+  pub no_value : input_value bytes ≡ None
 
 -- it is JSON, and this is the first fault of reading its value
 pub record HasFault {A : Type 0} (read : Data → Result A Fault) (bytes : List ℕ) (fault : Fault) : Type 0 where
   pub short : length bytes ≤ max_input
   pub value : Data
-  pub is_value : value_of bytes ≡ Some value
+  pub is_value : input_value bytes ≡ Some value
   pub is_fault : read value ≡ Err fault
 
 -- it is JSON, and this is read of its value
 pub record IsReadAs {A : Type 0} (read : Data → Result A Fault) (bytes : List ℕ) (x : A) : Type 0 where
   pub short : length bytes ≤ max_input
   pub value : Data
-  pub is_value : value_of bytes ≡ Some value
+  pub is_value : input_value bytes ≡ Some value
   pub is_read : read value ≡ Ok x
 
 -- it is JSON whose value is refused
-abbrev pub IsRefused : {A : Type 0} → (Data → Result A Fault) → List ℕ → Type 0
-IsRefused read bytes = (fault : Fault) × HasFault read bytes fault
+abbrev pub IsRefusedInput : {A : Type 0} → (Data → Result A Fault) → List ℕ → Type 0
+IsRefusedInput read bytes = (fault : Fault) × HasFault read bytes fault
 
 -- it is a file, and this is its first fault
 pub record HasFlaw (vehicles : ℕ) (bytes : List ℕ) (fault : Fault) : Type 0 where
@@ -59,7 +59,7 @@ IsFile vehicles bytes = (tree : Data) × IsImportedAs vehicles bytes tree
 
 -- it is this model
 abbrev pub IsModel : List ℕ → Model → Type 0
-IsModel bytes model = IsReadAs model_of bytes model
+IsModel bytes model = IsReadAs model_of_value bytes model
 
 -- it is a model for which the construction gives a first solution
 abbrev pub HasFirst : List ℕ → Type 0

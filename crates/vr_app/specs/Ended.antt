@@ -6,7 +6,7 @@ use Rattle.vr_model.specs.declared.search.Event.{Event}
 use Rattle.vr_app.specs.Answers.{AnswersReply, IsOfAnswer}
 use Rattle.vr_app.specs.Reply.{reply}
 use Rattle.vr_app.specs.Runs.{IsAsking, IsNotAccepted, IsRead, IsUnread, WhereKnown}
-use Rattle.vr_app.specs.Status.{number_of}
+use Rattle.vr_app.specs.Status.{status_number}
 use Rattle.vr_app.specs.declared.answer.Answer.{Answer}
 use Rattle.vr_app.specs.declared.status.Status.{Status}
 use Rattle.vr_app.specs.declared.status.Status.TheVariants as all
@@ -25,20 +25,20 @@ pub record Responds (reports : List Event → List ℕ) (words : List (List ℕ)
 pub record IsAnswered (P : Answer → Type 0) (old new : Option (List ℕ)) (status : ℕ) : Type 0 where
   pub answer : Answer
   pub responds : P answer
-  pub status_is : status ≡ number_of answer.status
+  pub status_is : status ≡ status_number answer.status
   pub took : Took old new answer.text
 
 -- the sink failed at such an answer, and took a front of it
 pub record IsCut (P : Answer → Type 0) (old new : Option (List ℕ)) (failed fails status : ℕ) : Type 0 where
   pub answer : Answer
   pub responds : P answer
-  pub status_is : status ≡ number_of all.WriteFault
+  pub status_is : status ≡ status_number all.WriteFault
   pub took : TookFront old new answer.text
   pub fault : Rose failed fails
 
 -- there is no answer, for a cause of this status, and the sink is as it was
 pub record IsSilent {K : Type 0} (cause : Status) (old new : K) (status : ℕ) : Type 0 where
-  pub status_is : status ≡ number_of cause
+  pub status_is : status ≡ status_number cause
   pub same : new ≡ old
 
 -- an answer of which P holds is written, or cut short where the sink failed; or there is none, because the source

@@ -1,7 +1,7 @@
 -- What a mode finds for a model.
 use Rattle.std.specs.Prelude.{ℕ, List, [], Option, Some, None}
 use Rattle.std.specs.Option.{option_map}
-use Rattle.vr_json.specs.Trees.{line_of}
+use Rattle.vr_json.specs.Trees.{text_line}
 use Rattle.vr_model.specs.first.FirstSolutions.{first_lists}
 use Rattle.vr_model.specs.routes.Costs.{cost}
 use Rattle.vr_model.specs.search.Outcomes.{Outcome}
@@ -32,11 +32,11 @@ abbrev pub answer : Mode → Model → Option Found
 answer asked model = option_map (found_from asked model) (first_lists model)
 
 -- the events of what was found
-abbrev pub events_of : Option Found → List Event
-events_of None = []
-events_of (Some found) = found.outcome.events
+abbrev pub found_events : Option Found → List Event
+found_events None = []
+found_events (Some found) = found.outcome.events
 
 -- the line of what was found: the best lists of the search, what the first solution cost, and the report
 unfoldable pub line_of_found : Model → Found → List ℕ
 line_of_found model found =
-    line_of (solution_tree model found.outcome.best (cost model found.first) found.outcome.report)
+    text_line (solution_tree model found.outcome.best (cost model found.first) found.outcome.report)

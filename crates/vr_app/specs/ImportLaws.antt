@@ -5,7 +5,7 @@ use Rattle.vr_json.specs.declared.fault.Fault.{Fault}
 use Rattle.vr_model.specs.tables.WellFormed.{IsWellFormed}
 use Rattle.vr_model.specs.declared.records.Model.{Model}
 use Rattle.vr_read.specs.Models.{read_model}
-use Rattle.vr_tsplib.specs.Ranges.{IsWithin}
+use Rattle.vr_tsplib.specs.Ranges.{IsCountIn}
 use Rattle.vr_tsplib.specs.Imported.{imported}
 
 -- reading gives a model, and the model is well formed
@@ -17,5 +17,5 @@ pub record GivesModel (reading : Result Model Fault) : Type 0 where
 -- the tree of a file, with 1 to 100 vehicles, is read as a well-formed model, wherever in an input it stands
 abbrev pub ImportedTreesAreModels : Type 0
 ImportedTreesAreModels =
-    (vehicles : ℕ) → IsWithin 1 100 vehicles → (bytes : List ℕ) → (tree : Data)
+    (vehicles : ℕ) → IsCountIn 1 100 vehicles → (bytes : List ℕ) → (tree : Data)
     → imported vehicles bytes ≡ Ok tree → (path : List ℕ) → GivesModel (read_model path tree)

@@ -14,9 +14,9 @@ max_input = most_input_bytes
 
 -- the value of an input; none where it is no JSON, since its bytes are no UTF-8, or since `serde_json` reads no value
 -- from them, which may nest at most 127 deep
-unfoldable pub value_of : List ℕ → Option Data
-value_of bytes = if is_utf8 bytes then read bytes else None
+unfoldable pub input_value : List ℕ → Option Data
+input_value bytes = if is_utf8 bytes then read bytes else None
 
 -- the model of a value, or the first fault of reading it
-abbrev pub model_of : Data → Result Model Fault
-model_of d = read_model [] d
+abbrev pub model_of_value : Data → Result Model Fault
+model_of_value d = read_model [] d

@@ -1,6 +1,6 @@
 -- What an input is, for each status of a question about its solution.
 use Rattle.std.specs.Prelude.{◌≡◌, ℕ, ℤ, List, false, IsTrue, Some}
-use Rattle.vr_json.specs.Trees.{line_of}
+use Rattle.vr_json.specs.Trees.{text_line}
 use Rattle.vr_printed.specs.Printed.{assignment_of}
 use Rattle.vr_printed.specs.Shape.{printed_in}
 use Rattle.vr_printed.specs.declared.printed.Printed.{Printed}
@@ -34,14 +34,14 @@ pub record HasKept (bytes : List ℕ) : Type 0 where
 -- its solution keeps all rules of its model, and the text says the cost
 pub record IsMetBy (bytes text : List ℕ) : Type 0 where
   pub kept : HasKept bytes
-  pub text_is : text ≡ line_of (met_tree kept.cost)
+  pub text_is : text ≡ text_line (met_tree kept.cost)
 
 -- its solution keeps all rules of its model, and the text says how short its routes could be: for each used vehicle
 -- and each dimension without breaks the shortest schedule of the line
 pub record IsSpannedBy (bytes text : List ℕ) : Type 0 where
   pub kept : HasKept bytes
   pub shortest : ReportsShortest kept.it.model (assignment_of kept.printed.routes)
-  pub text_is : text ≡ line_of (spans_tree kept.it.model (assignment_of kept.printed.routes))
+  pub text_is : text ≡ text_line (spans_tree kept.it.model (assignment_of kept.printed.routes))
 
 -- its solution breaks a rule of its model, the first one here, and the text says it
 pub record IsBrokenBy (bytes text : List ℕ) : Type 0 where
@@ -51,4 +51,4 @@ pub record IsBrokenBy (bytes text : List ℕ) : Type 0 where
   pub place : ℤ
   pub is_read : IsReadAs checked_of bytes it
   pub is_found : found_in it ≡ Broken rule vehicle place
-  pub text_is : text ≡ line_of (not_met_tree rule vehicle place)
+  pub text_is : text ≡ text_line (not_met_tree rule vehicle place)

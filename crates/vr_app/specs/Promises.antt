@@ -3,17 +3,18 @@ use Rattle.std.specs.Prelude.{◌≡◌, ◌≢◌, ◌⊎◌, ◌↔◌, ◌≤
 use Rattle.serde_json.specs.Data.{Data}
 use Rattle.vr_io.specs.Edges.{Rose, Took}
 use Rattle.vr_io.specs.Whole.{TookFront}
-use Rattle.vr_json.specs.Trees.{line_of}
+use Rattle.vr_json.specs.Trees.{text_line}
 use Rattle.vr_json.specs.declared.fault.Fault.{Fault}
 use Rattle.vr_model.specs.declared.search.Event.{Event}
 use Rattle.vr_app.specs.Causes.{HasFault, HasFirst, HasFlaw, HasNoFirst, IsAnsweredBy, IsFile, IsFlawed}
-use Rattle.vr_app.specs.Causes.{IsImportedAs, IsNotJson, IsRefused, IsTooLong}
+use Rattle.vr_app.specs.Causes.{IsImportedAs, IsNotJson, IsRefusedInput, IsTooLong}
 use Rattle.vr_app.specs.Checked.{checked_of}
-use Rattle.vr_app.specs.Input.{max_input, model_of}
+use Rattle.vr_app.specs.Input.{max_input, model_of_value}
 use Rattle.vr_app.specs.Met.{IsBrokenBy, IsMet, IsMetBy, IsNotMet, IsSpannedBy}
 use Rattle.vr_app.specs.Reply as replies
 use Rattle.vr_app.specs.Reply.{Replies}
-use Rattle.vr_app.specs.Runs.{Imports, IsAskedFor, IsAsking, IsChecked, IsNotAccepted, IsRead, IsSettled, IsSolved}
+use Rattle.vr_app.specs.Runs.{Imports, IsAskedFor, IsAsking, IsChecked, IsNotAccepted, IsRead, IsStatusOfAnswer}
+use Rattle.vr_app.specs.Runs.{IsSolutionAsked}
 use Rattle.vr_app.specs.Runs.{IsSpanned, IsUnread, ReadsJson, WhereAnswered, WhereAsked, WhereImported}
 use Rattle.vr_app.specs.Runs.{WhereSolved, WhereKnown}
 use Rattle.vr_app.specs.Texts.{refused_tree}
@@ -38,9 +39,10 @@ pub record Run : Type 0 where
   pub status : ℕ
 
 -- the run of these words, between these states of source and sink
-abbrev pub run_of : List (List ℕ) → Option (List ℕ) → Option (List ℕ) → ℕ → ℕ → Option (List ℕ) → Option (List ℕ) → ℕ
+abbrev pub program_run : List (List ℕ) → Option (List ℕ) → Option (List ℕ) → ℕ → ℕ → Option (List ℕ) → Option (List ℕ)
+    → ℕ
     → ℕ → ℕ → Run
-run_of words left rest failed fails taken takes refused refuses status = record {
+program_run words left rest failed fails taken takes refused refuses status = record {
   words = words;
   left = left;
   rest = rest;
@@ -68,8 +70,8 @@ WroteFront reports run bytes = TookFront run.taken run.takes (replies.reply repo
 -- The reply: status and whole text are those of the definition, where the run was settled, whatever the source has
 -- where nothing is read; where the sink failed, a front of the text is written.
 pub record IsReply (reports : List Event → List ℕ) (run : Run) : Type 0 where
-  pub read : IsSettled run.status → WhereKnown run.left (RepliesTo reports run)
-  pub unread : IsSettled run.status → IsUnread run.words → (bytes : List ℕ) → RepliesTo reports run bytes
+  pub read : IsStatusOfAnswer run.status → WhereKnown run.left (RepliesTo reports run)
+  pub unread : IsStatusOfAnswer run.status → IsUnread run.words → (bytes : List ℕ) → RepliesTo reports run bytes
   pub front : run.status ≡ 3 → WhereKnown run.left (WroteFront reports run)
   pub unread_front : run.status ≡ 3 → IsUnread run.words → (bytes : List ℕ) → WroteFront reports run bytes
 
@@ -91,9 +93,10 @@ pub record IsSolving (reports : List Event → List ℕ) (run : Run) : Type 0 wh
   pub solution : run.status ≡ 0 → (asked : Mode) → IsAskedFor asked run.words → WhereKnown run.left (λ bytes.
       (text : List ℕ) × IsAnsweredBy asked reports bytes text × Wrote run text)
   pub none_found : WhereSolved run.words run.left run.status (λ bytes. (run.status ≡ 6) ↔ HasNoFirst bytes)
-  pub refused : WhereSolved run.words run.left run.status (λ bytes. (run.status ≡ 5) ↔ IsRefused model_of bytes)
-  pub refusal : run.status ≡ 5 → IsSolved run.words → WhereKnown run.left (λ bytes.
-      (fault : Fault) → HasFault model_of bytes fault → Wrote run (line_of (refused_tree fault)))
+  pub refused : WhereSolved run.words run.left run.status
+      (λ bytes. (run.status ≡ 5) ↔ IsRefusedInput model_of_value bytes)
+  pub refusal : run.status ≡ 5 → IsSolutionAsked run.words → WhereKnown run.left (λ bytes.
+      (fault : Fault) → HasFault model_of_value bytes fault → Wrote run (text_line (refused_tree fault)))
 
 -- Of `check` and `spans`, 0 comes exactly where the solution in the input meets the rules of its model, and then it
 -- keeps them: valid lists, schedules, the parts of their cost. `spans` says of each line without breaks the least span
@@ -109,9 +112,9 @@ pub record IsChecking (run : Run) : Type 0 where
   pub broken : run.status ≡ 9 → WhereKnown run.left (λ bytes.
       (text : List ℕ) × IsBrokenBy bytes text × Wrote run text)
   pub not_met_only : run.status ≡ 9 → IsAsking run.words
-  pub refused : WhereAsked run.words run.left run.status (λ bytes. (run.status ≡ 5) ↔ IsRefused checked_of bytes)
+  pub refused : WhereAsked run.words run.left run.status (λ bytes. (run.status ≡ 5) ↔ IsRefusedInput checked_of bytes)
   pub refusal : run.status ≡ 5 → IsAsking run.words → WhereKnown run.left (λ bytes.
-      (fault : Fault) → HasFault checked_of bytes fault → Wrote run (line_of (refused_tree fault)))
+      (fault : Fault) → HasFault checked_of bytes fault → Wrote run (text_line (refused_tree fault)))
 
 -- Of `import`, 0 comes exactly where the file has no fault, and then its model is written. 5 comes exactly where it has
 -- one; the text says the first.
@@ -119,11 +122,11 @@ pub record IsImporting (run : Run) : Type 0 where
   pub imported : WhereImported run.words run.left run.status (λ vehicles bytes.
       (run.status ≡ 0) ↔ IsFile vehicles bytes)
   pub model : run.status ≡ 0 → (vehicles : ℕ) → Imports vehicles run.words → WhereKnown run.left (λ bytes.
-      (tree : Data) × IsImportedAs vehicles bytes tree × Wrote run (line_of tree))
+      (tree : Data) × IsImportedAs vehicles bytes tree × Wrote run (text_line tree))
   pub flawed : WhereImported run.words run.left run.status (λ vehicles bytes.
       (run.status ≡ 5) ↔ IsFlawed vehicles bytes)
   pub flaw : run.status ≡ 5 → (vehicles : ℕ) → Imports vehicles run.words → WhereKnown run.left (λ bytes.
-      (fault : Fault) → HasFlaw vehicles bytes fault → Wrote run (line_of (refused_tree fault)))
+      (fault : Fault) → HasFlaw vehicles bytes fault → Wrote run (text_line (refused_tree fault)))
 
 -- Of words that read, 8 comes exactly where the input is too long; of all of them but `import`, 4 comes exactly where
 -- it is no JSON. 1 comes exactly where the words are not accepted. Of accepted words that read nothing only 0 comes.
@@ -131,9 +134,9 @@ pub record HasCause (run : Run) : Type 0 where
   pub too_long : WhereAnswered run.words run.left run.status (λ bytes. (run.status ≡ 8) ↔ IsTooLong bytes)
   pub not_json : WhereAnswered run.words run.left run.status (λ bytes.
       (run.status ≡ 4) ↔ (ReadsJson run.words × IsNotJson bytes))
-  pub usage : IsSettled run.status → IsNotAccepted run.words → run.status ≡ 1
+  pub usage : IsStatusOfAnswer run.status → IsNotAccepted run.words → run.status ≡ 1
   pub usage_only : run.status ≡ 1 → IsNotAccepted run.words
-  pub numbered : IsSettled run.status → IsUnread run.words → IsNotAccepted run.words ⊎ (run.status ≡ 0)
+  pub numbered : IsStatusOfAnswer run.status → IsUnread run.words → IsNotAccepted run.words ⊎ (run.status ≡ 0)
 
 -- 2 comes only where the source failed, of words that read; 3 only where the sink failed.
 pub record HasFailed (run : Run) : Type 0 where

@@ -2,7 +2,7 @@
 use Rattle.std.specs.Prelude.{◌≡◌, ◌++◌, ℕ, ℤ, List, Option, Some, None, Result, Ok, Err, codes, nat_lt, length}
 use Rattle.std.specs.Prelude.{if◌then◌else◌}
 use Rattle.serde_json.specs.Data.{Data}
-use Rattle.vr_json.specs.Trees.{line_of}
+use Rattle.vr_json.specs.Trees.{text_line}
 use Rattle.vr_json.specs.declared.fault.Fault.{Fault}
 use Rattle.vr_model.specs.declared.records.Model.{Model}
 use Rattle.vr_model.specs.declared.search.Event.{Event}
@@ -11,7 +11,7 @@ use Rattle.vr_check.specs.declared.finding.Finding.{Finding}
 use Rattle.vr_check.specs.declared.finding.Finding.TheVariants.{Meets, Broken}
 use Rattle.vr_check.specs.declared.finding.Rule.{Rule}
 use Rattle.vr_app.specs.Words.{request_of}
-use Rattle.vr_app.specs.Input.{max_input, value_of, model_of}
+use Rattle.vr_app.specs.Input.{max_input, input_value, model_of_value}
 use Rattle.vr_app.specs.Texts.{status_tree, refused_tree, met_tree, not_met_tree, summary_of, summary_tree}
 use Rattle.vr_app.specs.Checked.{Checked, checked_of, found_in}
 use Rattle.vr_app.specs.Spans.{spans_of}
@@ -34,7 +34,7 @@ pub record Reply : Type 0 where
 
 -- a status whose text says it alone
 abbrev pub status_reply : ℕ → List ℕ → Reply
-status_reply status word = record { status = status; text = line_of (status_tree word) }
+status_reply status word = record { status = status; text = text_line (status_tree word) }
 
 -- the words are not accepted
 abbrev pub usage : Reply
@@ -50,7 +50,7 @@ not_json = status_reply 4 (codes "NOT_JSON")
 
 -- the input is refused
 abbrev pub refused : Fault → Reply
-refused fault = record { status = 5; text = line_of (refused_tree fault) }
+refused fault = record { status = 5; text = text_line (refused_tree fault) }
 
 -- the construction gives no first solution
 abbrev pub none_found : Reply
@@ -84,11 +84,11 @@ answer_tree question.Spans it cost = spans_of it
 
 -- the solution breaks this rule of its model, there
 abbrev pub broken : Rule → ℤ → ℤ → Reply
-broken rule vehicle place = record { status = 9; text = line_of (not_met_tree rule vehicle place) }
+broken rule vehicle place = record { status = 9; text = text_line (not_met_tree rule vehicle place) }
 
 -- the reply to a question, by what the check of the solution finds
 abbrev pub reply_to_finding : Question → Checked → Finding → Reply
-reply_to_finding asked it (Meets cost) = done (line_of (answer_tree asked it cost))
+reply_to_finding asked it (Meets cost) = done (text_line (answer_tree asked it cost))
 reply_to_finding asked it (Broken rule vehicle place) = broken rule vehicle place
 
 -- the reply to a question about a model and a solution
@@ -102,7 +102,7 @@ reply_to_checked asked (Ok it) = reply_to_question asked it
 
 -- the reply to a tree
 abbrev pub reply_to_tree : Task → (List Event → List ℕ) → Data → Reply
-reply_to_tree (task.Find asked) reports d = reply_to_model asked reports (model_of d)
+reply_to_tree (task.Find asked) reports d = reply_to_model asked reports (model_of_value d)
 reply_to_tree (task.Ask asked) reports d = reply_to_checked asked (checked_of d)
 
 -- the reply to a value, if there is one
@@ -113,12 +113,12 @@ reply_to_value it reports (Some d) = reply_to_tree it reports d
 -- the reply to the bytes of an input
 unfoldable pub reply_to_input : Task → (List Event → List ℕ) → List ℕ → Reply
 reply_to_input it reports bytes =
-    if nat_lt max_input (length bytes) then too_long else reply_to_value it reports (value_of bytes)
+    if nat_lt max_input (length bytes) then too_long else reply_to_value it reports (input_value bytes)
 
 -- the reply to what is imported of a file
 abbrev pub reply_to_imported : Result Data Fault → Reply
 reply_to_imported (Err fault) = refused fault
-reply_to_imported (Ok tree) = done (line_of tree)
+reply_to_imported (Ok tree) = done (text_line tree)
 
 -- the reply to the bytes of a file, with so many vehicles
 unfoldable pub reply_to_file : ℕ → List ℕ → Reply
@@ -127,19 +127,19 @@ reply_to_file vehicles bytes =
 
 -- the reply that is the model of a number
 unfoldable pub reply_generated : ℕ → Reply
-reply_generated n = done (line_of (generated n))
+reply_generated n = done (text_line (generated n))
 
 -- the reply that reports on the search of the model of number n
 abbrev pub summary_of_found : ℕ → Model → Option Found → Reply
 summary_of_found n model None = none_found
-summary_of_found n model (Some found) = done (line_of (summary_tree (summary_of n model found)))
+summary_of_found n model (Some found) = done (text_line (summary_tree (summary_of n model found)))
 
 abbrev pub summary_of_model : ℕ → Result Model Fault → Reply
 summary_of_model n (Err fault) = refused fault
 summary_of_model n (Ok model) = summary_of_found n model (answer mode.Solve model)
 
 unfoldable pub reply_of_demo : ℕ → Reply
-reply_of_demo n = summary_of_model n (model_of (generated n))
+reply_of_demo n = summary_of_model n (model_of_value (generated n))
 
 -- the reply to a request, or to words that are not accepted
 abbrev pub reply_in : (List Event → List ℕ) → Option Request → List ℕ → Reply

@@ -22,8 +22,8 @@ abbrev pub IsAskedFor : Mode → List (List ℕ) → Type 0
 IsAskedFor asked words = request_of words ≡ Some (request.Read (task.Find asked))
 
 -- the words ask for a solution of the input
-abbrev pub IsSolved : List (List ℕ) → Type 0
-IsSolved words = (asked : Mode) × IsAskedFor asked words
+abbrev pub IsSolutionAsked : List (List ℕ) → Type 0
+IsSolutionAsked words = (asked : Mode) × IsAskedFor asked words
 
 -- the task is a question about a solution
 abbrev pub IsQuestion : Task → Type 0
@@ -62,7 +62,7 @@ abbrev pub IsUnread : List (List ℕ) → Type 0
 IsUnread words = is_read (request_of words) ≡ false
 
 -- a status that is that of an answer: no fault of source or sink, and no want of memory
-pub record IsSettled (status : ℕ) : Type 0 where
+pub record IsStatusOfAnswer (status : ℕ) : Type 0 where
   pub is_read : status ≢ 2
   pub is_written : status ≢ 3
   pub has_memory : status ≢ 7
@@ -73,17 +73,17 @@ WhereKnown left P = (bytes : List ℕ) → left ≡ Some bytes → P bytes
 
 -- what is said of the input of a run that was settled, where it is read
 abbrev pub WhereAnswered : List (List ℕ) → Option (List ℕ) → ℕ → (List ℕ → Type 0) → Type 0
-WhereAnswered words left status P = IsSettled status → IsRead words → WhereKnown left P
+WhereAnswered words left status P = IsStatusOfAnswer status → IsRead words → WhereKnown left P
 
 -- the same, where a solution of it is asked for
 abbrev pub WhereSolved : List (List ℕ) → Option (List ℕ) → ℕ → (List ℕ → Type 0) → Type 0
-WhereSolved words left status P = IsSettled status → IsSolved words → WhereKnown left P
+WhereSolved words left status P = IsStatusOfAnswer status → IsSolutionAsked words → WhereKnown left P
 
 -- the same, where something is asked about its solution
 abbrev pub WhereAsked : List (List ℕ) → Option (List ℕ) → ℕ → (List ℕ → Type 0) → Type 0
-WhereAsked words left status P = IsSettled status → IsAsking words → WhereKnown left P
+WhereAsked words left status P = IsStatusOfAnswer status → IsAsking words → WhereKnown left P
 
 -- the same, where it is a file whose model with so many vehicles is asked for
 abbrev pub WhereImported : List (List ℕ) → Option (List ℕ) → ℕ → (ℕ → List ℕ → Type 0) → Type 0
 WhereImported words left status P =
-    IsSettled status → (vehicles : ℕ) → Imports vehicles words → WhereKnown left (P vehicles)
+    IsStatusOfAnswer status → (vehicles : ℕ) → Imports vehicles words → WhereKnown left (P vehicles)

@@ -9,7 +9,7 @@ use Rattle.vr_model.specs.schedules.Lines.{Line as Defined, line}
 use Rattle.vr_model.specs.schedules.Schedules.{Plan, IsSchedule, span}
 use Rattle.vr_model.specs.tables.Tables.{is_visit}
 use Rattle.vr_model.specs.declared.records.Model.{Model}
-use Rattle.vr_plan.specs.Plans.{seen}
+use Rattle.vr_plan.specs.Plans.{as_defined}
 use Rattle.vr_printed.specs.Printed.{no_route, plan_of, visits_of}
 use Rattle.vr_printed.specs.Shape.{plan_in}
 use Rattle.vr_printed.specs.declared.printed.PrintedRoute.{PrintedRoute}
@@ -44,8 +44,8 @@ pub record AreScheduled (model : Model) (routes : List PrintedRoute) : Type 0 wh
 
 -- the plan is the shortest schedule of a line, and its span stands beside it
 pub record IsShortestIn (line : Defined) (least : Least) : Type 0 where
-  pub plan_is : shortest line ≡ Some (seen least.plan)
-  pub span_is : least.span ≡ span line (seen least.plan)
+  pub plan_is : shortest line ≡ Some (as_defined least.plan)
+  pub span_is : least.span ≡ span line (as_defined least.plan)
 
 -- the same of a line as the code holds it
 abbrev pub IsShortestOf : Line → Least → Type 0

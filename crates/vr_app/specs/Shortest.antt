@@ -12,7 +12,7 @@ use Rattle.vr_model.specs.deciding.Testing.{tests_of_eq, within_is}
 use Rattle.vr_model.specs.routes.Costs.{no_plan}
 
 -- the shortest schedule: no schedule has a lesser span, and none of its span has cumuls that come before its own
-pub record IsShortest (line : Line) (plan : Plan) : Type 0 where
+pub record IsShortestSchedule (line : Line) (plan : Plan) : Type 0 where
   pub schedule : IsSchedule line plan
   pub least : (other : Plan) → IsSchedule line other → span line plan ≤ℤ span line other
   pub first : (other : Plan) → IsSchedule line other → span line other ≡ span line plan
@@ -20,7 +20,7 @@ pub record IsShortest (line : Line) (plan : Plan) : Type 0 where
 
 -- a shortest schedule, or that there is none
 abbrev pub ShortestFound : Line → Type 0
-ShortestFound line = ((plan : Plan) × IsShortest line plan) ⊎ ¬ IsFeasible line
+ShortestFound line = ((plan : Plan) × IsShortestSchedule line plan) ⊎ ¬ IsFeasible line
 
 -- ---- how one is found, up to `find_shortest`: a definition that searches has what its search needs beside it
 
@@ -79,8 +79,8 @@ least_from line (suc n) plan is low =
     ]
 
 -- from any schedule: its span is at most twice the horizon above -horizon
-least_of : (line : Line) (plan : Plan) → IsSchedule line plan → (best : Plan) × IsOfLeastSpan line best
-least_of line plan is =
+some_least_span : (line : Line) (plan : Plan) → IsSchedule line plan → (best : Plan) × IsOfLeastSpan line best
+some_least_span line plan is =
     let b = span_high line plan is in least_from line 137438953472 plan is (omega (arith, ints, b))
 
 -- ---- the first of this span
@@ -103,7 +103,7 @@ has_span line w plan = is_same_number w (span line plan)
 -- the least plan of the span of a schedule of the least span is the shortest schedule
 shortest_from : (line : Line) (best : Plan) → IsOfLeastSpan line best
     → (((plan : Plan) × IsLeastPlan both_sides (has_span line (span line best)) line plan)
-    ⊎ NoPlan both_sides (has_span line (span line best)) line) → (plan : Plan) × IsShortest line plan
+    ⊎ NoPlan both_sides (has_span line (span line best)) line) → (plan : Plan) × IsShortestSchedule line plan
 shortest_from line best is (inr none) =
     absurd (none best is.0 (tests_of_eq (span line best) (span line best) refl))
 shortest_from line best is (inl r) =
@@ -124,7 +124,7 @@ shortest_from line best is (inl r) =
 pub find_shortest : (line : Line) → ShortestFound line
 find_shortest line = elim (find_chosen line) [
   | inl r ↦ inl (
-      let best = least_of line r.0 r.1.schedule in
+      let best = some_least_span line r.0 r.1.schedule in
       shortest_from line best.0 best.1 (find_plan both_sides (has_span line (span line best.0)) line)
       )
   | inr none ↦ inr none

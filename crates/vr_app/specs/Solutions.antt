@@ -1,6 +1,6 @@
 -- What holds of each solution that is printed.
 use Rattle.std.specs.Prelude.{◌≡◌, ℕ, ◌<◌, ◌≤◌, List, Some, false, IsTrue, length, ◌≤ℤ◌}
-use Rattle.vr_json.specs.Trees.{line_of}
+use Rattle.vr_json.specs.Trees.{text_line}
 use Rattle.vr_model.specs.first.FirstSolutions.{first_lists}
 use Rattle.vr_model.specs.routes.AssignmentLaws.{HasPlans}
 use Rattle.vr_model.specs.routes.Costs.{Assignment, cost, parts_at, plan_at, sum_of}
@@ -45,6 +45,6 @@ pub record PrintsSolution (model : Model) (text : List ℕ) : Type 0 where
   pub is_first : first_lists model ≡ Some first
   pub is_solution : IsSolution model first assignment
   pub is_in_limits : IsInLimits model report
-  pub text_is : text ≡ line_of (assignment_tree model assignment (cost model first) report)
+  pub text_is : text ≡ text_line (assignment_tree model assignment (cost model first) report)
   pub meets : finding model (assignment_tree model assignment (cost model first) report)
       ≡ Meets (cost model assignment.lists)

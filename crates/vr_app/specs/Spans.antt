@@ -18,7 +18,7 @@ use Rattle.vr_printed.specs.Printed.{assignment_of}
 use Rattle.vr_printed.specs.Shape.{printed_in}
 use Rattle.vr_printed.specs.declared.printed.Printed.{Printed}
 use Rattle.vr_app.specs.Checked.{Checked}
-use Rattle.vr_app.specs.Shortest.{IsShortest, shortest_plan}
+use Rattle.vr_app.specs.Shortest.{IsShortestSchedule, shortest_plan}
 
 -- what is reported of a vehicle in a dimension: the cumuls and slacks of a plan, the name of the dimension, the least
 -- span and the printed one
@@ -84,5 +84,5 @@ abbrev pub ReportsShortest : Model → Assignment → Type 0
 ReportsShortest model assignment =
     (v d : ℕ) → v < length assignment.lists → d < length model.dimensions
     → is_empty (route assignment.lists v) ≡ false
-    → (plan : Plan) × IsShortest (line model d v (route assignment.lists v)) plan
+    → (plan : Plan) × IsShortestSchedule (line model d v (route assignment.lists v)) plan
     × (shortest_plan (line model d v (route assignment.lists v)) ≡ plan)

@@ -4,18 +4,18 @@ use Rattle.vr_app.specs.declared.status.Status.{Status}
 use Rattle.vr_app.specs.declared.status.Status.TheVariants as all
 
 -- the number of a status
-abbrev pub number_of : Status → ℕ
-number_of all.Done = 0
-number_of all.Usage = 1
-number_of all.ReadFault = 2
-number_of all.WriteFault = 3
-number_of all.NotJson = 4
-number_of all.Refused = 5
-number_of all.NoneFound = 6
-number_of all.NoMemory = 7
-number_of all.TooLong = 8
-number_of all.NotMet = 9
+abbrev pub status_number : Status → ℕ
+status_number all.Done = 0
+status_number all.Usage = 1
+status_number all.ReadFault = 2
+status_number all.WriteFault = 3
+status_number all.NotJson = 4
+status_number all.Refused = 5
+status_number all.NoneFound = 6
+status_number all.NoMemory = 7
+status_number all.TooLong = 8
+status_number all.NotMet = 9
 
 -- a number is that of a status
 abbrev pub IsStatus : ℕ → Type 0
-IsStatus number = (status : Status) × (number ≡ number_of status)
+IsStatus number = (status : Status) × (number ≡ status_number status)

@@ -7,7 +7,7 @@ use Rattle.vr_model.specs.routes.Routes.{inactive, is_empty}
 use Rattle.vr_model.specs.declared.records.Model.{Model}
 use Rattle.vr_print.specs.Numbers.{whole}
 use Rattle.vr_json.specs.Trees.{count}
-use Rattle.vr_check.specs.Check.{word_of}
+use Rattle.vr_check.specs.Check.{rule_word}
 use Rattle.vr_check.specs.declared.finding.Rule.{Rule}
 use Rattle.vr_app.specs.Found.{Found}
 use Rattle.vr_app.specs.declared.texts.Summary.{Summary}
@@ -33,7 +33,7 @@ met_tree cost = object
 unfoldable pub not_met_tree : Rule → ℤ → ℤ → Data
 not_met_tree rule vehicle place = object
     (member (codes "place") (whole place)
-    (member (codes "rule") (string (word_of rule))
+    (member (codes "rule") (string (rule_word rule))
     (member (codes "status") (string (codes "NOT_MET"))
     (member (codes "vehicle") (whole vehicle) no_members))))
 

@@ -5,8 +5,8 @@ ghost use Rattle.serde_json.specs.Data.{depth};
 ghost use Rattle.serde_json.specs.Read.{max_depth};
 ghost use Rattle.serde_json.specs.View.{view};
 ghost use Rattle.serde_json.specs.Written.{has_float};
-ghost use Rattle.vr_json.specs.Trees.{line_of};
-ghost use Rattle.vr_app.specs.Answers.{Answers, AnswersReply};
+ghost use Rattle.vr_json.specs.Trees.{text_line};
+ghost use Rattle.vr_app.specs.Answers.{AnswersWith, AnswersReply};
 ghost use Rattle.vr_app.specs.Reply as replies;
 ghost use Rattle.vr_app.specs.Texts as texts;
 
@@ -30,7 +30,7 @@ pub struct Answer {
 pub(crate) fn line(alloc: Global, status: Status, tree: &Value) -> Result<Answer, NoMemory>
     requires whole { has_float (view tree.now) ≡ false }
     requires nested { depth (view tree.now) ≤ max_depth }
-    ensures { IfOk result (Answers status (line_of (view tree.now))) }
+    ensures { IfOk result (AnswersWith status (text_line (view tree.now))) }
 {
     let text = to_line(alloc, tree)?;
     Ok(Answer { status, text })
@@ -38,7 +38,7 @@ pub(crate) fn line(alloc: Global, status: Status, tree: &Value) -> Result<Answer
 
 // The answer that says a status alone.
 fn status_line(alloc: Global, status: Status, name: &str) -> Result<Answer, NoMemory>
-    ensures { IfOk result (Answers status (line_of (texts.status_tree name.now))) }
+    ensures { IfOk result (AnswersWith status (text_line (texts.status_tree name.now))) }
 {
     let tree = status_tree(alloc, name)?;
     line(alloc, status, &tree)

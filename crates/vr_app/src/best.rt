@@ -1,6 +1,6 @@
 //! What a search gives.
 
-ghost use Rattle.vr_app.specs.Endings.{EndsAs};
+ghost use Rattle.vr_app.specs.Endings.{IsBestOfOutcome};
 ghost use Rattle.vr_app.specs.Improved as improved;
 
 use vr_model::{End, Report};
@@ -17,7 +17,7 @@ pub struct Best {
 
 /// What a search gives that tries no move: the first solution is the best.
 pub fn untried(first: Routes) -> Best
-    ensures { EndsAs first.visits (improved.untried first.lists) result }
+    ensures { IsBestOfOutcome first.visits (improved.untried first.lists) result }
 {
     let report = Report {
         tries: 0,

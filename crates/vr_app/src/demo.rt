@@ -6,7 +6,7 @@ ghost use Rattle.vr_model.specs.first.FirstSolutions.{first_lists};
 ghost use Rattle.vr_model.specs.tables.Tables.{visits};
 ghost use Rattle.vr_app.specs.Answers.{AnswersReply, IsOfSolving};
 ghost use Rattle.vr_app.specs.Found.{found_from};
-ghost use Rattle.vr_app.specs.Input.{model_of};
+ghost use Rattle.vr_app.specs.Input.{model_of_value};
 ghost use Rattle.vr_app.specs.Reply as replies;
 ghost use Rattle.vr_app.specs.declared.words.Mode.TheVariants as asked;
 
@@ -37,7 +37,7 @@ pub(crate) fn demo(alloc: Global, number: u64) -> Result<Answer, NoMemory>
 
 // The answer that reports on the search of the model of this tree.
 fn summary_of_tree(alloc: Global, number: u64, tree: Value) -> Result<Answer, NoMemory>
-    ensures reply { IfOk result (AnswersReply (replies.summary_of_model number (model_of (view tree)))) }
+    ensures reply { IfOk result (AnswersReply (replies.summary_of_model number (model_of_value (view tree)))) }
     ensures status { IfOk result (λ a. IsOfSolving a.status) }
 {
     match read_owned(alloc, tree) {

@@ -7,10 +7,10 @@ ghost use Rattle.vr_model.specs.search.Descents.{descent};
 ghost use Rattle.vr_model.specs.search.GuidedSearches.{guided};
 ghost use Rattle.vr_model.specs.tables.Tables.{visits};
 ghost use Rattle.vr_routes.specs.Judging.{HoldSame};
-ghost use Rattle.vr_watch.specs.Told.{Told};
+ghost use Rattle.vr_watch.specs.Told.{Reported};
 ghost use Rattle.vr_lns.specs.PathLns.{path_lns};
 ghost use Rattle.vr_tabu.specs.TabuSearches.{tabu_search};
-ghost use Rattle.vr_app.specs.Endings.{EndsAs};
+ghost use Rattle.vr_app.specs.Endings.{IsBestOfOutcome};
 ghost use Rattle.vr_app.specs.Improved as improved;
 
 use crate::best::{Best, untried};
@@ -93,9 +93,9 @@ fn descend_from<J: Judge, L: Ledger>(
     requires judge_model { J.model judge.old ≡ closed.model.now }
     requires holds { HoldSame closed.model.now (J.committed judge.old) first.routes }
     requires first_cost { first.cost ≡ cost closed.model.now first.routes.lists }
-    ensures ends { IfOk result (EndsAs first.routes.visits
+    ensures ends { IfOk result (IsBestOfOutcome first.routes.visits
         (descent closed.entry.model.now first.routes.lists (improved.limit_of closed.entry.model.now))) }
-    ensures told { OnOk result (Told (λ w later. after w later) watch.old.items watch.new.items
+    ensures told { OnOk result (Reported (λ w later. after w later) watch.old.items watch.new.items
         (descent closed.entry.model.now first.routes.lists (improved.limit_of closed.entry.model.now)).events) }
 {
     let limit = limit_of(closed);
@@ -116,10 +116,10 @@ fn guide_from<J: Judge, L: Ledger>(
     requires judge_model { J.model judge.old ≡ closed.model.now }
     requires holds { HoldSame closed.model.now (J.committed judge.old) first.routes }
     requires first_cost { first.cost ≡ cost closed.model.now first.routes.lists }
-    ensures ends { IfOk result (EndsAs first.routes.visits
+    ensures ends { IfOk result (IsBestOfOutcome first.routes.visits
         (guided closed.entry.model.now first.routes.lists (improved.limit_of closed.entry.model.now)
         (improved.lambda_of closed.entry.model.now))) }
-    ensures told { OnOk result (Told (λ w later. after w later) watch.old.items watch.new.items
+    ensures told { OnOk result (Reported (λ w later. after w later) watch.old.items watch.new.items
         (guided closed.entry.model.now first.routes.lists (improved.limit_of closed.entry.model.now)
         (improved.lambda_of closed.entry.model.now)).events) }
 {
@@ -155,10 +155,10 @@ fn tabu_from<J: Judge, L: Ledger>(
     requires judge_model { J.model judge.old ≡ closed.model.now }
     requires holds { HoldSame closed.model.now (J.committed judge.old) first.routes }
     requires first_cost { first.cost ≡ cost closed.model.now first.routes.lists }
-    ensures ends { IfOk result (EndsAs first.routes.visits
+    ensures ends { IfOk result (IsBestOfOutcome first.routes.visits
         (tabu_search closed.entry.model.now first.routes.lists
         (improved.limit_of closed.entry.model.now) closed.entry.model.now.search.tenure)) }
-    ensures told { OnOk result (Told (λ w later. after w later) watch.old.items watch.new.items
+    ensures told { OnOk result (Reported (λ w later. after w later) watch.old.items watch.new.items
         (tabu_search closed.entry.model.now first.routes.lists
         (improved.limit_of closed.entry.model.now) closed.entry.model.now.search.tenure).events) }
 {
@@ -192,10 +192,10 @@ fn rebuild_from<R: Rebuild>(
 ) -> Result<Best, NoMemory>
     requires of_model { first.routes.visits ≡ visits lookups.now.closed.model.now }
     requires valid { IsTrue (is_valid lookups.now.closed.model.now first.routes.lists) }
-    ensures ends { IfOk result (EndsAs first.routes.visits
+    ensures ends { IfOk result (IsBestOfOutcome first.routes.visits
         (path_lns lookups.now.closed.model.now first.routes.lists
         (improved.limit_of lookups.now.closed.model.now) lookups.now.closed.model.now.search.cut)) }
-    ensures told { OnOk result (Told (λ w later. after w later) watch.old.items watch.new.items
+    ensures told { OnOk result (Reported (λ w later. after w later) watch.old.items watch.new.items
         (path_lns lookups.now.closed.model.now first.routes.lists
         (improved.limit_of lookups.now.closed.model.now) lookups.now.closed.model.now.search.cut).events) }
 {
@@ -227,10 +227,11 @@ pub fn improve<J: Judge, R: Rebuild, L: Ledger>(
     requires holds { HoldSame lookups.now.closed.model.now (J.committed judge.old) first.routes }
     requires first_cost { first.cost ≡ cost lookups.now.closed.model.now first.routes.lists }
     ensures ends { let model = lookups.now.closed.model.now in
-        IfOk result (EndsAs first.routes.visits (improved.improved model.search.improve model first.routes.lists)) }
+        IfOk result (IsBestOfOutcome first.routes.visits
+        (improved.improved model.search.improve model first.routes.lists)) }
     ensures told { let model = lookups.now.closed.model.now in
         let outcome = improved.improved model.search.improve model first.routes.lists in
-        OnOk result (Told (λ w later. after w later) watch.old.items watch.new.items outcome.events) }
+        OnOk result (Reported (λ w later. after w later) watch.old.items watch.new.items outcome.events) }
 {
     let closed = lookups.closed;
     match closed.model.search.improve {

@@ -1,9 +1,9 @@
 //! The reports of watchers behind a line.
 
 ghost use Rattle.std.specs.Prelude.{◌≡◌, ◌++◌, [], IfOk, OnOk};
-ghost use Rattle.vr_app.specs.Answers.{Answers};
+ghost use Rattle.vr_app.specs.Answers.{AnswersWith};
 ghost use Rattle.vr_app.specs.Reply as replies;
-ghost use Rattle.vr_app.specs.Reports.{joined};
+ghost use Rattle.vr_app.specs.Reports.{joined_reports};
 
 use crate::answer::Answer;
 use crate::improving::Watchers;
@@ -25,7 +25,7 @@ fn push_report(text: &mut Seq<u8>, watcher: &Watcher) -> Result<(), NoMemory>
 
 // Puts what each watcher reports behind a text, in order.
 fn push_reports(text: &mut Seq<u8>, watch: &Watchers) -> Result<(), NoMemory>
-    ensures { OnOk result (text.new ≡ text.old ++ joined (λ w later. after w later) watch.now.items []) }
+    ensures { OnOk result (text.new ≡ text.old ++ joined_reports (λ w later. after w later) watch.now.items []) }
 {
     for watcher in watch {
         push_report(text, watcher)?;
@@ -35,7 +35,7 @@ fn push_reports(text: &mut Seq<u8>, watch: &Watchers) -> Result<(), NoMemory>
 
 // The line, and behind it what each watcher reports, in order, where this is asked for.
 fn with_reports(mode: Mode, line: Seq<u8>, watch: &Watchers) -> Result<Seq<u8>, NoMemory>
-    ensures { let reports = joined (λ w later. after w later) watch.now.items [] in
+    ensures { let reports = joined_reports (λ w later. after w later) watch.now.items [] in
         IfOk result (λ text. text ≡ replies.with_reports mode line reports) }
 {
     match mode {
@@ -52,8 +52,8 @@ fn with_reports(mode: Mode, line: Seq<u8>, watch: &Watchers) -> Result<Seq<u8>, 
 /// The answer that is the line of a solution, and behind it the reports of the watchers, in order, where they are asked
 /// for. `NoMemory` where there was no memory, also where a watcher finds none.
 pub fn done(mode: Mode, line: Seq<u8>, watch: &Watchers) -> Result<Answer, NoMemory>
-    ensures { let reports = joined (λ w later. after w later) watch.now.items [] in
-        IfOk result (Answers Status.Done (replies.with_reports mode line reports)) }
+    ensures { let reports = joined_reports (λ w later. after w later) watch.now.items [] in
+        IfOk result (AnswersWith Status.Done (replies.with_reports mode line reports)) }
 {
     let text = with_reports(mode, line, watch)?;
     Ok(Answer {

@@ -4,10 +4,10 @@ ghost use Rattle.std.specs.Prelude.{◌≡◌, ◌≢◌, ◌⊎◌, ◌≤◌, 
 ghost use Rattle.vr_io.specs.Edges.{Rose};
 ghost use Rattle.vr_app.specs.Answers.{AnswersReply, IsOfAnswer, IsOfFile, IsOfInput};
 ghost use Rattle.vr_app.specs.Ended.{Ran};
-ghost use Rattle.vr_app.specs.Promises.{run_of, HasCause, HasFailed, IsChecking, IsComplete, IsEmptied};
+ghost use Rattle.vr_app.specs.Promises.{program_run, HasCause, HasFailed, IsChecking, IsComplete, IsEmptied};
 ghost use Rattle.vr_app.specs.Promises.{IsImporting, IsReply, IsSolving};
 ghost use Rattle.vr_app.specs.Reply as replies;
-ghost use Rattle.vr_app.specs.Reports.{joined};
+ghost use Rattle.vr_app.specs.Reports.{joined_reports};
 ghost use Rattle.vr_app.specs.Runs.{IsAsking, IsNotAccepted, IsQuestion, IsRead, IsUnread, WhereKnown, bytes_of};
 ghost use Rattle.vr_app.specs.Status.{IsStatus};
 
@@ -49,7 +49,7 @@ fn respond_to_input<S: Source>(
     source: &mut S,
     watch: &mut Watchers,
 ) -> Result<Answer, Stop>
-    ensures reply { let reports = joined (λ w later. after w later) watch.old.items in
+    ensures reply { let reports = joined_reports (λ w later. after w later) watch.old.items in
         IfOk result (λ a. WhereKnown (S.left source.old) (λ bytes.
         AnswersReply (replies.reply_to_input task reports bytes) a)) }
     ensures emptied { IfOk result (λ a. a.status ≢ Status.TooLong
@@ -92,10 +92,10 @@ fn respond<S: Source>(
     source: &mut S,
     watch: &mut Watchers,
 ) -> Result<Answer, Stop>
-    ensures reply { let reports = joined (λ w later. after w later) watch.old.items in
+    ensures reply { let reports = joined_reports (λ w later. after w later) watch.old.items in
         IfOk result (λ a. WhereKnown (S.left source.old) (λ bytes.
         AnswersReply (replies.reply reports (bytes_of words.now) bytes) a)) }
-    ensures unread { let reports = joined (λ w later. after w later) watch.old.items in
+    ensures unread { let reports = joined_reports (λ w later. after w later) watch.old.items in
         IfOk result (λ a. IsUnread (bytes_of words.now) → (bytes : List ℕ)
         → AnswersReply (replies.reply reports (bytes_of words.now) bytes) a) }
     ensures usage_only { IfOk result (λ a. a.status ≡ Status.Usage → IsNotAccepted (bytes_of words.now)) }
@@ -125,7 +125,7 @@ fn run_watched<S: Source, K: Sink>(
     watch: &mut Watchers,
 ) -> u8
     ensures status { IsStatus result }
-    ensures ran { let reports = joined (λ w later. after w later) watch.old.items in
+    ensures ran { let reports = joined_reports (λ w later. after w later) watch.old.items in
         Ran (λ k. K.written k) (λ k. K.faults k) reports (bytes_of words.now) (S.left source.old) (S.left source.new)
         (S.faults source.old) (S.faults source.new) sink.old sink.new result }
     ensures untouched { IsUnread (bytes_of words.now) → source.new ≡ source.old }
@@ -197,39 +197,39 @@ pub fn run<S: Source, K: Sink>(
 
     // Status and text are those of the reply, and a front of it where the sink failed. With no failure it is whole, or
     // memory was wanting.
-    ensures reply { let reports = joined (λ w later. after w later) watch.items in
-        IsReply reports (run_of (bytes_of words.now)
+    ensures reply { let reports = joined_reports (λ w later. after w later) watch.items in
+        IsReply reports (program_run (bytes_of words.now)
         (S.left source.old) (S.left source.new) (S.faults source.old) (S.faults source.new)
         (K.written sink.old) (K.written sink.new) (K.faults sink.old) (K.faults sink.new) result) }
-    ensures complete { let reports = joined (λ w later. after w later) watch.items in
-        IsComplete reports (run_of (bytes_of words.now)
+    ensures complete { let reports = joined_reports (λ w later. after w later) watch.items in
+        IsComplete reports (program_run (bytes_of words.now)
         (S.left source.old) (S.left source.new) (S.faults source.old) (S.faults source.new)
         (K.written sink.old) (K.written sink.new) (K.faults sink.old) (K.faults sink.new) result) }
 
     // What the words ask for, exactly where it is given; and what is refused, exactly where it is.
-    ensures solving { let reports = joined (λ w later. after w later) watch.items in
-        IsSolving reports (run_of (bytes_of words.now)
+    ensures solving { let reports = joined_reports (λ w later. after w later) watch.items in
+        IsSolving reports (program_run (bytes_of words.now)
         (S.left source.old) (S.left source.new) (S.faults source.old) (S.faults source.new)
         (K.written sink.old) (K.written sink.new) (K.faults sink.old) (K.faults sink.new) result) }
-    ensures checking { IsChecking (run_of (bytes_of words.now)
+    ensures checking { IsChecking (program_run (bytes_of words.now)
         (S.left source.old) (S.left source.new) (S.faults source.old) (S.faults source.new)
         (K.written sink.old) (K.written sink.new) (K.faults sink.old) (K.faults sink.new) result) }
-    ensures importing { IsImporting (run_of (bytes_of words.now)
+    ensures importing { IsImporting (program_run (bytes_of words.now)
         (S.left source.old) (S.left source.new) (S.faults source.old) (S.faults source.new)
         (K.written sink.old) (K.written sink.new) (K.faults sink.old) (K.faults sink.new) result) }
-    ensures cause { HasCause (run_of (bytes_of words.now)
+    ensures cause { HasCause (program_run (bytes_of words.now)
         (S.left source.old) (S.left source.new) (S.faults source.old) (S.faults source.new)
         (K.written sink.old) (K.written sink.new) (K.faults sink.old) (K.faults sink.new) result) }
 
     // Only failures of source and sink give 2 and 3. On 2 and 7 nothing is written.
-    ensures failed { HasFailed (run_of (bytes_of words.now)
+    ensures failed { HasFailed (program_run (bytes_of words.now)
         (S.left source.old) (S.left source.new) (S.faults source.old) (S.faults source.new)
         (K.written sink.old) (K.written sink.new) (K.faults sink.old) (K.faults sink.new) result) }
     ensures unwritten { (result ≡ 2) ⊎ (result ≡ 7) → sink.new ≡ sink.old }
 
     // Words that read have the source read to its end; others leave it as it is.
-    ensures emptied { let reports = joined (λ w later. after w later) watch.items in
-        IsEmptied reports (run_of (bytes_of words.now)
+    ensures emptied { let reports = joined_reports (λ w later. after w later) watch.items in
+        IsEmptied reports (program_run (bytes_of words.now)
         (S.left source.old) (S.left source.new) (S.faults source.old) (S.faults source.new)
         (K.written sink.old) (K.written sink.new) (K.faults sink.old) (K.faults sink.new) result) }
     ensures untouched { IsUnread (bytes_of words.now) → source.new ≡ source.old }

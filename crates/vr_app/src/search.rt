@@ -1,14 +1,14 @@
 //! The search of a mode: what it makes of a first solution, by the judge that is chosen here.
 
 ghost use Rattle.std.specs.Prelude.{◌≡◌, ◌<◌, [], IfOk, IsTrue, OnOk};
-ghost use Rattle.vr_app.specs.Endings.{EndsAs};
+ghost use Rattle.vr_app.specs.Endings.{IsBestOfOutcome};
 ghost use Rattle.vr_app.specs.Found as found;
 ghost use Rattle.vr_app.specs.Improved as how;
 ghost use Rattle.vr_model.specs.routes.Costs.{cost};
 ghost use Rattle.vr_model.specs.routes.Rules.{is_valid};
 ghost use Rattle.vr_model.specs.tables.Tables.{visits};
 ghost use Rattle.vr_routes.specs.Judging.{HoldSame};
-ghost use Rattle.vr_watch.specs.Told.{Told};
+ghost use Rattle.vr_watch.specs.Told.{Reported};
 
 use crate::best::{Best, untried};
 use crate::improving::{FirstSolution, Watchers, improve};
@@ -39,10 +39,10 @@ pub fn improve_judged<L: Ledger>(
     requires parts { blank.parts ≡ L.parts }
     requires some { 0 < blank.parts }
     ensures ends { let model = lookups.now.closed.model.now in
-        IfOk result (EndsAs first.routes.visits (how.improved model.search.improve model first.routes.lists)) }
+        IfOk result (IsBestOfOutcome first.routes.visits (how.improved model.search.improve model first.routes.lists)) }
     ensures told { let model = lookups.now.closed.model.now in
         let outcome = how.improved model.search.improve model first.routes.lists in
-        OnOk result (Told (λ w later. after w later) watch.old.items watch.new.items outcome.events) }
+        OnOk result (Reported (λ w later. after w later) watch.old.items watch.new.items outcome.events) }
 {
     let mut rebuild = Insertion::new(alloc);
     let mut steps = Steps::<L>::new(blank);
@@ -70,10 +70,10 @@ pub(crate) fn solve(
     requires valid { IsTrue (is_valid lookups.now.closed.model.now first.lists) }
     requires first_cost { first_cost ≡ cost lookups.now.closed.model.now first.lists }
     ensures ends { let model = lookups.now.closed.model.now in
-        IfOk result (EndsAs first.visits (how.improved model.search.improve model first.lists)) }
+        IfOk result (IsBestOfOutcome first.visits (how.improved model.search.improve model first.lists)) }
     ensures told { let model = lookups.now.closed.model.now in
         let outcome = how.improved model.search.improve model first.lists in
-        OnOk result (Told (λ w later. after w later) watch.old.items watch.new.items outcome.events) }
+        OnOk result (Reported (λ w later. after w later) watch.old.items watch.new.items outcome.events) }
 {
     let mut judge = FilterJudge::over(alloc, lookups, &first)?;
     let first = FirstSolution {
@@ -96,7 +96,7 @@ pub(crate) fn solve_unwatched(
     requires valid { IsTrue (is_valid lookups.now.closed.model.now first.lists) }
     requires first_cost { first_cost ≡ cost lookups.now.closed.model.now first.lists }
     ensures ends { let model = lookups.now.closed.model.now in
-        IfOk result (EndsAs first.visits (how.improved model.search.improve model first.lists)) }
+        IfOk result (IsBestOfOutcome first.visits (how.improved model.search.improve model first.lists)) }
 {
     let mut none = Vec::new(alloc);
     solve(alloc, lookups, first, first_cost, &mut none)
@@ -115,8 +115,9 @@ pub(crate) fn search(
     requires of_model { first.visits ≡ visits lookups.now.closed.model.now }
     requires valid { IsTrue (is_valid lookups.now.closed.model.now first.lists) }
     requires first_cost { first_cost ≡ cost lookups.now.closed.model.now first.lists }
-    ensures ends { IfOk result (EndsAs first.visits (found.searched mode lookups.now.closed.model.now first.lists)) }
-    ensures told { mode ≡ Mode.Log → OnOk result (Told (λ w later. after w later) watch.old.items watch.new.items
+    ensures ends { IfOk result (IsBestOfOutcome first.visits
+        (found.searched mode lookups.now.closed.model.now first.lists)) }
+    ensures told { mode ≡ Mode.Log → OnOk result (Reported (λ w later. after w later) watch.old.items watch.new.items
         (found.searched mode lookups.now.closed.model.now first.lists).events) }
 {
     match mode {

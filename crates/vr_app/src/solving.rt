@@ -4,12 +4,12 @@ ghost use Rattle.std.specs.Prelude.{◌≡◌, ◌≤◌, Ok, Some, IfOk, OnOk, 
 ghost use Rattle.serde_json.specs.View.{view};
 ghost use Rattle.vr_model.specs.first.FirstSolutions.{first_lists};
 ghost use Rattle.vr_model.specs.tables.Tables.{visits};
-ghost use Rattle.vr_watch.specs.Told.{Told};
+ghost use Rattle.vr_watch.specs.Told.{Reported};
 ghost use Rattle.vr_app.specs.Answers.{AnswersReply, IsOfShort, IsOfSolving};
-ghost use Rattle.vr_app.specs.Found.{answer as wanted, events_of, found_from, line_of_found};
-ghost use Rattle.vr_app.specs.Input.{max_input, model_of};
+ghost use Rattle.vr_app.specs.Found.{answer as wanted, found_events, found_from, line_of_found};
+ghost use Rattle.vr_app.specs.Input.{max_input, model_of_value};
 ghost use Rattle.vr_app.specs.Reply as replies;
-ghost use Rattle.vr_app.specs.Reports.{joined};
+ghost use Rattle.vr_app.specs.Reports.{joined_reports};
 ghost use Rattle.vr_app.specs.Runs.{IsQuestion};
 
 use crate::answer::{Answer, none_found, not_json, refused};
@@ -42,7 +42,7 @@ fn line_from(
     requires of_model { first.visits ≡ visits lookups.now.closed.model.now }
     ensures line { IfOk result (λ line. line ≡ line_of_found lookups.now.closed.model.now
         (found_from mode lookups.now.closed.model.now first.lists)) }
-    ensures told { mode ≡ Mode.Log → OnOk result (Told (λ w later. after w later) watch.old.items watch.new.items
+    ensures told { mode ≡ Mode.Log → OnOk result (Reported (λ w later. after w later) watch.old.items watch.new.items
         (found_from mode lookups.now.closed.model.now first.lists).outcome.events) }
 {
     let first_cost = total_over(alloc, lookups, &first)?;
@@ -61,8 +61,8 @@ fn line_found(
 ) -> Result<Option<Seq<u8>>, NoMemory>
     ensures line { IfOk result (λ line. line ≡ option_map (line_of_found lookups.now.closed.model.now)
         (wanted mode lookups.now.closed.model.now)) }
-    ensures told { mode ≡ Mode.Log → OnOk result (Told (λ w later. after w later) watch.old.items watch.new.items
-        (events_of (wanted mode lookups.now.closed.model.now))) }
+    ensures told { mode ≡ Mode.Log → OnOk result (Reported (λ w later. after w later) watch.old.items watch.new.items
+        (found_events (wanted mode lookups.now.closed.model.now))) }
 {
     match first_routes(alloc, lookups)? {
         None => Ok(None),
@@ -80,7 +80,7 @@ fn answer_over(
     lookups: &Lookups<'_>,
     watch: &mut Watchers,
 ) -> Result<Answer, NoMemory>
-    ensures reply { let reports = joined (λ w later. after w later) watch.old.items in
+    ensures reply { let reports = joined_reports (λ w later. after w later) watch.old.items in
         IfOk result (AnswersReply (replies.reply_to_model mode reports (Ok lookups.now.closed.model.now))) }
     ensures status { IfOk result (λ a. IsOfSolving a.status) }
 {
@@ -100,7 +100,7 @@ fn answer_model(
     closed: Closed<'_>,
     watch: &mut Watchers,
 ) -> Result<Answer, NoMemory>
-    ensures reply { let reports = joined (λ w later. after w later) watch.old.items in
+    ensures reply { let reports = joined_reports (λ w later. after w later) watch.old.items in
         IfOk result (AnswersReply (replies.reply_to_model mode reports (Ok closed.entry.model.now))) }
     ensures status { IfOk result (λ a. IsOfSolving a.status) }
 {
@@ -115,8 +115,8 @@ fn answer_solved(
     value: Value,
     watch: &mut Watchers,
 ) -> Result<Answer, NoMemory>
-    ensures reply { let reports = joined (λ w later. after w later) watch.old.items in
-        IfOk result (AnswersReply (replies.reply_to_model mode reports (model_of (view value)))) }
+    ensures reply { let reports = joined_reports (λ w later. after w later) watch.old.items in
+        IfOk result (AnswersReply (replies.reply_to_model mode reports (model_of_value (view value)))) }
     ensures status { IfOk result (λ a. IsOfSolving a.status) }
 {
     match read_owned(alloc, value) {
@@ -133,7 +133,7 @@ fn answer_value(
     value: Value,
     watch: &mut Watchers,
 ) -> Result<Answer, NoMemory>
-    ensures reply { let reports = joined (λ w later. after w later) watch.old.items in
+    ensures reply { let reports = joined_reports (λ w later. after w later) watch.old.items in
         IfOk result (AnswersReply (replies.reply_to_tree task reports (view value))) }
     ensures status { IfOk result (λ a. IsOfShort a.status) }
     ensures not_met_only { IfOk result (λ a. a.status ≡ Status.NotMet → IsQuestion task) }
@@ -152,7 +152,7 @@ pub(crate) fn answer_input(
     bytes: Vec<u8>,
     watch: &mut Watchers,
 ) -> Result<Answer, NoMemory>
-    ensures reply { let reports = joined (λ w later. after w later) watch.old.items in
+    ensures reply { let reports = joined_reports (λ w later. after w later) watch.old.items in
         length bytes.items ≤ max_input → IfOk result (AnswersReply (replies.reply_to_input task reports bytes.items)) }
     ensures status { IfOk result (λ a. IsOfShort a.status) }
     ensures not_met_only { IfOk result (λ a. a.status ≡ Status.NotMet → IsQuestion task) }

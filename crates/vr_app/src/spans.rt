@@ -12,7 +12,7 @@ ghost use Rattle.vr_model.specs.tables.ModelRules.{has_breaks};
 ghost use Rattle.vr_model.specs.tables.Numbers.{below, each, horizon, number_at};
 ghost use Rattle.vr_model.specs.tables.Tables.{dimension_at, is_visit};
 ghost use Rattle.vr_model.specs.tables.WellFormed.{IsIn};
-ghost use Rattle.vr_plan.specs.Plans.{seen};
+ghost use Rattle.vr_plan.specs.Plans.{as_defined};
 ghost use Rattle.vr_plan.specs.Settled.{IsUnfeasible};
 ghost use Rattle.vr_printed.specs.Printed.{assignment_of, lists_of, plan_of};
 ghost use Rattle.vr_app.specs.Checked.{checked_pair};
@@ -39,7 +39,7 @@ fn span_tree(
     printed: i64,
 ) -> Result<Value, NoMemory>
     ensures { IfOk result (λ tree. view tree
-        ≡ spans.span_tree dimension.now v (seen least.now.plan) least.now.span printed) }
+        ≡ spans.span_tree dimension.now v (as_defined least.now.plan) least.now.span printed) }
 {
     let name = Value::String(String::from_str(alloc, dimension.name.as_str())?);
     let mut tree = Tree::new(alloc);

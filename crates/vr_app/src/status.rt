@@ -1,7 +1,7 @@
 //! How a run ends.
 
 ghost use Rattle.std.specs.Prelude.{◌≡◌};
-ghost use Rattle.vr_app.specs.Status.{IsStatus, number_of};
+ghost use Rattle.vr_app.specs.Status.{IsStatus, status_number};
 
 /// The status of a run. Its number is what the program ends with.
 #[derive(Clone, Copy)]
@@ -31,7 +31,7 @@ pub enum Status {
 impl Status {
     /// The number of the status, from 0 to 9.
     pub fn number(self) -> u8
-        ensures number { result ≡ number_of self }
+        ensures number { result ≡ status_number self }
         ensures status { IsStatus result }
     {
         self as u8

@@ -7,7 +7,7 @@ use Rattle.vr_model.specs.declared.records.Model.{Model}
 use Rattle.vr_model.specs.tables.Tables.{arc_cost, vehicle_at}
 use Rattle.vr_model.specs.routes.Routes.{route}
 use Rattle.vr_balance.specs.Sums.{last_of, path_sum, line_nodes}
-use Rattle.vr_arccosts.specs.Chains.{chain_of, chain_sum, first_of, turned}
+use Rattle.vr_arccosts.specs.Chains.{chain_of, chain_sum, first_node_or, turned}
 use Rattle.vr_arccosts.specs.declared.lines.Along.{Along}
 use Rattle.vr_arccosts.specs.Along.{between_cost, no_sums, AreAlong, IsAlong, IsArc}
 use Rattle.vr_arccosts.proofs.PathLemmas.{stretch-used}
@@ -16,7 +16,7 @@ use Rattle.vr_arccosts.proofs.PieceLemmas.{chain-costs}
 -- the arcs of a line from the stop before one place of its list to the stop at another
 stretch-line : (cost : ℕ → ℕ → ℤ) (at end : ℕ) (list : List ℕ) (f b : ℕ) → f ≤ b → b ≤ length list
     → path_sum cost (last_of at (take f (list ++ end ∷ []))) (slice_range (list ++ end ∷ []) f (suc b))
-    ≡ path_sum cost (last_of at (take f list)) (slice_range list f b) +ℤ cost (last_of (last_of at (take f list)) (slice_range list f b)) (first_of (drop b list) end)
+    ≡ path_sum cost (last_of at (take f list)) (slice_range list f b) +ℤ cost (last_of (last_of at (take f list)) (slice_range list f b)) (first_node_or (drop b list) end)
 stretch-line cost at end [] zero zero order low = omega (arith, ints)
 stretch-line cost at end [] zero (suc b) order low = absurd (omega (arith, low))
 stretch-line cost at end [] (suc f) b order low = absurd (omega (arith, order, low))
@@ -27,7 +27,7 @@ stretch-line cost at end (x ∷ xs) zero (suc b) order low =
     let o : suc b - 0 ≡ suc (b - 0) = omega arith in
     let new : path_sum cost at (slice_range ((x ∷ xs) ++ end ∷ []) 0 (suc (suc b))) ≡ path_sum cost at (x ∷ slice_range (xs ++ end ∷ []) 0 (suc b)) = ap (λ n. path_sum cost at (take n (x ∷ xs ++ end ∷ []))) e in
     let old : path_sum cost at (slice_range (x ∷ xs) 0 (suc b)) ≡ path_sum cost at (x ∷ slice_range xs 0 b) = ap (λ n. path_sum cost at (take n (x ∷ xs))) o in
-    let arc : cost (last_of at (slice_range (x ∷ xs) 0 (suc b))) (first_of (drop b xs) end) ≡ cost (last_of at (x ∷ slice_range xs 0 b)) (first_of (drop b xs) end) = ap (λ n. cost (last_of at (take n (x ∷ xs))) (first_of (drop b xs) end)) o in
+    let arc : cost (last_of at (slice_range (x ∷ xs) 0 (suc b))) (first_node_or (drop b xs) end) ≡ cost (last_of at (x ∷ slice_range xs 0 b)) (first_node_or (drop b xs) end) = ap (λ n. cost (last_of at (take n (x ∷ xs))) (first_node_or (drop b xs) end)) o in
     omega (arith, ints, i, new, old, arc)
 stretch-line cost at end (x ∷ xs) (suc f) zero order low = absurd (omega (arith, order))
 stretch-line cost at end (x ∷ xs) (suc f) (suc b) order low =
@@ -37,8 +37,8 @@ stretch-line cost at end (x ∷ xs) (suc f) (suc b) order low =
     let new : path_sum cost (last_of x (take f (xs ++ end ∷ []))) (slice_range ((x ∷ xs) ++ end ∷ []) (suc f) (suc (suc b))) ≡ path_sum cost (last_of x (take f (xs ++ end ∷ []))) (slice_range (xs ++ end ∷ []) f (suc b)) =
     ap (λ n. path_sum cost (last_of x (take f (xs ++ end ∷ []))) (take n (drop f (xs ++ end ∷ [])))) e in
     let old : path_sum cost (last_of x (take f xs)) (slice_range (x ∷ xs) (suc f) (suc b)) ≡ path_sum cost (last_of x (take f xs)) (slice_range xs f b) = ap (λ n. path_sum cost (last_of x (take f xs)) (take n (drop f xs))) o in
-    let arc : cost (last_of (last_of x (take f xs)) (slice_range (x ∷ xs) (suc f) (suc b))) (first_of (drop b xs) end) ≡ cost (last_of (last_of x (take f xs)) (slice_range xs f b)) (first_of (drop b xs) end) =
-    ap (λ n. cost (last_of (last_of x (take f xs)) (take n (drop f xs))) (first_of (drop b xs) end)) o in
+    let arc : cost (last_of (last_of x (take f xs)) (slice_range (x ∷ xs) (suc f) (suc b))) (first_node_or (drop b xs) end) ≡ cost (last_of (last_of x (take f xs)) (slice_range xs f b)) (first_node_or (drop b xs) end) =
+    ap (λ n. cost (last_of (last_of x (take f xs)) (take n (drop f xs))) (first_node_or (drop b xs) end)) o in
     omega (arith, ints, i, new, old, arc)
 
 -- what the sums of a line give for a stretch of a list with nodes

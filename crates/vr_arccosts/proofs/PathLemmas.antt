@@ -11,7 +11,7 @@ use Rattle.vr_model.specs.routes.Routes.{arcs_from, cost_of_arc, is_empty, route
 use Rattle.vr_balance.specs.Sums.{path_sum, last_of}
 use Rattle.vr_balance.proofs.Paths.{path-append, last-append}
 use Rattle.vr_parts.proofs.EmptyLemmas.{empty-where, some-where}
-use Rattle.vr_arccosts.specs.Chains.{first_of}
+use Rattle.vr_arccosts.specs.Chains.{first_node_or}
 use Rattle.vr_arccosts.specs.Along.{between_cost}
 use Rattle.vr_arccosts.proofs.ChainLemmas.{last-at}
 
@@ -62,7 +62,7 @@ module _ (model : Model) (v : ℕ) where
 
   used-apart : (front nodes behind : List ℕ) → 0 < length (front ++ (nodes ++ behind))
       → route_cost model v (front ++ (nodes ++ behind))
-      ≡ (path_sum (arc_cost model v) (last_of start front) nodes +ℤ arc_cost model v (last_of (last_of start front) nodes) (first_of behind end))
+      ≡ (path_sum (arc_cost model v) (last_of start front) nodes +ℤ arc_cost model v (last_of (last_of start front) nodes) (first_node_or behind end))
       +ℤ (path_sum (arc_cost model v) start front +ℤ tail_cost (arc_cost model v) behind end)
   used-apart front nodes behind some =
       let cost = arc_cost model v in
@@ -73,14 +73,14 @@ module _ (model : Model) (v : ℕ) where
       let t = step behind (last_of (last_of start front) nodes) in
       omega (arith, ints, u, p, q, l, t)
     where
-      step : (xs : List ℕ) (at : ℕ) → path_sum (arc_cost model v) at xs +ℤ arc_cost model v (last_of at xs) end ≡ arc_cost model v at (first_of xs end) +ℤ tail_cost (arc_cost model v) xs end
+      step : (xs : List ℕ) (at : ℕ) → path_sum (arc_cost model v) at xs +ℤ arc_cost model v (last_of at xs) end ≡ arc_cost model v at (first_node_or xs end) +ℤ tail_cost (arc_cost model v) xs end
       step [] at = omega (arith, ints)
       step (x ∷ xs) at = omega (arith, ints)
 
   -- what the arcs between both ends cost, and what those along the ends cost
   apart : (front nodes behind : List ℕ)
       → route_cost model v (front ++ (nodes ++ behind))
-      ≡ cond (is_empty (front ++ (nodes ++ behind))) (pos 0) (path_sum (arc_cost model v) (last_of start front) nodes +ℤ arc_cost model v (last_of (last_of start front) nodes) (first_of behind end))
+      ≡ cond (is_empty (front ++ (nodes ++ behind))) (pos 0) (path_sum (arc_cost model v) (last_of start front) nodes +ℤ arc_cost model v (last_of (last_of start front) nodes) (first_node_or behind end))
       +ℤ (path_sum (arc_cost model v) start front +ℤ tail_cost (arc_cost model v) behind end)
   apart [] [] [] = refl
   apart [] [] (x ∷ xs) = used-apart [] [] (x ∷ xs) (omega arith)
@@ -99,14 +99,14 @@ module _ (model : Model) (v : ℕ) where
   -- what the arcs between two places of a list cost
   pub stretch-unused : (list : List ℕ) (f b : ℕ) → f ≤ b → length list ≡ 0 → between_cost model v list f b (slice_range list f b) ≡ pos 0
   stretch-unused list f b order none =
-      let x : ℤ = path_sum (arc_cost model v) (last_of start (take f list)) (slice_range list f b) +ℤ arc_cost model v (last_of (last_of start (take f list)) (slice_range list f b)) (first_of (drop b list) end) in
+      let x : ℤ = path_sum (arc_cost model v) (last_of start (take f list)) (slice_range list f b) +ℤ arc_cost model v (last_of (last_of start (take f list)) (slice_range list f b)) (first_node_or (drop b list) end) in
       ap (λ e. cond e (pos 0) x) (ap is_empty (whole-apart list f b order) ∙ empty-where list none)
 
   pub stretch-used : (list : List ℕ) (f b : ℕ) → f ≤ b → 0 < length list
       → between_cost model v list f b (slice_range list f b)
-      ≡ path_sum (arc_cost model v) (last_of start (take f list)) (slice_range list f b) +ℤ arc_cost model v (last_of (last_of start (take f list)) (slice_range list f b)) (first_of (drop b list) end)
+      ≡ path_sum (arc_cost model v) (last_of start (take f list)) (slice_range list f b) +ℤ arc_cost model v (last_of (last_of start (take f list)) (slice_range list f b)) (first_node_or (drop b list) end)
   stretch-used list f b order some =
-      let x : ℤ = path_sum (arc_cost model v) (last_of start (take f list)) (slice_range list f b) +ℤ arc_cost model v (last_of (last_of start (take f list)) (slice_range list f b)) (first_of (drop b list) end) in
+      let x : ℤ = path_sum (arc_cost model v) (last_of start (take f list)) (slice_range list f b) +ℤ arc_cost model v (last_of (last_of start (take f list)) (slice_range list f b)) (first_node_or (drop b list) end) in
       ap (λ e. cond e (pos 0) x) (ap is_empty (whole-apart list f b order) ∙ some-where list (λ e. absurd (omega (arith, some, e))))
 
 -- how many nodes such a list has
@@ -125,10 +125,10 @@ last-kept at xs (suc k) some low =
     let e : suc k - 1 ≡ k = omega arith in
     last-at at (take (suc k) xs) k (length-take-le (suc k) xs low) ∙ get_or-take (suc k) xs k 0 (omega arith) ∙ ap (λ n. slice_index_or xs n 0) (sym e)
 
-pub first-left : (end : ℕ) (xs : List ℕ) (k : ℕ) → k < length xs → first_of (drop k xs) end ≡ slice_index_or xs k 0
+pub first-left : (end : ℕ) (xs : List ℕ) (k : ℕ) → k < length xs → first_node_or (drop k xs) end ≡ slice_index_or xs k 0
 first-left end [] k low = absurd (omega (arith, low))
 first-left end (x ∷ xs) zero low = refl
 first-left end (x ∷ xs) (suc k) low = first-left end xs k (omega (arith, low))
 
-pub none-left : (end : ℕ) (xs : List ℕ) (k : ℕ) → k ≡ length xs → first_of (drop k xs) end ≡ end
-none-left end xs k e = ap (λ l. first_of l end) (drop_all k xs (omega (arith, e)))
+pub none-left : (end : ℕ) (xs : List ℕ) (k : ℕ) → k ≡ length xs → first_node_or (drop k xs) end ≡ end
+none-left end xs k e = ap (λ l. first_node_or l end) (drop_all k xs (omega (arith, e)))

@@ -11,7 +11,7 @@ use Rattle.vr_model.specs.declared.neighbours.Move.TheVariants.{MakeActive, Pair
 use Rattle.vr_model.proofs.routes.Lists.{route_set_other}
 use Rattle.vr_balance.specs.Sums.{last_of}
 use Rattle.vr_balance.proofs.Paths.{last-append, path-append}
-use Rattle.vr_routes.specs.Pairs.{without_two, ArePlaces}
+use Rattle.vr_routes.specs.Pairs.{without_two, ArePairPlaces}
 use Rattle.vr_routes.specs.Seats.{IsOnce}
 use Rattle.vr_routes.proofs.FactLemmas.{of_make_active, of_pair_active, of_relocate_pair}
 use Rattle.vr_routes.proofs.WithoutLemmas.{pickup_first}
@@ -89,7 +89,7 @@ module _ (model : Model) (lists : List (List ℕ)) where
       omega (arith, ints, low, is)
 
   -- a served pair that is put into the list of another vehicle
-  pub elsewhere-no-less : (p w s t v lo hi : ℕ) (bound base : ℤ) → IsOnce lists → ArePlaces lists (pair_at model p) v lo hi → lo < hi → v ≢ w
+  pub elsewhere-no-less : (p w s t v lo hi : ℕ) (bound base : ℤ) → IsOnce lists → ArePairPlaces lists (pair_at model p) v lo hi → lo < hi → v ≢ w
       → base ≡ costs_more model lists v (without_two (route lists v) lo hi) → bound ≤ℤ (base +ℤ pair_added model w (route lists w) (pair_at model p) s t)
       → AddsNoLess model lists (RelocatePair p w s t) bound
   elsewhere-no-less p w s t v lo hi bound base once places order apart is low one =

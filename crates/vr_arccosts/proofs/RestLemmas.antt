@@ -14,7 +14,7 @@ use Rattle.vr_model.specs.declared.records.Model.{Model}
 use Rattle.vr_model.specs.declared.records.Pair.{Pair}
 use Rattle.vr_model.specs.declared.neighbours.Move.TheVariants.{RelocatePair}
 use Rattle.vr_model.proofs.routes.Lists.{route_set_same}
-use Rattle.vr_routes.specs.Pairs.{without_two, ArePlaces}
+use Rattle.vr_routes.specs.Pairs.{without_two, ArePairPlaces}
 use Rattle.vr_routes.specs.Seats.{IsOnce}
 use Rattle.vr_routes.proofs.RestLemmas.{two_fewer}
 use Rattle.vr_routes.proofs.WithoutLemmas.{pickup_first}
@@ -22,20 +22,20 @@ use Rattle.vr_balance.specs.Sums.{last_of}
 use Rattle.vr_parts.proofs.SumLemmas.{over-set}
 use Rattle.vr_arccosts.specs.Along.{between_cost}
 use Rattle.vr_arccosts.specs.ArcMoves.{costs_more}
-use Rattle.vr_arccosts.specs.Chains.{first_of}
-use Rattle.vr_arccosts.specs.Runs.{AddsNoLess, at_place, before_place, gap_added, pair_added, place_of, IsRest}
+use Rattle.vr_arccosts.specs.Chains.{first_node_or}
+use Rattle.vr_arccosts.specs.Runs.{AddsNoLess, at_place, before_place, gap_added, pair_added, place_among_all, IsRest}
 use Rattle.vr_arccosts.proofs.PathLemmas.{first-left, last-kept, stretch-unused}
 use Rattle.vr_arccosts.proofs.PutLemmas.{pair-apart, pair-together}
 use Rattle.vr_arccosts.proofs.RunLemmas.{gap-old}
 
 -- a place in front of both, one between them, and one behind
-place-front : (place lo hi : ℕ) → place < lo → place_of place lo hi ≡ place
+place-front : (place lo hi : ℕ) → place < lo → place_among_all place lo hi ≡ place
 place-front place lo hi low = Prim.grind arith
 
-place-between : (place lo hi : ℕ) → lo ≤ place → place + 1 < hi → place_of place lo hi ≡ place + 1
+place-between : (place lo hi : ℕ) → lo ≤ place → place + 1 < hi → place_among_all place lo hi ≡ place + 1
 place-between place lo hi high low = Prim.grind arith
 
-place-behind : (place lo hi : ℕ) → lo ≤ place → hi ≤ place + 1 → place_of place lo hi ≡ place + 2
+place-behind : (place lo hi : ℕ) → lo ≤ place → hi ≤ place + 1 → place_among_all place lo hi ≡ place + 2
 place-behind place lo hi high past = Prim.grind arith
 
 module _ (list : List ℕ) (lo hi : ℕ) (order : lo < hi) (low : hi < length list) where
@@ -49,7 +49,7 @@ module _ (list : List ℕ) (lo hi : ℕ) (order : lo < hi) (low : hi < length li
   mid-long = length-between list (suc lo) hi (omega (arith, low))
 
   -- a node of the rest
-  pub rest-at : (k : ℕ) → slice_index_or (without_two list lo hi) k 0 ≡ slice_index_or list (place_of k lo hi) 0
+  pub rest-at : (k : ℕ) → slice_index_or (without_two list lo hi) k 0 ≡ slice_index_or list (place_among_all k lo hi) 0
   rest-at k = elim (cases_lt k lo) [
     | inl front ↦ get_or_append_left (take lo list) (mid ++ drop (suc hi) list) 0 k (omega (arith, front, front-long)) ∙ (get_or-take lo list k 0 front ∙ ap (λ n. slice_index_or list n 0) (sym (place-front k lo hi front)))
     | inr past ↦ (
@@ -68,7 +68,7 @@ module _ (list : List ℕ) (lo hi : ℕ) (order : lo < hi) (low : hi < length li
   ]
 
   -- it is one of the list
-  pub rest-inside : (k : ℕ) → k + 2 < length list → place_of k lo hi < length list
+  pub rest-inside : (k : ℕ) → k + 2 < length list → place_among_all k lo hi < length list
   rest-inside k small = elim (cases_lt k lo) [
     | inl front ↦ (let is = place-front k lo hi front in omega (arith, is, small))
     | inr past ↦ elim (cases_lt (k + 1) hi) [
@@ -86,7 +86,7 @@ module _ {model : Model} {list : List ℕ} {lo hi : ℕ} (sound : IsRest model l
   fewer : length rest + 2 ≡ length list
   fewer = two_fewer list lo hi sound.order sound.place
 
-  pub rest-next : (end k : ℕ) {node : ℕ} → k + 2 ≤ length list → k + 2 ≢ length list → node ≡ slice_index_or rest k 0 → node ≡ first_of (drop k rest) end
+  pub rest-next : (end k : ℕ) {node : ℕ} → k + 2 ≤ length list → k + 2 ≢ length list → node ≡ slice_index_or rest k 0 → node ≡ first_node_or (drop k rest) end
   rest-next end k low other is = is ∙ sym (first-left end rest k (omega (arith, low, other, fewer)))
 
   pub rest-before : (start k : ℕ) {node : ℕ} → k ≢ 0 → k + 2 ≤ length list → node ≡ slice_index_or rest (k - 1) 0 → node ≡ last_of start (take k rest)
@@ -110,7 +110,7 @@ module _ {model : Model} {list : List ℕ} {lo hi : ℕ} (sound : IsRest model l
 
 module _ (model : Model) (lists : List (List ℕ)) where
   -- a served pair that is put back into its list
-  pub back-no-less : (p s t v lo hi : ℕ) (bound base : ℤ) → IsOnce lists → ArePlaces lists (pair_at model p) v lo hi → lo < hi
+  pub back-no-less : (p s t v lo hi : ℕ) (bound base : ℤ) → IsOnce lists → ArePairPlaces lists (pair_at model p) v lo hi → lo < hi
       → base ≡ costs_more model lists v (without_two (route lists v) lo hi) → bound ≤ℤ (base +ℤ pair_added model v (without_two (route lists v) lo hi) (pair_at model p) s t)
       → AddsNoLess model lists (RelocatePair p v s t) bound
   back-no-less p s t v lo hi bound base once places order is low one =

@@ -8,7 +8,7 @@ use Rattle.vr_routes.specs.Tours.{Tours}
 use Rattle.vr_model.specs.routes.Routes.{is_empty, route}
 use Rattle.vr_model.specs.declared.records.Model.{Model}
 use Rattle.vr_balance.specs.Sums.{last_of, line_nodes, path_sum, AreSumsTo}
-use Rattle.vr_arccosts.specs.Chains.{first_of, turned}
+use Rattle.vr_arccosts.specs.Chains.{first_node_or, turned}
 use Rattle.vr_arccosts.specs.declared.lines.Along.{Along}
 
 -- what the arcs of vehicle v cost from the stop before place f of its list through nodes to the stop at place b, 0
@@ -16,7 +16,7 @@ use Rattle.vr_arccosts.specs.declared.lines.Along.{Along}
 abbrev pub between_cost : Model → ℕ → List ℕ → ℕ → ℕ → List ℕ → ℤ
 between_cost model v list f b nodes =
     let from = last_of (vehicle_at model v).start (take f list) in
-    let to = first_of (drop b list) (vehicle_at model v).end in
+    let to = first_node_or (drop b list) (vehicle_at model v).end in
     cond (is_empty (take f list ++ (nodes ++ drop b list))) (pos 0)
     (path_sum (arc_cost model v) from nodes +ℤ arc_cost model v (last_of from nodes) to)
 

@@ -12,9 +12,9 @@ chain_sum cost [] = pos 0
 chain_sum cost (x ∷ xs) = path_sum cost x xs
 
 -- the first of nodes, or another one where there is none
-abbrev pub first_of : List ℕ → ℕ → ℕ
-first_of [] other = other
-first_of (x ∷ xs) other = x
+abbrev pub first_node_or : List ℕ → ℕ → ℕ
+first_node_or [] other = other
+first_node_or (x ∷ xs) other = x
 
 -- the costs of arcs, or of the same arcs backwards
 abbrev pub turned : Bool → (ℕ → ℕ → ℤ) → ℕ → ℕ → ℤ

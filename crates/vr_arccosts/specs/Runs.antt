@@ -12,7 +12,7 @@ use Rattle.vr_balance.specs.Sums.{last_of, path_sum}
 use Rattle.vr_parts.specs.Bounds.{IsAddedByChange}
 use Rattle.vr_arccosts.specs.Along.{between_cost, IsAlong}
 use Rattle.vr_arccosts.specs.ArcMoves.{arcs_added}
-use Rattle.vr_arccosts.specs.Chains.{chain_of, chain_sum, first_of}
+use Rattle.vr_arccosts.specs.Chains.{chain_of, chain_sum, first_node_or}
 use Rattle.vr_arccosts.specs.declared.lines.Along.{Along}
 
 -- if a move is one of the lists, it adds no less than a bound
@@ -39,15 +39,15 @@ pub record IsRest (model : Model) (list : List ℕ) (lo hi : ℕ) : Type 0 where
   pub place : hi < length list
 
 -- where a node of a list without those at places lo and hi stands in the list
-abbrev pub place_of : ℕ → ℕ → ℕ → ℕ
-place_of place lo hi = cond (nat_lt place lo) place (cond (nat_lt (place + 1) hi) (place + 1) (place + 2))
+abbrev pub place_among_all : ℕ → ℕ → ℕ → ℕ
+place_among_all place lo hi = cond (nat_lt place lo) place (cond (nat_lt (place + 1) hi) (place + 1) (place + 2))
 
 -- the node of the stop before a place of the list of vehicle v, and that of the stop at it
 abbrev pub before_place : Model → ℕ → List ℕ → ℕ → ℕ
 before_place model v list place = last_of (vehicle_at model v).start (take place list)
 
 abbrev pub at_place : Model → ℕ → List ℕ → ℕ → ℕ
-at_place model v list place = first_of (drop place list) (vehicle_at model v).end
+at_place model v list place = first_node_or (drop place list) (vehicle_at model v).end
 
 -- what the arcs from the stop before place f of the list of vehicle v to the first node of a chain, and from its last
 -- node to the stop at place b, cost more than what stands between these stops

@@ -4,7 +4,7 @@ ghost use Rattle.std.specs.Prelude.{◌≡◌, ℕ, ◌<◌, ◌≤◌, ◌≢�
 ghost use Rattle.vr_model.specs.routes.Routes.{route};
 ghost use Rattle.vr_model.specs.tables.Tables.{pair_at};
 ghost use Rattle.vr_model.specs.declared.neighbours.Move.TheVariants.{MakeActive, PairActive, RelocatePair};
-ghost use Rattle.vr_routes.specs.Pairs.{without_two, ArePlaces};
+ghost use Rattle.vr_routes.specs.Pairs.{without_two, ArePairPlaces};
 ghost use Rattle.vr_parts.specs.Bounds.{IsAddedByList};
 ghost use Rattle.vr_arccosts.specs.ArcMoves.{costs_more};
 ghost use Rattle.vr_arccosts.specs.Runs.{AddsNoLess};
@@ -86,7 +86,7 @@ struct Served<'a, 'm> {
     p: u32,
     at: PairPlaces,
     pub ghost known: { p < length lists.kept.now.model.pairs },
-    pub ghost places: { ArePlaces lists.routes.now.lists (pair_at lists.kept.now.model p) at.vehicle at.pickup
+    pub ghost places: { ArePairPlaces lists.routes.now.lists (pair_at lists.kept.now.model p) at.vehicle at.pickup
         at.delivery },
     pub ghost in_turn: { at.pickup < at.delivery },
 }

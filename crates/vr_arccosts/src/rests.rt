@@ -4,7 +4,7 @@ ghost use Rattle.std.proofs.Props.{props};
 ghost use Rattle.std.specs.Prelude.{◌≡◌, ℕ, ◌+◌, ◌<◌, ◌≤◌, ◌+ℤ◌, ◌≤ℤ◌, length, slice_index_or};
 ghost use Rattle.vr_parts.specs.Bounds.{IsAddedByChange, IsAddedByList};
 ghost use Rattle.vr_routes.specs.Pairs.{without_two};
-ghost use Rattle.vr_arccosts.specs.Runs.{at_place, before_place, gap_added, pair_added, place_of, IsRest};
+ghost use Rattle.vr_arccosts.specs.Runs.{at_place, before_place, gap_added, pair_added, place_among_all, IsRest};
 
 use crate::costs::ArcCosts;
 use crate::gaps::{Asked, Ends};
@@ -147,7 +147,7 @@ impl<'a, 'm> Rest<'a, 'm> {
 fn place_of(place: u32, lo: u32, hi: u32) -> u32
     requires order { lo < hi }
     requires few { place ≤ 1000 }
-    ensures { result ≡ place_of place lo hi }
+    ensures { result ≡ place_among_all place lo hi }
 {
     if place < lo {
         return place;

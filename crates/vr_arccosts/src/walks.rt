@@ -8,7 +8,7 @@ ghost use Rattle.vr_model.specs.routes.Routes.{route};
 ghost use Rattle.vr_routes.specs.declared.pieces.Piece.TheVariants.{Chain};
 ghost use Rattle.vr_routes.specs.Pieces.{joined, nodes_of, IsWithin};
 ghost use Rattle.vr_balance.specs.Sums.{last_of, path_sum};
-ghost use Rattle.vr_arccosts.specs.Chains.{chain_sum, first_of, turned};
+ghost use Rattle.vr_arccosts.specs.Chains.{chain_sum, first_node_or, turned};
 ghost use Rattle.vr_arccosts.specs.Along.{between_cost, HaveAlong};
 ghost use Rattle.vr_arccosts.specs.Bounds.{IsChainCost, IsGapCost, IsPathCost, IsPieceFurther};
 
@@ -86,7 +86,7 @@ impl<'a, 'm> Gap<'a, 'm> {
     #[inline(always)]
     fn node_behind(&self) -> u32
         ensures value { let of = self.now.of in
-            result ≡ first_of (drop self.now.behind (route of.routes.now.lists of.costs.now.vehicle))
+            result ≡ first_node_or (drop self.now.behind (route of.routes.now.lists of.costs.now.vehicle))
             (vehicle_at of.costs.now.model.now of.costs.now.vehicle).end }
         ensures known { result < self.now.of.costs.now.model.now.nodes }
     {

@@ -3,7 +3,7 @@ use Rattle.std.proofs.Common.{◌≡◌, ℕ, ◌+◌, ◌<◌, ◌≤◌, Bool,
 use Rattle.std.specs.Prelude.{is_some}
 use Rattle.vr_model.specs.tables.Numbers.{from_to}
 use Rattle.vr_model.proofs.tables.Ranges.{walk_opens, walk_ends}
-use Rattle.vr_check.specs.Findings.{where_wrong, earlier, first_of}
+use Rattle.vr_check.specs.Findings.{where_wrong, earlier, first_finding}
 use Rattle.vr_check.specs.declared.finding.Spot.{Spot}
 
 -- a test that passes where something is right finds nothing
@@ -25,14 +25,14 @@ is_none : {B : Type 0} (o : Option B) → is_some o ≡ false → o ≡ None
 is_none None h = refl
 is_none (Some x) h = absurd (cc)
 
-module _ {B : Type 0} (f : ℕ → Option B) (n : ℕ) {whole : Option B} (k : ℕ) (left : first_of f (from_to k n) ≡ whole) where
+module _ {B : Type 0} (f : ℕ → Option B) (n : ℕ) {whole : Option B} (k : ℕ) (left : first_finding f (from_to k n) ≡ whole) where
   -- a number gave something
   pub finds : k < n → {x : B} → f k ≡ Some x → Some x ≡ whole
-  finds low h = sym (ap (λ o. earlier o (first_of f (from_to (k + 1) n))) h) ∙ walk_opens (first_of f) n k left low
+  finds low h = sym (ap (λ o. earlier o (first_finding f (from_to (k + 1) n))) h) ∙ walk_opens (first_finding f) n k left low
 
   -- a number gave nothing
-  pub goes_on : k < n → f k ≡ None → first_of f (from_to (k + 1) n) ≡ whole
-  goes_on low h = sym (ap (λ o. earlier o (first_of f (from_to (k + 1) n))) h) ∙ walk_opens (first_of f) n k left low
+  pub goes_on : k < n → f k ≡ None → first_finding f (from_to (k + 1) n) ≡ whole
+  goes_on low h = sym (ap (λ o. earlier o (first_finding f (from_to (k + 1) n))) h) ∙ walk_opens (first_finding f) n k left low
 
   -- what a number gave is there
   pub found : k < n → {o : Option B} → o ≡ f k → is_some o ≡ true → o ≡ whole
@@ -43,9 +43,9 @@ module _ {B : Type 0} (f : ℕ → Option B) (n : ℕ) {whole : Option B} (k : �
       go None is h = absurd (cc)
 
   -- what a number gave is not there
-  pub passed_by : k < n → {o : Option B} → o ≡ f k → is_some o ≡ false → first_of f (from_to (k + 1) n) ≡ whole
+  pub passed_by : k < n → {o : Option B} → o ≡ f k → is_some o ≡ false → first_finding f (from_to (k + 1) n) ≡ whole
   passed_by low {o} is h = goes_on low (sym is ∙ is_none o h)
 
   -- no number gave anything
   pub ends : n ≤ k → None ≡ whole
-  ends high = walk_ends (first_of f) n k left high
+  ends high = walk_ends (first_finding f) n k left high

@@ -14,7 +14,7 @@ use Rattle.vr_printed.specs.declared.printed.Printed.{Printed}
 use Rattle.vr_printed.specs.declared.printed.PrintedPlan.{PrintedPlan}
 use Rattle.vr_printed.specs.declared.printed.PrintedRoute.{PrintedRoute}
 use Rattle.vr_printed.proofs.Shaped.{lengths_of, plans_few, route_shaped, routes_count, visits_long}
-use Rattle.vr_check.specs.Kept.{FitsLine, IsLineOf, IsRouteOf, IsSolutionOf}
+use Rattle.vr_check.specs.Kept.{FitsLine, IsLineOfModel, IsRouteOf, IsSolutionOf}
 use Rattle.vr_check.proofs.PrintedLists.{route_is}
 
 module _ (model : Model) (printed : Printed) (lists : List (List ℕ)) (routes : List PrintedRoute) (of : IsSolutionOf model printed lists routes) where
@@ -44,7 +44,7 @@ module _ (model : Model) (printed : Printed) (lists : List (List ℕ)) (routes :
 
 module _ (model : Model) (v : ℕ) (list : List ℕ) (route : PrintedRoute) (of : IsRouteOf model v list route) (d : ℕ) (low : d < length route.plans) where
   -- the line of a plan
-  pub line_kept : IsWellFormed model → IsLineOf model d v list
+  pub line_kept : IsWellFormed model → IsLineOfModel model d v list
   line_kept well = record { well_formed = well; dimension = (lengths_of model v route of.shaped d low).dimension; vehicle = of.vehicle; visits = of.visits; few = of.few }
 
   -- the plan itself

@@ -5,7 +5,7 @@ use Rattle.std.specs.List.{list_all, range_with_len}
 use Rattle.std.proofs.lemmas.Bool.{cases_lt}
 use Rattle.vr_model.specs.tables.Numbers.{below}
 use Rattle.vr_model.specs.deciding.Testing.{and_both}
-use Rattle.vr_check.specs.Findings.{where_wrong, earlier, first_of, unless_broken}
+use Rattle.vr_check.specs.Findings.{where_wrong, earlier, first_finding, unless_broken}
 use Rattle.vr_check.specs.declared.finding.Finding.{Finding}
 use Rattle.vr_check.specs.declared.finding.Finding.TheVariants.{Meets}
 use Rattle.vr_check.specs.declared.finding.Rule.{Rule}
@@ -24,14 +24,14 @@ rest_is : {B : Type 0} (o r : Option B) → earlier o r ≡ None → r ≡ None
 rest_is None r h = h
 rest_is (Some x) r h = absurd (cc)
 
-in_range : {B : Type 0} (f : ℕ → Option B) (a n : ℕ) → first_of f (range_with_len a n) ≡ None → (k : ℕ) → a ≤ k → k < a + n → f k ≡ None
+in_range : {B : Type 0} (f : ℕ → Option B) (a n : ℕ) → first_finding f (range_with_len a n) ≡ None → (k : ℕ) → a ≤ k → k < a + n → f k ≡ None
 in_range f a zero h k low high = absurd (omega arith)
 in_range f a (suc n) h k low high = elim (cases_lt a k) [
   | inl later ↦ in_range f (a + 1) n (rest_is (f a) _ h) k (omega arith) (omega arith)
   | inr first ↦ (let e : a ≡ k = omega arith in subst (λ i. f i ≡ None) e (first_is (f a) _ h))
 ]
 
-pub at_none : {B : Type 0} (f : ℕ → Option B) (n : ℕ) → first_of f (below n) ≡ None → (k : ℕ) → k < n → f k ≡ None
+pub at_none : {B : Type 0} (f : ℕ → Option B) (n : ℕ) → first_finding f (below n) ≡ None → (k : ℕ) → k < n → f k ≡ None
 at_none f n h k low = in_range f 0 n h k (omega arith) (omega arith)
 
 pub is_right : (b : Bool) (s : Spot) → where_wrong (not b) s ≡ None → b ≡ true

@@ -9,12 +9,12 @@ use Rattle.vr_model.specs.declared.records.StopRow.{StopRow}
 use Rattle.vr_check.specs.declared.asked.AskedLine.{AskedLine}
 
 -- the line that is asked
-abbrev pub line_of : AskedLine → Line
-line_of it = line it.model.now it.d it.v it.list.now
+abbrev pub asked_line : AskedLine → Line
+asked_line it = line it.model.now it.d it.v it.list.now
 
 -- how many arcs it has
-abbrev pub arcs_of : AskedLine → ℕ
-arcs_of it = length it.list.now + 1
+abbrev pub arc_count : AskedLine → ℕ
+arc_count it = length it.list.now + 1
 
 -- the node at stop k
 abbrev pub stop_node : AskedLine → ℕ → ℕ

@@ -47,8 +47,8 @@ parts_of_plan of = record {
 }
 
 -- the plan of a route in dimension d
-abbrev pub plan_at : VehicleRoute → ℕ → PlanParts
-plan_at on d = record {
+abbrev pub plan_parts_at : VehicleRoute → ℕ → PlanParts
+plan_parts_at on d = record {
   model = on.closed.model.now;
   d = d;
   v = on.v;

@@ -13,7 +13,7 @@ use Rattle.vr_printed.specs.declared.printed.PrintedPlan.{PrintedPlan}
 use Rattle.vr_printed.specs.declared.printed.PrintedRoute.{PrintedRoute}
 
 -- a line of a model: its numbers are in range, and its list holds visits, at most 1000
-pub record IsLineOf (model : Model) (d v : ℕ) (list : List ℕ) : Type 0 where
+pub record IsLineOfModel (model : Model) (d v : ℕ) (list : List ℕ) : Type 0 where
   pub well_formed : IsWellFormed model
   pub dimension : d < length model.dimensions
   pub vehicle : v < length model.vehicles

@@ -4,7 +4,7 @@ use Rattle.vr_model.specs.tables.Numbers.{below}
 use Rattle.vr_model.specs.tables.Tables.{vehicle_at, is_visit}
 use Rattle.vr_model.specs.routes.Routes.{route, holds, is_active}
 use Rattle.vr_model.specs.declared.records.Model.{Model}
-use Rattle.vr_check.specs.Findings.{spot, where_wrong, first_of}
+use Rattle.vr_check.specs.Findings.{spot, where_wrong, first_finding}
 use Rattle.vr_printed.specs.Printed.{nodes_at}
 use Rattle.vr_check.specs.declared.finding.Spot.{Spot}
 use Rattle.vr_printed.specs.declared.printed.PrintedRoute.{PrintedRoute}
@@ -25,14 +25,14 @@ ends_broken_at model v nodes k = where_wrong (not (is_right_node model v nodes k
 
 -- where the nodes of a route are not the start of its vehicle, visits, and its end
 abbrev pub ends_broken_of : Model → ℕ → List ℕ → Option Spot
-ends_broken_of model v nodes = first_of (ends_broken_at model v nodes) (below (length nodes))
+ends_broken_of model v nodes = first_finding (ends_broken_at model v nodes) (below (length nodes))
 
 -- the rule of the ends, vehicle after vehicle
 abbrev pub ends_broken_in : Model → List PrintedRoute → ℕ → Option Spot
 ends_broken_in model routes v = ends_broken_of model v (nodes_at routes v)
 
 abbrev pub ends_broken : Model → List PrintedRoute → Option Spot
-ends_broken model routes = first_of (ends_broken_in model routes) (below (length routes))
+ends_broken model routes = first_finding (ends_broken_in model routes) (below (length routes))
 
 -- the visit at place k of list v stands in an earlier list, or earlier in its own
 abbrev pub stands_before : List (List ℕ) → ℕ → List ℕ → ℕ → Bool
@@ -44,11 +44,11 @@ once_broken_at lists v list k = where_wrong (stands_before lists v list k) (spot
 
 -- where a visit of a list stood earlier
 abbrev pub once_broken_of : List (List ℕ) → ℕ → List ℕ → Option Spot
-once_broken_of lists v list = first_of (once_broken_at lists v list) (below (length list))
+once_broken_of lists v list = first_finding (once_broken_at lists v list) (below (length list))
 
 abbrev pub once_broken_in : List (List ℕ) → ℕ → Option Spot
 once_broken_in lists v = once_broken_of lists v (route lists v)
 
 -- the rule that each visit stands once
 abbrev pub once_broken : List (List ℕ) → Option Spot
-once_broken lists = first_of (once_broken_in lists) (below (length lists))
+once_broken lists = first_finding (once_broken_in lists) (below (length lists))

@@ -7,7 +7,7 @@ use Rattle.vr_model.specs.schedules.Schedules.{Plan, both_sides, allows, cumul, 
 use Rattle.vr_model.specs.schedules.Schedules.{break_start, break_end, break_time}
 use Rattle.vr_model.specs.deciding.ScheduleTests.{slack_is, is_placed}
 use Rattle.vr_model.specs.declared.records.Model.{Model}
-use Rattle.vr_check.specs.Findings.{spot, where_wrong, first_of}
+use Rattle.vr_check.specs.Findings.{spot, where_wrong, first_finding}
 use Rattle.vr_printed.specs.Printed.{plan_of, visits_of, no_route}
 use Rattle.vr_printed.specs.Shape.{plan_in}
 use Rattle.vr_check.specs.declared.finding.Spot.{Spot}
@@ -20,7 +20,7 @@ cumul_broken_at line v plan k = where_wrong (not (allows line k (cumul plan k)))
 
 -- where a stop does not allow its cumul
 abbrev pub cumul_broken : Line → ℕ → Plan → Option Spot
-cumul_broken line v plan = first_of (cumul_broken_at line v plan) (below (length plan.cumuls))
+cumul_broken line v plan = first_finding (cumul_broken_at line v plan) (below (length plan.cumuls))
 
 -- a slack is what its cumuls leave over the transit, and in 0..=slack_max
 abbrev pub is_right_slack : Line → Plan → ℕ → Bool
@@ -31,7 +31,7 @@ slack_broken_at line v plan k = where_wrong (not (is_right_slack line plan k)) (
 
 -- where a slack is wrong
 abbrev pub slack_broken : Line → ℕ → Plan → Option Spot
-slack_broken line v plan = first_of (slack_broken_at line v plan) (below (length plan.slacks))
+slack_broken line v plan = first_finding (slack_broken_at line v plan) (below (length plan.slacks))
 
 -- break i starts in its range
 abbrev pub starts_in_range : Line → Plan → ℕ → Bool
@@ -82,11 +82,11 @@ plan_broken_in rule model v route d =
 
 -- dimension after dimension
 abbrev pub route_broken : PlanRule → Model → ℕ → PrintedRoute → Option Spot
-route_broken rule model v route = first_of (plan_broken_in rule model v route) (below (length route.plans))
+route_broken rule model v route = first_finding (plan_broken_in rule model v route) (below (length route.plans))
 
 abbrev pub route_broken_at : PlanRule → Model → List PrintedRoute → ℕ → Option Spot
 route_broken_at rule model routes v = route_broken rule model v (slice_index_or routes v no_route)
 
 -- vehicle after vehicle
 abbrev pub routes_broken : PlanRule → Model → List PrintedRoute → Option Spot
-routes_broken rule model routes = first_of (route_broken_at rule model routes) (below (length routes))
+routes_broken rule model routes = first_finding (route_broken_at rule model routes) (below (length routes))

@@ -6,7 +6,7 @@ use Rattle.vr_model.specs.routes.Routes.{is_same, inactive}
 use Rattle.vr_model.specs.routes.Rules.{active_in, fits_group, is_grouped, has_enough}
 use Rattle.vr_model.specs.declared.records.Model.{Model}
 use Rattle.vr_model.specs.declared.records.Group.{Group}
-use Rattle.vr_check.specs.Findings.{spot_of_none, nowhere, where_wrong, first_of}
+use Rattle.vr_check.specs.Findings.{spot_of_none, nowhere, where_wrong, first_finding}
 use Rattle.vr_check.specs.declared.finding.Spot.{Spot}
 
 -- the rule that the inactive visits are dropped, ascending
@@ -22,7 +22,7 @@ required_broken_at model lists node = where_wrong (is_missing model lists node) 
 
 -- the rule that each visit in no group is active: the least node that is not
 abbrev pub required_broken : Model → List (List ℕ) → Option Spot
-required_broken model lists = first_of (required_broken_at model lists) (below model.nodes)
+required_broken model lists = first_finding (required_broken_at model lists) (below model.nodes)
 
 -- a group has no more active nodes than it may have, and exactly as many where it has no penalty
 abbrev pub has_right_number : List (List ℕ) → Group → Bool
@@ -40,4 +40,4 @@ group_broken_at model lists g = where_wrong (not (has_right_number lists (group_
 
 -- the rule on groups
 abbrev pub group_broken : Model → List (List ℕ) → Option Spot
-group_broken model lists = first_of (group_broken_at model lists) (below (length model.groups))
+group_broken model lists = first_finding (group_broken_at model lists) (below (length model.groups))

@@ -11,7 +11,7 @@ ghost use Rattle.vr_model.specs.schedules.Schedules as schedules;
 ghost use Rattle.vr_model.specs.schedules.Schedules.{arc_at};
 ghost use Rattle.vr_model.specs.tables.WellFormed.{IsStopRow, WherePresent};
 ghost use Rattle.vr_model.specs.tables.WellFormedOnce.{IsWellFormed-prop};
-ghost use Rattle.vr_check.specs.Kept.{IsLineOf};
+ghost use Rattle.vr_check.specs.Kept.{IsLineOfModel};
 
 use vr_model::{BreakRow, Dimension, Interval, Model, StopRow};
 
@@ -22,7 +22,7 @@ pub(crate) struct AskedLine<'a> {
     pub(crate) d: usize,
     pub(crate) v: usize,
     pub(crate) list: &'a [u32],
-    pub ghost known: { IsLineOf model.now d v list.now } by { Prim.hlevel (props, IsWellFormed-prop) },
+    pub ghost known: { IsLineOfModel model.now d v list.now } by { Prim.hlevel (props, IsWellFormed-prop) },
 }
 
 // Whether a number lies in an interval.
@@ -84,7 +84,7 @@ fn capacity_of(dimension: &Dimension, v: usize) -> i64
 
 impl<'a> AskedLine<'a> {
     ghost use Rattle.vr_check.specs.Asked as asked_lines;
-    ghost use Rattle.vr_check.specs.Asked.{arcs_of, line_of, row_at_stop};
+    ghost use Rattle.vr_check.specs.Asked.{arc_count, asked_line, row_at_stop};
 
     // The number of the vehicle.
     fn vehicle(&self) -> u32
@@ -102,7 +102,7 @@ impl<'a> AskedLine<'a> {
 
     /// The row of a stop.
     pub(crate) fn row(&self, k: usize) -> Option<&'a StopRow>
-        requires stop { k ≤ arcs_of self.now }
+        requires stop { k ≤ arc_count self.now }
         ensures value { option_copied result ≡ row_at_stop self.now k }
         ensures valid { WherePresent IsStopRow (option_copied result) }
     {
@@ -118,7 +118,7 @@ impl<'a> AskedLine<'a> {
 
     // Whether the capacity and the row of a stop allow a cumul.
     fn is_let(&self, k: usize, x: i64) -> bool
-        requires stop { k ≤ arcs_of self.now }
+        requires stop { k ≤ arc_count self.now }
         ensures { result ≡ asked_lines.is_let self.now k x }
     {
         let capacity = capacity_of(self.dimension(), self.v);
@@ -134,23 +134,23 @@ impl<'a> AskedLine<'a> {
 
     /// Whether a stop allows a cumul.
     pub(crate) fn allows(&self, k: usize, x: i64) -> bool
-        requires stop { k ≤ arcs_of self.now }
-        ensures { result ≡ schedules.allows (line_of self.now) k x }
+        requires stop { k ≤ arc_count self.now }
+        ensures { result ≡ schedules.allows (asked_line self.now) k x }
     {
         self.is_let(k, x) && self.is_start_free(k, x)
     }
 
     /// How many arcs there are.
     pub(crate) fn arcs(&self) -> usize
-        ensures count { result ≡ arcs_of self.now }
-        ensures line { result ≡ length (line_of self.now).arcs }
+        ensures count { result ≡ arc_count self.now }
+        ensures line { result ≡ length (asked_line self.now).arcs }
     {
         self.list.len() + 1
     }
 
     // The node at a stop.
     fn node(&self, k: usize) -> u32
-        requires stop { k ≤ arcs_of self.now }
+        requires stop { k ≤ arc_count self.now }
         ensures value { result ≡ asked_lines.stop_node self.now k }
         ensures within { result < self.now.model.now.nodes }
     {
@@ -165,8 +165,8 @@ impl<'a> AskedLine<'a> {
 
     /// The transit of an arc.
     pub(crate) fn transit(&self, k: usize) -> i64
-        requires arc { k < arcs_of self.now }
-        ensures value { result ≡ (arc_at (line_of self.now) k).transit }
+        requires arc { k < arc_count self.now }
+        ensures value { result ≡ (arc_at (asked_line self.now) k).transit }
         ensures least { neg_ℤ (pos (2 ^ 31)) ≤ℤ result }
         ensures greatest { result ≤ℤ pos (2 ^ 31) }
     {
@@ -177,22 +177,22 @@ impl<'a> AskedLine<'a> {
 
     /// The visit time at the start of an arc.
     pub(crate) fn visit(&self, k: usize) -> i64
-        requires arc { k < arcs_of self.now }
-        ensures value { result ≡ (arc_at (line_of self.now) k).visit }
+        requires arc { k < arc_count self.now }
+        ensures value { result ≡ (arc_at (asked_line self.now) k).visit }
     {
         visit_of(self.dimension(), self.node(k))
     }
 
     /// The breaks, in order.
     pub(crate) fn breaks(&self) -> &'a [BreakRow]
-        ensures { result.now ≡ (line_of self.now).breaks }
+        ensures { result.now ≡ (asked_line self.now).breaks }
     {
         self.dimension().breaks_of(self.vehicle())
     }
 
     /// The greatest slack.
     pub(crate) fn slack_max(&self) -> i64
-        ensures { result ≡ (line_of self.now).slack_max }
+        ensures { result ≡ (asked_line self.now).slack_max }
     {
         self.dimension().slack_max
     }

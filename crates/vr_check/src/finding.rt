@@ -1,7 +1,7 @@
 //! What a check finds.
 
 ghost use Rattle.std.specs.Prelude.{◌≡◌, ◌<◌, ◌^◌};
-ghost use Rattle.vr_check.specs.Check.{word_of};
+ghost use Rattle.vr_check.specs.Check.{rule_word};
 ghost use Rattle.vr_check.specs.Findings.{broken_at, spot_of_none, spot_of_vehicle};
 ghost use Rattle.vr_check.specs.Findings as findings;
 
@@ -119,7 +119,7 @@ impl Spot {
 impl Rule {
     /// The word of the rule: its name in lower case, its words joined by `_`.
     pub fn word(self) -> &'static str
-        ensures { result.now ≡ word_of self }
+        ensures { result.now ≡ rule_word self }
     {
         match self {
             Rule::Shape => "shape",

@@ -4,7 +4,7 @@ ghost use Rattle.std.specs.Prelude.{◌≡◌, ◌<◌, length, pos};
 ghost use Rattle.vr_model.specs.tables.Numbers.{within};
 ghost use Rattle.vr_model.specs.schedules.Schedules.{cumul, slack};
 ghost use Rattle.vr_model.specs.deciding.ScheduleTests.{slack_is};
-ghost use Rattle.vr_check.specs.Asked.{line_of};
+ghost use Rattle.vr_check.specs.Asked.{asked_line};
 ghost use Rattle.vr_check.specs.Plans as plans;
 ghost use Rattle.vr_check.specs.Plans.{break_broken, cumul_broken, plan_broken, route_broken, routes_broken};
 ghost use Rattle.vr_check.specs.Plans.{slack_broken};
@@ -26,7 +26,7 @@ pub(crate) enum PlanRule {
 
 // Where a stop does not allow its cumul.
 fn refused_cumul(of: &LinePlan<'_>) -> Option<Spot>
-    ensures { result ≡ cumul_broken (line_of of.now.asked) of.now.asked.v (plan_of of.now.plan.now) }
+    ensures { result ≡ cumul_broken (asked_line of.now.asked) of.now.asked.v (plan_of of.now.plan.now) }
 {
     for k in 0..of.plan.cumuls.len() {
         if !of.asked.allows(k, cumul_at(of.plan, k)) {
@@ -55,7 +55,7 @@ pub(crate) fn cumul_at(plan: &PrintedPlan, k: usize) -> i64
 // What the cumuls of an arc leave over its transit.
 fn left_over(of: &LinePlan<'_>, k: usize) -> i128
     requires arc { k < length of.now.plan.now.slacks }
-    ensures { result ≡ terms.left_over (line_of of.now.asked) (plan_of of.now.plan.now) k }
+    ensures { result ≡ terms.left_over (asked_line of.now.asked) (plan_of of.now.plan.now) k }
 {
     let span = i128::from(cumul_at(of.plan, k + 1)) - i128::from(cumul_at(of.plan, k));
     span - i128::from(of.asked.transit(k))
@@ -64,7 +64,7 @@ fn left_over(of: &LinePlan<'_>, k: usize) -> i128
 // Whether a slack is what its cumuls leave over the transit.
 fn is_left(of: &LinePlan<'_>, k: usize) -> bool
     requires arc { k < length of.now.plan.now.slacks }
-    ensures { result ≡ slack_is (line_of of.now.asked) (plan_of of.now.plan.now) k }
+    ensures { result ≡ slack_is (asked_line of.now.asked) (plan_of of.now.plan.now) k }
 {
     i128::from(slack_at(of.plan, k)) == left_over(of, k)
 }
@@ -79,14 +79,14 @@ fn is_bounded(greatest: i64, number: i64) -> bool
 // Whether a slack is right.
 fn is_right_slack(of: &LinePlan<'_>, k: usize) -> bool
     requires arc { k < length of.now.plan.now.slacks }
-    ensures { result ≡ plans.is_right_slack (line_of of.now.asked) (plan_of of.now.plan.now) k }
+    ensures { result ≡ plans.is_right_slack (asked_line of.now.asked) (plan_of of.now.plan.now) k }
 {
     is_left(of, k) && is_bounded(of.asked.slack_max(), slack_at(of.plan, k))
 }
 
 // Where a slack is wrong.
 fn wrong_slack(of: &LinePlan<'_>) -> Option<Spot>
-    ensures { result ≡ slack_broken (line_of of.now.asked) of.now.asked.v (plan_of of.now.plan.now) }
+    ensures { result ≡ slack_broken (asked_line of.now.asked) of.now.asked.v (plan_of of.now.plan.now) }
 {
     for k in 0..of.plan.slacks.len() {
         if !is_right_slack(of, k) {
@@ -98,7 +98,7 @@ fn wrong_slack(of: &LinePlan<'_>) -> Option<Spot>
 
 // Where the breaks of a plan are wrong.
 fn wrong_breaks(of: &LinePlan<'_>) -> Option<Spot>
-    ensures { result ≡ break_broken (line_of of.now.asked) of.now.asked.d of.now.asked.v (plan_of of.now.plan.now) }
+    ensures { result ≡ break_broken (asked_line of.now.asked) of.now.asked.d of.now.asked.v (plan_of of.now.plan.now) }
 {
     if are_breaks_right(of) {
         None
@@ -109,7 +109,8 @@ fn wrong_breaks(of: &LinePlan<'_>) -> Option<Spot>
 
 // Where a rule is broken in a plan.
 fn wrong_plan(rule: PlanRule, of: &LinePlan<'_>) -> Option<Spot>
-    ensures { result ≡ plan_broken rule (line_of of.now.asked) of.now.asked.d of.now.asked.v (plan_of of.now.plan.now) }
+    ensures { result ≡ plan_broken rule (asked_line of.now.asked) of.now.asked.d of.now.asked.v
+        (plan_of of.now.plan.now) }
 {
     match rule {
         PlanRule::Cumul => refused_cumul(of),

@@ -48,12 +48,12 @@ pub(crate) struct VehicleRoute<'a> {
 }
 
 impl<'a> VehicleRoute<'a> {
-    ghost use Rattle.vr_check.specs.Handed.{parts_of_plan, plan_at};
+    ghost use Rattle.vr_check.specs.Handed.{parts_of_plan, plan_parts_at};
 
     /// The plan in a dimension.
     pub(crate) fn plan(&self, d: usize) -> LinePlan<'a>
         requires { d < length self.now.route.now.plans }
-        ensures { parts_of_plan result ≡ plan_at self.now d }
+        ensures { parts_of_plan result ≡ plan_parts_at self.now d }
     {
         let asked = AskedLine {
             model: self.closed.model,

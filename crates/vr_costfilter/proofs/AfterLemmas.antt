@@ -12,10 +12,10 @@ use Rattle.vr_model.specs.tables.WellFormed.{IsIn, IsWellFormed}
 use Rattle.vr_model.specs.declared.records.Model.{Model}
 use Rattle.vr_spans.specs.declared.runs.Run.{Run}
 use Rattle.vr_plan.specs.Bounds.{cumul_cost}
-use Rattle.vr_costfilter.specs.Floors.{end_step, first_of, first_step, nodes_in, AreAimed, IsVisitStep, WentBack}
+use Rattle.vr_costfilter.specs.Floors.{end_step, first_step_or, first_step, nodes_in, AreAimed, IsVisitStep, WentBack}
 use Rattle.vr_costfilter.specs.Steps.{AreSteps, HasLed, HasSetOut}
 use Rattle.vr_costfilter.specs.Runs.{starting, Runs, AllowsRuns}
-use Rattle.vr_costfilter.specs.Stages.{along, paid_more, setting_out, whole}
+use Rattle.vr_costfilter.specs.Stages.{along, paid_more, setting_out, along_to_end}
 use Rattle.vr_costfilter.specs.declared.guides.Stage.{Stage}
 use Rattle.vr_costfilter.specs.declared.steps.Lead.{Lead}
 use Rattle.vr_costfilter.specs.declared.steps.Outset.{Outset}
@@ -74,7 +74,7 @@ module _ {model : Model} {d v : ℕ} {runs : Runs} {old : List ℕ} {steps : Lis
   abbrev last : Step
   last = end_step model v runs
 
-  next-first : first_of (drop behind steps) last ≡ next
+  next-first : first_step_or (drop behind steps) last ≡ next
   next-first = get_or-drop behind steps 0 last ∙ ap (λ n. slice_index_or steps n last) (let e : behind + 0 ≡ behind = omega arith in e) ∙ sym around.next_is
 
   behind-aimed : AreAimed model d v runs (drop behind steps) last
@@ -115,8 +115,8 @@ module _ {model : Model} {d v : ℕ} {runs : Runs} {old : List ℕ} {steps : Lis
     abbrev by : Runs
     by = starting runs start
 
-    left-first : first_of left last ≡ first
-    left-first = first-append back.steps (drop behind steps) last ∙ ap (first_of back.steps) next-first ∙ sym back.first_is
+    left-first : first_step_or left last ≡ first
+    left-first = first-append back.steps (drop behind steps) last ∙ ap (first_step_or back.steps) next-first ∙ sym back.first_is
 
     aimed : AreAimed model d v runs (fronts ++ left) last
     aimed = aimed-append model d v runs fronts left last (subst (AreAimed model d v runs fronts) (sym left-first) led.aimed)
@@ -130,54 +130,54 @@ module _ {model : Model} {d v : ℕ} {runs : Runs} {old : List ℕ} {steps : Lis
       aimed = record { each = aimed.each };
     }
 
-    first-is : first_of (fronts ++ left) last ≡ lead.first
-    first-is = first-append fronts left last ∙ ap (first_of fronts) left-first ∙ sym led.first_is
+    first-is : first_step_or (fronts ++ left) last ≡ lead.first
+    first-is = first-append fronts left last ∙ ap (first_step_or fronts) left-first ∙ sym led.first_is
 
     -- from a stage behind the kept steps
-    from-met : (met : Stage) → whole model d v runs (Some met) (led.steps ++ left) ≡ whole model d v runs (along model d v runs (Some met) (reverse trail)) (drop behind steps)
+    from-met : (met : Stage) → along_to_end model d v runs (Some met) (led.steps ++ left) ≡ along_to_end model d v runs (along model d v runs (Some met) (reverse trail)) (drop behind steps)
     from-met met =
         whole-append model d v runs (Some met) led.steps left
         ∙ whole-append model d v runs (along model d v runs (Some met) led.steps) back.steps (drop behind steps)
-        ∙ ap (λ o. whole model d v runs o (drop behind steps)) (sym (along-append model d v runs (Some met) led.steps back.steps)
+        ∙ ap (λ o. along_to_end model d v runs o (drop behind steps)) (sym (along-append model d v runs (Some met) led.steps back.steps)
         ∙ ap (along model d v runs (Some met)) (sym (trail-is model d v runs steps (take front old) middle next first between trail lead back led)))
 
     -- it does not come along them
     module _ (allows : AllowsRuns model d v (starting runs start) new (chosen_line model d v new)) where
-      unmet : whole model d v runs (setting_out model d v (starting runs start) lead.first) (fronts ++ left) ≡ None → is_feasible (chosen_line model d v new) ≡ false
+      unmet : along_to_end model d v runs (setting_out model d v (starting runs start) lead.first) (fronts ++ left) ≡ None → is_feasible (chosen_line model d v new) ≡ false
       unmet none =
           whole-unfeasible model d v (starting runs start) new (chosen_line model d v new) allows (fronts ++ left) new-steps
-          (ap (λ (s : Step). whole model d v (starting runs start) (setting_out model d v (starting runs start) s) (fronts ++ left)) first-is ∙ none)
+          (ap (λ (s : Step). along_to_end model d v (starting runs start) (setting_out model d v (starting runs start) s) (fronts ++ left)) first-is ∙ none)
 
       pub out-unmet : along model d v runs (setting_out model d v (starting runs start) lead.first) (take lead.place steps) ≡ None → is_feasible (chosen_line model d v new) ≡ false
       out-unmet none =
           let out : Option Stage = setting_out model d v (starting runs start) lead.first in
           unmet (whole-append model d v runs out fronts left
-          ∙ ap (λ o. whole model d v runs o left) (along-append model d v runs out (take lead.place steps) led.steps ∙ ap (λ o. along model d v runs o led.steps) none ∙ along-none model d v runs led.steps)
+          ∙ ap (λ o. along_to_end model d v runs o left) (along-append model d v runs out (take lead.place steps) led.steps ∙ ap (λ o. along model d v runs o led.steps) none ∙ along-none model d v runs led.steps)
           ∙ whole-none model d v runs left)
 
     -- it has come along the kept ones
     module _ {met : Outset} (out : HasSetOut model d v runs start steps lead met) where
-      from-out : whole model d v runs (Some out.first) (fronts ++ left) ≡ option_map (paid_more met.more) (whole model d v runs (Some met.stage) (led.steps ++ left))
+      from-out : along_to_end model d v runs (Some out.first) (fronts ++ left) ≡ option_map (paid_more met.more) (along_to_end model d v runs (Some met.stage) (led.steps ++ left))
       from-out =
           whole-append model d v runs (Some out.first) fronts left
-          ∙ ap (λ o. whole model d v runs o left) (along-append model d v runs (Some out.first) (take lead.place steps) led.steps ∙ ap (λ o. along model d v runs o led.steps) out.paced.gone)
+          ∙ ap (λ o. along_to_end model d v runs o left) (along-append model d v runs (Some out.first) (take lead.place steps) led.steps ∙ ap (λ o. along model d v runs o led.steps) out.paced.gone)
           ∙ sym (whole-append model d v runs (Some (paid_more met.more met.stage)) led.steps left)
           ∙ whole-shift model d v runs met.more (Some met.stage) (led.steps ++ left)
 
-      pub rest-unmet : AllowsRuns model d v (starting runs start) new (chosen_line model d v new) → whole model d v runs (along model d v runs (Some met.stage) (reverse trail)) (drop behind steps) ≡ None → is_feasible (chosen_line model d v new) ≡ false
+      pub rest-unmet : AllowsRuns model d v (starting runs start) new (chosen_line model d v new) → along_to_end model d v runs (along model d v runs (Some met.stage) (reverse trail)) (drop behind steps) ≡ None → is_feasible (chosen_line model d v new) ≡ false
       rest-unmet allows none =
-          unmet allows (ap (λ o. whole model d v runs o (fronts ++ left)) out.out ∙ from-out ∙ ap (option_map (paid_more met.more)) (from-met met.stage ∙ none))
+          unmet allows (ap (λ o. along_to_end model d v runs o (fronts ++ left)) out.out ∙ from-out ∙ ap (option_map (paid_more met.more)) (from-met met.stage ∙ none))
 
       -- and along the new ones to its end
-      module _ (gone end : Stage) (anew : along model d v runs (Some met.stage) (reverse trail) ≡ Some gone) (rest : whole model d v runs (Some gone) (drop behind steps) ≡ Some end) where
-        out-is : setting_out model d v (starting runs start) (first_of (fronts ++ left) (end_step model v (starting runs start))) ≡ Some out.first
+      module _ (gone end : Stage) (anew : along model d v runs (Some met.stage) (reverse trail) ≡ Some gone) (rest : along_to_end model d v runs (Some gone) (drop behind steps) ≡ Some end) where
+        out-is : setting_out model d v (starting runs start) (first_step_or (fronts ++ left) (end_step model v (starting runs start))) ≡ Some out.first
         out-is = ap (setting_out model d v (starting runs start)) first-is ∙ out.out
 
-        from-start : whole model d v runs (Some out.first) (fronts ++ left) ≡ Some (paid_more met.more end)
-        from-start = from-out ∙ ap (option_map (paid_more met.more)) (from-met met.stage ∙ ap (λ o. whole model d v runs o (drop behind steps)) anew ∙ rest)
+        from-start : along_to_end model d v runs (Some out.first) (fronts ++ left) ≡ Some (paid_more met.more end)
+        from-start = from-out ∙ ap (option_map (paid_more met.more)) (from-met met.stage ∙ ap (λ o. along_to_end model d v runs o (drop behind steps)) anew ∙ rest)
 
-        whole-is : whole model d v (starting runs start) (setting_out model d v (starting runs start) (first_of (fronts ++ left) (end_step model v (starting runs start)))) (fronts ++ left) ≡ Some (paid_more met.more end)
-        whole-is = ap (λ o. whole model d v (starting runs start) o (fronts ++ left)) out-is ∙ from-start
+        whole-is : along_to_end model d v (starting runs start) (setting_out model d v (starting runs start) (first_step_or (fronts ++ left) (end_step model v (starting runs start)))) (fronts ++ left) ≡ Some (paid_more met.more end)
+        whole-is = ap (λ o. along_to_end model d v (starting runs start) o (fronts ++ left)) out-is ∙ from-start
 
         module _ (law : ChosenIsLeast) (well : IsWellFormed model) (dimension : d < length model.dimensions) (allows : AllowsRuns model d v (starting runs start) new (chosen_line model d v new)) where
           -- the chosen schedule comes to what was found

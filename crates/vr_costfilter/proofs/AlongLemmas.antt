@@ -9,10 +9,10 @@ use Rattle.vr_model.specs.schedules.Narrowed.{chosen_line}
 use Rattle.vr_model.specs.tables.Tables.{vehicle_at}
 use Rattle.vr_model.specs.tables.WellFormed.{IsWellFormed}
 use Rattle.vr_model.specs.declared.records.Model.{Model}
-use Rattle.vr_costfilter.specs.Floors.{end_step, first_of, floor_of, AreAimed, IsVisitStep, WentBack}
+use Rattle.vr_costfilter.specs.Floors.{end_step, first_step_or, stop_floor, AreAimed, IsVisitStep, WentBack}
 use Rattle.vr_costfilter.specs.Steps.{AreSteps}
 use Rattle.vr_costfilter.specs.Runs.{Runs, AllowsRuns}
-use Rattle.vr_costfilter.specs.Stages.{along, setting_out, standing, to_end, whole}
+use Rattle.vr_costfilter.specs.Stages.{along, setting_out, stage_at_start, to_end, along_to_end}
 use Rattle.vr_costfilter.specs.declared.guides.Stage.{Stage}
 use Rattle.vr_costfilter.specs.declared.trails.Step.{Step}
 use Rattle.vr_costfilter.proofs.FeasibleLemmas.{whole-unfeasible}
@@ -29,32 +29,32 @@ module _ {model : Model} {d v : ℕ} {runs : Runs} {list : List ℕ} {next first
   steps-are : AreSteps model d v runs list back.steps
   steps-are = record { nodes_are = back.nodes_are; aimed = subst (AreAimed model d v runs back.steps) next_is back.aimed }
 
-  first-is : first_of back.steps (end_step model v runs) ≡ first
-  first-is = ap (first_of back.steps) (sym next_is) ∙ sym back.first_is
+  first-is : first_step_or back.steps (end_step model v runs) ≡ first
+  first-is = ap (first_step_or back.steps) (sym next_is) ∙ sym back.first_is
 
   -- there is no way on
   module _ (allows : AllowsRuns model d v runs list (chosen_line model d v list)) where
-    unmet : whole model d v runs (setting_out model d v runs first) (reverse trail) ≡ None → is_feasible (chosen_line model d v list) ≡ false
+    unmet : along_to_end model d v runs (setting_out model d v runs first) (reverse trail) ≡ None → is_feasible (chosen_line model d v list) ≡ false
     unmet none =
         whole-unfeasible model d v runs list (chosen_line model d v list) allows back.steps steps-are
-        (ap (λ (s : Step). whole model d v runs (setting_out model d v runs s) back.steps) first-is ∙ ap (whole model d v runs (setting_out model d v runs first)) (sym trail-is) ∙ none)
+        (ap (λ (s : Step). along_to_end model d v runs (setting_out model d v runs s) back.steps) first-is ∙ ap (along_to_end model d v runs (setting_out model d v runs first)) (sym trail-is) ∙ none)
 
-    pub floor-unmet : floor_of model d v (vehicle_at model v).start runs.start first ≡ None → is_feasible (chosen_line model d v list) ≡ false
-    floor-unmet none = unmet (ap (λ o. whole model d v runs (option_map (standing model d v) o) (reverse trail)) none ∙ whole-none model d v runs (reverse trail))
+    pub floor-unmet : stop_floor model d v (vehicle_at model v).start runs.start first ≡ None → is_feasible (chosen_line model d v list) ≡ false
+    floor-unmet none = unmet (ap (λ o. along_to_end model d v runs (option_map (stage_at_start model d v) o) (reverse trail)) none ∙ whole-none model d v runs (reverse trail))
 
-    pub gone-unmet : (floor : ℤ) → floor_of model d v (vehicle_at model v).start runs.start first ≡ Some floor → (stage : Stage) → stage ≡ standing model d v floor
+    pub gone-unmet : (floor : ℤ) → stop_floor model d v (vehicle_at model v).start runs.start first ≡ Some floor → (stage : Stage) → stage ≡ stage_at_start model d v floor
         → option_and_then (to_end model d v runs) (along model d v runs (Some stage) (reverse trail)) ≡ None → is_feasible (chosen_line model d v list) ≡ false
     gone-unmet floor floor_is stage stage_is none =
-        unmet (ap (λ o. whole model d v runs o (reverse trail)) (ap (option_map (standing model d v)) floor_is ∙ ap (λ (s : Stage). Some s) (sym stage_is)) ∙ none)
+        unmet (ap (λ o. along_to_end model d v runs o (reverse trail)) (ap (option_map (stage_at_start model d v)) floor_is ∙ ap (λ (s : Stage). Some s) (sym stage_is)) ∙ none)
 
-  module _ (floor : ℤ) (floor_is : floor_of model d v (vehicle_at model v).start runs.start first ≡ Some floor) (stage gone end : Stage) (stage_is : stage ≡ standing model d v floor)
+  module _ (floor : ℤ) (floor_is : stop_floor model d v (vehicle_at model v).start runs.start first ≡ Some floor) (stage gone end : Stage) (stage_is : stage ≡ stage_at_start model d v floor)
       (gone_is : along model d v runs (Some stage) (reverse trail) ≡ Some gone) (end_is : to_end model d v runs gone ≡ Some end) where
-    out : setting_out model d v runs (first_of back.steps (end_step model v runs)) ≡ Some stage
-    out = ap (setting_out model d v runs) first-is ∙ ap (option_map (standing model d v)) floor_is ∙ ap (λ (s : Stage). Some s) (sym stage_is)
+    out : setting_out model d v runs (first_step_or back.steps (end_step model v runs)) ≡ Some stage
+    out = ap (setting_out model d v runs) first-is ∙ ap (option_map (stage_at_start model d v)) floor_is ∙ ap (λ (s : Stage). Some s) (sym stage_is)
 
-    whole-is : whole model d v runs (setting_out model d v runs (first_of back.steps (end_step model v runs))) back.steps ≡ Some end
+    whole-is : along_to_end model d v runs (setting_out model d v runs (first_step_or back.steps (end_step model v runs))) back.steps ≡ Some end
     whole-is =
-        ap (λ o. whole model d v runs o back.steps) out
+        ap (λ o. along_to_end model d v runs o back.steps) out
         ∙ ap (option_and_then (to_end model d v runs)) (ap (along model d v runs (Some stage)) (sym trail-is) ∙ gone_is) ∙ end_is
 
     pub along-timed : ChosenIsLeast → IsWellFormed model → d < length model.dimensions → AllowsRuns model d v runs list (chosen_line model d v list) → length list ≤ 1000

@@ -17,7 +17,7 @@ use Rattle.vr_model.specs.schedules.Choices.{chosen}
 use Rattle.vr_model.specs.schedules.Lines.{line}
 use Rattle.vr_model.specs.schedules.Narrowed.{chosen_line}
 use Rattle.vr_model.specs.deciding.Testing.{and_left, and_right}
-use Rattle.vr_plan.specs.Timings.{plan_of}
+use Rattle.vr_plan.specs.Timings.{chosen_plan_of}
 use Rattle.vr_model.specs.schedules.Schedules.{IsChosen, Plan}
 use Rattle.vr_earliest.specs.Laws.{IsNoEarlier}
 use Rattle.vr_earliest.proofs.NoEarlier.{law}
@@ -36,14 +36,14 @@ module _ (model : Model) (lists : List (List ℕ)) (valid : IsTrue (is_valid mod
   unfolding is_valid
   opened = and_left (is_open model lists) _ (and_right (are_lists model lists) _ valid)
 
-  chosen-plan : IsChosen (chosen_line model d v (route lists v)) (plan_of model d v (route lists v))
+  chosen-plan : IsChosen (chosen_line model d v (route lists v)) (chosen_plan_of model d v (route lists v))
   chosen-plan =
       let feasible = (chosen_under_where_feasible (vehicle_at model v).schedule (line model d v (route lists v)) (stops_of_line model d v (route lists v))).1 (plan_at (assigned model lists) d v, open_meets_its_lines model lists opened d v low known used) in
-      (chosen_is_least (chosen_line model d v (route lists v)) (plan_of model d v (route lists v))).0 (there (chosen (chosen_line model d v (route lists v))) feasible)
+      (chosen_is_least (chosen_line model d v (route lists v)) (chosen_plan_of model d v (route lists v))).0 (there (chosen (chosen_line model d v (route lists v))) feasible)
     where
       there : (o : Option Plan) → IsTrue (is_some o) → o ≡ Some (unwrap_or o no_plan)
       there None h = absurd (let f : false ≡ true → ⊥ = λ e. Prim.cc in f h)
       there (Some p) h = refl
 
-  pub no-earlier : IsWellFormed model → IsNoEarlier model d v (route lists v) (plan_of model d v (route lists v))
-  no-earlier well = law model well d v low (route lists v) used (plan_of model d v (route lists v)) chosen-plan
+  pub no-earlier : IsWellFormed model → IsNoEarlier model d v (route lists v) (chosen_plan_of model d v (route lists v))
+  no-earlier well = law model well d v low (route lists v) used (chosen_plan_of model d v (route lists v)) chosen-plan

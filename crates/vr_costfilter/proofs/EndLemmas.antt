@@ -15,7 +15,7 @@ use Rattle.vr_model.specs.schedules.Lines.{Line}
 use Rattle.vr_model.specs.schedules.Schedules.{Plan, IsSchedule, IsFeasible, allows, arc_at, break_at, cumul, is_inside, slack}
 use Rattle.vr_model.specs.schedules.Tight.{end_of, IsLatestStart, IsLeastEnd}
 use Rattle.vr_costfilter.specs.Runs.{HasRuns, run_at}
-use Rattle.vr_costfilter.specs.Ways.{first_end, last_start, latest_to, time_at, transits_to}
+use Rattle.vr_costfilter.specs.Ways.{least_end_by, last_start, latest_to, time_at, transits_to}
 
 same-or-sooner : (k i : ℕ) → k ≤ suc i → (k ≤ i) ⊎ (k ≡ suc i)
 same-or-sooner k i le = Prim.grind arith
@@ -141,12 +141,12 @@ module _ (line : Line) (runs : List Run) (are : HasRuns line runs) where
   module _ (plan : Plan) (s : IsSchedule line plan) where
     -- not before the plan, and not before the time from which the end is reached without waiting
     abbrev soon : ℕ → ℤ
-    soon k = int_min (cumul plan k) (first_end line runs +ℤ (transits_to line k -ℤ transits_to line (length line.arcs)))
+    soon k = int_min (cumul plan k) (least_end_by line runs +ℤ (transits_to line k -ℤ transits_to line (length line.arcs)))
 
-    soon-is : (k : ℕ) → soon k ≡ int_min (cumul plan k) (first_end line runs +ℤ (transits_to line k -ℤ transits_to line (length line.arcs)))
+    soon-is : (k : ℕ) → soon k ≡ int_min (cumul plan k) (least_end_by line runs +ℤ (transits_to line k -ℤ transits_to line (length line.arcs)))
     soon-is k = refl
 
-    ends-soon : IsLeastEnd line (first_end line runs)
+    ends-soon : IsLeastEnd line (least_end_by line runs)
     ends-soon = record {
       reached = (made soon low high on most, made-schedule soon low high on most, made-is soon low high on most (length line.arcs) (omega arith) ∙ at);
       least = λ other o. time-least line runs are other o (length line.arcs) (omega arith);
@@ -157,50 +157,50 @@ module _ (line : Line) (runs : List Run) (are : HasRuns line runs) where
             let b = (bounds line runs are plan s k le).0 in
             let l = low-time k in
             let o = time-on k (length line.arcs) le in
-            let m = int_min_is (cumul plan k) (first_end line runs +ℤ (transits_to line k -ℤ transits_to line (length line.arcs))) in
+            let m = int_min_is (cumul plan k) (least_end_by line runs +ℤ (transits_to line k -ℤ transits_to line (length line.arcs))) in
             omega (arith, ints, b, l, o, m)
 
         high : (k : ℕ) → k ≤ length line.arcs → soon k ≤ℤ (run_at runs k).hi
         high k le =
             let b = (bounds line runs are plan s k le).1 in
-            let m = int_min_is (cumul plan k) (first_end line runs +ℤ (transits_to line k -ℤ transits_to line (length line.arcs))) in
+            let m = int_min_is (cumul plan k) (least_end_by line runs +ℤ (transits_to line k -ℤ transits_to line (length line.arcs))) in
             omega (arith, ints, b, m)
 
         on : (k : ℕ) → k < length line.arcs → (soon k +ℤ (arc_at line k).transit) ≤ℤ soon (suc k)
         on k less =
             let o = onward line runs are plan s k less in
-            let m = int_min_is (cumul plan k) (first_end line runs +ℤ (transits_to line k -ℤ transits_to line (length line.arcs))) in
-            let l = int_min_is (cumul plan (suc k)) (first_end line runs +ℤ (transits_to line (suc k) -ℤ transits_to line (length line.arcs))) in
+            let m = int_min_is (cumul plan k) (least_end_by line runs +ℤ (transits_to line k -ℤ transits_to line (length line.arcs))) in
+            let l = int_min_is (cumul plan (suc k)) (least_end_by line runs +ℤ (transits_to line (suc k) -ℤ transits_to line (length line.arcs))) in
             omega (arith, ints, o, m, l)
 
         most : (k : ℕ) → k < length line.arcs → soon (suc k) ≤ℤ ((soon k +ℤ (arc_at line k).transit) +ℤ line.slack_max)
         most k less =
             let o = onward line runs are plan s k less in
             let p = most-on line runs are plan s k less in
-            let m = int_min_is (cumul plan k) (first_end line runs +ℤ (transits_to line k -ℤ transits_to line (length line.arcs))) in
-            let l = int_min_is (cumul plan (suc k)) (first_end line runs +ℤ (transits_to line (suc k) -ℤ transits_to line (length line.arcs))) in
+            let m = int_min_is (cumul plan k) (least_end_by line runs +ℤ (transits_to line k -ℤ transits_to line (length line.arcs))) in
+            let l = int_min_is (cumul plan (suc k)) (least_end_by line runs +ℤ (transits_to line (suc k) -ℤ transits_to line (length line.arcs))) in
             omega (arith, ints, o, p, m, l)
 
-        at : soon (length line.arcs) ≡ first_end line runs
+        at : soon (length line.arcs) ≡ least_end_by line runs
         at =
             let b = time-least line runs are plan s (length line.arcs) (omega arith) in
-            let m = int_min_is (cumul plan (length line.arcs)) (first_end line runs +ℤ (transits_to line (length line.arcs) -ℤ transits_to line (length line.arcs))) in
+            let m = int_min_is (cumul plan (length line.arcs)) (least_end_by line runs +ℤ (transits_to line (length line.arcs) -ℤ transits_to line (length line.arcs))) in
             omega (arith, ints, b, m)
 
   -- ---- the latest start
 
-  start-most : (plan : Plan) → IsSchedule line plan → end_of line plan ≡ first_end line runs → cumul plan 0 ≤ℤ last_start line runs
+  start-most : (plan : Plan) → IsSchedule line plan → end_of line plan ≡ least_end_by line runs → cumul plan 0 ≤ℤ last_start line runs
   start-most plan s end =
       let a = latest-most line runs are plan s (length line.arcs) (omega arith) in
       let b = transits-most line runs are plan s (length line.arcs) (omega arith) in
-      let m = int_min_is (latest_to line runs (length line.arcs)) (first_end line runs -ℤ transits_to line (length line.arcs)) in
+      let m = int_min_is (latest_to line runs (length line.arcs)) (least_end_by line runs -ℤ transits_to line (length line.arcs)) in
       omega (arith, ints, a, b, m, end)
 
-  module _ (plan : Plan) (s : IsSchedule line plan) (end : end_of line plan ≡ first_end line runs) where
+  module _ (plan : Plan) (s : IsSchedule line plan) (end : end_of line plan ≡ least_end_by line runs) where
     abbrev late : ℕ → ℤ
     late k = int_max (cumul plan k) (last_start line runs +ℤ transits_to line k)
 
-    starts-late : IsLatestStart line (first_end line runs) (last_start line runs)
+    starts-late : IsLatestStart line (least_end_by line runs) (last_start line runs)
     starts-late = record {
       reached = (made late low high on most, made-schedule late low high on most, made-is late low high on most (length line.arcs) (omega arith) ∙ last, made-is late low high on most 0 (omega arith) ∙ first);
       greatest = λ other o e. start-most other o e;
@@ -216,7 +216,7 @@ module _ (line : Line) (runs : List Run) (are : HasRuns line runs) where
         high k le =
             let b = (bounds line runs are plan s k le).1 in
             let o = latest-on k (length line.arcs) le in
-            let l = int_min_is (latest_to line runs (length line.arcs)) (first_end line runs -ℤ transits_to line (length line.arcs)) in
+            let l = int_min_is (latest_to line runs (length line.arcs)) (least_end_by line runs -ℤ transits_to line (length line.arcs)) in
             let m = int_max_is (cumul plan k) (last_start line runs +ℤ transits_to line k) in
             omega (arith, ints, b, o, l, m)
 
@@ -235,9 +235,9 @@ module _ (line : Line) (runs : List Run) (are : HasRuns line runs) where
             let l = int_max_is (cumul plan (suc k)) (last_start line runs +ℤ transits_to line (suc k)) in
             omega (arith, ints, o, p, m, l)
 
-        last : late (length line.arcs) ≡ first_end line runs
+        last : late (length line.arcs) ≡ least_end_by line runs
         last =
-            let l = int_min_is (latest_to line runs (length line.arcs)) (first_end line runs -ℤ transits_to line (length line.arcs)) in
+            let l = int_min_is (latest_to line runs (length line.arcs)) (least_end_by line runs -ℤ transits_to line (length line.arcs)) in
             let m = int_max_is (cumul plan (length line.arcs)) (last_start line runs +ℤ transits_to line (length line.arcs)) in
             omega (arith, ints, end, l, m)
 
@@ -247,7 +247,7 @@ module _ (line : Line) (runs : List Run) (are : HasRuns line runs) where
             let m = int_max_is (cumul plan 0) (last_start line runs +ℤ transits_to line 0) in
             omega (arith, ints, b, m)
 
-  pub ends-told : IsFeasible line → IsLeastEnd line (first_end line runs) × IsLatestStart line (first_end line runs) (last_start line runs)
+  pub ends-told : IsFeasible line → IsLeastEnd line (least_end_by line runs) × IsLatestStart line (least_end_by line runs) (last_start line runs)
   ends-told feasible =
       let e = ends-soon feasible.0 feasible.1 in
       (e, starts-late e.reached.0 e.reached.1 e.reached.2)

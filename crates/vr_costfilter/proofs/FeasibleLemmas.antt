@@ -23,9 +23,9 @@ use Rattle.vr_model.proofs.schedules.ChoiceLaws.{feasible_is}
 use Rattle.vr_reach.specs.Lists.{node_at_stop}
 use Rattle.vr_reach.specs.VisitRuns.{IsAllowedRun}
 use Rattle.vr_reach.proofs.LineParts.{end_node}
-use Rattle.vr_costfilter.specs.Floors.{end_step, first_of, first_step, floor_before, floor_of}
+use Rattle.vr_costfilter.specs.Floors.{end_step, first_step_or, first_step, floor_before, stop_floor}
 use Rattle.vr_costfilter.specs.Runs.{Runs, AllowsRuns, no_run}
-use Rattle.vr_costfilter.specs.Stages.{along, go_on, next_cumul, raised, setting_out, standing, to_end, to_visit, visit_more, whole}
+use Rattle.vr_costfilter.specs.Stages.{along, go_on, next_cumul, from_floor, setting_out, stage_at_start, to_end, to_visit, visit_more, along_to_end}
 use Rattle.vr_costfilter.specs.Steps.{AreSteps}
 use Rattle.vr_costfilter.specs.declared.guides.Stage.{Stage}
 use Rattle.vr_costfilter.specs.declared.trails.Step.{Step}
@@ -52,7 +52,7 @@ module _ (model : Model) (d v : ℕ) (runs : Runs) (list : List ℕ) (L : Line) 
   -- a stop has a floor, where the schedule is no earlier at the next one than its floor
   record HasFloor (node : ℕ) (allowed : Run) (next : Step) (k : ℕ) : Type 0 where
     pub floor : ℤ
-    pub is : floor_of model d v node allowed next ≡ Some floor
+    pub is : stop_floor model d v node allowed next ≡ Some floor
     pub least : floor ≤ℤ cumul plan k
 
   floor-there : (k : ℕ) (allowed : Run) (node : ℕ) (next : Step) → k ≤ length list → IsAllowedRun L k allowed → node ≡ node_at_stop model v list k → next.node ≡ node_at_stop model v list (k + 1)
@@ -127,7 +127,7 @@ module _ (model : Model) (d v : ℕ) (runs : Runs) (list : List ℕ) (L : Line) 
     -- a stop behind it
     record GoesOn (k : ℕ) (node : ℕ) (floor : ℤ) (allowed : Run) (row : Option StopRow) (stage : Stage) : Type 0 where
       pub next : Stage
-      pub is : go_on (transit model d v stage.at node) slack node (raised floor allowed) row stage ≡ Some next
+      pub is : go_on (transit model d v stage.at node) slack node (from_floor floor allowed) row stage ≡ Some next
       pub at : next.at ≡ node
       pub most : next.cumul ≤ℤ cumul plan (k + 1)
       pub least : floor ≤ℤ next.cumul
@@ -139,15 +139,15 @@ module _ (model : Model) (d v : ℕ) (runs : Runs) (list : List ℕ) (L : Line) 
         let n = all-arcs in
         let low : k < length L.arcs = omega (arith, n, le) in
         let t : ℤ = transit model d v stage.at node in
-        let x : ℤ = next_cumul stage.cumul t (raised floor allowed) in
+        let x : ℤ = next_cumul stage.cumul t (from_floor floor allowed) in
         let way = arc-transit model d v runs list L by k stage.at node le at to in
         let hi = not-above L (k + 1) allowed (cumul plan (k + 1)) is (allowed-at (k + 1) (omega (arith, le))) in
         let left = subst (λ i. (cumul plan k +ℤ transit model d v stage.at node) ≤ℤ cumul plan i) (sym (add-one k)) (onward k low (transit model d v stage.at node) way) in
         let m = int_max_is (stage.cumul +ℤ t) floor in
-        let no_later : next_cumul stage.cumul (transit model d v stage.at node) (raised floor allowed) ≤ℤ cumul plan (k + 1) = omega (arith, ints, m, left, most, above) in
+        let no_later : next_cumul stage.cumul (transit model d v stage.at node) (from_floor floor allowed) ≤ℤ cumul plan (k + 1) = omega (arith, ints, m, left, most, above) in
         record {
           next = record { at = node; cumul = x; soft = stage.soft +ℤ row_cost row x };
-          is = going t slack node (raised floor allowed) row stage x (stage.soft +ℤ row_cost row x)
+          is = going t slack node (from_floor floor allowed) row stage x (stage.soft +ℤ row_cost row x)
               (record { least = refl; most = omega (arith, ints, no_later, hi); slack = omega (arith, ints, m, meets, positive) }) refl;
           at = refl;
           most = no_later;
@@ -170,7 +170,7 @@ module _ (model : Model) (d v : ℕ) (runs : Runs) (list : List ℕ) (L : Line) 
     -- the stage at its start
     record Stands : Type 0 where
       pub stage : Stage
-      pub out : setting_out model d v runs (first_of steps (end_step model v runs)) ≡ Some stage
+      pub out : setting_out model d v runs (first_step_or steps (end_step model v runs)) ≡ Some stage
       pub keeps : Keeps 0 stage
 
     stands : Stands
@@ -184,15 +184,15 @@ module _ (model : Model) (d v : ℕ) (runs : Runs) (list : List ℕ) (L : Line) 
         let floor = floor-had next.floor (transit model d v node next.node) slack runs.start had.floor had.is in
         let m = int_max_is ((next.floor -ℤ transit model d v node next.node) -ℤ slack) runs.start.lo in
         record {
-          stage = standing model d v had.floor;
-          out = ap (option_map (standing model d v)) had.is;
+          stage = stage_at_start model d v had.floor;
+          out = ap (option_map (stage_at_start model d v)) had.is;
           keeps = record { at = refl; most = had.least; meets = omega (arith, ints, floor.is, m) };
         }
 
     -- the stage at visit k
     record Comes (k : ℕ) : Type 0 where
       pub stage : Stage
-      pub is : along model d v runs (setting_out model d v runs (first_of steps (end_step model v runs))) (take k steps) ≡ Some stage
+      pub is : along model d v runs (setting_out model d v runs (first_step_or steps (end_step model v runs))) (take k steps) ≡ Some stage
       pub keeps : Keeps k stage
 
     comes : (k : ℕ) → k ≤ length list → Comes k
@@ -203,7 +203,7 @@ module _ (model : Model) (d v : ℕ) (runs : Runs) (list : List ℕ) (L : Line) 
         let there = comes k (omega (arith, low)) in
         let step : Step = step-at k in
         let behind : Step = step-at (suc k) in
-        let out : Option Stage = setting_out model d v runs (first_of steps end) in
+        let out : Option Stage = setting_out model d v runs (first_step_or steps end) in
         let allowed : Run = slice_index_or runs.visits step.node no_run in
         let row : Option StopRow = row_of (dimension_at model d).nodes step.node in
         let node = step-node model d v runs list L by steps steps_are k (omega (arith, low)) in
@@ -228,11 +228,11 @@ module _ (model : Model) (d v : ℕ) (runs : Runs) (list : List ℕ) (L : Line) 
         met : (f t s lo it x : ℤ) → it ≡ int_max ((f -ℤ t) -ℤ s) lo → it ≤ℤ x → ((f -ℤ t) -ℤ s) ≤ℤ x
         met f t s lo it x is le = let m = int_max_is ((f -ℤ t) -ℤ s) lo in omega (arith, ints, is, le, m)
 
-    pub whole-had : whole model d v runs (setting_out model d v runs (first_of steps (end_step model v runs))) steps ≡ None → ⊥
+    pub whole-had : along_to_end model d v runs (setting_out model d v runs (first_step_or steps (end_step model v runs))) steps ≡ None → ⊥
     whole-had none =
         let there = comes (length list) (omega arith) in
         let n = many-steps model d v runs list steps steps_are in
-        let out : Option Stage = setting_out model d v runs (first_of steps end) in
+        let out : Option Stage = setting_out model d v runs (first_step_or steps end) in
         let last : step-at (length list) ≡ end = get_or_past steps (length list) end (omega (arith, n)) in
         let node : ℕ = (vehicle_at model v).end in
         let f : length list + 1 ≡ suc (length list) = omega arith in
@@ -257,5 +257,5 @@ pub begin-unfeasible : (model : Model) (d v : ℕ) (runs : Runs) (list : List �
 begin-unfeasible model d v runs list L by none = unfeasible L (λ f. begin-had model d v runs list L by f.0 f.1 none)
 
 pub whole-unfeasible : (model : Model) (d v : ℕ) (runs : Runs) (list : List ℕ) (L : Line) → AllowsRuns model d v runs list L → (steps : List Step) → AreSteps model d v runs list steps
-    → whole model d v runs (setting_out model d v runs (first_of steps (end_step model v runs))) steps ≡ None → is_feasible L ≡ false
+    → along_to_end model d v runs (setting_out model d v runs (first_step_or steps (end_step model v runs))) steps ≡ None → is_feasible L ≡ false
 whole-unfeasible model d v runs list L by steps are none = unfeasible L (λ f. whole-had model d v runs list L by f.0 f.1 steps are none)

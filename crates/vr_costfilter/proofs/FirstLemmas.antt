@@ -3,7 +3,7 @@ use Rattle.std.proofs.Common.{◌≡◌, ◌∙◌, ℕ, List, [], ◌∷◌, �
 use Rattle.std.specs.Option.{option_and_then}
 use Rattle.vr_spans.specs.declared.runs.Run.{Run}
 use Rattle.vr_model.specs.declared.records.Model.{Model}
-use Rattle.vr_costfilter.specs.Floors.{before, first_of, first_step, nodes_in, AreAimed, WentBack}
+use Rattle.vr_costfilter.specs.Floors.{before, first_step_or, first_step, nodes_in, AreAimed, WentBack}
 use Rattle.vr_costfilter.specs.Runs.{starting, Runs}
 use Rattle.vr_costfilter.specs.Steps.{HasLed}
 use Rattle.vr_costfilter.specs.declared.steps.Lead.{Lead}
@@ -27,12 +27,12 @@ module _ (model : Model) (d v : ℕ) (runs : Runs) where
       ∙ and-and (first_step model d v runs xs) (before model d v runs x) (first_step model d v runs ys next)
 
   -- steps one before another begin with it
-  pub aimed-begin : (steps : List Step) (next : Step) → AreAimed model d v runs steps next → first_step model d v runs (nodes_in steps) next ≡ Some (first_of steps next)
+  pub aimed-begin : (steps : List Step) (next : Step) → AreAimed model d v runs steps next → first_step model d v runs (nodes_in steps) next ≡ Some (first_step_or steps next)
   aimed-begin [] next are = refl
   aimed-begin (x ∷ xs) next are =
       ap (option_and_then (before model d v runs x.node)) (aimed-begin xs next (aimed-rest model d v runs x xs next are)) ∙ aimed-first model d v runs x xs next are
 
-  pub steps-begin : (nodes : List ℕ) (steps : List Step) (next : Step) → nodes_in steps ≡ nodes → AreAimed model d v runs steps next → first_step model d v runs nodes next ≡ Some (first_of steps next)
+  pub steps-begin : (nodes : List ℕ) (steps : List Step) (next : Step) → nodes_in steps ≡ nodes → AreAimed model d v runs steps next → first_step model d v runs nodes next ≡ Some (first_step_or steps next)
   steps-begin nodes steps next is are = ap (λ l. first_step model d v runs l next) (sym is) ∙ aimed-begin steps next are
 
   pub went-begin : (nodes : List ℕ) (next first : Step) (old new : List Step) → WentBack model d v runs nodes next old new first → first_step model d v runs nodes next ≡ Some first

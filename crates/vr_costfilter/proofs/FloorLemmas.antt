@@ -9,7 +9,7 @@ use Rattle.vr_spans.specs.declared.runs.Run.{Run}
 use Rattle.vr_model.specs.declared.records.Model.{Model}
 use Rattle.vr_model.proofs.routes.Lists.{visit_below}
 use Rattle.vr_costfilter.specs.Runs.{Runs, no_run}
-use Rattle.vr_costfilter.specs.Floors.{before, first_of, floor_before, floor_in, floor_of, AreAimed, IsStep, IsVisitStep, WentBack}
+use Rattle.vr_costfilter.specs.Floors.{before, first_step_or, floor_before, floor_in, stop_floor, AreAimed, IsStep, IsVisitStep, WentBack}
 use Rattle.vr_costfilter.specs.Steps.{AreSteps}
 use Rattle.vr_costfilter.specs.declared.trails.Step.{Step}
 
@@ -72,16 +72,16 @@ floor-not floor t s allowed it is above = by (int_le (floor_before floor t s all
 -- a step that comes before another one
 pub record IsBefore (model : Model) (d v : ℕ) (runs : Runs) (node : ℕ) (next step : Step) : Type 0 where
   pub node_is : step.node ≡ node
-  pub floor : floor_of model d v node (slice_index_or runs.visits node no_run) next ≡ Some step.floor
+  pub floor : stop_floor model d v node (slice_index_or runs.visits node no_run) next ≡ Some step.floor
 
 pub before-had : (model : Model) (d v : ℕ) (runs : Runs) (node : ℕ) (next step : Step) → before model d v runs node next ≡ Some step → IsBefore model d v runs node next step
-before-had model d v runs node next step e = by (floor_of model d v node (slice_index_or runs.visits node no_run) next) refl e
+before-had model d v runs node next step e = by (stop_floor model d v node (slice_index_or runs.visits node no_run) next) refl e
   where
-    by : (o : Option ℤ) → floor_of model d v node (slice_index_or runs.visits node no_run) next ≡ o → option_map (λ (floor : ℤ). (let s : Step = record { node = node; floor = floor } in s)) o ≡ Some step → IsBefore model d v runs node next step
+    by : (o : Option ℤ) → stop_floor model d v node (slice_index_or runs.visits node no_run) next ≡ o → option_map (λ (floor : ℤ). (let s : Step = record { node = node; floor = floor } in s)) o ≡ Some step → IsBefore model d v runs node next step
     by None is e = absurd (cc)
     by (Some floor) is e = subst (IsBefore model d v runs node next) (step-same (record { node = node; floor = floor }) step e) (record { node_is = refl; floor = is })
 
-pub before-is : (model : Model) (d v : ℕ) (runs : Runs) (node : ℕ) (next : Step) (floor : ℤ) → floor_of model d v node (slice_index_or runs.visits node no_run) next ≡ Some floor
+pub before-is : (model : Model) (d v : ℕ) (runs : Runs) (node : ℕ) (next : Step) (floor : ℤ) → stop_floor model d v node (slice_index_or runs.visits node no_run) next ≡ Some floor
     → (read : ℤ) → read ≡ floor → before model d v runs node next ≡ Some (record { node = node; floor = read })
 before-is model d v runs node next floor e read same =
     ap (option_map (λ (floor : ℤ). (let s : Step = record { node = node; floor = floor } in s))) e ∙ ap (λ (f : ℤ). Some (record { node = node; floor = f })) (sym same)
@@ -91,7 +91,7 @@ before-is model d v runs node next floor e read same =
 pub visit-step : (model : Model) (step : Step) → IsVisitStep model step → IsStep model step
 visit-step model step is = record { node = visit_below model step.node is.visit; floor = is.floor }
 
-pub first-append : (xs ys : List Step) (next : Step) → first_of (xs ++ ys) next ≡ first_of xs (first_of ys next)
+pub first-append : (xs ys : List Step) (next : Step) → first_step_or (xs ++ ys) next ≡ first_step_or xs (first_step_or ys next)
 first-append [] ys next = refl
 first-append (x ∷ xs) ys next = refl
 
@@ -108,29 +108,29 @@ module _ (model : Model) (d v : ℕ) (runs : Runs) where
   pub aimed-none : (next : Step) → AreAimed model d v runs [] next
   aimed-none next = record { each = λ k low. absurd (omega (arith, low)) }
 
-  pub aimed-cons : (x : Step) (xs : List Step) (next : Step) → before model d v runs x.node (first_of xs next) ≡ Some x → AreAimed model d v runs xs next → AreAimed model d v runs (x ∷ xs) next
+  pub aimed-cons : (x : Step) (xs : List Step) (next : Step) → before model d v runs x.node (first_step_or xs next) ≡ Some x → AreAimed model d v runs xs next → AreAimed model d v runs (x ∷ xs) next
   aimed-cons x xs next e are = record { each = each }
     where
       each : (k : ℕ) → k < length (x ∷ xs) → before model d v runs (slice_index_or (x ∷ xs) k next).node (slice_index_or (x ∷ xs) (suc k) next) ≡ Some (slice_index_or (x ∷ xs) k next)
       each zero low = e
       each (suc k) low = are.each k (omega (arith, low))
 
-  pub aimed-first : (x : Step) (xs : List Step) (next : Step) → AreAimed model d v runs (x ∷ xs) next → before model d v runs x.node (first_of xs next) ≡ Some x
+  pub aimed-first : (x : Step) (xs : List Step) (next : Step) → AreAimed model d v runs (x ∷ xs) next → before model d v runs x.node (first_step_or xs next) ≡ Some x
   aimed-first x xs next are = are.each 0 (omega arith)
 
   pub aimed-rest : (x : Step) (xs : List Step) (next : Step) → AreAimed model d v runs (x ∷ xs) next → AreAimed model d v runs xs next
   aimed-rest x xs next are = record { each = λ k low. are.each (suc k) (omega (arith, low)) }
 
-  pub aimed-append : (xs ys : List Step) (next : Step) → AreAimed model d v runs xs (first_of ys next) → AreAimed model d v runs ys next → AreAimed model d v runs (xs ++ ys) next
+  pub aimed-append : (xs ys : List Step) (next : Step) → AreAimed model d v runs xs (first_step_or ys next) → AreAimed model d v runs ys next → AreAimed model d v runs (xs ++ ys) next
   aimed-append [] ys next front back = back
   aimed-append (x ∷ xs) ys next front back =
-      aimed-cons x (xs ++ ys) next (ap (before model d v runs x.node) (first-append xs ys next) ∙ aimed-first x xs (first_of ys next) front)
-      (aimed-append xs ys next (aimed-rest x xs (first_of ys next) front) back)
+      aimed-cons x (xs ++ ys) next (ap (before model d v runs x.node) (first-append xs ys next) ∙ aimed-first x xs (first_step_or ys next) front)
+      (aimed-append xs ys next (aimed-rest x xs (first_step_or ys next) front) back)
 
-  pub aimed-left : (xs ys : List Step) (next : Step) → AreAimed model d v runs (xs ++ ys) next → AreAimed model d v runs xs (first_of ys next)
-  aimed-left [] ys next are = aimed-none (first_of ys next)
+  pub aimed-left : (xs ys : List Step) (next : Step) → AreAimed model d v runs (xs ++ ys) next → AreAimed model d v runs xs (first_step_or ys next)
+  aimed-left [] ys next are = aimed-none (first_step_or ys next)
   aimed-left (x ∷ xs) ys next are =
-      aimed-cons x xs (first_of ys next) (sym (ap (before model d v runs x.node) (first-append xs ys next)) ∙ aimed-first x (xs ++ ys) next are)
+      aimed-cons x xs (first_step_or ys next) (sym (ap (before model d v runs x.node) (first-append xs ys next)) ∙ aimed-first x (xs ++ ys) next are)
       (aimed-left xs ys next (aimed-rest x (xs ++ ys) next are))
 
   pub aimed-right : (xs ys : List Step) (next : Step) → AreAimed model d v runs (xs ++ ys) next → AreAimed model d v runs ys next
@@ -177,7 +177,7 @@ module _ (model : Model) (d v : ℕ) (runs : Runs) where
     aimed = aimed-append a.steps b.steps next (subst (AreAimed model d v runs a.steps) b.first_is a.aimed) b.aimed;
     known = All-append (IsVisitStep model) a.steps b.steps a.known b.known;
     trail = a.trail ∙ ap (λ l. l ++ reverse a.steps) b.trail ∙ append_assoc old (reverse b.steps) (reverse a.steps) ∙ ap (λ l. old ++ l) (sym (reverse-append a.steps b.steps));
-    first_is = a.first_is ∙ ap (first_of a.steps) b.first_is ∙ sym (first-append a.steps b.steps next);
+    first_is = a.first_is ∙ ap (first_step_or a.steps) b.first_is ∙ sym (first-append a.steps b.steps next);
   }
 
   -- as many steps as nodes were put on the trail

@@ -23,11 +23,11 @@ use Rattle.vr_routes.specs.Pieces.{ListAfter, joined, no_part, part_at, changed}
 use Rattle.vr_routes.specs.Changes.{AreParts}
 use Rattle.vr_routes.specs.Tours.{Tours}
 use Rattle.vr_costfilter.specs.Kept.{AreAllKept}
-use Rattle.vr_costfilter.specs.SortedEnds.{beside, extent_but, IsInRange, IsReach, IsTold}
+use Rattle.vr_costfilter.specs.SortedEnds.{beside, extent_but, IsInRange, IsReach, IsTimedIfUsed}
 use Rattle.vr_costfilter.specs.SortedVehicles.{names}
 use Rattle.vr_costfilter.specs.declared.orders.SortedEnds.{SortedEnds}
 use Rattle.vr_costfilter.proofs.ReachLemmas.{is-not, extent-but-is, reach-all, reach-more, reach-same}
-use Rattle.vr_costfilter.specs.GlobalCosts.{extent_after, global_cost_of, has_global_span, is_some_spanned, orders_at, span_cost_after, spans_cost_after, told_in, vehicles_of, AreAllOrders, IsRow, AreLike, AreNextRows, AreRanged, AreRowsAfter, IsGlobalCost, KeptSpans, Pays, StandsSpans}
+use Rattle.vr_costfilter.specs.GlobalCosts.{extent_after, global_cost_of, has_global_span, is_some_spanned, orders_at, span_cost_after, spans_cost_after, timing_in, vehicles_of, AreAllOrders, IsRow, AreLike, AreNextRows, AreRanged, AreRowsAfter, IsGlobalCost, KeptSpans, Pays, StandsSpans}
 use Rattle.vr_costfilter.specs.Known.{IsValidChange}
 use Rattle.vr_parts.proofs.RowLemmas.{rows-push}
 use Rattle.vr_parts.proofs.SumLemmas.{part-list, route-kept}
@@ -71,18 +71,18 @@ vehicles-more parts k low =
 
 -- the rows of the parts, one after another
 reach-fold : (model : Model) (d : ℕ) (lists : List (List ℕ)) (parts : List ListAfter) (next : List (List (Option Timing))) (extent : Option Extent) → length next ≡ length parts → AllPairs (λ p q. p.vehicle ≢ q.vehicle) parts
-    → ((k : ℕ) → k < length parts → IsTold model d (part_at parts k).vehicle (route lists (part_at parts k).vehicle) (told_in d (slice_index_or next k [])))
+    → ((k : ℕ) → k < length parts → IsTimedIfUsed model d (part_at parts k).vehicle (route lists (part_at parts k).vehicle) (timing_in d (slice_index_or next k [])))
     → IsReach model d lists (λ v. not (names (vehicles_of parts) v)) extent
-    → IsReach model d lists (λ v. true) (fold (λ extent row. beside extent (told_in d row)) extent next)
+    → IsReach model d lists (λ v. true) (fold (λ extent row. beside extent (timing_in d row)) extent next)
 reach-fold model d lists [] [] extent many apart told h = h
 reach-fold model d lists [] (row ∷ next) extent many apart told h = absurd (omega (arith, many))
 reach-fold model d lists (p ∷ ps) [] extent many apart told h = absurd (omega (arith, many))
 reach-fold model d lists (p ∷ ps) (row ∷ next) extent many apart told h =
-    reach-fold model d lists ps next (beside extent (told_in d row)) (omega (arith, many)) (λ i j e less low. apart (suc i) (suc j) e (omega (arith, less)) (omega (arith, low))) (λ k low. told (suc k) (omega (arith, low)))
+    reach-fold model d lists ps next (beside extent (timing_in d row)) (omega (arith, many)) (λ i j e less low. apart (suc i) (suc j) e (omega (arith, less)) (omega (arith, low))) (λ k low. told (suc k) (omega (arith, low)))
     (reach-more model d lists (λ v. not (names (vehicles_of (p ∷ ps)) v)) (λ v. not (names (vehicles_of ps) v)) p.vehicle
     (λ u is. ap not (both-fail (p.vehicle == u) (names (vehicles_of ps) u) (is-not (names (vehicles_of (p ∷ ps)) u) is)).1)
     (ap not (not-named ps p.vehicle (λ k e low. apart 0 (suc k) e (omega arith) (omega (arith, low)))))
-    only extent h (told_in d row) (told 0 (omega arith)))
+    only extent h (timing_in d row) (told 0 (omega arith)))
   where
     only : (u : ℕ) → not (names (vehicles_of ps) u) ≡ true → (u ≡ p.vehicle) ⊎ (not (names (vehicles_of (p ∷ ps)) u) ≡ true)
     only u is = elim (eqb_tells p.vehicle u) [
@@ -91,7 +91,7 @@ reach-fold model d lists (p ∷ ps) (row ∷ next) extent many apart told h =
     ]
 
 -- what a row tells is in its range
-pub told-ranged : (model : Model) (d v : ℕ) (list : List ℕ) (timing : Option Timing) → IsTold model d v list timing → IfSome timing IsInRange
+pub told-ranged : (model : Model) (d v : ℕ) (list : List ℕ) (timing : Option Timing) → IsTimedIfUsed model d v list timing → IfSome timing IsInRange
 told-ranged model d v list None unused = tt
 told-ranged model d v list (Some timing) is = is.range
 
@@ -112,14 +112,14 @@ module _ (model : Model) (lists : List (List ℕ)) (orders : List SortedEnds) (a
       in_orders = λ d low pays. record { starts = (are.each d low pays).starts.range; ends = (are.each d low pays).ends.range };
       in_rows = λ d low pays k less. (
           let known : k < length parts = omega (arith, rows.many, less) in
-          told-ranged model d (part_at parts k).vehicle (joined lists (part_at parts k).pieces) (told_in d (slice_index_or next k [])) (((rows.rows k known).each d low).told pays));
+          told-ranged model d (part_at parts k).vehicle (joined lists (part_at parts k).pieces) (timing_in d (slice_index_or next k [])) (((rows.rows k known).each d low).told pays));
     }
 
     -- how far the lists reach after the change
     reach-after : AreParts lists parts → (d : ℕ) → d < length model.dimensions → Pays model d → IsReach model d (changed lists parts) (λ v. true) (extent_after d (vehicles_of parts) next (orders_at orders d))
     reach-after parts_are d low pays =
         reach-fold model d (changed lists parts) parts next (extent_but (vehicles_of parts) (orders_at orders d)) rows.many parts_are.apart
-        (λ k known. subst (λ l. IsTold model d (part_at parts k).vehicle l (told_in d (slice_index_or next k []))) (sym (part-list lists parts parts_are k known)) (((rows.rows k known).each d low).told pays))
+        (λ k known. subst (λ l. IsTimedIfUsed model d (part_at parts k).vehicle l (timing_in d (slice_index_or next k []))) (sym (part-list lists parts parts_are k known)) (((rows.rows k known).each d low).told pays))
         (reach-same model d lists (changed lists parts) (λ v. not (names (vehicles_of parts) v)) (λ v is. route-kept lists parts lists v (away parts v (is-not (names (vehicles_of parts) v) is)))
         (extent_but (vehicles_of parts) (orders_at orders d)) (extent-but-is model d lists (orders_at orders d) (are.each d low pays) (vehicles_of parts)))
 

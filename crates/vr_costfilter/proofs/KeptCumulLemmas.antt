@@ -14,13 +14,13 @@ use Rattle.vr_model.proofs.routes.Lists.{route_set_other}
 use Rattle.vr_model.specs.declared.records.ScheduleRule.{ScheduleRule}
 use Rattle.vr_model.specs.declared.records.ScheduleRule.TheVariants.{Earliest, Tight}
 use Rattle.vr_parts.proofs.RowLemmas.{set-at}
-use Rattle.vr_costfilter.specs.Floors.{end_step, first_of, floor_of, AreAimed, IsVisitStep}
+use Rattle.vr_costfilter.specs.Floors.{end_step, first_step_or, stop_floor, AreAimed, IsVisitStep}
 use Rattle.vr_costfilter.specs.Runs.{between_runs, Runs, AreRuns}
-use Rattle.vr_costfilter.specs.Stages.{along, setting_out, standing, to_end, to_visit, visit_more, whole, IsStageOf}
+use Rattle.vr_costfilter.specs.Stages.{along, setting_out, stage_at_start, to_end, to_visit, visit_more, along_to_end, IsStageOf}
 use Rattle.vr_costfilter.specs.KeptWays.{AreKeptWays, HaveKeptWays}
 use Rattle.vr_costfilter.specs.Kept.{AreAsMany, AreKept, HasRoom, IsKept}
 use Rattle.vr_costfilter.specs.Steps.{steps_of, AreAllStages, AreKnownSteps, AreStages, AreSteps, HasStages}
-use Rattle.vr_costfilter.specs.KeptWays.{KeptWays}
+use Rattle.vr_costfilter.specs.KeptWays.{KeptTightWays}
 use Rattle.vr_costfilter.specs.declared.guides.Stage.{Stage}
 use Rattle.vr_costfilter.specs.declared.kept.KeptList.{KeptList}
 use Rattle.vr_costfilter.specs.declared.steps.KeptSteps.{KeptSteps}
@@ -31,10 +31,10 @@ use Rattle.vr_costfilter.proofs.StageLemmas.{some-same, stage-more, whole-append
 
 module _ (model : Model) (d v : ℕ) (runs : Runs) (list : List ℕ) (steps : List Step) where
   abbrev out : Option Stage
-  out = setting_out model d v runs (first_of steps (end_step model v runs))
+  out = setting_out model d v runs (first_step_or steps (end_step model v runs))
 
   -- the stage at the start
-  pub first-stage : (stages : List Stage) (stage : Stage) → stages ≡ stage ∷ [] → setting_out model d v runs (first_of steps (end_step model v runs)) ≡ Some stage → IsStageOf model 1 stage → AreStages model d v runs steps 0 stages
+  pub first-stage : (stages : List Stage) (stage : Stage) → stages ≡ stage ∷ [] → setting_out model d v runs (first_step_or steps (end_step model v runs)) ≡ Some stage → IsStageOf model 1 stage → AreStages model d v runs steps 0 stages
   first-stage stages stage is e range = subst (AreStages model d v runs steps 0) (sym is) (record {
     each = λ k other le. let none : 0 ≡ k = omega (arith, le) in subst (λ n. along model d v runs out (take n steps) ≡ Some (slice_index_or (stage ∷ []) n other)) none e;
     at = λ k other less. absurd (omega (arith, less));
@@ -81,17 +81,17 @@ module _ (model : Model) (d v : ℕ) (runs : Runs) (list : List ℕ) (steps : Li
           at = λ k other less. ap (λ (s : Stage). s.at) (left (suc k) other (omega (arith, less))) ∙ are.at k other less;
           range = λ k other le. subst (IsStageOf model (suc (length list))) (sym (left k other le)) (are.range k other le);
         };
-        end = λ other. ap (λ l. whole model d v runs out l) (sym (take_all (length list) steps (omega (arith, long))))
+        end = λ other. ap (λ l. along_to_end model d v runs out l) (sym (take_all (length list) steps (omega (arith, long))))
             ∙ ap (option_and_then (to_end model d v runs)) (are.each (length list) other (omega arith)) ∙ told other ∙ ap (λ s. Some s) (sym (at_end other));
         end_range = λ other. subst (IsStageOf model (suc (suc (length list)))) (sym (at_end other)) range;
       })
 
   -- from a stage that is kept the vehicle comes to the end that is kept
   pub kept-rest : (stages : List Stage) → AreAllStages model d v runs list steps stages → (k : ℕ) (other : Stage) → k ≤ length list
-      → whole model d v runs (Some (slice_index_or stages k other)) (drop k steps) ≡ Some (slice_index_or stages (suc (length list)) other)
+      → along_to_end model d v runs (Some (slice_index_or stages k other)) (drop k steps) ≡ Some (slice_index_or stages (suc (length list)) other)
   kept-rest stages are k other le =
-      ap (λ o. whole model d v runs o (drop k steps)) (sym (are.stages_are.each k other le)) ∙ sym (whole-append model d v runs out (take k steps) (drop k steps))
-      ∙ ap (whole model d v runs out) (take-append-drop k steps) ∙ are.end other
+      ap (λ o. along_to_end model d v runs o (drop k steps)) (sym (are.stages_are.each k other le)) ∙ sym (whole-append model d v runs out (take k steps) (drop k steps))
+      ∙ ap (along_to_end model d v runs out) (take-append-drop k steps) ∙ are.end other
 
   -- the numbers of stages that are kept
   pub kept-small : (stages read : List Stage) → AreAllStages model d v runs list steps stages → read ≡ stages → length list ≤ 1000 → (k : ℕ) (other : Stage) → k ≤ length list → IsStageOf model 1002 (slice_index_or read k other)
@@ -104,7 +104,7 @@ module _ (model : Model) (d v : ℕ) (runs : Runs) (list : List ℕ) (steps : Li
       (subst (λ n. IsStageOf model 1002 (slice_index_or stages n other)) (sym (add-one (length list))) (stage-more model (suc (suc (length list))) 1002 _ (omega (arith, few)) (are.end_range other)))
 
   -- the stage at the start that is kept
-  pub kept-out : (stages : List Stage) → AreAllStages model d v runs list steps stages → (other : Stage) → setting_out model d v runs (first_of steps (end_step model v runs)) ≡ Some (slice_index_or stages 0 other)
+  pub kept-out : (stages : List Stage) → AreAllStages model d v runs list steps stages → (other : Stage) → setting_out model d v runs (first_step_or steps (end_step model v runs)) ≡ Some (slice_index_or stages 0 other)
   kept-out stages are other = are.stages_are.each 0 other (omega arith)
 
 -- as many steps are kept as there are visits
@@ -136,12 +136,12 @@ module _ {model : Model} {d v : ℕ} {runs : Runs} {list : List ℕ} {kept : Kep
   stage-known {read} is k other le = kept-small model d v runs list (steps_of kept) kept.stages.items read sound.stages is sound.few k other le
 
 -- what is kept at the start is a stage at a cumul
-pub out-standing : (model : Model) (d v : ℕ) (runs : Runs) (next : Step) (stage : Stage) → setting_out model d v runs next ≡ Some stage → stage ≡ standing model d v stage.cumul
-out-standing model d v runs next stage e = by (floor_of model d v (vehicle_at model v).start runs.start next) e
+pub out-standing : (model : Model) (d v : ℕ) (runs : Runs) (next : Step) (stage : Stage) → setting_out model d v runs next ≡ Some stage → stage ≡ stage_at_start model d v stage.cumul
+out-standing model d v runs next stage e = by (stop_floor model d v (vehicle_at model v).start runs.start next) e
   where
-    by : (o : Option ℤ) → option_map (standing model d v) o ≡ Some stage → stage ≡ standing model d v stage.cumul
+    by : (o : Option ℤ) → option_map (stage_at_start model d v) o ≡ Some stage → stage ≡ stage_at_start model d v stage.cumul
     by None e = absurd (cc)
-    by (Some x) e = subst (λ (s : Stage). s ≡ standing model d v s.cumul) (some-same (standing model d v x) stage e) refl
+    by (Some x) e = subst (λ (s : Stage). s ≡ stage_at_start model d v s.cumul) (some-same (stage_at_start model d v x) stage e) refl
 
 -- the nodes of a list are visits
 pub all-visits : (model : Model) (list : List ℕ) → IsTrue (list_all (is_visit model) list) → All (λ node. IsTrue (is_visit model node)) list
@@ -160,14 +160,14 @@ stages-so model d v runs others of_these of_others list kept is = record { told 
     by_others are =
         let steps : List Step = steps_of kept in
         let end : Step = end_step model v runs in
-        let first : Step = first_of steps end in
+        let first : Step = first_step_or steps end in
         let start = start-run model d v runs others of_these of_others (start-some model d v runs first (slice_index_or kept.stages.items 0 none) (are.stages_are.each 0 none (omega arith))) in
         let finish = finish-run model d v runs others of_these of_others (end-some model d v runs (along model d v runs (setting_out model d v runs first) steps) (slice_index_or kept.stages.items (suc (length list)) none) (are.end none)) in
         let last = same-end-step model d v runs others of_these of_others finish in
         let aimed = same-aimed model d v runs others of_these of_others steps end are.steps_are.aimed are.known in
-        let out = same-out model d v runs others of_these of_others start first ∙ ap (λ e. setting_out model d v others (first_of steps e)) last in
+        let out = same-out model d v runs others of_these of_others start first ∙ ap (λ e. setting_out model d v others (first_step_or steps e)) last in
         let gone : (o : Option Stage) (k : ℕ) → along model d v runs o (take k steps) ≡ along model d v others o (take k steps) =
-        λ o k. same-along model d v runs others of_these of_others o (take k steps) (first_of (drop k steps) end)
+        λ o k. same-along model d v runs others of_these of_others o (take k steps) (first_step_or (drop k steps) end)
         (aimed-left model d v runs (take k steps) (drop k steps) end (subst (λ l. AreAimed model d v runs l end) (sym (take-append-drop k steps)) are.steps_are.aimed)) (All-take (IsVisitStep model) k steps are.known) in
         let all = same-along model d v runs others of_these of_others (setting_out model d v runs first) steps end are.steps_are.aimed are.known in
         record {
@@ -180,7 +180,7 @@ stages-so model d v runs others of_these of_others list kept is = record { told 
           };
           end = λ other.
               sym (ap (option_and_then (to_end model d v runs)) (all ∙ ap (λ o. along model d v others o steps) out)
-              ∙ same-end model d v runs others of_these of_others finish (along model d v others (setting_out model d v others (first_of steps (end_step model v others))) steps)) ∙ are.end other;
+              ∙ same-end model d v runs others of_these of_others finish (along model d v others (setting_out model d v others (first_step_or steps (end_step model v others))) steps)) ∙ are.end other;
           end_range = are.end_range;
         }
 
@@ -193,11 +193,11 @@ stages-between model d v runs others of_these of_others s e list kept is = recor
     by_others are =
         let steps : List Step = steps_of kept in
         let end : Step = end_step model v (between_runs runs s e) in
-        let out : Option Stage = setting_out model d v (between_runs runs s e) (first_of steps end) in
+        let out : Option Stage = setting_out model d v (between_runs runs s e) (first_step_or steps end) in
         let aimed : AreAimed model d v runs steps end = record { each = are.steps_are.aimed.each } in
         let aimed_too = same-aimed model d v runs others of_these of_others steps end aimed are.known in
         let gone : (k : ℕ) → along model d v runs out (take k steps) ≡ along model d v others out (take k steps) =
-        λ k. same-along model d v runs others of_these of_others out (take k steps) (first_of (drop k steps) end)
+        λ k. same-along model d v runs others of_these of_others out (take k steps) (first_step_or (drop k steps) end)
         (aimed-left model d v runs (take k steps) (drop k steps) end (subst (λ l. AreAimed model d v runs l end) (sym (take-append-drop k steps)) aimed)) (All-take (IsVisitStep model) k steps are.known) in
         let all = same-along model d v runs others of_these of_others out steps end aimed are.known in
         record {
@@ -221,12 +221,12 @@ pub stages-none : (model : Model) (d v : ℕ) (runs : Runs) (list : List ℕ) (k
 stages-none model d v runs list kept few = record { told = λ many. absurd (omega (arith, few, many)) }
 
 -- what is written of a list in place of the first, where there is one
-pub ends-set : (model : Model) (d v : ℕ) (list : List ℕ) (ends : List KeptWays) (new : KeptWays) → AreKeptWays model d v list new → HaveKeptWays model d v list (slice_set ends 0 new)
+pub ends-set : (model : Model) (d v : ℕ) (list : List ℕ) (ends : List KeptTightWays) (new : KeptTightWays) → AreKeptWays model d v list new → HaveKeptWays model d v list (slice_set ends 0 new)
 ends-set model d v list ends new is = record {
   first = λ other low. subst (AreKeptWays model d v list) (sym (get_or-set_same ends 0 new other (let n = length-set ends 0 new in omega (arith, n, low)))) is;
 }
 
-pub ends-none : (model : Model) (d v : ℕ) (list : List ℕ) (ends : List KeptWays) → length ends ≡ 0 → HaveKeptWays model d v list ends
+pub ends-none : (model : Model) (d v : ℕ) (list : List ℕ) (ends : List KeptTightWays) → length ends ≡ 0 → HaveKeptWays model d v list ends
 ends-none model d v list ends none = record { first = λ other low. absurd (omega (arith, none, low)) }
 
 -- ---- a list is replaced

@@ -21,7 +21,7 @@ use Rattle.vr_reach.specs.VisitRuns.{IsAllowedRun}
 use Rattle.vr_reach.proofs.EarlyLemmas.{at_new}
 use Rattle.vr_reach.proofs.LineParts.{end_node, hop_between_stops}
 use Rattle.vr_costfilter.specs.Runs.{Runs, AllowsRuns, no_run}
-use Rattle.vr_costfilter.specs.Floors.{end_step, floor_of}
+use Rattle.vr_costfilter.specs.Floors.{end_step, stop_floor}
 use Rattle.vr_costfilter.specs.Steps.{AreSteps}
 use Rattle.vr_costfilter.specs.declared.trails.Step.{Step}
 use Rattle.vr_costfilter.proofs.FloorLemmas.{before-had, floor-had, many-steps, node-of}
@@ -162,7 +162,7 @@ module _ (model : Model) (d v : ℕ) (runs : Runs) (list : List ℕ) (L : Line) 
 
   -- a floor before a stop where no schedule is earlier than the floor there
   floor-least : (k : ℕ) (allowed : Run) (node : ℕ) (next : Step) (it : ℤ) → k ≤ length list → IsAllowedRun L k allowed → node ≡ node_at_stop model v list k → next.node ≡ node_at_stop model v list (k + 1)
-      → floor_of model d v node allowed next ≡ Some it → (plan : Plan) → IsSchedule L plan → next.floor ≤ℤ cumul plan (suc k) → it ≤ℤ cumul plan k
+      → stop_floor model d v node allowed next ≡ Some it → (plan : Plan) → IsSchedule L plan → next.floor ≤ℤ cumul plan (suc k) → it ≤ℤ cumul plan k
   floor-least k allowed node next it le is from to e plan s there =
       let n = all-arcs in
       let low : k < length L.arcs = omega (arith, n, le) in
@@ -193,7 +193,7 @@ module _ (model : Model) (d v : ℕ) (runs : Runs) (list : List ℕ) (L : Line) 
       (step-node (suc k) (omega (arith, low)) ∙ ap (λ i. node_at_stop model v list (i + 1)) f) is.floor plan s (subst (λ i. (slice_index_or steps (suc k) end).floor ≤ℤ cumul plan i) e next)
 
   -- no schedule begins before the floor of its start
-  pub start-least : (it : ℤ) → floor_of model d v (vehicle_at model v).start runs.start (slice_index_or steps 0 (end_step model v runs)) ≡ Some it → (plan : Plan) → IsSchedule L plan → it ≤ℤ cumul plan 0
+  pub start-least : (it : ℤ) → stop_floor model d v (vehicle_at model v).start runs.start (slice_index_or steps 0 (end_step model v runs)) ≡ Some it → (plan : Plan) → IsSchedule L plan → it ≤ℤ cumul plan 0
   start-least it e plan s =
       let first = floors-least plan s (length list) 0 (omega arith) in
       let f : 0 + 1 ≡ suc 0 = omega arith in

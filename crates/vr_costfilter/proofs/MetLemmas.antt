@@ -4,7 +4,7 @@ use Rattle.std.specs.Prelude.{ℤ, pos, ◌+ℤ◌, slice_index_or, Option}
 use Rattle.std.proofs.lemmas.Int.{ints}
 use Rattle.std.proofs.lemmas.List.{get_or-drop, get_or-take, get_or_default, length-take-le, map-append, take-append-drop, take-map, take_more}
 use Rattle.vr_model.specs.declared.records.Model.{Model}
-use Rattle.vr_costfilter.specs.Floors.{before, end_step, first_of, AreAimed, IsStep, WentBack}
+use Rattle.vr_costfilter.specs.Floors.{before, end_step, first_step_or, AreAimed, IsStep, WentBack}
 use Rattle.vr_costfilter.specs.Steps.{AreAllStages, HasLed, HasSetOut, IsKeptLead}
 use Rattle.vr_costfilter.specs.Runs.{Runs}
 use Rattle.vr_costfilter.specs.Stages.{along, paid_more, setting_out, IsStageOf}
@@ -39,7 +39,7 @@ module _ (model : Model) (d v : ℕ) (runs : Runs) (list : List ℕ) (steps : Li
       let here : before model d v runs last.node first ≡ Some last = e ∙ ap (λ (s : Step). Some s) same in
       let all = subst (λ l. AreAimed model d v runs l end) (sym (take-append-drop i steps)) are.steps_are.aimed in
       let ahead = aimed-left model d v runs (take i steps) (drop i steps) end all in
-      let next : first_of (drop i steps) end ≡ last = get_or-drop i steps 0 end ∙ ap (λ n. slice_index_or steps n end) (let e : i + 0 ≡ i = omega arith in e) in
+      let next : first_step_or (drop i steps) end ≡ last = get_or-drop i steps 0 end ∙ ap (λ n. slice_index_or steps n end) (let e : i + 0 ≡ i = omega arith in e) in
       subst (λ l. AreAimed model d v runs l first) (sym (take_more steps i end low))
       (aimed-append model d v runs (take i steps) (last ∷ []) first (subst (AreAimed model d v runs (take i steps)) next ahead) (aimed-cons model d v runs last [] first here (aimed-none model d v runs first)))
 
@@ -61,7 +61,7 @@ module _ (model : Model) (d v : ℕ) (runs : Runs) (list : List ℕ) (steps : Li
         aimed = aimed-append model d v runs (take (i + 1) steps) w.steps next (subst (AreAimed model d v runs (take (i + 1) steps)) w.first_is (kept-front i first step known e floor)) w.aimed;
         known = w.known;
         trail = w.trail;
-        first_is = is ∙ sym (first-append (take (i + 1) steps) w.steps next ∙ get_or-take (i + 1) steps 0 (first_of w.steps next) (omega arith) ∙ get_or_default steps 0 (first_of w.steps next) end begins);
+        first_is = is ∙ sym (first-append (take (i + 1) steps) w.steps next ∙ get_or-take (i + 1) steps 0 (first_step_or w.steps next) (omega arith) ∙ get_or_default steps 0 (first_step_or w.steps next) end begins);
         kept_first = λ some other. is ∙ get_or_default steps 0 end other begins;
         range = subst (IsStep model) (sym is) (visit-step model (slice_index_or steps 0 end) (are.known 0 end begins));
       }
@@ -89,7 +89,7 @@ module _ (model : Model) (d v : ℕ) (runs : Runs) (list : List ℕ) (steps : Li
       let split : (o : Option Stage) → along model d v runs o (take place steps) ≡ along model d v runs (along model d v runs o (take k steps)) rest =
       λ o. ap (along model d v runs o) (sym (front-split k place steps low)) ∙ along-append model d v runs o (take k steps) rest in
       let there : along model d v runs (Some (slice_index_or stages k other)) rest ≡ Some (slice_index_or stages place other) =
-      ap (λ o. along model d v runs o rest) (sym (are.stages_are.each k other (omega (arith, low, le)))) ∙ sym (split (setting_out model d v runs (first_of steps end))) ∙ are.stages_are.each place other le in
+      ap (λ o. along model d v runs o rest) (sym (are.stages_are.each k other (omega (arith, low, le)))) ∙ sym (split (setting_out model d v runs (first_step_or steps end))) ∙ are.stages_are.each place other le in
       split (Some out) ∙ ap (λ o. along model d v runs o rest) e ∙ paced model d v runs rest (slice_index_or stages k other) (slice_index_or stages place other) gone there at cumul z soft
 
 -- no floor of the front is as kept

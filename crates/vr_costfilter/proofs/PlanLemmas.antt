@@ -19,10 +19,10 @@ use Rattle.vr_plan.specs.Paying.{is_free, PaysNothing}
 use Rattle.vr_plan.specs.Tables.{AreTables}
 use Rattle.vr_plan.specs.declared.tables.Table.{Table}
 use Rattle.vr_plan.proofs.PayingLemmas.{free_pays, pays_nothing_where}
-use Rattle.vr_plan.specs.Timings.{plan_of, soft_of, soft_with, span_with, start_with, last_with}
+use Rattle.vr_plan.specs.Timings.{chosen_plan_of, soft_of, soft_with, span_with, start_with, last_with}
 use Rattle.vr_plan.proofs.ExtentLemmas.{times-none}
 use Rattle.vr_plan.proofs.PlanCostLemmas.{plan-at}
-use Rattle.vr_parts.specs.Sums.{over_routes}
+use Rattle.vr_parts.specs.Sums.{sum_over_routes}
 use Rattle.vr_earliest.specs.Ways.{least_span}
 use Rattle.vr_costfilter.specs.PlanCosts.{pays_no_plan, plan_paid, plan_saved, plans_cost, spans_least, ArePlansLike, IsFrom, IsPlanCost, IsPlanCostIn, KeptPlans, StandsPlans}
 
@@ -31,21 +31,21 @@ use Rattle.vr_costfilter.specs.PlanCosts.{pays_no_plan, plan_paid, plan_saved, p
 module _ (model : Model) (lists : List (List ℕ)) where
   -- a sum over used vehicles and dimensions is one over lists
   over-lists : (f : ℕ → ℕ → Plan → ℤ) → over_plans model (assigned model lists) (λ d v. f d v (plan_at (assigned model lists) d v))
-      ≡ sum_range (λ v. cond (is_empty (route lists v)) (pos 0) (total_by (λ d. f d v (plan_of model d v (route lists v))) (below (length model.dimensions)))) 0 (length lists)
+      ≡ sum_range (λ v. cond (is_empty (route lists v)) (pos 0) (total_by (λ d. f d v (chosen_plan_of model d v (route lists v))) (below (length model.dimensions)))) 0 (length lists)
   over-lists f =
       total_by-failing (λ v. total_by (λ d. f d v (plan_at (assigned model lists) d v)) (below (length model.dimensions))) (λ v. is_empty (route lists v)) (below (length lists))
       ∙ sum_same _ _ 0 (length lists) (λ v low known. at v (omega (arith, known)) (is_empty (route lists v)) refl)
     where
       at : (v : ℕ) → v < length lists → (b : Bool) → is_empty (route lists v) ≡ b
           → cond (is_empty (route lists v)) (pos 0) (total_by (λ d. f d v (plan_at (assigned model lists) d v)) (below (length model.dimensions)))
-          ≡ cond (is_empty (route lists v)) (pos 0) (total_by (λ d. f d v (plan_of model d v (route lists v))) (below (length model.dimensions)))
+          ≡ cond (is_empty (route lists v)) (pos 0) (total_by (λ d. f d v (chosen_plan_of model d v (route lists v))) (below (length model.dimensions)))
       at v known true e = ap (λ b. cond b (pos 0) (total_by (λ d. f d v (plan_at (assigned model lists) d v)) (below (length model.dimensions)))) e
-          ∙ ap (λ b. cond b (pos 0) (total_by (λ d. f d v (plan_of model d v (route lists v))) (below (length model.dimensions)))) (sym e)
+          ∙ ap (λ b. cond b (pos 0) (total_by (λ d. f d v (chosen_plan_of model d v (route lists v))) (below (length model.dimensions)))) (sym e)
       at v known false e = ap (λ s. cond (is_empty (route lists v)) (pos 0) s)
-          (sum_same (λ d. f d v (plan_at (assigned model lists) d v)) (λ d. f d v (plan_of model d v (route lists v))) 0 (length model.dimensions) (λ d low under. ap (f d v) (plan-at model lists d v (omega (arith, under)) known e)))
+          (sum_same (λ d. f d v (plan_at (assigned model lists) d v)) (λ d. f d v (chosen_plan_of model d v (route lists v))) 0 (length model.dimensions) (λ d low under. ap (f d v) (plan-at model lists d v (omega (arith, under)) known e)))
 
   -- what soft bounds and spans cost is a sum over the lists
-  pub plans-over : soft_part model (assigned model lists) +ℤ span_part model (assigned model lists) ≡ over_routes (plans_cost model) lists
+  pub plans-over : soft_part model (assigned model lists) +ℤ span_part model (assigned model lists) ≡ sum_over_routes (plans_cost model) lists
   plans-over =
       let dims : List ℕ = below (length model.dimensions) in
       let f : ℕ → ℤ = λ v. total_by (λ d. soft_with model d v (route lists v)) dims in
@@ -53,7 +53,7 @@ module _ (model : Model) (lists : List (List ℕ)) where
       let a : soft_part model (assigned model lists) ≡ sum_range (λ v. cond (is_empty (route lists v)) (pos 0) (f v)) 0 (length lists) = over-lists (λ d v plan. soft_of (dimension_at model d) v (route lists v) plan.cumuls) in
       let b : span_part model (assigned model lists) ≡ sum_range (λ v. cond (is_empty (route lists v)) (pos 0) (g v)) 0 (length lists) = over-lists (λ d v plan. number_at (dimension_at model d).span_costs v *ℤ (cumul plan (suc (length (route lists v))) -ℤ cumul plan 0)) in
       let s = both f g 0 (length lists) in
-      let t : sum_range (λ v. cond (is_empty (route lists v)) (pos 0) (f v +ℤ g v)) 0 (length lists) ≡ over_routes (plans_cost model) lists = sum_same (λ v. cond (is_empty (route lists v)) (pos 0) (f v +ℤ g v)) (λ v. plans_cost model v (route lists v)) 0 (length lists)
+      let t : sum_range (λ v. cond (is_empty (route lists v)) (pos 0) (f v +ℤ g v)) 0 (length lists) ≡ sum_over_routes (plans_cost model) lists = sum_same (λ v. cond (is_empty (route lists v)) (pos 0) (f v +ℤ g v)) (λ v. plans_cost model v (route lists v)) 0 (length lists)
       (λ v _ _. ap (λ z. cond (is_empty (route lists v)) (pos 0) z) (sym (total_by-plus (λ d. soft_with model d v (route lists v)) (λ d. span_with model d v (route lists v)) dims))) in
       omega (arith, ints, a, b, s, t)
     where
@@ -74,7 +74,7 @@ idle-all model v list nothing = by (is_empty list)
     none : total_by (λ d. soft_with model d v list +ℤ span_with model d v list) (below (length model.dimensions)) ≡ pos 0
     none = sum_nothing (λ d. soft_with model d v list +ℤ span_with model d v list) 0 (length model.dimensions) (λ d _ low.
         let here = nothing d (omega (arith, low)) in
-        let soft = here.soft (plan_of model d v list).cumuls in
+        let soft = here.soft (chosen_plan_of model d v list).cumuls in
         let span = times-none (number_at (dimension_at model d).span_costs v) (last_with model d v list -ℤ start_with model d v list) here.span in
         omega (arith, ints, soft, span))
 
@@ -122,7 +122,7 @@ idle-where model none = record {
     nothing : (d : ℕ) → d < length model.dimensions → (v : ℕ) (list : List ℕ) → PaysNothing (dimension_at model d) v list
     nothing d low v list = pays_nothing_where (dimension_at model d) v list (free_pays (dimension_at model d) (all-from_list_all is_free model.dimensions none d no_dimension low) v list)
 
-pub idle-sum : (model : Model) → IsIdle model → (lists : List (List ℕ)) → over_routes (plans_cost model) lists ≡ pos 0
+pub idle-sum : (model : Model) → IsIdle model → (lists : List (List ℕ)) → sum_over_routes (plans_cost model) lists ≡ pos 0
 idle-sum model idle lists = sum_nothing (λ v. plans_cost model v (route lists v)) 0 (length lists) (λ v _ _. idle.plans v (route lists v))
 
 -- a cost is read as it is

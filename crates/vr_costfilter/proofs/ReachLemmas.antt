@@ -14,7 +14,7 @@ use Rattle.vr_plan.specs.Timings.{last_with, start_with}
 use Rattle.vr_plan.specs.declared.extents.Extent.{Extent}
 use Rattle.vr_plan.specs.declared.timings.Timing.{Timing}
 use Rattle.vr_costfilter.specs.SortedVehicles.{first_but, names}
-use Rattle.vr_costfilter.specs.SortedEnds.{beside, extent_but, extent_of, left_with, number_if_used, AreOrders, IsReach, IsTold}
+use Rattle.vr_costfilter.specs.SortedEnds.{beside, extent_but, extent_of, left_with, number_if_used, AreOrders, IsReach, IsTimedIfUsed}
 use Rattle.vr_costfilter.specs.declared.orders.SortedEnds.{SortedEnds}
 use Rattle.vr_costfilter.proofs.OrderLemmas.{first-told, none-told}
 use Rattle.vr_costfilter.proofs.OrdersLemmas.{number-is, number-not, number-some, used-known}
@@ -69,7 +69,7 @@ reach-same model d lists later some same (Some e) h = record {
 
 -- one vehicle more
 module _ (model : Model) (d : ℕ) (lists : List (List ℕ)) (some more : ℕ → Bool) (v : ℕ) (grows : (u : ℕ) → some u ≡ true → more u ≡ true) (in_it : more v ≡ true) (only : (u : ℕ) → more u ≡ true → (u ≡ v) ⊎ (some u ≡ true)) where
-  pub reach-more : (extent : Option Extent) → IsReach model d lists some extent → (timing : Option Timing) → IsTold model d v (route lists v) timing → IsReach model d lists more (beside extent timing)
+  pub reach-more : (extent : Option Extent) → IsReach model d lists some extent → (timing : Option Timing) → IsTimedIfUsed model d v (route lists v) timing → IsReach model d lists more (beside extent timing)
   reach-more None h None unused = λ u is. elim (only u is) [ inl same ↦ subst (λ w. is_empty (route lists w) ≡ true) (sym same) unused | inr before ↦ h u before ]
   reach-more None h (Some t) is = record {
     starts = λ u now used. elim (only u now) [

@@ -12,9 +12,9 @@ use Rattle.vr_model.proofs.routes.Lists.{visit_below}
 use Rattle.vr_model.proofs.tables.Bounds.{transit_in_range}
 use Rattle.vr_plan.proofs.BoundLemmas.{read-cumul}
 use Rattle.vr_reach.specs.VisitRuns.{AreVisitRuns, HasCumulEnds}
-use Rattle.vr_costfilter.specs.Rests.{rest_at_end, rest_before, rest_by, rest_of, through_by, way_through, IsRestOf}
+use Rattle.vr_costfilter.specs.Rests.{rest_at_end, rest_before, rest_by, tight_rest_of, through_by, way_through, IsTightRestOf}
 use Rattle.vr_costfilter.specs.Runs.{Runs, no_run}
-use Rattle.vr_costfilter.specs.Ways.{way_along, way_on, way_out, way_to_visit, whole_way, IsWayOf}
+use Rattle.vr_costfilter.specs.Ways.{tight_way_along, way_on, way_out, way_to_visit, whole_tight_way, IsTightWayOf}
 use Rattle.vr_costfilter.specs.declared.rests.Rest.{Rest}
 use Rattle.vr_costfilter.specs.declared.tight.Way.{Way}
 use Rattle.vr_costfilter.proofs.WayLemmas.{visit-ends, way-is}
@@ -28,7 +28,7 @@ rest-is node other transits r least_end f latest_cumul l at a b c =
     ∙ ap₂ (λ (x y : ℤ). (let w : Rest = record { at = other; transits = r; least_end = x; latest_cumul = y } in w)) b c
 
 -- what is read of what is left, r being the transit to it as it was read
-module _ {model : Model} {rest : Rest} {t r : ℤ} (h : IsRestOf model 1000 rest) (same : r ≡ t) (least : neg_ℤ (pos (2 ^ 31)) ≤ℤ r) (greatest : r ≤ℤ pos (2 ^ 31)) where
+module _ {model : Model} {rest : Rest} {t r : ℤ} (h : IsTightRestOf model 1000 rest) (same : r ≡ t) (least : neg_ℤ (pos (2 ^ 31)) ≤ℤ r) (greatest : r ≤ℤ pos (2 ^ 31)) where
   left-read : to_z w64 (of_z w64 (to_z w64 (of_z w64 r) +ℤ to_z w64 (of_z w64 rest.transits))) ≡ t +ℤ rest.transits
   left-read = omega (arith, ints, same, least, greatest, h.low, h.high)
 
@@ -69,7 +69,7 @@ module _ {model : Model} {rest : Rest} {t r : ℤ} (h : IsRestOf model 1000 rest
         rest-is node node _ _ _ _ _ _ refl left-read (floor-read least_end soon ∙ soon) (ceiling-read latest_cumul late ∙ late)
 
   -- through it behind a way
-  module _ {way : Way} (w : IsWayOf model 9000 way) where
+  module _ {way : Way} (w : IsTightWayOf model 9000 way) where
     sum-read : to_z w64 (of_z w64 (to_z w64 (of_z w64 way.time) +ℤ to_z w64 (of_z w64 (to_z w64 (of_z w64 r) +ℤ to_z w64 (of_z w64 rest.transits))))) ≡ way.time +ℤ (t +ℤ rest.transits)
     sum-read = omega (arith, ints, left-read, same, least, greatest, h.low, h.high, w.early, w.late)
 
@@ -115,7 +115,7 @@ module _ {model : Model} {rest : Rest} {t r : ℤ} (h : IsRestOf model 1000 rest
 
 module _ (model : Model) (well : IsWellFormed model) (d v : ℕ) (dimension : d < length model.dimensions) (vehicle : v < length model.vehicles) where
   -- what is left from the end on
-  pub end-rest : (runs : Runs) → HasCumulEnds runs.finish → IsRestOf model 0 (rest_at_end model v runs)
+  pub end-rest : (runs : Runs) → HasCumulEnds runs.finish → IsTightRestOf model 0 (rest_at_end model v runs)
   end-rest runs ends =
       let f = ends.lo.at_least in
       let q = ends.hi.at_most in
@@ -131,7 +131,7 @@ module _ (model : Model) (well : IsWellFormed model) (d v : ℕ) (dimension : d 
 
   module _ (runs : Runs) (visits : AreVisitRuns model d v runs.visits) where
     -- what is left of one arc more
-    pub before-rest : (n : ℕ) (rest : Rest) (node : ℕ) → IsRestOf model n rest → IsTrue (is_visit model node) → IsRestOf model (n + 1) (rest_before model d v runs node rest)
+    pub before-rest : (n : ℕ) (rest : Rest) (node : ℕ) → IsTightRestOf model n rest → IsTrue (is_visit model node) → IsTightRestOf model (n + 1) (rest_before model d v runs node rest)
     before-rest n rest node h visit =
         let low = visit_below model node visit in
         let allowed = slice_index_or runs.visits node no_run in
@@ -150,14 +150,14 @@ module _ (model : Model) (well : IsWellFormed model) (d v : ℕ) (dimension : d 
         }
 
     -- what is left from visits on
-    pub rest-range : HasCumulEnds runs.finish → (nodes : List ℕ) → All (λ node. IsTrue (is_visit model node)) nodes → IsRestOf model (length nodes) (rest_of model d v runs nodes)
+    pub rest-range : HasCumulEnds runs.finish → (nodes : List ℕ) → All (λ node. IsTrue (is_visit model node)) nodes → IsTightRestOf model (length nodes) (tight_rest_of model d v runs nodes)
     rest-range finish [] all = end-rest runs finish
     rest-range finish (x ∷ xs) all =
         let rest = rest-range finish xs (λ k d low. all (suc k) d (omega (arith, low))) in
-        subst (λ n. IsRestOf model n (rest_of model d v runs (x ∷ xs))) (let e : length xs + 1 ≡ suc (length xs) = omega arith in e) (before-rest (length xs) (rest_of model d v runs xs) x rest (all 0 0 (omega arith)))
+        subst (λ n. IsTightRestOf model n (tight_rest_of model d v runs (x ∷ xs))) (let e : length xs + 1 ≡ suc (length xs) = omega arith in e) (before-rest (length xs) (tight_rest_of model d v runs xs) x rest (all 0 0 (omega arith)))
 
   -- a way through what is left
-  pub end-way : (n m : ℕ) (way : Way) (rest : Rest) → IsWayOf model n way → IsRestOf model m rest → IsWayOf model (n + 1 + m) (way_through model d v way rest)
+  pub end-way : (n m : ℕ) (way : Way) (rest : Rest) → IsTightWayOf model n way → IsTightRestOf model m rest → IsTightWayOf model (n + 1 + m) (way_through model d v way rest)
   end-way n m way rest h r =
       let t = transit_in_range model well d v dimension vehicle way.at rest.at h.at r.at in
       let x = int_max_is (way.time +ℤ (transit model d v way.at rest.at +ℤ rest.transits)) rest.least_end in
@@ -210,15 +210,15 @@ module _ (model : Model) (d v : ℕ) (runs : Runs) where
       ap (λ (x : ℤ). (let w : Way = record { at = (vehicle_at model v).end; time = int_max (way.time +ℤ x) runs.finish.lo; transits = way.transits +ℤ x; latest = int_min way.latest (runs.finish.hi -ℤ (way.transits +ℤ t)) } in w)) left
 
   -- what is left from visits on is the way along them to the end
-  pub through-rest : (nodes : List ℕ) (way : Way) → way_through model d v way (rest_of model d v runs nodes) ≡ way_on model d v (way_along model d v runs way nodes) (vehicle_at model v).end runs.finish
+  pub through-rest : (nodes : List ℕ) (way : Way) → way_through model d v way (tight_rest_of model d v runs nodes) ≡ way_on model d v (tight_way_along model d v runs way nodes) (vehicle_at model v).end runs.finish
   through-rest [] way = through-end way
-  through-rest (x ∷ xs) way = through-visit way x (rest_of model d v runs xs) ∙ through-rest xs (way_to_visit model d v runs way x)
+  through-rest (x ∷ xs) way = through-visit way x (tight_rest_of model d v runs xs) ∙ through-rest xs (way_to_visit model d v runs way x)
 
   -- the whole way is a way along the front of a list, on along others, and through what is left
   pub whole-parts : (front middle behind list : List ℕ) → list ≡ front ++ (middle ++ behind)
-      → way_through model d v (way_along model d v runs (way_along model d v runs (way_out model v runs) front) middle) (rest_of model d v runs behind) ≡ whole_way model d v runs list
+      → way_through model d v (tight_way_along model d v runs (tight_way_along model d v runs (way_out model v runs) front) middle) (tight_rest_of model d v runs behind) ≡ whole_tight_way model d v runs list
   whole-parts front middle behind list is =
-      through-rest behind (way_along model d v runs (way_along model d v runs (way_out model v runs) front) middle)
-      ∙ sym (ap (whole_way model d v runs) is
+      through-rest behind (tight_way_along model d v runs (tight_way_along model d v runs (way_out model v runs) front) middle)
+      ∙ sym (ap (whole_tight_way model d v runs) is
       ∙ ap (λ (w : Way). way_on model d v w (vehicle_at model v).end runs.finish)
-      (fold-append (way_to_visit model d v runs) (way_out model v runs) front (middle ++ behind) ∙ fold-append (way_to_visit model d v runs) (way_along model d v runs (way_out model v runs) front) middle behind))
+      (fold-append (way_to_visit model d v runs) (way_out model v runs) front (middle ++ behind) ∙ fold-append (way_to_visit model d v runs) (tight_way_along model d v runs (way_out model v runs) front) middle behind))

@@ -15,9 +15,9 @@ use Rattle.vr_steps.proofs.LineLemmas.{visit_below as place_below}
 use Rattle.vr_reach.specs.Lists.{IsTour}
 use Rattle.vr_reach.specs.VisitRuns.{IsAllowedRun}
 use Rattle.vr_reach.proofs.LineParts.{end_allows_run, visit_allows_run}
-use Rattle.vr_costfilter.specs.Floors.{before, end_step, floor_of, AreAimed, IsVisitStep}
+use Rattle.vr_costfilter.specs.Floors.{before, end_step, stop_floor, AreAimed, IsVisitStep}
 use Rattle.vr_costfilter.specs.Runs.{Runs, AllowsRuns, AreRuns, no_run, run_at, stop_runs}
-use Rattle.vr_costfilter.specs.Stages.{along, go_on, raised, setting_out, standing, to_end, visit_more}
+use Rattle.vr_costfilter.specs.Stages.{along, go_on, from_floor, setting_out, stage_at_start, to_end, visit_more}
 use Rattle.vr_costfilter.specs.declared.guides.Stage.{Stage}
 use Rattle.vr_costfilter.specs.declared.trails.Step.{Step}
 use Rattle.vr_costfilter.proofs.FloorLemmas.{aimed-rest, before-had, floor-had}
@@ -101,9 +101,9 @@ run-same r q same some =
 
 -- a start from which a vehicle sets out allows some cumul
 pub start-some : (model : Model) (d v : ℕ) (runs : Runs) (next : Step) (stage : Stage) → setting_out model d v runs next ≡ Some stage → runs.start.lo ≤ℤ runs.start.hi
-start-some model d v runs next stage e = by (floor_of model d v (vehicle_at model v).start runs.start next) refl e
+start-some model d v runs next stage e = by (stop_floor model d v (vehicle_at model v).start runs.start next) refl e
   where
-    by : (o : Option ℤ) → floor_of model d v (vehicle_at model v).start runs.start next ≡ o → option_map (standing model d v) o ≡ Some stage → runs.start.lo ≤ℤ runs.start.hi
+    by : (o : Option ℤ) → stop_floor model d v (vehicle_at model v).start runs.start next ≡ o → option_map (stage_at_start model d v) o ≡ Some stage → runs.start.lo ≤ℤ runs.start.hi
     by None is e = absurd (cc)
     by (Some it) is e =
         let t : ℤ = transit model d v (vehicle_at model v).start next.node in
@@ -154,7 +154,7 @@ module _ (model : Model) (d v : ℕ) (a b : Runs) (of_a : AreRuns model d v a) (
   pub same-aimed : (steps : List Step) (next : Step) → AreAimed model d v a steps next → All (IsVisitStep model) steps → AreAimed model d v b steps next
   same-aimed steps next aimed known = record {
     each = λ k low.
-        sym (ap (λ r. option_map (λ (floor : ℤ). (let s : Step = record { node = (slice_index_or steps k next).node; floor = floor } in s)) (floor_of model d v (slice_index_or steps k next).node r (slice_index_or steps (suc k) next)))
+        sym (ap (λ r. option_map (λ (floor : ℤ). (let s : Step = record { node = (slice_index_or steps k next).node; floor = floor } in s)) (stop_floor model d v (slice_index_or steps k next).node r (slice_index_or steps (suc k) next)))
         (step-runs steps next aimed known k low)) ∙ aimed.each k low;
   }
 
@@ -165,10 +165,10 @@ module _ (model : Model) (d v : ℕ) (a b : Runs) (of_a : AreRuns model d v a) (
       ∙ same-along (visit_more model d v b o x) xs next (aimed-rest model d v a x xs next aimed) (λ k e low. known (suc k) e (omega (arith, low)))
     where
       more : Run → Option Stage
-      more r = option_and_then (λ (stage : Stage). go_on (transit model d v stage.at x.node) (dimension_at model d).slack_max x.node (raised x.floor r) (row_of (dimension_at model d).nodes x.node) stage) o
+      more r = option_and_then (λ (stage : Stage). go_on (transit model d v stage.at x.node) (dimension_at model d).slack_max x.node (from_floor x.floor r) (row_of (dimension_at model d).nodes x.node) stage) o
 
   pub same-out : a.start ≡ b.start → (next : Step) → setting_out model d v a next ≡ setting_out model d v b next
-  same-out same next = ap (λ r. option_map (standing model d v) (floor_of model d v (vehicle_at model v).start r next)) same
+  same-out same next = ap (λ r. option_map (stage_at_start model d v) (stop_floor model d v (vehicle_at model v).start r next)) same
 
   pub same-end : a.finish ≡ b.finish → (o : Option Stage) → option_and_then (to_end model d v a) o ≡ option_and_then (to_end model d v b) o
   same-end same o = ap (λ r. option_and_then (λ (stage : Stage). go_on (transit model d v stage.at (vehicle_at model v).end) (dimension_at model d).slack_max (vehicle_at model v).end r (row_of (dimension_at model d).ends v) stage) o) same

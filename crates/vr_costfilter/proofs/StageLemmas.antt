@@ -13,7 +13,7 @@ use Rattle.vr_model.specs.declared.records.Model.{Model}
 use Rattle.vr_model.specs.declared.records.StopRow.{StopRow}
 use Rattle.vr_reach.specs.Early.{has_cumul_behind, IsEarliestBehind}
 use Rattle.vr_costfilter.specs.Runs.{Runs}
-use Rattle.vr_costfilter.specs.Stages.{along, go_on, is_had, next_cumul, paid_more, to_end, to_visit, visit_more, whole, IsStageOf}
+use Rattle.vr_costfilter.specs.Stages.{along, go_on, is_had, next_cumul, paid_more, to_end, to_visit, visit_more, along_to_end, IsStageOf}
 use Rattle.vr_costfilter.specs.declared.guides.Stage.{Stage}
 use Rattle.vr_costfilter.specs.declared.trails.Step.{Step}
 
@@ -112,7 +112,7 @@ module _ (model : Model) (d v : ℕ) (runs : Runs) where
   end-shift z None = refl
   end-shift z (Some stage) = go-shift z (transit model d v stage.at (vehicle_at model v).end) (dimension_at model d).slack_max (vehicle_at model v).end runs.finish (row_of (dimension_at model d).ends v) stage
 
-  pub whole-shift : (z : ℤ) (o : Option Stage) (steps : List Step) → whole model d v runs (option_map (paid_more z) o) steps ≡ option_map (paid_more z) (whole model d v runs o steps)
+  pub whole-shift : (z : ℤ) (o : Option Stage) (steps : List Step) → along_to_end model d v runs (option_map (paid_more z) o) steps ≡ option_map (paid_more z) (along_to_end model d v runs o steps)
   whole-shift z o steps = ap (option_and_then (to_end model d v runs)) (along-shift z o steps) ∙ end-shift z (along model d v runs o steps)
 
   -- a stage at the same stop and with the same cumul as another one, but for what was paid on the way
@@ -120,10 +120,10 @@ module _ (model : Model) (d v : ℕ) (runs : Runs) where
   stage-is old new a c z x = ap₂ (λ (n : ℕ) (y : ℤ). record { at = n; cumul = y; soft = new.soft }) a c ∙ ap (λ (y : ℤ). record { at = old.at; cumul = old.cumul; soft = y }) x
 
   -- it comes to the same end
-  pub resumed : (steps : List Step) (old end new : Stage) → whole model d v runs (Some old) steps ≡ Some end → new.at ≡ old.at → new.cumul ≡ old.cumul → (z : ℤ) → new.soft ≡ old.soft +ℤ z
-      → whole model d v runs (Some new) steps ≡ Some (paid_more z end)
+  pub resumed : (steps : List Step) (old end new : Stage) → along_to_end model d v runs (Some old) steps ≡ Some end → new.at ≡ old.at → new.cumul ≡ old.cumul → (z : ℤ) → new.soft ≡ old.soft +ℤ z
+      → along_to_end model d v runs (Some new) steps ≡ Some (paid_more z end)
   resumed steps old end new told at cumul z soft =
-      ap (λ (s : Stage). whole model d v runs (Some s) steps) (stage-is old new at cumul z soft) ∙ whole-shift z (Some old) steps ∙ ap (option_map (paid_more z)) told
+      ap (λ (s : Stage). along_to_end model d v runs (Some s) steps) (stage-is old new at cumul z soft) ∙ whole-shift z (Some old) steps ∙ ap (option_map (paid_more z)) told
 
   -- and along fewer steps to the same stage
   pub paced : (steps : List Step) (old there new : Stage) → along model d v runs (Some old) steps ≡ Some there → new.at ≡ old.at → new.cumul ≡ old.cumul → (z : ℤ) → new.soft ≡ old.soft +ℤ z
@@ -139,11 +139,11 @@ module _ (model : Model) (d v : ℕ) (runs : Runs) where
   pub along-append : (o : Option Stage) (xs ys : List Step) → along model d v runs o (xs ++ ys) ≡ along model d v runs (along model d v runs o xs) ys
   along-append o xs ys = fold-append (visit_more model d v runs) o xs ys
 
-  pub whole-append : (o : Option Stage) (xs ys : List Step) → whole model d v runs o (xs ++ ys) ≡ whole model d v runs (along model d v runs o xs) ys
+  pub whole-append : (o : Option Stage) (xs ys : List Step) → along_to_end model d v runs o (xs ++ ys) ≡ along_to_end model d v runs (along model d v runs o xs) ys
   whole-append o xs ys = ap (option_and_then (to_end model d v runs)) (along-append o xs ys)
 
   -- one step more
   pub whole-next : (steps : List Step) (k : ℕ) (other : Step) → k < length steps → (gone next : Stage) → to_visit model d v runs (slice_index_or steps k other) gone ≡ Some next
-      → whole model d v runs (Some next) (drop (k + 1) steps) ≡ whole model d v runs (Some gone) (drop k steps)
+      → along_to_end model d v runs (Some next) (drop (k + 1) steps) ≡ along_to_end model d v runs (Some gone) (drop k steps)
   whole-next steps k other low gone next e =
-      sym (ap (whole model d v runs (Some gone)) (drop_more steps k other low) ∙ ap (λ o. whole model d v runs o (drop (k + 1) steps)) e)
+      sym (ap (along_to_end model d v runs (Some gone)) (drop_more steps k other low) ∙ ap (λ o. along_to_end model d v runs o (drop (k + 1) steps)) e)

@@ -10,7 +10,7 @@ use Rattle.vr_model.specs.schedules.Narrowed.{chosen_line}
 use Rattle.vr_plan.specs.declared.timings.Timing.{Timing}
 use Rattle.vr_costfilter.specs.Asked.{IsTimingFound}
 use Rattle.vr_costfilter.specs.Runs.{Runs}
-use Rattle.vr_costfilter.specs.Stages.{along, to_end, to_visit, visit_more, whole}
+use Rattle.vr_costfilter.specs.Stages.{along, to_end, to_visit, visit_more, along_to_end}
 use Rattle.vr_costfilter.specs.declared.guides.Stage.{Stage}
 use Rattle.vr_costfilter.specs.declared.trails.Step.{Step}
 use Rattle.vr_costfilter.proofs.MetLemmas.{front-split}
@@ -26,7 +26,7 @@ module _ (model : Model) (d v : ℕ) (runs : Runs) where
   along-none [] = refl
   along-none (x ∷ xs) = along-none xs
 
-  pub whole-none : (steps : List Step) → whole model d v runs None steps ≡ None
+  pub whole-none : (steps : List Step) → along_to_end model d v runs None steps ≡ None
   whole-none steps = ap (option_and_then (to_end model d v runs)) (along-none steps)
 
   -- nor from where it does not come to the next step
@@ -39,10 +39,10 @@ module _ (model : Model) (d v : ℕ) (runs : Runs) where
       ap (along model d v runs o) (sym (front-split (k + 1) place steps (omega (arith, less)))) ∙ along-append model d v runs o (take (k + 1) steps) rest
       ∙ ap (λ (p : Option Stage). along model d v runs p rest) here ∙ along-none rest
 
-  pub whole-stuck : (steps : List Step) (k : ℕ) (other : Step) (gone : Stage) → k < length steps → to_visit model d v runs (slice_index_or steps k other) gone ≡ None → whole model d v runs (Some gone) (drop k steps) ≡ None
+  pub whole-stuck : (steps : List Step) (k : ℕ) (other : Step) (gone : Stage) → k < length steps → to_visit model d v runs (slice_index_or steps k other) gone ≡ None → along_to_end model d v runs (Some gone) (drop k steps) ≡ None
   whole-stuck steps k other gone low none =
-      ap (whole model d v runs (Some gone)) (drop_more steps k other low) ∙ ap (λ (p : Option Stage). whole model d v runs p (drop (k + 1) steps)) none ∙ whole-none (drop (k + 1) steps)
+      ap (along_to_end model d v runs (Some gone)) (drop_more steps k other low) ∙ ap (λ (p : Option Stage). along_to_end model d v runs p (drop (k + 1) steps)) none ∙ whole-none (drop (k + 1) steps)
 
   -- it does not come to the end where it does not come along the first steps, or from there on
-  pub whole-unmet : (o : Option Stage) (xs ys : List Step) → along model d v runs o xs ≡ None → whole model d v runs o (xs ++ ys) ≡ None
-  whole-unmet o xs ys none = whole-append model d v runs o xs ys ∙ ap (λ (p : Option Stage). whole model d v runs p ys) none ∙ whole-none ys
+  pub whole-unmet : (o : Option Stage) (xs ys : List Step) → along model d v runs o xs ≡ None → along_to_end model d v runs o (xs ++ ys) ≡ None
+  whole-unmet o xs ys none = whole-append model d v runs o xs ys ∙ ap (λ (p : Option Stage). along_to_end model d v runs p ys) none ∙ whole-none ys

@@ -17,7 +17,7 @@ use Rattle.vr_model.proofs.schedules.LineArcs.{arcs_of_line, stops_of_line}
 use Rattle.vr_model.proofs.schedules.NarrowLines.{end-unique, start-unique}
 use Rattle.vr_model.proofs.schedules.UnderRules.{chosen_under_is_chosen, chosen_under_where_feasible}
 use Rattle.vr_plan.specs.Paying.{CostsNoSoft}
-use Rattle.vr_plan.specs.Timings.{plan_of}
+use Rattle.vr_plan.specs.Timings.{chosen_plan_of}
 use Rattle.vr_costfilter.proofs.TimingLemmas.{IsTimed}
 
 -- where a list has a schedule, one is chosen
@@ -29,7 +29,7 @@ module _ (model : Model) (d v : ℕ) (list : List ℕ) (rule : (vehicle_at model
   L = line model d v list
 
   abbrev plan : Plan
-  plan = plan_of model d v list
+  plan = chosen_plan_of model d v list
 
   found : chosen (chosen_line model d v list) ≡ Some plan
   found = there (chosen (chosen_line model d v list)) ((chosen_under_where_feasible (vehicle_at model v).schedule (line model d v list) (stops_of_line model d v list)).1 feasible)

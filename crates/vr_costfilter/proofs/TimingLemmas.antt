@@ -28,13 +28,13 @@ use Rattle.vr_reach.specs.VisitRuns.{IsAllowedRun}
 use Rattle.vr_reach.proofs.EarlyLemmas.{at_new, early_chosen}
 use Rattle.vr_reach.proofs.LineParts.{end_node}
 use Rattle.vr_plan.specs.Bounds.{cumul_cost, IsAround}
-use Rattle.vr_plan.specs.Timings.{plan_of, soft_of, IsTiming, IsTimingOf}
+use Rattle.vr_plan.specs.Timings.{chosen_plan_of, soft_of, IsTiming, IsTimingOf}
 use Rattle.vr_plan.specs.declared.timings.Timing.{Timing}
 use Rattle.vr_plan.proofs.BoundLemmas.{max-around, mul-around, mul-sign, read-cumul}
-use Rattle.vr_costfilter.specs.Floors.{end_step, first_of, floor_of}
+use Rattle.vr_costfilter.specs.Floors.{end_step, first_step_or, stop_floor}
 use Rattle.vr_costfilter.specs.Steps.{AreSteps}
 use Rattle.vr_costfilter.specs.Runs.{Runs, AllowsRuns, no_run}
-use Rattle.vr_costfilter.specs.Stages.{along, raised, setting_out, standing, to_end, to_visit, visit_more, whole}
+use Rattle.vr_costfilter.specs.Stages.{along, from_floor, setting_out, stage_at_start, to_end, to_visit, visit_more, along_to_end}
 use Rattle.vr_costfilter.specs.declared.guides.Stage.{Stage}
 use Rattle.vr_costfilter.specs.declared.trails.Step.{Step}
 use Rattle.vr_costfilter.proofs.FloorLemmas.{before-had, floor-had, many-steps, node-of}
@@ -127,17 +127,17 @@ module _ (model : Model) (well : IsWellFormed model) (d v : ℕ) (dimension : d 
   ends-valid : (key : ℕ) → WherePresent IsStopRow (row_of (dimension_at model d).ends key)
   ends-valid key = found_is IsStopRow (λ row. row.key == key) (dimension_at model d).ends (well.each_dimension d no_dimension dimension).rows_of_ends.each_row
 
-  begins : (stage : Stage) → setting_out model d v runs (first_of steps (end_step model v runs)) ≡ Some stage → Comes stage.cumul 0 stage
-  begins stage e = by (floor_of model d v (vehicle_at model v).start runs.start (first_of steps end)) refl e
+  begins : (stage : Stage) → setting_out model d v runs (first_step_or steps (end_step model v runs)) ≡ Some stage → Comes stage.cumul 0 stage
+  begins stage e = by (stop_floor model d v (vehicle_at model v).start runs.start (first_step_or steps end)) refl e
     where
       row : Option StopRow
       row = row_of (dimension_at model d).starts v
 
-      by : (o : Option ℤ) → floor_of model d v (vehicle_at model v).start runs.start (first_of steps (end_step model v runs)) ≡ o → option_map (standing model d v) o ≡ Some stage → Comes stage.cumul 0 stage
+      by : (o : Option ℤ) → stop_floor model d v (vehicle_at model v).start runs.start (first_step_or steps (end_step model v runs)) ≡ o → option_map (stage_at_start model d v) o ≡ Some stage → Comes stage.cumul 0 stage
       by None is e = absurd (cc)
       by (Some x) is e =
           let node : ℕ = (vehicle_at model v).start in
-          let next : Step = first_of steps end in
+          let next : Step = first_step_or steps end in
           let floor = floor-had next.floor (transit model d v node next.node) (dimension_at model d).slack_max runs.start x is in
           let most = floor.most in
           let m = int_max_is ((next.floor -ℤ transit model d v node next.node) -ℤ (dimension_at model d).slack_max) runs.start.lo in
@@ -146,7 +146,7 @@ module _ (model : Model) (well : IsWellFormed model) (d v : ℕ) (dimension : d 
           let costs = row-range row x (starts-valid v) range in
           let none = sum-none (map (row_of (dimension_at model d).nodes) list ++ row_of (dimension_at model d).ends v ∷ []) in
           let there = allowed-in L 0 runs.start x run (omega (arith, ints, floor.is, m)) most in
-          subst (λ (s : Stage). Comes s.cumul 0 s) (some-same (standing model d v x) stage e) (record {
+          subst (λ (s : Stage). Comes s.cumul 0 s) (some-same (stage_at_start model d v x) stage e) (record {
             cumuls = x ∷ [];
             early = begin-least L has.has.stops x there (start-least model d v runs list L has steps steps_are x is);
             start = refl;
@@ -161,7 +161,7 @@ module _ (model : Model) (well : IsWellFormed model) (d v : ℕ) (dimension : d 
   over : (first : ℤ) (k : ℕ) (stage next : Stage) → k ≤ length list → Comes first k stage → (allowed : Run) → IsAllowedRun L (k + 1) allowed
       → (floor : ℤ) → allowed.lo ≤ℤ floor → ((plan : Plan) → IsSchedule L plan → floor ≤ℤ cumul plan (k + 1)) → (row : Option StopRow) → WherePresent IsStopRow row
       → slice_index_or (stop_rows (dimension_at model d) v list) (k + 1) None ≡ row → (node : ℕ) → node ≡ node_at_stop model v list (k + 1)
-      → IsBehind (transit model d v stage.at node) (dimension_at model d).slack_max node (raised floor allowed) row stage next → Comes first (k + 1) next
+      → IsBehind (transit model d v stage.at node) (dimension_at model d).slack_max node (from_floor floor allowed) row stage next → Comes first (k + 1) next
   over first k stage next le comes allowed is floor above none_before row valid at node to behind =
       let x : ℤ = next.cumul in
       let old : List ℤ = comes.cumuls in
@@ -227,7 +227,7 @@ module _ (model : Model) (well : IsWellFormed model) (d v : ℕ) (dimension : d 
       step.floor (omega (arith, ints, floor.is, m)) (λ plan s. floors-least model d v runs list L has steps steps_are plan s (left k low) k (left-is k low)) row (nodes-valid step.node)
       (subst (λ i. slice_index_or (stop_rows (dimension_at model d) v list) i None ≡ row) (sym (add-one k)) (row-behind (row_of (dimension_at model d).nodes) list (row_of (dimension_at model d).ends v) k low ∙ ap (row_of (dimension_at model d).nodes) (sym node)))
       step.node (step-node model d v runs list L has steps steps_are k (omega (arith, low)))
-      (gone (transit model d v stage.at step.node) (dimension_at model d).slack_max step.node (raised step.floor allowed) row stage next e)
+      (gone (transit model d v stage.at step.node) (dimension_at model d).slack_max step.node (from_floor step.floor allowed) row stage next e)
     where
       left : (k : ℕ) → k < length list → ℕ
       left k low = length list - k
@@ -248,26 +248,26 @@ module _ (model : Model) (well : IsWellFormed model) (d v : ℕ) (dimension : d 
       end-least : (plan : Plan) → (slice_index_or steps (length list) (end_step model v runs)).floor ≤ℤ cumul plan (length list + 1) → runs.finish.lo ≤ℤ cumul plan (length list + 1)
       end-least plan h = subst (λ (x : Step). x.floor ≤ℤ cumul plan (length list + 1)) (get_or_past steps (length list) end (let n = many-steps model d v runs list steps steps_are in omega (arith, n))) h
 
-  comes-to : (first : Stage) → setting_out model d v runs (first_of steps (end_step model v runs)) ≡ Some first → (k : ℕ) → k ≤ length list → (stage : Stage)
-      → along model d v runs (setting_out model d v runs (first_of steps (end_step model v runs))) (take k steps) ≡ Some stage → Comes first.cumul k stage
+  comes-to : (first : Stage) → setting_out model d v runs (first_step_or steps (end_step model v runs)) ≡ Some first → (k : ℕ) → k ≤ length list → (stage : Stage)
+      → along model d v runs (setting_out model d v runs (first_step_or steps (end_step model v runs))) (take k steps) ≡ Some stage → Comes first.cumul k stage
   comes-to first out zero le stage e = subst (λ (s : Stage). Comes first.cumul 0 s) (some-same first stage (sym out ∙ e)) (begins first out)
   comes-to first out (suc k) le stage e =
       let low : k < length list = omega (arith, le) in
       let step : Step = slice_index_or steps k end in
       let n = many-steps model d v runs list steps steps_are in
-      let split = sym (fold_more (visit_more model d v runs) (setting_out model d v runs (first_of steps end)) steps k end (omega (arith, low, n)))
-      ∙ ap (λ n. along model d v runs (setting_out model d v runs (first_of steps end)) (take n steps)) (add-one k) ∙ e in
+      let split = sym (fold_more (visit_more model d v runs) (setting_out model d v runs (first_step_or steps end)) steps k end (omega (arith, low, n)))
+      ∙ ap (λ n. along model d v runs (setting_out model d v runs (first_step_or steps end)) (take n steps)) (add-one k) ∙ e in
       subst (λ n. Comes first.cumul n stage) (add-one k)
-      (option_and_then_some (to_visit model d v runs step) (along model d v runs (setting_out model d v runs (first_of steps end)) (take k steps)) stage split
+      (option_and_then_some (to_visit model d v runs step) (along model d v runs (setting_out model d v runs (first_step_or steps end)) (take k steps)) stage split
       (λ before told more. visits first.cumul k before stage low (comes-to first out k (omega (arith, low)) before told) more))
 
   -- at the end it has the timing of the chosen schedule, where this is that of the line
-  module _ (law : ChosenIsLeast) (is : chosen_line model d v list ≡ L) (first last : Stage) (out : setting_out model d v runs (first_of steps (end_step model v runs)) ≡ Some first)
-      (told : whole model d v runs (setting_out model d v runs (first_of steps (end_step model v runs))) steps ≡ Some last) where
+  module _ (law : ChosenIsLeast) (is : chosen_line model d v list ≡ L) (first last : Stage) (out : setting_out model d v runs (first_step_or steps (end_step model v runs)) ≡ Some first)
+      (told : along_to_end model d v runs (setting_out model d v runs (first_step_or steps (end_step model v runs))) steps ≡ Some last) where
     comes : Comes first.cumul (length list + 1) last
-    comes = option_and_then_some (to_end model d v runs) (along model d v runs (setting_out model d v runs (first_of steps end)) steps) last told
+    comes = option_and_then_some (to_end model d v runs) (along model d v runs (setting_out model d v runs (first_step_or steps end)) steps) last told
         (λ before there more. ends first.cumul before last (comes-to first out (length list) (omega arith) before
-        (ap (along model d v runs (setting_out model d v runs (first_of steps end))) (take_all (length list) steps (let n = many-steps model d v runs list steps steps_are in omega (arith, n))) ∙ there)) more)
+        (ap (along model d v runs (setting_out model d v runs (first_step_or steps end))) (take_all (length list) steps (let n = many-steps model d v runs list steps steps_are in omega (arith, n))) ∙ there)) more)
 
     chosen-are : AreChosen L comes.cumuls
     chosen-are =
@@ -277,7 +277,7 @@ module _ (model : Model) (well : IsWellFormed model) (d v : ℕ) (dimension : d 
     line-feasible : is_feasible L ≡ true
     line-feasible = ap is_some chosen-are.is_chosen
 
-    cumuls-are : (plan_of model d v list).cumuls ≡ comes.cumuls
+    cumuls-are : (chosen_plan_of model d v list).cumuls ≡ comes.cumuls
     cumuls-are = ap (λ (l : Line). (unwrap_or (chosen l) no_plan).cumuls) is ∙ ap (λ o. (unwrap_or o no_plan).cumuls) chosen-are.is_chosen ∙ chosen-are.of_plan
 
     -- each of its cumuls is within the horizon

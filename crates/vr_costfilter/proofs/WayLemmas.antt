@@ -20,7 +20,7 @@ use Rattle.vr_reach.specs.Lists.{node_at_stop}
 use Rattle.vr_reach.specs.VisitRuns.{AreVisitRuns, HasCumulEnds}
 use Rattle.vr_reach.proofs.LineParts.{end_node}
 use Rattle.vr_costfilter.specs.Runs.{Runs, AllowsRuns, no_run, run_at, stop_runs}
-use Rattle.vr_costfilter.specs.Ways.{tight-more, last_start, latest_to, time_at, transits_to, way_along, way_by, way_on, way_out, way_to_visit, whole_way, IsWayOf}
+use Rattle.vr_costfilter.specs.Ways.{tight-more, last_start, latest_to, time_at, transits_to, tight_way_along, way_by, way_on, way_out, way_to_visit, whole_tight_way, IsTightWayOf}
 use Rattle.vr_costfilter.specs.declared.tight.Way.{Way}
 use Rattle.vr_costfilter.proofs.EndLemmas.{ends-told}
 use Rattle.vr_costfilter.proofs.LeastLemmas.{arc-transit, arcs-many, node-behind}
@@ -35,7 +35,7 @@ way-is node other time t transits r latest l at a b c =
     ∙ ap₂ (λ (x y : ℤ). (let w : Way = record { at = other; time = t; transits = x; latest = y } in w)) b c
 
 -- what is read of a way that goes on, r being the transit as it was read
-module _ {model : Model} {way : Way} {allowed : Run} {t r : ℤ} (h : IsWayOf model 10000 way) (ends : HasCumulEnds allowed) (same : r ≡ t) (least : neg_ℤ (pos (2 ^ 31)) ≤ℤ r) (greatest : r ≤ℤ pos (2 ^ 31)) where
+module _ {model : Model} {way : Way} {allowed : Run} {t r : ℤ} (h : IsTightWayOf model 10000 way) (ends : HasCumulEnds allowed) (same : r ≡ t) (least : neg_ℤ (pos (2 ^ 31)) ≤ℤ r) (greatest : r ≤ℤ pos (2 ^ 31)) where
   sum-read : to_z w64 (of_z w64 (to_z w64 (of_z w64 way.time) +ℤ to_z w64 (of_z w64 r))) ≡ way.time +ℤ t
   sum-read = omega (arith, ints, same, least, greatest, h.early, h.late)
 
@@ -72,7 +72,7 @@ module _ {model : Model} {way : Way} {allowed : Run} {t r : ℤ} (h : IsWayOf mo
   left-fits = omega (arith, ints, transits-read, same, least, greatest, h.low, h.high, ends.hi.at_least, ends.hi.at_most)
 
 -- what is read of a whole way
-module _ {model : Model} {way : Way} (h : IsWayOf model 10001 way) where
+module _ {model : Model} {way : Way} (h : IsTightWayOf model 10001 way) where
   pub end-read : to_z w64 (of_z w64 way.time) ≡ way.time
   end-read = omega (arith, ints, h.early, h.late)
 
@@ -94,7 +94,7 @@ module _ {model : Model} {way : Way} (h : IsWayOf model 10001 way) where
   start-read x is = let same = is ∙ ap₂ (λ (a b : ℤ). int_min a b) start-known gone-read in start-small x same ∙ same
 
 module _ (model : Model) (well : IsWellFormed model) (d v : ℕ) (dimension : d < length model.dimensions) (vehicle : v < length model.vehicles) where
-  pub on-way : (n : ℕ) (way : Way) (node : ℕ) (allowed : Run) → IsWayOf model n way → node < model.nodes → HasCumulEnds allowed → IsWayOf model (n + 1) (way_on model d v way node allowed)
+  pub on-way : (n : ℕ) (way : Way) (node : ℕ) (allowed : Run) → IsTightWayOf model n way → node < model.nodes → HasCumulEnds allowed → IsTightWayOf model (n + 1) (way_on model d v way node allowed)
   on-way n way node allowed h low ends =
       let t = transit_in_range model well d v dimension vehicle way.at node h.at low in
       let m = int_max_is (way.time +ℤ transit model d v way.at node) allowed.lo in
@@ -109,7 +109,7 @@ module _ (model : Model) (well : IsWellFormed model) (d v : ℕ) (dimension : d 
         latest = omega (arith, ints, o, h.latest);
       }
 
-  pub out-way : (runs : Runs) → HasCumulEnds runs.start → IsWayOf model 0 (way_out model v runs)
+  pub out-way : (runs : Runs) → HasCumulEnds runs.start → IsTightWayOf model 0 (way_out model v runs)
   out-way runs ends =
       let f = ends.lo.at_least in
       let q = ends.hi.at_most in
@@ -128,7 +128,7 @@ module _ (model : Model) (well : IsWellFormed model) (d v : ℕ) (dimension : d 
     pub visit-ends : (node : ℕ) (other : Run) → IsTrue (is_visit model node) → HasCumulEnds (slice_index_or runs.visits node other)
     visit-ends node other visit = (visits.each node other (let low = visit_below model node visit in omega (arith, visits.long, low)) visit).ends
 
-    pub along-way : (nodes : List ℕ) → All (λ node. IsTrue (is_visit model node)) nodes → (n : ℕ) (way : Way) → IsWayOf model n way → IsWayOf model (n + length nodes) (way_along model d v runs way nodes)
+    pub along-way : (nodes : List ℕ) → All (λ node. IsTrue (is_visit model node)) nodes → (n : ℕ) (way : Way) → IsTightWayOf model n way → IsTightWayOf model (n + length nodes) (tight_way_along model d v runs way nodes)
     along-way [] all n way h = tight-more n (n + 0) (omega arith) h
     along-way (x ∷ xs) all n way h =
         let visit = all 0 0 (omega arith) in
@@ -136,8 +136,8 @@ module _ (model : Model) (well : IsWellFormed model) (d v : ℕ) (dimension : d 
         let rest = along-way xs (λ k d low. all (suc k) d (omega (arith, low))) (n + 1) (way_to_visit model d v runs way x) next in
         tight-more (n + 1 + length xs) (n + suc (length xs)) (omega arith) rest
 
-    pub along-part : (nodes : List ℕ) → All (λ node. IsTrue (is_visit model node)) nodes → (n : ℕ) (way : Way) → IsWayOf model n way → (k : ℕ) → k ≤ length nodes
-        → IsWayOf model (n + k) (way_along model d v runs way (take k nodes))
+    pub along-part : (nodes : List ℕ) → All (λ node. IsTrue (is_visit model node)) nodes → (n : ℕ) (way : Way) → IsTightWayOf model n way → (k : ℕ) → k ≤ length nodes
+        → IsTightWayOf model (n + k) (tight_way_along model d v runs way (take k nodes))
     along-part nodes all n way h k le =
         tight-more (n + length (take k nodes)) (n + k) (let l = length-take-le k nodes le in omega (arith, l)) (along-way (take k nodes) (All-take (λ node. IsTrue (is_visit model node)) k nodes all) n way h)
 
@@ -166,23 +166,23 @@ module _ (model : Model) (d v : ℕ) (runs : Runs) (list : List ℕ) (L : Line) 
         latest = ap₂ (λ (x : ℤ) (y : ℤ). int_min x y) h.latest (ap₂ (λ (r : Run) (x : ℤ). r.hi -ℤ x) is transits);
       }
 
-  come-along : (k : ℕ) → k ≤ length list → HasCome k (way_along model d v runs (way_out model v runs) (take k list))
+  come-along : (k : ℕ) → k ≤ length list → HasCome k (tight_way_along model d v runs (way_out model v runs) (take k list))
   come-along zero le = record { at = refl; time = refl; transits = refl; latest = refl }
   come-along (suc k) le =
       let low : k < length list = omega (arith, le) in
       let more = fold_more (way_to_visit model d v runs) (way_out model v runs) list k 0 low in
       let there : take (k + 1) list ≡ take (suc k) list = ap (λ n. take n list) (add-one k) in
-      subst (HasCome (suc k)) (sym more ∙ ap (way_along model d v runs (way_out model v runs)) there)
+      subst (HasCome (suc k)) (sym more ∙ ap (tight_way_along model d v runs (way_out model v runs)) there)
       (come-on k _ (slice_index_or list k 0) (slice_index_or runs.visits (slice_index_or list k 0) no_run) (omega (arith, le)) (come-along k (omega (arith, le))) (node-behind model d v runs list L by k low) (sym (stop-visit runs list k low)))
 
-  come-whole : HasCome (suc (length list)) (whole_way model d v runs list)
+  come-whole : HasCome (suc (length list)) (whole_tight_way model d v runs list)
   come-whole =
       come-on (length list) _ (vehicle_at model v).end runs.finish (omega arith)
-      (subst (λ l. HasCome (length list) (way_along model d v runs (way_out model v runs) l)) (take_all (length list) list (omega arith)) (come-along (length list) (omega arith)))
+      (subst (λ l. HasCome (length list) (tight_way_along model d v runs (way_out model v runs) l)) (take_all (length list) list (omega arith)) (come-along (length list) (omega arith)))
       (sym (end_node model v list (length list) refl)) (sym (stop-last runs list))
 
   -- the ends that a whole way tells are those of the tight schedule
-  module _ (feasible : IsFeasible L) (way : Way) (is : way ≡ whole_way model d v runs list) where
+  module _ (feasible : IsFeasible L) (way : Way) (is : way ≡ whole_tight_way model d v runs list) where
     come : HasCome (length L.arcs) way
     come = subst (λ n. HasCome n way) (sym (arcs-many model d v runs list L by)) (subst (HasCome (suc (length list))) (sym is) come-whole)
 

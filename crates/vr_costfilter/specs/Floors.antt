@@ -21,14 +21,14 @@ floor_in floor t s allowed =
     cond (int_le (floor_before floor t s allowed) allowed.hi) (Some (floor_before floor t s allowed)) None
 
 -- the floor of a stop of vehicle v at a node, before the next step
-abbrev pub floor_of : Model → ℕ → ℕ → ℕ → Run → Step → Option ℤ
-floor_of model d v node allowed next =
+abbrev pub stop_floor : Model → ℕ → ℕ → ℕ → Run → Step → Option ℤ
+stop_floor model d v node allowed next =
     floor_in next.floor (transit model d v node next.node) (dimension_at model d).slack_max allowed
 
 -- the step to a visit, before the next step
 abbrev pub before : Model → ℕ → ℕ → Runs → ℕ → Step → Option Step
 before model d v runs node next = option_map (λ floor. record { node = node; floor = floor })
-    (floor_of model d v node (slice_index_or runs.visits node no_run) next)
+    (stop_floor model d v node (slice_index_or runs.visits node no_run) next)
 
 -- the first of the steps to visits in order, which come before the next step; none where one of them allows no cumul
 -- from its floor on
@@ -42,8 +42,8 @@ abbrev pub end_step : Model → ℕ → Runs → Step
 end_step model v runs = record { node = (vehicle_at model v).end; floor = runs.finish.lo }
 
 -- the first of steps, and of none of them the next one
-abbrev pub first_of : List Step → Step → Step
-first_of steps next = slice_index_or steps 0 next
+abbrev pub first_step_or : List Step → Step → Step
+first_step_or steps next = slice_index_or steps 0 next
 
 -- each of these steps comes before the one behind it, and the last one before the next step
 pub record AreAimed (model : Model) (d v : ℕ) (runs : Runs) (steps : List Step) (next : Step) : Type 0 where
@@ -73,4 +73,4 @@ pub record WentBack (model : Model) (d v : ℕ) (runs : Runs) (nodes : List ℕ)
   pub aimed : AreAimed model d v runs steps next
   pub known : All (IsVisitStep model) steps
   pub trail : new ≡ old ++ reverse steps
-  pub first_is : first ≡ first_of steps next
+  pub first_is : first ≡ first_step_or steps next

@@ -18,7 +18,7 @@ use Rattle.vr_costfilter.specs.declared.kept.KeptList.{KeptList}
 use Rattle.vr_routes.specs.Changes.{AreParts}
 use Rattle.vr_routes.specs.Tours.{Tours}
 use Rattle.vr_routes.specs.Pieces.{ListAfter, changed, joined, part_at}
-use Rattle.vr_costfilter.specs.SortedEnds.{beside, extent_but, AreInRange, AreOrders, IsInRange, IsTold}
+use Rattle.vr_costfilter.specs.SortedEnds.{beside, extent_but, AreInRange, AreOrders, IsInRange, IsTimedIfUsed}
 use Rattle.vr_costfilter.specs.declared.orders.SortedEnds.{SortedEnds}
 
 -- what the global spans cost at the chosen schedules of lists
@@ -39,14 +39,14 @@ is_some_spanned model = list_any has_global_span model.dimensions
 
 -- what the chosen schedule of a list comes to is told where the dimension pays, and none is of the empty list; where it
 -- does not pay, nothing is told
-pub record IsToldIfPaid (model : Model) (d v : ℕ) (list : List ℕ) (timing : Option Timing) : Type 0 where
-  pub told : Pays model d → IsTold model d v list timing
+pub record IsTimedIfPaid (model : Model) (d v : ℕ) (list : List ℕ) (timing : Option Timing) : Type 0 where
+  pub told : Pays model d → IsTimedIfUsed model d v list timing
   pub untold : (dimension_at model d).global_span_cost ≡ pos 0 → timing ≡ None
 
 -- the same of each dimension
 pub record IsRow (model : Model) (v : ℕ) (list : List ℕ) (row : List (Option Timing)) : Type 0 where
   pub many : length row ≡ 4
-  pub each : (d : ℕ) → d < length model.dimensions → IsToldIfPaid model d v list (slice_index_or row d None)
+  pub each : (d : ℕ) → d < length model.dimensions → IsTimedIfPaid model d v list (slice_index_or row d None)
 
 -- the sorted ends that are read where there are none
 abbrev pub no_orders : SortedEnds
@@ -62,13 +62,13 @@ pub record AreAllOrders (model : Model) (lists : List (List ℕ)) (orders : List
   pub each : (d : ℕ) → d < length model.dimensions → Pays model d → AreOrders model d lists (orders_at orders d)
 
 -- what a row tells in dimension d
-abbrev pub told_in : ℕ → List (Option Timing) → Option Timing
-told_in d row = slice_index_or row d None
+abbrev pub timing_in : ℕ → List (Option Timing) → Option Timing
+timing_in d row = slice_index_or row d None
 
 -- from where to where lists reach where these vehicles get lists of which these rows tell
 abbrev pub extent_after : ℕ → List ℕ → List (List (Option Timing)) → SortedEnds → Option Extent
 extent_after d vehicles next orders =
-    fold (λ extent row. beside extent (told_in d row)) (extent_but vehicles orders) next
+    fold (λ extent row. beside extent (timing_in d row)) (extent_but vehicles orders) next
 
 -- what the global span of dimension d costs then
 abbrev pub span_cost_after : Model → List SortedEnds → List ℕ → List (List (Option Timing)) → ℕ → ℤ
@@ -81,20 +81,20 @@ spans_cost_after model orders vehicles next =
     total_by (span_cost_after model orders vehicles next) (below (length model.dimensions))
 
 -- the cumuls that rows tell in dimension d are in their range
-abbrev pub AreTold : ℕ → List (List (Option Timing)) → Type 0
-AreTold d next = (k : ℕ) → k < length next → IfSome (told_in d (slice_index_or next k [])) IsInRange
+abbrev pub AreTimingsInRange : ℕ → List (List (Option Timing)) → Type 0
+AreTimingsInRange d next = (k : ℕ) → k < length next → IfSome (timing_in d (slice_index_or next k [])) IsInRange
 
 -- where a dimension pays, all cumuls that the sorted ends and the rows tell are in their range
 pub record AreRanged (model : Model) (orders : List SortedEnds) (next : List (List (Option Timing))) : Type 0 where
   pub many : length orders ≡ length model.dimensions
   pub in_orders : (d : ℕ) → d < length model.dimensions → Pays model d → AreInRange (orders_at orders d)
-  pub in_rows : (d : ℕ) → d < length model.dimensions → Pays model d → AreTold d next
+  pub in_rows : (d : ℕ) → d < length model.dimensions → Pays model d → AreTimingsInRange d next
 
 -- the same of one of its first four dimensions
 pub record AreRangedIn (d : ℕ) (orders : SortedEnds) (next : List (List (Option Timing))) : Type 0 where
   pub dimension : d < 4
   pub in_orders : AreInRange orders
-  pub in_rows : AreTold d next
+  pub in_rows : AreTimingsInRange d next
 
 -- there are orders for each dimension, and no vehicle stands in them
 pub record AreBlank (model : Model) (orders : List SortedEnds) : Type 0 where
@@ -142,9 +142,9 @@ pub record AreRowsAfter (model : Model) (lists : List (List ℕ)) (parts : List 
       → IsRow model (part_at parts k).vehicle (joined lists (part_at parts k).pieces) (slice_index_or next k [])
 
 -- what they tell in dimension d is what the chosen schedules of these lists come to
-abbrev pub AreToldOf : Model → ℕ → List (List ℕ) → List ListAfter → List (List (Option Timing)) → Type 0
-AreToldOf model d lists parts next = (k : ℕ) → k < length parts → IsTold model d (part_at parts k).vehicle
-    (joined lists (part_at parts k).pieces) (told_in d (slice_index_or next k []))
+abbrev pub AreTimingsOf : Model → ℕ → List (List ℕ) → List ListAfter → List (List (Option Timing)) → Type 0
+AreTimingsOf model d lists parts next = (k : ℕ) → k < length parts → IsTimedIfUsed model d (part_at parts k).vehicle
+    (joined lists (part_at parts k).pieces) (timing_in d (slice_index_or next k []))
 
 -- a change gives vehicles of a model lists; these are the sorted ends of the lists before, and the rows of those after
 pub record AreNextRows (model : Model) (lists : List (List ℕ)) (parts : List ListAfter) (orders : List SortedEnds)
@@ -162,7 +162,7 @@ pub record AreNextRowsIn (model : Model) (d : ℕ) (lists : List (List ℕ)) (pa
   pub few : length lists ≤ 100
   pub parts_are : AreParts lists parts
   pub many : length next ≡ length parts
-  pub told : AreToldOf model d lists parts next
+  pub told : AreTimingsOf model d lists parts next
 
 -- the global span of a dimension of a model has a coefficient
 pub record IsPaidIn (model : Model) (d : ℕ) : Type 0 where

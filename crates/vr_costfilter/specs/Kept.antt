@@ -16,7 +16,7 @@ use Rattle.vr_costfilter.specs.Runs.{between_runs, Runs, AreRuns}
 use Rattle.vr_costfilter.specs.Steps.{HasStages}
 use Rattle.vr_costfilter.specs.declared.dimensions.Paid.{Paid}
 use Rattle.vr_costfilter.specs.declared.dimensions.Paid.TheVariants.{Alone, Together}
-use Rattle.vr_costfilter.specs.KeptWays.{KeptWays}
+use Rattle.vr_costfilter.specs.KeptWays.{KeptTightWays}
 use Rattle.vr_costfilter.specs.declared.kept.KeptList.{KeptList}
 
 -- the rule chooses the tight schedule
@@ -36,7 +36,7 @@ HasAllStages list kept = length kept.steps.stages.items ≡ length list + 2
 -- the same of a vehicle that chooses its tight schedule: it has a way to each place
 pub record HasAllWays (list : List ℕ) (kept : KeptList) : Type 0 where
   pub room : 0 < length kept.ends.items
-  pub ways : (other : KeptWays) → length (slice_index_or kept.ends.items 0 other).ways.items ≡ length list + 1
+  pub ways : (other : KeptTightWays) → length (slice_index_or kept.ends.items 0 other).ways.items ≡ length list + 1
 
 -- the same under a rule
 abbrev pub HasAllAsked : ScheduleRule → List ℕ → KeptList → Type 0
@@ -59,7 +59,7 @@ pub record IsKept (model : Model) (d v : ℕ) (list : List ℕ) (kept : KeptList
 -- of a list of vehicle v the ways to its ends are kept by these runs, and no stage between them yet
 pub record HasWaysAlone (model : Model) (d v : ℕ) (runs : Runs) (list : List ℕ) (kept : KeptList) : Type 0 where
   pub ends : 0 < length kept.ends.items
-  pub ways : (other : KeptWays) → HasWaysBy model d v runs list (slice_index_or kept.ends.items 0 other)
+  pub ways : (other : KeptTightWays) → HasWaysBy model d v runs list (slice_index_or kept.ends.items 0 other)
   pub none : length kept.steps.stages.items ≡ 0
   pub between : HasCumuls kept.between
 

@@ -34,8 +34,8 @@ rest_before model d v runs node rest =
     rest_by (transit model d v node rest.at) node (slice_index_or runs.visits node no_run) rest
 
 -- what is left from the first of some visits on, through all of them to the end of vehicle v
-abbrev pub rest_of : Model → ℕ → ℕ → Runs → List ℕ → Rest
-rest_of model d v runs nodes = back_from (rest_at_end model v runs) (rest_before model d v runs) nodes
+abbrev pub tight_rest_of : Model → ℕ → ℕ → Runs → List ℕ → Rest
+tight_rest_of model d v runs nodes = back_from (rest_at_end model v runs) (rest_before model d v runs) nodes
 
 -- a way goes on to a stop, over an arc that takes t, and through what is left from there to the end
 abbrev pub through_by : ℤ → ℕ → Rest → Way → Way
@@ -52,5 +52,5 @@ way_through model d v way rest =
     through_by (transit model d v way.at rest.at) (vehicle_at model v).end rest way
 
 -- the numbers of what is left of n arcs
-abbrev pub IsRestOf : Model → ℕ → Rest → Type 0
-IsRestOf model n rest = AreTightArcs model n rest.at rest.least_end rest.transits rest.latest_cumul
+abbrev pub IsTightRestOf : Model → ℕ → Rest → Type 0
+IsTightRestOf model n rest = AreTightArcs model n rest.at rest.least_end rest.transits rest.latest_cumul

@@ -12,7 +12,7 @@ use Rattle.vr_model.specs.declared.records.Model.{Model}
 use Rattle.vr_model.specs.declared.records.StopRow.{StopRow}
 use Rattle.vr_plan.specs.Bounds.{cumul_cost}
 use Rattle.vr_costfilter.specs.Runs.{Runs, no_run}
-use Rattle.vr_costfilter.specs.Floors.{floor_of}
+use Rattle.vr_costfilter.specs.Floors.{stop_floor}
 use Rattle.vr_costfilter.specs.declared.guides.Stage.{Stage}
 use Rattle.vr_costfilter.specs.declared.trails.Step.{Step}
 
@@ -36,8 +36,8 @@ go_on t s node allowed row stage = cond (is_had stage.cumul t s allowed)
     None
 
 -- vehicle v stands at its start at a cumul
-abbrev pub standing : Model → ℕ → ℕ → ℤ → Stage
-standing model d v cumul = record {
+abbrev pub stage_at_start : Model → ℕ → ℕ → ℤ → Stage
+stage_at_start model d v cumul = record {
   at = (vehicle_at model v).start;
   cumul = cumul;
   soft = row_cost (row_of (dimension_at model d).starts v) cumul;
@@ -46,17 +46,18 @@ standing model d v cumul = record {
 -- it stands there at the floor of its start, before the next step
 abbrev pub setting_out : Model → ℕ → ℕ → Runs → Step → Option Stage
 setting_out model d v runs next =
-    option_map (standing model d v) (floor_of model d v (vehicle_at model v).start runs.start next)
+    option_map (stage_at_start model d v) (stop_floor model d v (vehicle_at model v).start runs.start next)
 
 -- the cumuls of a run from a floor on
-abbrev pub raised : ℤ → Run → Run
-raised floor allowed = record { lo = floor; hi = allowed.hi }
+abbrev pub from_floor : ℤ → Run → Run
+from_floor floor allowed = record { lo = floor; hi = allowed.hi }
 
 -- it goes on to a visit, at the least cumul from its floor on
 abbrev pub to_visit : Model → ℕ → ℕ → Runs → Step → Stage → Option Stage
 to_visit model d v runs step stage =
     go_on (transit model d v stage.at step.node) (dimension_at model d).slack_max step.node
-    (raised step.floor (slice_index_or runs.visits step.node no_run)) (row_of (dimension_at model d).nodes step.node)
+    (from_floor step.floor (slice_index_or runs.visits step.node no_run))
+    (row_of (dimension_at model d).nodes step.node)
     stage
 
 -- it goes on to its end
@@ -73,8 +74,8 @@ abbrev pub along : Model → ℕ → ℕ → Runs → Option Stage → List Step
 along model d v runs stage steps = fold (visit_more model d v runs) stage steps
 
 -- it goes on along them to its end
-abbrev pub whole : Model → ℕ → ℕ → Runs → Option Stage → List Step → Option Stage
-whole model d v runs stage steps = option_and_then (to_end model d v runs) (along model d v runs stage steps)
+abbrev pub along_to_end : Model → ℕ → ℕ → Runs → Option Stage → List Step → Option Stage
+along_to_end model d v runs stage steps = option_and_then (to_end model d v runs) (along model d v runs stage steps)
 
 -- the same stage, where z more was paid on the way
 abbrev pub paid_more : ℤ → Stage → Stage
@@ -89,5 +90,5 @@ pub record IsStageOf (model : Model) (n : ℕ) (stage : Stage) : Type 0 where
 
 -- vehicle v stands at its start
 pub record IsAtStart (model : Model) (d v : ℕ) (stage : Stage) : Type 0 where
-  pub stands : stage ≡ standing model d v stage.cumul
+  pub stands : stage ≡ stage_at_start model d v stage.cumul
   pub range : IsStageOf model 1 stage

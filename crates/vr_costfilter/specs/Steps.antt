@@ -7,8 +7,8 @@ use Rattle.vr_model.specs.tables.WellFormed.{IsIn}
 use Rattle.vr_model.specs.declared.records.Model.{Model}
 use Rattle.vr_plan.specs.Bounds.{cumul_cost}
 use Rattle.vr_costfilter.specs.Runs.{Runs, starting}
-use Rattle.vr_costfilter.specs.Floors.{end_step, first_of, nodes_in, AreAimed, IsStep, IsVisitStep}
-use Rattle.vr_costfilter.specs.Stages.{along, paid_more, setting_out, whole, IsStageOf}
+use Rattle.vr_costfilter.specs.Floors.{end_step, first_step_or, nodes_in, AreAimed, IsStep, IsVisitStep}
+use Rattle.vr_costfilter.specs.Stages.{along, paid_more, setting_out, along_to_end, IsStageOf}
 use Rattle.vr_costfilter.specs.declared.guides.Stage.{Stage}
 use Rattle.vr_costfilter.specs.declared.steps.KeptSteps.{KeptSteps}
 use Rattle.vr_costfilter.specs.declared.steps.Lead.{Lead}
@@ -25,14 +25,14 @@ pub record AreStepsFrom (model : Model) (d v : ℕ) (runs : Runs) (list : List �
     Type 0 where
   pub steps_are : AreSteps model d v runs list steps
   pub known : All (IsVisitStep model) steps
-  pub first_is : first ≡ first_of steps (end_step model v runs)
+  pub first_is : first ≡ first_step_or steps (end_step model v runs)
   pub range : IsStep model first
 
 -- the stages of vehicle v at its start and at the first n visits of these steps
 pub record AreStages (model : Model) (d v : ℕ) (runs : Runs) (steps : List Step) (n : ℕ) (stages : List Stage) :
     Type 0 where
   pub each : (k : ℕ) (other : Stage) → k ≤ n
-      → along model d v runs (setting_out model d v runs (first_of steps (end_step model v runs))) (take k steps)
+      → along model d v runs (setting_out model d v runs (first_step_or steps (end_step model v runs))) (take k steps)
       ≡ Some (slice_index_or stages k other)
   pub at : (k : ℕ) (other : Stage) → k < n
       → (slice_index_or stages (suc k) other).at ≡ (slice_index_or steps k (end_step model v runs)).node
@@ -44,8 +44,8 @@ pub record AreAllStages (model : Model) (d v : ℕ) (runs : Runs) (list : List �
   pub steps_are : AreSteps model d v runs list steps
   pub known : All (IsVisitStep model) steps
   pub stages_are : AreStages model d v runs steps (length list) stages
-  pub end : (other : Stage) → whole model d v runs
-      (setting_out model d v runs (first_of steps (end_step model v runs))) steps
+  pub end : (other : Stage) → along_to_end model d v runs
+      (setting_out model d v runs (first_step_or steps (end_step model v runs))) steps
       ≡ Some (slice_index_or stages (suc (length list)) other)
   pub end_range : (other : Stage)
       → IsStageOf model (suc (suc (length list))) (slice_index_or stages (suc (length list)) other)
@@ -89,7 +89,7 @@ pub record HasLed (model : Model) (d v : ℕ) (runs : Runs) (kept : List Step) (
   pub aimed : AreAimed model d v runs (take lead.place kept ++ steps) next
   pub known : All (IsVisitStep model) steps
   pub trail : new ≡ old ++ reverse steps
-  pub first_is : lead.first ≡ first_of (take lead.place kept ++ steps) next
+  pub first_is : lead.first ≡ first_step_or (take lead.place kept ++ steps) next
   pub kept_first : IsKeptLead kept lead
   pub range : IsStep model lead.first
 

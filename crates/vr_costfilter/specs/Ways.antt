@@ -32,13 +32,13 @@ latest_to line runs (suc k) =
     int_min (latest_to line runs k) ((run_at runs (suc k)).hi -ℤ transits_to line (suc k))
 
 -- the least end
-abbrev pub first_end : Line → List Run → ℤ
-first_end line runs = time_at line runs (length line.arcs)
+abbrev pub least_end_by : Line → List Run → ℤ
+least_end_by line runs = time_at line runs (length line.arcs)
 
 -- the latest start with it
 abbrev pub last_start : Line → List Run → ℤ
 last_start line runs =
-    int_min (latest_to line runs (length line.arcs)) (first_end line runs -ℤ transits_to line (length line.arcs))
+    int_min (latest_to line runs (length line.arcs)) (least_end_by line runs -ℤ transits_to line (length line.arcs))
 
 -- ---- as it is walked
 
@@ -60,8 +60,8 @@ abbrev pub way_to_visit : Model → ℕ → ℕ → Runs → Way → ℕ → Way
 way_to_visit model d v runs way node = way_on model d v way node (slice_index_or runs.visits node no_run)
 
 -- it goes on to visits in order
-abbrev pub way_along : Model → ℕ → ℕ → Runs → Way → List ℕ → Way
-way_along model d v runs way nodes = fold (way_to_visit model d v runs) way nodes
+abbrev pub tight_way_along : Model → ℕ → ℕ → Runs → Way → List ℕ → Way
+tight_way_along model d v runs way nodes = fold (way_to_visit model d v runs) way nodes
 
 -- vehicle v stands at its start
 abbrev pub way_out : Model → ℕ → Runs → Way
@@ -69,8 +69,8 @@ way_out model v runs =
     record { at = (vehicle_at model v).start; time = runs.start.lo; transits = pos 0; latest = runs.start.hi }
 
 -- it has gone along a list to its end
-abbrev pub whole_way : Model → ℕ → ℕ → Runs → List ℕ → Way
-whole_way model d v runs list = way_on model d v (way_along model d v runs (way_out model v runs) list)
+abbrev pub whole_tight_way : Model → ℕ → ℕ → Runs → List ℕ → Way
+whole_tight_way model d v runs list = way_on model d v (tight_way_along model d v runs (way_out model v runs) list)
     (vehicle_at model v).end runs.finish
 
 -- the end that a whole way tells
@@ -110,5 +110,5 @@ tight-more n m le h = record {
 }
 
 -- the numbers of a way of n arcs
-abbrev pub IsWayOf : Model → ℕ → Way → Type 0
-IsWayOf model n way = AreTightArcs model n way.at way.time way.transits way.latest
+abbrev pub IsTightWayOf : Model → ℕ → Way → Type 0
+IsTightWayOf model n way = AreTightArcs model n way.at way.time way.transits way.latest

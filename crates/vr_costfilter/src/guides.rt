@@ -15,11 +15,11 @@ ghost use Rattle.vr_model.specs.tables.WellFormed.{IsIn, IsStopRow, WherePresent
 ghost use Rattle.vr_model.specs.tables.WellFormedOnce.{IsWellFormed-prop};
 ghost use Rattle.vr_plan.specs.Bounds.{cumul_cost};
 ghost use Rattle.vr_reach.specs.VisitRuns.{have_stops_one_run, HasCumulEnds};
-ghost use Rattle.vr_costfilter.specs.Floors.{before as before_by, end_step as end_step_by, floor_of as floor_by};
+ghost use Rattle.vr_costfilter.specs.Floors.{before as before_by, end_step as end_step_by, stop_floor as floor_by};
 ghost use Rattle.vr_costfilter.specs.Floors.{IsStep, IsVisitStep, WentBack};
-ghost use Rattle.vr_costfilter.specs.Guides.{IsGuide, IsStopAt};
+ghost use Rattle.vr_costfilter.specs.Guides.{IsRunGuide, IsStopAt};
 ghost use Rattle.vr_costfilter.specs.LookedUp.{IsLookedUp};
-ghost use Rattle.vr_costfilter.specs.Stages.{along, go_on as go_on_by, standing as standing_by};
+ghost use Rattle.vr_costfilter.specs.Stages.{along, go_on as go_on_by, stage_at_start as standing_by};
 ghost use Rattle.vr_costfilter.specs.Stages.{to_end as to_end_by, to_visit as to_visit_by, IsStageOf};
 
 use crate::trails::{Step, Trail};
@@ -56,7 +56,7 @@ pub struct Guide<'m> {
     /// Its end.
     pub finish: Ahead,
     /// What it says of them is so, of a well formed model.
-    pub ghost sound: { IsGuide model.now d v table.now evaluator.now slack start visits.now finish } by { Prim.hlevel
+    pub ghost sound: { IsRunGuide model.now d v table.now evaluator.now slack start visits.now finish } by { Prim.hlevel
         (props, IsWellFormed-prop) },
 }
 

@@ -18,7 +18,7 @@ ghost use Rattle.vr_routes.specs.Pieces.{joined};
 ghost use Rattle.vr_plan.specs.Tables.{IsKnownDimension};
 ghost use Rattle.vr_plan.specs.Timings.{IsTiming, IsTimingOf};
 ghost use Rattle.vr_costfilter.specs.Joined.{AreJoinedFeasibly};
-ghost use Rattle.vr_costfilter.specs.KeptWays.{AreEndsOf, HasCumuls, HaveKeptWays};
+ghost use Rattle.vr_costfilter.specs.KeptWays.{AreTightEndsOf, HasCumuls, HaveKeptWays};
 ghost use Rattle.vr_costfilter.specs.Asked.{new_line, new_list, old_list};
 ghost use Rattle.vr_costfilter.specs.Asked.{ChoiceAllows, IsKeptBy, IsNewTiming, IsNewTimingFound};
 ghost use Rattle.vr_costfilter.specs.GuideRuns.{runs_of, IsGuideBy};
@@ -121,7 +121,7 @@ impl KeptList {
             (between_runs (runs_of led.now.guide.now) self.new.between.start self.new.between.last) led.now.list.now
             self.new.steps }
         ensures between { HasCumuls self.new.between }
-        ensures told { led.now.guide.now.table.now.is_hard ≡ false → AreEndsOf led.now.guide.now.model.now
+        ensures told { led.now.guide.now.table.now.is_hard ≡ false → AreTightEndsOf led.now.guide.now.model.now
             led.now.guide.now.d led.now.guide.now.v (runs_of led.now.guide.now) led.now.list.now self.new.between }
         ensures all { led.now.guide.now.table.now.is_hard ≡ false → (line : Line)
             → AllowsRuns led.now.guide.now.model.now led.now.guide.now.d led.now.guide.now.v

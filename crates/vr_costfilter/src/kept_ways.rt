@@ -5,10 +5,10 @@ ghost use Rattle.std.specs.Prelude.{◌≡◌, IsTrue, pos};
 ghost use Rattle.vr_model.specs.tables.Numbers.{horizon};
 ghost use Rattle.vr_model.specs.tables.Tables.{is_visit};
 ghost use Rattle.vr_model.specs.tables.WellFormed.{IsIn};
-ghost use Rattle.vr_costfilter.specs.KeptWays.{AreEndsOf, HasCumuls, HasWaysBy};
+ghost use Rattle.vr_costfilter.specs.KeptWays.{AreTightEndsOf, HasCumuls, HasWaysBy};
 ghost use Rattle.vr_costfilter.specs.GuideRuns.{runs_of};
-ghost use Rattle.vr_costfilter.specs.Rests.{rest_at_end, rest_before, IsRestOf};
-ghost use Rattle.vr_costfilter.specs.Ways.{nearest_cumul, tight-more, way_out, way_to_visit, IsWayOf};
+ghost use Rattle.vr_costfilter.specs.Rests.{rest_at_end, rest_before, IsTightRestOf};
+ghost use Rattle.vr_costfilter.specs.Ways.{nearest_cumul, tight-more, way_out, way_to_visit, IsTightWayOf};
 
 use crate::guides::Guide;
 use crate::led::LedList;
@@ -27,9 +27,9 @@ impl<'m> Walk for Guide<'m> {
 
     ghost can_visit = { λ guide node. IsTrue (is_visit guide.model.now node) };
 
-    ghost is_way = { λ guide n way. IsWayOf guide.model.now n way };
+    ghost is_way = { λ guide n way. IsTightWayOf guide.model.now n way };
 
-    ghost is_rest = { λ guide n rest. IsRestOf guide.model.now n rest };
+    ghost is_rest = { λ guide n rest. IsTightRestOf guide.model.now n rest };
 
     ghost start_way = { λ guide. way_out guide.model.now guide.v (runs_of guide) };
 
@@ -78,7 +78,7 @@ impl<'a, 'm> LedList<'a, 'm> {
     pub fn ends(&self, kept: &KeptWays) -> TightEnds
         requires { HasWaysBy self.now.guide.now.model.now self.now.guide.now.d self.now.guide.now.v
             (runs_of self.now.guide.now) self.now.list.now kept.now }
-        ensures ends { AreEndsOf self.now.guide.now.model.now self.now.guide.now.d self.now.guide.now.v
+        ensures ends { AreTightEndsOf self.now.guide.now.model.now self.now.guide.now.d self.now.guide.now.v
             (runs_of self.now.guide.now) self.now.list.now result }
         ensures range { HasCumuls result }
     {

@@ -16,7 +16,7 @@ ghost use Rattle.vr_costfilter.specs.SortedEnds.{AreOrders};
 ghost use Rattle.vr_costfilter.specs.GlobalCosts as reaches;
 ghost use Rattle.vr_costfilter.specs.GlobalCosts.{extent_after, spans_cost_after, AreAllOrders, AreBlank, IsRow};
 ghost use Rattle.vr_costfilter.specs.GlobalCosts.{AreNextRows, AreNextRowsIn, AreRanged, AreRangedIn, IsGlobalCost};
-ghost use Rattle.vr_costfilter.specs.GlobalCosts.{is_some_spanned, IsToldIfPaid, Pays};
+ghost use Rattle.vr_costfilter.specs.GlobalCosts.{is_some_spanned, IsTimedIfPaid, Pays};
 ghost use Rattle.vr_costfilter.specs.Spreads.{global_least};
 ghost use Rattle.vr_costfilter.specs.PartsAfter.{list_after, vehicle_after};
 
@@ -259,7 +259,7 @@ fn kept_in(
     timer: &mut Timer,
 ) -> Result<Option<Timing>, NoMemory>
     requires known { IsLookedUp tour.now.closed.model.now d table.now }
-    ensures { IfOk result (IsToldIfPaid tour.now.closed.model.now d tour.now.v tour.now.list.now) }
+    ensures { IfOk result (IsTimedIfPaid tour.now.closed.model.now d tour.now.v tour.now.list.now) }
 {
     if tour.list.is_empty() {
         return Ok(None);
@@ -300,7 +300,7 @@ fn kept_after(
 ) -> Result<Option<Timing>, NoMemory>
     requires known { IsLookedUp part.now.model.now d table.now }
     requires kept { AreAllKept part.now.model.now part.now.routes.now.lists cumuls.now }
-    ensures { IfOk result (IsToldIfPaid part.now.model.now d (vehicle_after part.now) (list_after part.now)) }
+    ensures { IfOk result (IsTimedIfPaid part.now.model.now d (vehicle_after part.now) (list_after part.now)) }
 {
     if part.model.dimensions.get(d as usize).global_span_cost == 0 {
         return Ok(None);

@@ -3,8 +3,8 @@
 ghost use Rattle.std.specs.Prelude.{◌≡◌};
 ghost use Rattle.vr_model.specs.tables.Tables.{transit as transit_of};
 ghost use Rattle.vr_costfilter.specs.Guides.{IsStopAt};
-ghost use Rattle.vr_costfilter.specs.Rests.{rest_by, way_through as through_rest, IsRestOf};
-ghost use Rattle.vr_costfilter.specs.Ways.{IsWayOf};
+ghost use Rattle.vr_costfilter.specs.Rests.{rest_by, way_through as through_rest, IsTightRestOf};
+ghost use Rattle.vr_costfilter.specs.Ways.{IsTightWayOf};
 
 use crate::guides::Guide;
 use crate::tight::Way;
@@ -26,7 +26,7 @@ impl<'m> Guide<'m> {
     #[inline]
     pub fn rest_on(&self, node: u32, allowed: Run, rest: Rest) -> Rest
         requires stop { IsStopAt self.now.model.now node allowed }
-        requires rest { IsRestOf self.now.model.now 1000 rest }
+        requires rest { IsTightRestOf self.now.model.now 1000 rest }
         ensures { result ≡ rest_by (transit_of self.now.model.now self.now.d self.now.v node rest.at) node allowed
             rest }
     {
@@ -45,8 +45,8 @@ impl<'m> Guide<'m> {
     /// A way goes on to a stop and through what is left from there to the end.
     #[inline(always)]
     pub fn way_through(&self, way: Way, rest: Rest) -> Way
-        requires way { IsWayOf self.now.model.now 9000 way }
-        requires rest { IsRestOf self.now.model.now 1000 rest }
+        requires way { IsTightWayOf self.now.model.now 9000 way }
+        requires rest { IsTightRestOf self.now.model.now 1000 rest }
         ensures { result ≡ through_rest self.now.model.now self.now.d self.now.v way rest }
     {
         let transit = self

@@ -11,12 +11,13 @@ ghost use Rattle.vr_model.specs.tables.Numbers.{horizon};
 ghost use Rattle.vr_model.specs.tables.WellFormed.{IsIn, WherePresent};
 ghost use Rattle.vr_costfilter.specs.Asked.{old_list, ChoiceAllows, IsNewTimingFound};
 ghost use Rattle.vr_costfilter.specs.GuideRuns.{runs_of};
-ghost use Rattle.vr_costfilter.specs.Floors.{end_step, first_of, first_step, IsStep, IsVisitStep};
+ghost use Rattle.vr_costfilter.specs.Floors.{end_step, first_step_or, first_step, IsStep, IsVisitStep};
 ghost use Rattle.vr_costfilter.specs.Runs.{only as only_of, start_run, starting, AllowsRuns};
 ghost use Rattle.vr_costfilter.specs.Steps.{steps_of, AreAllStages, AreKnownSteps, AreStepsFrom};
 ghost use Rattle.vr_costfilter.specs.Steps.{AreMet};
 ghost use Rattle.vr_costfilter.specs.Steps.{first_led, reached, HasLed, HasPaced, HasSetOut, HasStages, IsLead};
-ghost use Rattle.vr_costfilter.specs.Stages.{along, paid_more, setting_out, standing, whole, IsAtStart, IsStageOf};
+ghost use Rattle.vr_costfilter.specs.Stages.{along, paid_more, setting_out, stage_at_start, along_to_end, IsAtStart};
+ghost use Rattle.vr_costfilter.specs.Stages.{IsStageOf};
 
 use crate::asked::Asked;
 use crate::guides::{Guide, Stage};
@@ -303,7 +304,8 @@ impl<'a, 'm> KnownSteps<'a, 'm> {
     // The stage at the start at a cumul, the kept one where it is the same.
     fn start_stage(&self, cumul: i64) -> Stage
         requires cumul { IsIn (pos 0) horizon cumul }
-        ensures value { result ≡ standing self.now.guide.now.model.now self.now.guide.now.d self.now.guide.now.v cumul }
+        ensures value { result ≡ stage_at_start self.now.guide.now.model.now self.now.guide.now.d self.now.guide.now.v
+            cumul }
         ensures range { IsStageOf self.now.guide.now.model.now 1002 result }
     {
         let kept = self.kept.stages[0];
@@ -377,7 +379,7 @@ impl<'a, 'm> KnownSteps<'a, 'm> {
     fn end_behind(&self, behind: usize, stage: Stage) -> Option<Stage>
         requires place { behind ≤ length self.now.list.now }
         requires stage { IsStageOf self.now.guide.now.model.now 2002 stage }
-        ensures { result ≡ whole self.now.guide.now.model.now self.now.guide.now.d self.now.guide.now.v
+        ensures { result ≡ along_to_end self.now.guide.now.model.now self.now.guide.now.d self.now.guide.now.v
             (runs_of self.now.guide.now) (Some stage)
             (drop behind (steps_of self.now.kept.now)) }
     {

@@ -11,7 +11,7 @@ ghost use Rattle.vr_costfilter.specs.KeptWays.{HasCumuls};
 ghost use Rattle.vr_costfilter.specs.Guides.{IsStopAt};
 ghost use Rattle.vr_costfilter.specs.GuideRuns.{runs_of};
 ghost use Rattle.vr_costfilter.specs.Runs.{between_runs, only as only_of};
-ghost use Rattle.vr_costfilter.specs.Ways.{last_by, start_by, way_on as way_on_by, IsWayOf};
+ghost use Rattle.vr_costfilter.specs.Ways.{last_by, start_by, way_on as way_on_by, IsTightWayOf};
 
 use crate::guides::Guide;
 use vr_reach::Ahead;
@@ -65,7 +65,7 @@ impl<'m> Guide<'m> {
     /// The ends that a whole way tells.
     #[inline]
     pub fn ends_by(&self, whole: Way) -> TightEnds
-        requires { IsWayOf self.now.model.now 10001 whole }
+        requires { IsTightWayOf self.now.model.now 10001 whole }
         ensures last { result.last ≡ last_by whole }
         ensures start { result.start ≡ start_by whole }
     {
@@ -79,7 +79,7 @@ impl<'m> Guide<'m> {
     #[inline(always)]
     pub fn way_on(&self, way: Way, node: u32, allowed: Run) -> Way
         requires stop { IsStopAt self.now.model.now node allowed }
-        requires way { IsWayOf self.now.model.now 10000 way }
+        requires way { IsTightWayOf self.now.model.now 10000 way }
         ensures { result ≡ way_on_by self.now.model.now self.now.d self.now.v way node allowed }
     {
         let transit = self

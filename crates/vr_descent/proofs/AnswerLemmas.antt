@@ -6,7 +6,7 @@ use Rattle.vr_model.specs.moves.Moves.{apply, moves}
 use Rattle.vr_model.specs.routes.Rules.{is_valid}
 use Rattle.vr_model.specs.routes.Costs.{cost}
 use Rattle.vr_model.specs.search.ChoosingLaws.{EndsAs}
-use Rattle.vr_model.specs.search.Descents.{improves, descended, descent_from, descent}
+use Rattle.vr_model.specs.search.Descents.{makes_cheaper, descended, descent_from, descent}
 use Rattle.vr_model.specs.search.Outcomes.{SearchState, Outcome, accepted, begun, ended, tried, with_event}
 use Rattle.vr_model.specs.search.Scans.{Scan}
 use Rattle.vr_model.specs.search.Scans.Scan.{Accepted, Complete, Cut}
@@ -118,7 +118,7 @@ first_of false b e = e
 module _ (model : Model) (first : List (List ℕ)) (limit : Limit) where
   goes_on : (scans : ℕ) (state : SearchState) → IsSoundState model first limit state → (state.found == limit.solutions) ≡ false
       → ((next : SearchState) → IsSoundState model first limit next → IsSoundAnswer model first limit (descent_from model limit scans next))
-      → (s : Scan) → EndsAs (moves model state.lists) (improves model state.lists) (limit.tries - state.used) s
+      → (s : Scan) → EndsAs (moves model state.lists) (makes_cheaper model state.lists) (limit.tries - state.used) s
       → IsSoundAnswer model first limit (descended model limit (descent_from model limit scans) state s)
   goes_on scans state sound more again (Accepted n mv) ends =
       sound_told model first limit _ _ (again (accepted model state n mv) (sound_accepted model first limit state n mv sound ends.1 more (first_of _ _ ends.0.acceptable_there)))
@@ -135,7 +135,7 @@ module _ (model : Model) (first : List (List ℕ)) (limit : Limit) where
           → ((next : SearchState) → IsSoundState model first limit next → IsSoundAnswer model first limit (descent_from model limit scans next))
           → IsSoundAnswer model first limit (descent_from model limit (suc scans) state)
       go true e again = rw (e, descent_from) (sound_end model first limit state _ sound)
-      go false e again = rw (e, descent_from) (goes_on scans state sound e again _ (scan_ends (moves model state.lists) (improves model state.lists) (limit.tries - state.used)))
+      go false e again = rw (e, descent_from) (goes_on scans state sound e again _ (scan_ends (moves model state.lists) (makes_cheaper model state.lists) (limit.tries - state.used)))
 
 pub descent_is_sound : DescentIsSound
 unfolding descent

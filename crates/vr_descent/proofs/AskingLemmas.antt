@@ -1,6 +1,6 @@
 -- How often a judge was asked adds up.
 use Rattle.std.proofs.Common.{◌≡◌, ◌∙◌, ℕ, suc, ◌+◌, ◌*◌, ◌<◌, ◌≤◌, ◌^◌, List, arith}
-use Rattle.vr_known.specs.Passing.{within}
+use Rattle.vr_known.specs.Passing.{tries_within}
 use Rattle.vr_model.specs.declared.records.Model.{Model}
 use Rattle.vr_descent.specs.Asking.{AsksFor, AsksOn, Keeps}
 use Rattle.vr_descent.proofs.PassedLemmas.{looks_few}
@@ -45,7 +45,7 @@ module _ {J : Type 0} {judged seen : J → ℕ} where
 
   -- a judge that was asked what moves make at least, while they were passed up to some place, and judged none of them
   module _ (rest : ℕ) (a b c : J) (place reached more : ℕ) (fits : rest < 2 ^ 64) (low : place ≤ rest) (before : AsksFor judged seen a b place)
-      (same : judged c ≡ judged b) (looks : seen c + within rest place ≤ seen b + within rest (reached + more)) where
+      (same : judged c ≡ judged b) (looks : seen c + tries_within rest place ≤ seen b + tries_within rest (reached + more)) where
     few : (seen c + place ≤ seen b + (reached + more)) × (seen c + place ≤ seen b + rest)
     few = looks_few rest (seen b) (seen c) place (reached + more) fits low looks
 

@@ -13,7 +13,7 @@ use Rattle.vr_model.specs.declared.search.Limit.{Limit}
 use Rattle.vr_model.proofs.routes.CostFits.{costs_are_bounded}
 use Rattle.vr_routes.specs.Judging.{HoldSame}
 use Rattle.vr_routes.specs.Tours.{Tours}
-use Rattle.vr_watch.specs.Told.{Told, ToldInPart}
+use Rattle.vr_watch.specs.Told.{Reported, ReportedInPart}
 use Rattle.vr_watch.proofs.ToldLemmas.{told_nothing}
 use Rattle.vr_descent.specs.Incumbents.{IsBest, IsUnderWay}
 use Rattle.vr_descent.specs.Searching.{behind, event_of}
@@ -42,11 +42,11 @@ module _ {W : Type 0} (after : W → List Event → List ℕ) (whole rest : Outc
   start = record { told = []; outcome = begins; heard = told_nothing after a }
 
   -- the first event was told in part
-  pub first_in_part : ToldInPart after a b (event ∷ []) → ToldInPart after a b whole.events
+  pub first_in_part : ReportedInPart after a b (event ∷ []) → ReportedInPart after a b whole.events
   first_in_part told = breaks_off after whole rest (event ∷ []) a a b start told
 
   -- the first event was told
-  pub first_told : Told after a b (event ∷ []) → Goes after whole rest a b
+  pub first_told : Reported after a b (event ∷ []) → Goes after whole rest a b
   first_told told = goes_more after whole rest (event ∷ []) a a b start told
 
 -- the first lists are the best

@@ -8,7 +8,7 @@ use Rattle.vr_model.specs.routes.Costs.{cost}
 use Rattle.vr_model.specs.search.Scans.{Scan, scan}
 use Rattle.vr_model.specs.search.Scans.Scan.{Accepted as accepted_as, Complete as complete, Cut as cut}
 use Rattle.vr_model.specs.search.Outcomes.{SearchState, Outcome, accepted, tried, with_event, event_at, ended, begun}
-use Rattle.vr_model.specs.search.Descents.{improves, descended, descent_from, descent}
+use Rattle.vr_model.specs.search.Descents.{makes_cheaper, descended, descent_from, descent}
 use Rattle.vr_model.specs.declared.records.Model.{Model}
 use Rattle.vr_model.specs.declared.records.End.TheVariants.{Optimum, Tries, Solutions}
 use Rattle.vr_model.specs.declared.search.Limit.{Limit}
@@ -24,7 +24,7 @@ less : (a b : ℤ) → int_lt (a -ℤ b) (pos 0) ≡ int_lt a b
 less a b = Prim.grind (arith, ints)
 
 -- it takes what makes the cost less
-pub same_improves : (model : Model) (lists : List (List ℕ)) → is_acceptable model takes_less lists ≡ improves model lists
+pub same_improves : (model : Model) (lists : List (List ℕ)) → is_acceptable model takes_less lists ≡ makes_cheaper model lists
 same_improves model lists = λ i mv. is_valid model (apply model lists mv) && less (cost model (apply model lists mv)) (cost model lists) i
 
 module _ (model : Model) (limit : Limit) where
@@ -49,7 +49,7 @@ module _ (model : Model) (limit : Limit) where
     enough e = rw (e, descent_from) refl
 
     -- else the moves are scanned
-    scanned : (found == limit.solutions) ≡ false → (s : Scan) → scan (moves model lists) (improves model lists) (limit.tries - used) ≡ s
+    scanned : (found == limit.solutions) ≡ false → (s : Scan) → scan (moves model lists) (makes_cheaper model lists) (limit.tries - used) ≡ s
         → from_here lists used found ≡ descended model limit (descent_from model limit (limit.tries - used)) (standing lists used found) s
     unfolding descent_from
     scanned e s h = rw (e, descent_from) (ap (descended model limit (descent_from model limit (limit.tries - used)) (standing lists used found)) h)
@@ -57,7 +57,7 @@ module _ (model : Model) (limit : Limit) where
     abbrev scanned_as : Scan → Type 0
     scanned_as s = scan (moves model lists) (is_acceptable model takes_less lists) (limit.tries - used) ≡ s
 
-    as_improving : (s : Scan) → scanned_as s → scan (moves model lists) (improves model lists) (limit.tries - used) ≡ s
+    as_improving : (s : Scan) → scanned_as s → scan (moves model lists) (makes_cheaper model lists) (limit.tries - used) ≡ s
     as_improving s h = ap (λ test. scan (moves model lists) test (limit.tries - used)) (sym (same_improves model lists)) ∙ h
 
     pub on_complete : (found == limit.solutions) ≡ false → (n : ℕ) → scanned_as (complete n) → from_here lists used found ≡ ended (tried (standing lists used found) n) Optimum

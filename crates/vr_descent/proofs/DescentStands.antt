@@ -15,7 +15,7 @@ use Rattle.vr_model.specs.declared.search.Limit.{Limit}
 use Rattle.vr_model.specs.declared.neighbours.Move.{Move}
 use Rattle.vr_model.proofs.tables.Tests.{apart}
 use Rattle.vr_routes.specs.Tours.{Tours}
-use Rattle.vr_watch.specs.Told.{Told, ToldInPart}
+use Rattle.vr_watch.specs.Told.{Reported, ReportedInPart}
 use Rattle.vr_routes.specs.Judging.{HoldSame}
 use Rattle.vr_descent.specs.Ending.{HasEnded, report_of}
 use Rattle.vr_descent.specs.Scanned.{takes_less}
@@ -73,10 +73,10 @@ module _ {W : Type 0} (after : W → List Event → List ℕ) (model : Model) (l
     on = goes_as after whole _ _ old new (on_scan model limit routes.lists at.used at.found (apart at.found limit.solutions more)) stands.goes
 
     -- the events of a scan were told in part
-    pub scan_in_part : ToldInPart after new later (events_after model routes.lists at.used scan) → ToldInPart after old later whole.events
+    pub scan_in_part : ReportedInPart after new later (events_after model routes.lists at.used scan) → ReportedInPart after old later whole.events
     scan_in_part told = breaks_off after whole (left scan) (events_after model routes.lists at.used scan) old new later on told
 
-    module _ (told : Told after new later (events_after model routes.lists at.used scan)) (tours : Tours) (now : Progress) where
+    module _ (told : Reported after new later (events_after model routes.lists at.used scan)) (tours : Tours) (now : Progress) where
       after_scan : (s : Scan) → scan ≡ s → Goes after whole (left s) old later
       after_scan s e = subst (λ x. Goes after whole (left x) old later) e (goes_more after whole (left scan) (events_after model routes.lists at.used scan) old new later on told)
 

@@ -17,7 +17,7 @@ use Rattle.vr_model.specs.declared.neighbours.Neighbourhood.TheVariants as all
 use Rattle.vr_model.proofs.tables.Members.{In, of_contains, of_range, from_each, from_map}
 use Rattle.vr_model.proofs.tables.Tests.{lt_of_test, clash}
 use Rattle.vr_model.proofs.moves.MoveMembers.{moves_as_tested}
-use Rattle.vr_model.specs.tables.WellFormed.{number_of as kind_at}
+use Rattle.vr_model.specs.tables.WellFormed.{neighbourhood_number as kind_at}
 use Rattle.vr_known.specs.Blocks.{kind_of, first_of, is_behind, is_kind_of}
 
 -- ---- lists that are split at a move

@@ -9,7 +9,7 @@ use Rattle.vr_model.specs.search.Scans.{scan_from}
 use Rattle.vr_model.specs.search.Scans.Scan.{Accepted, Complete, Cut}
 use Rattle.vr_model.specs.declared.neighbours.Move.{Move}
 use Rattle.vr_model.proofs.tables.Members.{In}
-use Rattle.vr_known.specs.Passing.{capped, within}
+use Rattle.vr_known.specs.Passing.{capped, tries_within}
 
 pub capped_low : (n : ℕ) → capped n < 2 ^ 64 - 1 → capped n ≡ n
 capped_low n low = Prim.grind arith
@@ -18,7 +18,7 @@ pub capped_most : (n : ℕ) → capped n ≤ n
 capped_most n = Prim.grind arith
 
 -- as many questions as tries, and as there may be
-pub looks_few : (rest before after place reached : ℕ) → rest < 2 ^ 64 → place ≤ rest → after + within rest place ≤ before + within rest reached
+pub looks_few : (rest before after place reached : ℕ) → rest < 2 ^ 64 → place ≤ rest → after + tries_within rest place ≤ before + tries_within rest reached
     → (after + place ≤ before + reached) × (after + place ≤ before + rest)
 looks_few rest before after place reached fits low few = (Prim.grind arith, Prim.grind arith)
 

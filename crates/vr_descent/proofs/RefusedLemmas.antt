@@ -23,7 +23,7 @@ use Rattle.vr_model.proofs.moves.Kept.{pair_of_test}
 use Rattle.vr_model.proofs.moves.KeptLists.{as_many}
 use Rattle.vr_descent.proofs.EndLemmas.{both}
 use Rattle.vr_routes.specs.Judging.{cost_change}
-use Rattle.vr_descent.specs.Scanned.{is_acceptable, scan_end, taken, takes_less}
+use Rattle.vr_descent.specs.Scanned.{is_acceptable, scan_end, taken_difference, takes_less}
 use Rattle.vr_descent.specs.declared.scanning.ScanEnd.TheVariants as ends
 use Rattle.vr_known.specs.Blocks.{Memory, is_known, covers, kind_of, first_of, second_of, is_behind, is_kind_of, rows_of, IsApart, Agree}
 use Rattle.vr_known.specs.Locality.{HasNoGlobalSpans}
@@ -174,7 +174,7 @@ module _ (model : Model) (takes : List (List ℕ) → Move → ℤ → Bool) (li
       }
 
   -- a move that is acceptable ends the scan
-  pub found_at : (place : ℕ) (mv : Move) (left : List Move) (difference : ℤ) → Some difference ≡ taken model takes lists mv → place < rest
+  pub found_at : (place : ℕ) (mv : Move) (left : List Move) (difference : ℤ) → Some difference ≡ taken_difference model takes lists mv → place < rest
       → scan_end model lists (scan_from place acceptable rest (mv ∷ left)) ≡ ends.Accepted (place + 1) mv difference
   found_at place mv left difference e low = by (acceptable mv) e
     where
@@ -196,7 +196,7 @@ module _ (model : Model) (takes : List (List ℕ) → Move → ℤ → Bool) (li
           no e = Prim.cc
 
   -- one that is not is a try
-  pub missed_at : (place : ℕ) (mv : Move) (left : List Move) → None ≡ taken model takes lists mv
+  pub missed_at : (place : ℕ) (mv : Move) (left : List Move) → None ≡ taken_difference model takes lists mv
       → scan_from place acceptable rest (mv ∷ left) ≡ scan_from (place + 1) acceptable rest left
   missed_at place mv left e = by (acceptable mv) e
     where
@@ -211,7 +211,7 @@ module _ (model : Model) (takes : List (List ℕ) → Move → ℤ → Bool) (li
           no e = Prim.cc
       by false e = ap (λ k. scan_from k acceptable rest left) number
 
-  taken_where : (mv : Move) (difference : ℤ) → Some difference ≡ taken model takes lists mv → IsTrue (is_valid model (apply model lists mv)) × (difference ≡ cost_change model lists mv)
+  taken_where : (mv : Move) (difference : ℤ) → Some difference ≡ taken_difference model takes lists mv → IsTrue (is_valid model (apply model lists mv)) × (difference ≡ cost_change model lists mv)
   taken_where mv difference e = by (is_acceptable model takes lists mv) refl e
     where
       by : (b : Bool) → is_acceptable model takes lists mv ≡ b → Some difference ≡ cond b (Some (cost_change model lists mv)) None → IsTrue (is_valid model (apply model lists mv)) × (difference ≡ cost_change model lists mv)
@@ -222,7 +222,7 @@ module _ (model : Model) (takes : List (List ℕ) → Move → ℤ → Bool) (li
           no e = Prim.cc
 
   -- a difference is read as it is
-  pub read_difference : IsWellFormed model → IsTrue (is_valid model lists) → (mv : Move) (difference : ℤ) → Some difference ≡ taken model takes lists mv → to_z w64 (of_z w64 difference) ≡ difference
+  pub read_difference : IsWellFormed model → IsTrue (is_valid model lists) → (mv : Move) (difference : ℤ) → Some difference ≡ taken_difference model takes lists mv → to_z w64 (of_z w64 difference) ≡ difference
   read_difference well valid mv difference e =
       let t = taken_where mv difference e in
       let changes = t.1 in

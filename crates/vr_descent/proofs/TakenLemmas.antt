@@ -5,11 +5,11 @@ use Rattle.vr_model.specs.moves.Moves.{apply}
 use Rattle.vr_model.specs.routes.Rules.{is_valid}
 use Rattle.vr_model.specs.declared.records.Model.{Model}
 use Rattle.vr_model.specs.declared.neighbours.Move.{Move}
-use Rattle.vr_routes.specs.Judging.{cost_change, verdict_of, IsLeast, IsNoLess}
+use Rattle.vr_routes.specs.Judging.{cost_change, verdict_of, IsDifferenceBound, IsNoLess}
 use Rattle.vr_routes.specs.Runs.{with_last}
 use Rattle.vr_routes.specs.declared.judging.Verdict.TheVariants.{Refused, Difference}
 use Rattle.vr_descent.specs.Refused.{IsRefused}
-use Rattle.vr_descent.specs.Scanned.{is_acceptable, taken, IsEnough, IsPassedOver}
+use Rattle.vr_descent.specs.Scanned.{is_acceptable, taken_difference, IsEnough, IsPassedOver}
 
 module _ (model : Model) (takes : List (List ℕ) → Move → ℤ → Bool) (lists : List (List ℕ)) (mv : Move) where
   abbrev after : Bool
@@ -19,11 +19,11 @@ module _ (model : Model) (takes : List (List ℕ) → Move → ℤ → Bool) (li
   change = cost_change model lists mv
 
   -- a move that is not acceptable
-  pub not_taken : is_acceptable model takes lists mv ≡ false → None ≡ taken model takes lists mv
+  pub not_taken : is_acceptable model takes lists mv ≡ false → None ≡ taken_difference model takes lists mv
   not_taken e = sym (ap (λ b. cond b (Some change) None) e)
 
   -- a move that is refused
-  pub refused : Refused ≡ verdict_of model lists mv → None ≡ taken model takes lists mv
+  pub refused : Refused ≡ verdict_of model lists mv → None ≡ taken_difference model takes lists mv
   refused e = not_taken (by after e)
     where
       by : (b : Bool) → Refused ≡ cond b (Difference change) Refused → (b && takes lists mv change) ≡ false
@@ -31,7 +31,7 @@ module _ (model : Model) (takes : List (List ℕ) → Move → ℤ → Bool) (li
       by false h = refl
 
   -- a move that makes no less than the least, and is not taken with that or more, is not acceptable
-  pub refused_at_least : (least : ℤ) → IsLeast model lists mv least → IsPassedOver model takes lists mv least → is_acceptable model takes lists mv ≡ false
+  pub refused_at_least : (least : ℤ) → IsDifferenceBound model lists mv least → IsPassedOver model takes lists mv least → is_acceptable model takes lists mv ≡ false
   refused_at_least least is passed = by after (λ valid. passed valid (is valid))
     where
       by : (b : Bool) → (IsTrue b → takes lists mv change ≡ false) → (b && takes lists mv change) ≡ false

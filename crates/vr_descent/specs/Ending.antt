@@ -9,7 +9,7 @@ use Rattle.vr_model.specs.declared.records.Report.{Report}
 use Rattle.vr_model.specs.declared.search.Event.{Event}
 use Rattle.vr_model.specs.declared.search.Limit.{Limit}
 use Rattle.vr_routes.specs.Tours.{Tours}
-use Rattle.vr_watch.specs.Told.{Told}
+use Rattle.vr_watch.specs.Told.{Reported}
 use Rattle.vr_descent.specs.Refused.{CanJudge}
 use Rattle.vr_descent.specs.declared.incumbent.Incumbent.{Incumbent}
 use Rattle.vr_descent.specs.declared.progress.Progress.{Progress}
@@ -34,7 +34,7 @@ pub record HasEnded {W : Type 0} (after : W → List Event → List ℕ) (model 
   pub report : stated ≡ outcome.report
   pub last : to.lists ≡ outcome.last
   pub best : chosen.lists ≡ outcome.best
-  pub told : Told after old new outcome.events
+  pub told : Reported after old new outcome.events
   pub no_more_tries : stated.tries ≤ limit.tries
   pub some_solution : 1 ≤ stated.solutions
   pub no_more_solutions : stated.solutions ≤ limit.solutions
@@ -56,4 +56,4 @@ outcome_of lists at best stop events =
 pub record HasStopped {W : Type 0} (after : W → List Event → List ℕ) (left : Outcome) (lists : List (List ℕ))
     (at : Progress) (best : Incumbent) (old new : List W) (stop : End) : Type 0 where
   pub outcome : outcome_of lists at best stop left.events ≡ left
-  pub told : Told after old new left.events
+  pub told : Reported after old new left.events

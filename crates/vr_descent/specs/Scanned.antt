@@ -18,8 +18,9 @@ is_acceptable model takes lists mv =
     is_valid model (apply model lists mv) && takes lists mv (cost_change model lists mv)
 
 -- the difference of a move that is acceptable, none of another
-abbrev pub taken : Model → (List (List ℕ) → Move → ℤ → Bool) → List (List ℕ) → Move → Option ℤ
-taken model takes lists mv = cond (is_acceptable model takes lists mv) (Some (cost_change model lists mv)) None
+abbrev pub taken_difference : Model → (List (List ℕ) → Move → ℤ → Bool) → List (List ℕ) → Move → Option ℤ
+taken_difference model takes lists mv = cond (is_acceptable model takes lists mv) (Some (cost_change model lists mv))
+    None
 
 -- a move is not taken where the lists after it are valid and it makes a difference of `least` or more in cost
 abbrev pub IsPassedOver : Model → (List (List ℕ) → Move → ℤ → Bool) → List (List ℕ) → Move → ℤ → Type 0
@@ -43,7 +44,7 @@ scan_end model lists (complete n) = Complete n
 scan_end model lists cut = Cut
 
 -- how many moves were tried in a scan that could try `rest` moves
-abbrev pub tries_of : ℕ → ScanEnd → ℕ
-tries_of rest (Accepted place mv change) = place
-tries_of rest (Complete n) = n
-tries_of rest Cut = rest
+abbrev pub tries_in_scan : ℕ → ScanEnd → ℕ
+tries_in_scan rest (Accepted place mv change) = place
+tries_in_scan rest (Complete n) = n
+tries_in_scan rest Cut = rest

@@ -7,7 +7,7 @@ ghost use Rattle.vr_descent.specs.Scanned.{takes_less, IsEnough, IsPassedOver};
 ghost use Rattle.vr_model.specs.search.Descents.{descent};
 ghost use Rattle.vr_model.specs.tables.WellFormed.{IsWellFormed};
 ghost use Rattle.vr_routes.specs.Judging.{HoldSame};
-ghost use Rattle.vr_watch.specs.Told.{ToldInPart};
+ghost use Rattle.vr_watch.specs.Told.{ReportedInPart};
 
 use crate::{Accept, Progress, ScanEnd};
 use std::sync::ledger::Ledger;
@@ -94,7 +94,7 @@ pub fn descend<J: Judge, L: Ledger>(
 
     ensures judge_model { J.model judge.new ≡ model.now }
     ensures holds { HoldSame model.now (J.committed judge.new) routes.new }
-    ensures told_in_part { OnErr result (ToldInPart (λ w later. after w later) watch.old.items watch.new.items
+    ensures told_in_part { OnErr result (ReportedInPart (λ w later. after w later) watch.old.items watch.new.items
         (descent model.now routes.old.lists limit).events) }
     ensures asked_at_most { OnErr result (AsksFor J.asked J.looked judge.old judge.new limit.tries) }
 {

@@ -2,7 +2,7 @@
 
 ghost use Rattle.std.specs.Prelude.{◌≡◌, ◌+◌, ◌++◌};
 ghost use Rattle.vr_descent.specs.Listing.{left_in};
-ghost use Rattle.vr_known.specs.Passing.{Looked, Takes, tried};
+ghost use Rattle.vr_known.specs.Passing.{Looked, Takes, tries_taken};
 ghost use Rattle.vr_model.specs.moves.Moves.{moves, moves_in};
 ghost use Rattle.vr_model.specs.tables.Tables.{visits};
 ghost use Rattle.vr_model.specs.tables.WellFormed.{IsWellFormed};
@@ -65,7 +65,7 @@ impl<'a> Generating<'a> {
         requires can_ask { S.can_ask sieve.now judge.old }
         ensures takes { Takes (S.covers sieve.now) self.old passed.old result self.new passed.new }
         ensures looked { Looked (S.can_ask sieve.now) S.judged S.looked (S.tries sieve.now)
-            judge.old passed.old judge.new (passed.new + tried result) }
+            judge.old passed.old judge.new (passed.new + tries_taken result) }
     {
         let _count = *passed;
         loop {

@@ -5,7 +5,7 @@ ghost use Rattle.vr_descent.specs.Listing.{left_in};
 ghost use Rattle.vr_model.specs.moves.Moves.{moves_in};
 ghost use Rattle.vr_model.specs.tables.Tables.{visits};
 ghost use Rattle.vr_model.specs.tables.WellFormed.{IsWellFormed};
-ghost use Rattle.vr_known.specs.Passing.{Looked, Takes, tried};
+ghost use Rattle.vr_known.specs.Passing.{Looked, Takes, tries_taken};
 
 use vr_known::{Sieve, Stretch};
 use vr_model::{Model, Move, Neighbourhood};
@@ -74,7 +74,7 @@ impl<'a> Generator<'a> {
         ensures takes { Takes (S.covers sieve.now) (left_in self.old) passed.old result
             (left_in self.new) passed.new }
         ensures looked { Looked (S.can_ask sieve.now) S.judged S.looked (S.tries sieve.now)
-            judge.old passed.old judge.new (passed.new + tried result) }
+            judge.old passed.old judge.new (passed.new + tries_taken result) }
     {
         // To read the count is to know that it fits.
         let _count = *passed;

@@ -1,7 +1,7 @@
 //! The moves of lists that a search tries.
 
 ghost use Rattle.std.specs.Prelude.{◌≡◌, ◌∷◌, ◌+◌, ◌++◌, MatchOption};
-ghost use Rattle.vr_known.specs.Passing.{Looked, Takes, tried};
+ghost use Rattle.vr_known.specs.Passing.{Looked, Takes, tries_taken};
 ghost use Rattle.vr_model.specs.moves.Moves.{moves};
 ghost use Rattle.vr_model.specs.tables.Tables.{visits};
 ghost use Rattle.vr_model.specs.tables.WellFormed.{IsWellFormed};
@@ -64,7 +64,7 @@ impl<'a> MoveList<'a> {
         requires can_ask { S.can_ask sieve.now judge.old }
         ensures takes { Takes (S.covers sieve.now) self.old passed.old result self.new passed.new }
         ensures looked { Looked (S.can_ask sieve.now) S.judged S.looked (S.tries sieve.now)
-            judge.old passed.old judge.new (passed.new + tried result) }
+            judge.old passed.old judge.new (passed.new + tries_taken result) }
     {
         // To read the count is to know that it fits.
         let _count = *passed;

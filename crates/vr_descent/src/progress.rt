@@ -15,7 +15,7 @@ ghost use Rattle.vr_model.specs.moves.Moves.{apply};
 ghost use Rattle.vr_model.specs.moves.MoveTests.{is_move};
 ghost use Rattle.vr_model.specs.routes.Rules.{is_valid};
 ghost use Rattle.vr_model.specs.tables.WellFormed.{IsWellFormed};
-ghost use Rattle.vr_watch.specs.Told.{Told, ToldInPart};
+ghost use Rattle.vr_watch.specs.Told.{Reported, ReportedInPart};
 
 use crate::{Accept, ScanEnd, scan};
 use std::sync::ledger::Ledger;
@@ -65,7 +65,7 @@ impl Progress {
             (scan_of model.now (A.takes accept.now) limit routes.old.lists self.old.used)) }
         ensures routes { OnOk result (routes.new ≡ routes_after model.now routes.old
             (scan_of model.now (A.takes accept.now) limit routes.old.lists self.old.used)) }
-        ensures told { OnOk result (Told (λ w later. after w later) watch.old.items watch.new.items
+        ensures told { OnOk result (Reported (λ w later. after w later) watch.old.items watch.new.items
             (events_after model.now routes.old.lists self.old.used
             (scan_of model.now (A.takes accept.now) limit routes.old.lists self.old.used))) }
         ensures asked { OnOk result (AsksOn J.asked J.looked judge.old judge.new self.old.used self.new.used) }
@@ -73,7 +73,7 @@ impl Progress {
         ensures learns { OnOk result (Learns known.new → Learns known.old) }
 
         ensures judge { CanJudge model.now routes.new (J.model judge.new) (J.committed judge.new) }
-        ensures told_in_part { OnErr result (ToldInPart (λ w later. after w later) watch.old.items watch.new.items
+        ensures told_in_part { OnErr result (ReportedInPart (λ w later. after w later) watch.old.items watch.new.items
             (events_after model.now routes.old.lists self.old.used
             (scan_of model.now (A.takes accept.now) limit routes.old.lists self.old.used))) }
         ensures asked_at_most { OnErr result (AsksOn J.asked J.looked judge.old judge.new self.old.used limit.tries) }
@@ -137,9 +137,9 @@ impl Progress {
         ensures model { J.model judge.new ≡ J.model judge.old }
         ensures asked { J.asked judge.new ≡ J.asked judge.old }
         ensures looked { J.looked judge.new ≡ J.looked judge.old }
-        ensures told { OnOk result (Told (λ w later. after w later) watch.old.items watch.new.items
+        ensures told { OnOk result (Reported (λ w later. after w later) watch.old.items watch.new.items
             (move_event (J.model judge.old) routes.old.lists mv (self.old.used + place) ∷ [])) }
-        ensures told_in_part { OnErr result (ToldInPart (λ w later. after w later) watch.old.items watch.new.items
+        ensures told_in_part { OnErr result (ReportedInPart (λ w later. after w later) watch.old.items watch.new.items
             (move_event (J.model judge.old) routes.old.lists mv (self.old.used + place) ∷ [])) }
     {
         judge.commit(routes, mv)?;

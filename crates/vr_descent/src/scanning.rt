@@ -3,8 +3,8 @@
 ghost use Rattle.std.specs.Prelude.{◌≡◌, ◌+◌, ◌≤◌, false, IsTrue, IfOk, OnErr};
 ghost use Rattle.vr_descent.specs.Asking.{AsksFor, Keeps};
 ghost use Rattle.vr_descent.specs.Refused.{AreRefused, CanJudge, CanSift, IsPassed};
-ghost use Rattle.vr_descent.specs.Scanned.{is_acceptable, scan_end, taken, tries_of};
-ghost use Rattle.vr_known.specs.Passing.{Takes, tried, within};
+ghost use Rattle.vr_descent.specs.Scanned.{is_acceptable, scan_end, taken_difference, tries_in_scan};
+ghost use Rattle.vr_known.specs.Passing.{Takes, tries_taken, tries_within};
 ghost use Rattle.vr_model.specs.moves.Moves.{moves};
 ghost use Rattle.vr_model.specs.moves.MoveTests.{is_move};
 ghost use Rattle.vr_model.specs.search.Scans.{scan};
@@ -120,7 +120,7 @@ pub fn scan<J: Judge, A: Accept, L: Ledger>(
         (scan (moves model.now routes.now.lists)
         (is_acceptable model.now (A.takes accept.now) routes.now.lists) rest)) }
     ensures keeps { Keeps J.model J.committed judge.old judge.new }
-    ensures asked { IfOk result (λ ended. AsksFor J.asked J.looked judge.old judge.new (tries_of rest ended)) }
+    ensures asked { IfOk result (λ ended. AsksFor J.asked J.looked judge.old judge.new (tries_in_scan rest ended)) }
     ensures asked_at_most { OnErr result (AsksFor J.asked J.looked judge.old judge.new rest) }
 {
     let mut list = moves(model, routes);
@@ -173,8 +173,8 @@ fn next_open<J: Judge, A: Accept>(
     ensures model { J.model judge.new ≡ J.model judge.old }
     ensures committed { J.committed judge.new ≡ J.committed judge.old }
     ensures asked { J.asked judge.new ≡ J.asked judge.old }
-    ensures looked { J.looked judge.new + within rest place.old
-        ≤ J.looked judge.old + within rest (place.new + tried result) }
+    ensures looked { J.looked judge.new + tries_within rest place.old
+        ≤ J.looked judge.old + tries_within rest (place.new + tries_taken result) }
 {
     // To read the count is to know that it fits.
     let _count = *place;
@@ -204,8 +204,8 @@ fn open_next<J: Judge, A: Accept>(
     ensures model { J.model judge.new ≡ J.model judge.old }
     ensures committed { J.committed judge.new ≡ J.committed judge.old }
     ensures asked { J.asked judge.new ≡ J.asked judge.old }
-    ensures looked { J.looked judge.new + within rest place.old
-        ≤ J.looked judge.old + within rest (place.new + tried result) }
+    ensures looked { J.looked judge.new + tries_within rest place.old
+        ≤ J.looked judge.old + tries_within rest (place.new + tries_taken result) }
 {
     let refusals: Refusals<'_, J, A> = Refusals {
         routes,
@@ -256,7 +256,7 @@ fn try_move<J: Judge, A: Accept, L: Ledger>(
     requires holds { HoldSame closed.model.now (J.committed judge.old) routes.now }
     requires mv { IsTrue (is_move closed.model.now routes.now.lists mv) }
     ensures answer { IfOk result (λ answer. answer
-        ≡ taken closed.entry.model.now (A.takes accept.now) routes.now.lists mv) }
+        ≡ taken_difference closed.entry.model.now (A.takes accept.now) routes.now.lists mv) }
     ensures model { J.model judge.new ≡ J.model judge.old }
     ensures committed { J.committed judge.new ≡ J.committed judge.old }
     ensures asked { J.asked judge.new ≤ J.asked judge.old + 1 }

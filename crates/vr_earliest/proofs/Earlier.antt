@@ -12,7 +12,7 @@ use Rattle.vr_model.specs.deciding.Testing.{and_left, and_right, and_both, or_ca
 use Rattle.vr_model.specs.declared.records.Dimension.{Dimension}
 use Rattle.vr_model.specs.declared.records.Interval.{Interval}
 use Rattle.vr_model.specs.declared.records.StopRow.{StopRow}
-use Rattle.vr_earliest.specs.Floors.{behind, floor_of, forbids_none, opening}
+use Rattle.vr_earliest.specs.Floors.{behind_interval, floor_of, forbids_none, opening}
 
 -- ---- the first number of a list is another one
 
@@ -65,8 +65,8 @@ start-before dimension capacity row x is none allowed above top =
 
     above_opening : (row : StopRow) → IsTrue (is_empty row.forbidden) → (floor_of (Some row) +ℤ pos 1) ≤ℤ x → (opening row.window +ℤ pos 1) ≤ℤ x
     above_opening row none above =
-        let e : fold behind (opening row.window) row.forbidden ≡ opening row.window = ap (fold behind (opening row.window)) (none-of row.forbidden none) in
-        let m = int_min_is horizon (fold behind (opening row.window) row.forbidden) in
+        let e : fold behind_interval (opening row.window) row.forbidden ≡ opening row.window = ap (fold behind_interval (opening row.window)) (none-of row.forbidden none) in
+        let m = int_min_is horizon (fold behind_interval (opening row.window) row.forbidden) in
         omega (arith, ints, e, m, above, top)
 
     stop : (row : Option StopRow) → WherePresent IsStopRow row → IsTrue (forbids_none row) → (floor_of row +ℤ pos 1) ≤ℤ x → IsTrue (stop_allows capacity row x) → IsTrue (stop_allows capacity row (x +ℤ negsuc 0))

@@ -16,7 +16,7 @@ use Rattle.vr_model.specs.declared.records.StopRow.{StopRow}
 use Rattle.vr_model.specs.declared.records.Vehicle.{Vehicle}
 use Rattle.vr_model.proofs.tables.Tests.{clash, fails_not}
 use Rattle.vr_parts.proofs.RowLemmas.{rows-push}
-use Rattle.vr_earliest.specs.Floors.{behind, opening, floor_of, starts_freely, AreFree, HaveFloors}
+use Rattle.vr_earliest.specs.Floors.{behind_interval, opening, floor_of, starts_freely, AreFree, HaveFloors}
 
 -- ---- what is allowed
 
@@ -28,7 +28,7 @@ int_cases x y = go (int_le x y) refl
     go false e = inr (omega (arith, ints, e))
 
 -- a number at or above y that an interval leaves free is at or above what is behind y
-behind-below : (interval : Interval) (y x : ℤ) → y ≤ℤ x → IsTrue (not (within interval.lo interval.hi x)) → behind y interval ≤ℤ x
+behind-below : (interval : Interval) (y x : ℤ) → y ≤ℤ x → IsTrue (not (within interval.lo interval.hi x)) → behind_interval y interval ≤ℤ x
 behind-below interval y x le free = go (within interval.lo interval.hi y) refl
   where
     past : interval.lo ≤ℤ y → (interval.hi +ℤ pos 1) ≤ℤ x
@@ -41,10 +41,10 @@ behind-below interval y x le free = go (within interval.lo interval.hi y) refl
     go true e = past (within_is interval.lo interval.hi y e).0
     go false e = le
 
-all-behind-below : (intervals : List Interval) (y x : ℤ) → y ≤ℤ x → IsTrue (list_all (λ interval. not (within interval.lo interval.hi x)) intervals) → fold behind y intervals ≤ℤ x
+all-behind-below : (intervals : List Interval) (y x : ℤ) → y ≤ℤ x → IsTrue (list_all (λ interval. not (within interval.lo interval.hi x)) intervals) → fold behind_interval y intervals ≤ℤ x
 all-behind-below [] y x le free = le
 all-behind-below (i ∷ is) y x le free =
-    all-behind-below is (behind y i) x (behind-below i y x le (and_left (not (within i.lo i.hi x)) _ free)) (and_right (not (within i.lo i.hi x)) _ free)
+    all-behind-below is (behind_interval y i) x (behind-below i y x le (and_left (not (within i.lo i.hi x)) _ free)) (and_right (not (within i.lo i.hi x)) _ free)
 
 pub least-below : (a b x : ℤ) → b ≤ℤ x → int_min a b ≤ℤ x
 least-below a b x le = let m = int_min_is a b in omega (arith, ints, m, le)
@@ -53,7 +53,7 @@ least-below a b x le = let m = int_min_is a b in omega (arith, ints, m, le)
 pub floor-below : (capacity : ℤ) (row : Option StopRow) (x : ℤ) → IsTrue (stop_allows capacity row x) → floor_of row ≤ℤ x
 floor-below capacity None x allowed = (within_is (pos 0) capacity x (and_left (within (pos 0) capacity x) _ allowed)).0
 floor-below capacity (Some row) x allowed =
-    least-below horizon (fold behind (opening row.window) row.forbidden) x
+    least-below horizon (fold behind_interval (opening row.window) row.forbidden) x
     (all-behind-below row.forbidden (opening row.window) x (opened row.window (and_left (in_window row.window x) _ rest)) (and_right (in_window row.window x) _ rest))
   where
     rest : IsTrue (row_allows (Some row) x)
@@ -82,7 +82,7 @@ free-more vehicles dimension n free more x h is e = record {
 
 -- ---- ranges
 
-pub behind-range : (interval : Interval) (x : ℤ) → IsInterval interval → IsIn (pos 0) (pos 68719476737) x → IsIn (pos 0) (pos 68719476737) (behind x interval)
+pub behind-range : (interval : Interval) (x : ℤ) → IsInterval interval → IsIn (pos 0) (pos 68719476737) x → IsIn (pos 0) (pos 68719476737) (behind_interval x interval)
 behind-range interval x is range = go (within interval.lo interval.hi x)
   where
     go : (b : Bool) → IsIn (pos 0) (pos 68719476737) (cond b (interval.hi +ℤ pos 1) x)

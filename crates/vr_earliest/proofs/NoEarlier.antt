@@ -19,7 +19,7 @@ use Rattle.vr_model.proofs.schedules.LinesSound.{found_is}
 use Rattle.vr_model.proofs.schedules.UnderRules.{narrowed_keeps_rules}
 use Rattle.vr_earliest.specs.declared.ways.Way.{Way}
 use Rattle.vr_earliest.specs.Floors.{floor_of, forbids_none, is_earliest, starts_freely, start_floor}
-use Rattle.vr_earliest.specs.Ways.{along, setting_out, span_by, to_node, to_visit, whole_way}
+use Rattle.vr_earliest.specs.Ways.{to_visits, way_from_start, span_by, to_node, on_to_visit, whole_way}
 use Rattle.vr_earliest.specs.Laws.{ChosenIsNoEarlier, IsNoEarlier}
 use Rattle.vr_earliest.proofs.FloorLemmas.{floor-below, least-below}
 use Rattle.vr_earliest.proofs.Earlier.{not-least, start-before}
@@ -55,15 +55,15 @@ module _ (model : Model) (d v : ℕ) where
     allowed = λ k low. h.allowed (suc k) (omega (arith, low));
   }
 
-  visit-below : (way : Way) (x : ℕ) (xs : List ℕ) (c : ℕ → ℤ) (b : ℤ) → AreCumuls way.at (x ∷ xs) c → IsBelow way (c 0) b → IsBelow (to_visit model d v way x) (c 1) b
+  visit-below : (way : Way) (x : ℕ) (xs : List ℕ) (c : ℕ → ℤ) (b : ℤ) → AreCumuls way.at (x ∷ xs) c → IsBelow way (c 0) b → IsBelow (on_to_visit model d v way x) (c 1) b
   visit-below way x xs c b h i =
       node-below way x (floor_of (row_of (dimension_at model d).nodes x)) (c 0) (c 1) b i (h.arcs 0 (omega arith)) (floor-below capacity (row_of (dimension_at model d).nodes x) (c 1) (h.allowed 0 (omega arith)))
 
   way-below : (nodes : List ℕ) (way : Way) (c : ℕ → ℤ) (b : ℤ) → AreCumuls way.at nodes c → IsBelow way (c 0) b
-      → IsBelow (to_node model d v (along model d v way nodes) (vehicle_at model v).end (floor_of (row_of (dimension_at model d).ends v))) (c (suc (length nodes))) b
+      → IsBelow (to_node model d v (to_visits model d v way nodes) (vehicle_at model v).end (floor_of (row_of (dimension_at model d).ends v))) (c (suc (length nodes))) b
   way-below [] way c b h i =
       node-below way (vehicle_at model v).end (floor_of (row_of (dimension_at model d).ends v)) (c 0) (c 1) b i (h.arcs 0 (omega arith)) (floor-below capacity (row_of (dimension_at model d).ends v) (c 1) (h.allowed 0 (omega arith)))
-  way-below (x ∷ xs) way c b h i = way-below xs (to_visit model d v way x) (λ k. c (suc k)) b (rest-of way.at x xs c h) (visit-below way x xs c b h i)
+  way-below (x ∷ xs) way c b h i = way-below xs (on_to_visit model d v way x) (λ k. c (suc k)) b (rest-of way.at x xs c h) (visit-below way x xs c b h i)
 
   allowed-many : (nodes : List ℕ) → length (allowed_behind nodes) ≡ suc (length nodes)
   allowed-many [] = refl
@@ -86,14 +86,14 @@ module _ (model : Model) (d v : ℕ) where
     start_allowed : IsTrue (start_allows (dimension_at model d) capacity (row_of (dimension_at model d).starts v) (cumul plan 0))
     start_allowed = and_right (within (pos 0) horizon (cumul plan 0)) _ (keeps.cumuls_allowed 0 (let n = allowed-many list in omega (arith, n)))
 
-    from_start : IsBelow (setting_out model d v) (cumul plan 0) (cumul plan 0)
+    from_start : IsBelow (way_from_start model d v) (cumul plan 0) (cumul plan 0)
     from_start = record {
       time = floor-below capacity (row_of (dimension_at model d).starts v) (cumul plan 0) (and_left (stop_allows capacity (row_of (dimension_at model d).starts v) (cumul plan 0)) _ start_allowed);
       transits = omega (arith, ints);
     }
 
     whole : IsBelow (whole_way model d v list) (cumul plan (suc (length list))) (cumul plan 0)
-    whole = way-below list (setting_out model d v) (cumul plan) (cumul plan 0) cumuls from_start
+    whole = way-below list (way_from_start model d v) (cumul plan) (cumul plan 0) cumuls from_start
 
     -- where the first slack is the greatest one, the transits come behind it
     slack-below : is_empty list ≡ false → (dimension_at model d).slack_max ≤ℤ slack plan 0 → ((dimension_at model d).slack_max +ℤ (whole_way model d v list).transits) ≤ℤ (cumul plan (suc (length list)) -ℤ cumul plan 0)
@@ -110,16 +110,16 @@ module _ (model : Model) (d v : ℕ) where
             arc = subst (λ (nodes : List ℕ). slack plan 0 ≡ (cumul plan 1 -ℤ cumul plan 0) -ℤ (slice_index_or (arcs_behind (vehicle_at model v).start nodes) 0 no_arc).transit) e
                 (keeps.slacks_left 0 (let n = arcs_are in omega (arith, n)))
 
-            first : IsBelow (to_visit model d v (setting_out model d v) x) (cumul plan 1) (cumul plan 0 +ℤ (dimension_at model d).slack_max)
+            first : IsBelow (on_to_visit model d v (way_from_start model d v) x) (cumul plan 1) (cumul plan 0 +ℤ (dimension_at model d).slack_max)
             first =
-                let v0 = visit-below (setting_out model d v) x xs (cumul plan) (cumul plan 0) h from_start in
+                let v0 = visit-below (way_from_start model d v) x xs (cumul plan) (cumul plan 0) h from_start in
                 let t = v0.time in
                 let a = arc in
                 record { time = t; transits = omega (arith, ints, a, full) }
 
             there : ((dimension_at model d).slack_max +ℤ (whole_way model d v (x ∷ xs)).transits) ≤ℤ (cumul plan (suc (suc (length xs))) -ℤ cumul plan 0)
             there =
-                let w = (way-below xs (to_visit model d v (setting_out model d v) x) (λ k. cumul plan (suc k)) (cumul plan 0 +ℤ (dimension_at model d).slack_max) (rest-of (vehicle_at model v).start x xs (cumul plan) h) first).transits in
+                let w = (way-below xs (on_to_visit model d v (way_from_start model d v) x) (λ k. cumul plan (suc k)) (cumul plan 0 +ℤ (dimension_at model d).slack_max) (rest-of (vehicle_at model v).start x xs (cumul plan) h) first).transits in
                 omega (arith, ints, w)
 
 int_cases : (x y : ℤ) → (x ≤ℤ y) ⊎ ((y +ℤ pos 1) ≤ℤ x)

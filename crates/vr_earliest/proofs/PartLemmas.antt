@@ -13,8 +13,8 @@ use Rattle.vr_earliest.specs.declared.ways.Rest.{Rest}
 use Rattle.vr_earliest.specs.declared.ways.Way.{Way}
 use Rattle.vr_earliest.specs.Earlies.{MayTell}
 use Rattle.vr_earliest.specs.Kept.{HasWays, HaveWays, KeptEarly, KeptWays}
-use Rattle.vr_earliest.specs.Rests.{rest_of, to_end, IsRestOf}
-use Rattle.vr_earliest.specs.Ways.{along, way_along, whole_way, IsWayOf}
+use Rattle.vr_earliest.specs.Rests.{rest_of, way_through_rest, IsRestOf}
+use Rattle.vr_earliest.specs.Ways.{to_visits, way_along, whole_way, IsWayOf}
 use Rattle.vr_earliest.proofs.KeptLemmas.{kept-one, rest-at, way-at}
 use Rattle.vr_earliest.proofs.WayLemmas.{joined-few, rest-behind, way-front, whole-way}
 
@@ -69,10 +69,10 @@ module _ {g : Guide} {lists : List (List ℕ)} {pieces : List Piece} {front behi
   -- the way along the front, on along the middle and through what is left is the whole one
   pub whole-is : (first way whole : Way) (rest : Rest) → ((other : Way) → first ≡ slice_index_or kept.ways.items front other)
       → ((other : Rest) → rest ≡ slice_index_or kept.rests.items (length kept.rests.items - 1 - behind) other)
-      → way ≡ along g.model.now g.d g.v first (joined lists middle) → whole ≡ to_end g.model.now g.d g.v way rest → whole ≡ whole_way g.model.now g.d g.v (joined lists pieces)
+      → way ≡ to_visits g.model.now g.d g.v first (joined lists middle) → whole ≡ way_through_rest g.model.now g.d g.v way rest → whole ≡ whole_way g.model.now g.d g.v (joined lists pieces)
   whole-is first way whole rest first_read rest_read way_is is =
       is
-      ∙ ap₂ (λ (w : Way) (r : Rest). to_end g.model.now g.d g.v w r) (way_is ∙ ap (λ (w : Way). along g.model.now g.d g.v w (joined lists middle)) (way-is first first_read)) (rest-is rest rest_read)
+      ∙ ap₂ (λ (w : Way) (r : Rest). way_through_rest g.model.now g.d g.v w r) (way_is ∙ ap (λ (w : Way). to_visits g.model.now g.d g.v w (joined lists middle)) (way-is first first_read)) (rest-is rest rest_read)
       ∙ whole-way g.model.now g.d g.v (take front (route lists g.v)) (joined lists middle) (drop behind (route lists g.v)) (joined lists pieces) it.splice.joins
 
 -- ---- a part of a change

@@ -21,8 +21,8 @@ use Rattle.vr_earliest.specs.declared.ways.Guide.{Guide}
 use Rattle.vr_earliest.specs.declared.ways.Rest.{Rest}
 use Rattle.vr_earliest.specs.Floors.{end_floor, floor_of, start_floor, visit_floor, AreFloors, HaveFloors}
 use Rattle.vr_earliest.proofs.FloorLemmas.{floor-range}
-use Rattle.vr_earliest.specs.Rests.{at_end, before, rest_of, to_end, IsRestOf}
-use Rattle.vr_earliest.specs.Ways.{arcs-more, along, setting_out, to_node, to_visit, way_along, whole_way, IsWayOf}
+use Rattle.vr_earliest.specs.Rests.{at_end, rest_with_visit, rest_of, way_through_rest, IsRestOf}
+use Rattle.vr_earliest.specs.Ways.{arcs-more, to_visits, way_from_start, to_node, on_to_visit, way_along, whole_way, IsWayOf}
 
 module _ (model : Model) (well : IsWellFormed model) (d v : ℕ) (dimension : d < length model.dimensions) (vehicle : v < length model.vehicles) where
   pub node-way : (n : ℕ) (way : Way) (node : ℕ) (floor : ℤ) → IsWayOf model n way → node < model.nodes → IsIn (pos 0) horizon floor → IsWayOf model (n + 1) (to_node model d v way node floor)
@@ -38,21 +38,21 @@ module _ (model : Model) (well : IsWellFormed model) (d v : ℕ) (dimension : d 
       }
 
   pub along-way : (floors : List ℤ) → HaveFloors (dimension_at model d).nodes model.nodes floors → (nodes : List ℕ) → All (λ node. node < model.nodes) nodes → (n : ℕ) (way : Way) → IsWayOf model n way
-      → IsWayOf model (n + length nodes) (along model d v way nodes)
+      → IsWayOf model (n + length nodes) (to_visits model d v way nodes)
   along-way floors have [] all n way h = arcs-more n (n + 0) (omega arith) h
   along-way floors have (x ∷ xs) all n way h =
       let low : x < model.nodes = all 0 0 (omega arith) in
       let range = floor-range _ _ floors have x low in
       let next = node-way n way x (floor_of (row_of (dimension_at model d).nodes x)) h low range in
-      let rest = along-way floors have xs (λ k d low. all (suc k) d (omega (arith, low))) (n + 1) (to_visit model d v way x) next in
+      let rest = along-way floors have xs (λ k d low. all (suc k) d (omega (arith, low))) (n + 1) (on_to_visit model d v way x) next in
       arcs-more (n + 1 + length xs) (n + suc (length xs)) (omega arith) rest
 
   pub along-part : (floors : List ℤ) → HaveFloors (dimension_at model d).nodes model.nodes floors → (nodes : List ℕ) → All (λ node. node < model.nodes) nodes → (n : ℕ) (way : Way) → IsWayOf model n way → (k : ℕ) → k ≤ length nodes
-      → IsWayOf model (n + k) (along model d v way (take k nodes))
+      → IsWayOf model (n + k) (to_visits model d v way (take k nodes))
   along-part floors have nodes all n way h k le =
       arcs-more (n + length (take k nodes)) (n + k) (let l = length-take-le k nodes le in omega (arith, l)) (along-way floors have (take k nodes) (All-take (λ node. node < model.nodes) k nodes all) n way h)
 
-  pub start-way : IsIn (pos 0) horizon (start_floor model d v) → IsWayOf model 0 (setting_out model d v)
+  pub start-way : IsIn (pos 0) horizon (start_floor model d v) → IsWayOf model 0 (way_from_start model d v)
   start-way range = record {
     at = (well.each_vehicle v no_vehicle vehicle).start_in_range;
     early = range.at_least;
@@ -72,7 +72,7 @@ module _ (model : Model) (well : IsWellFormed model) (d v : ℕ) (dimension : d 
   }
 
   -- what is left of one arc more
-  pub rest-before : (n : ℕ) (rest : Rest) (node : ℕ) → IsRestOf model n rest → node < model.nodes → IsIn (pos 0) horizon (visit_floor model d node) → IsRestOf model (n + 1) (before model d v node rest)
+  pub rest-before : (n : ℕ) (rest : Rest) (node : ℕ) → IsRestOf model n rest → node < model.nodes → IsIn (pos 0) horizon (visit_floor model d node) → IsRestOf model (n + 1) (rest_with_visit model d v node rest)
   rest-before n rest node h low range =
       let t = transit_in_range model well d v dimension vehicle node rest.at low h.at in
       let m = int_max_is (visit_floor model d node +ℤ (transit model d v node rest.at +ℤ rest.transits)) rest.least_end in
@@ -85,7 +85,7 @@ module _ (model : Model) (well : IsWellFormed model) (d v : ℕ) (dimension : d 
       }
 
   -- a way through what is left
-  pub end-way : (n m : ℕ) (way : Way) (rest : Rest) → IsWayOf model n way → IsRestOf model m rest → IsWayOf model (n + 1 + m) (to_end model d v way rest)
+  pub end-way : (n m : ℕ) (way : Way) (rest : Rest) → IsWayOf model n way → IsRestOf model m rest → IsWayOf model (n + 1 + m) (way_through_rest model d v way rest)
   end-way n m way rest h r =
       let t = transit_in_range model well d v dimension vehicle way.at rest.at h.at r.at in
       let x = int_max_is (way.time +ℤ (transit model d v way.at rest.at +ℤ rest.transits)) rest.least_end in
@@ -112,7 +112,7 @@ module _ (model : Model) (well : IsWellFormed model) (d v : ℕ) (dimension : d 
     pub way-front : (k : ℕ) → k ≤ length list → IsWayOf model 1000 (way_along model d v (take k list))
     way-front k low =
         arcs-more (0 + k) 1000 (omega (arith, few, low))
-        (along-part floors.visits.items have.visits list nodes 0 (setting_out model d v) (start-way (floor-range _ _ floors.starts.items have.starts v vehicle)) k low)
+        (along-part floors.visits.items have.visits list nodes 0 (way_from_start model d v) (start-way (floor-range _ _ floors.starts.items have.starts v vehicle)) k low)
 
     -- what is left behind a place of it
     pub rest-behind : (k : ℕ) → IsRestOf model 1000 (rest_of model d v (drop k list))
@@ -122,7 +122,7 @@ module _ (model : Model) (well : IsWellFormed model) (d v : ℕ) (dimension : d 
 
 module _ (model : Model) (d v : ℕ) where
   -- through a visit and what is left behind it
-  through-visit : (way : Way) (x : ℕ) (rest : Rest) → to_end model d v way (before model d v x rest) ≡ to_end model d v (to_visit model d v way x) rest
+  through-visit : (way : Way) (x : ℕ) (rest : Rest) → way_through_rest model d v way (rest_with_visit model d v x rest) ≡ way_through_rest model d v (on_to_visit model d v way x) rest
   through-visit way x rest =
       let t = transit model d v way.at x in
       let u = transit model d v x rest.at in
@@ -134,25 +134,25 @@ module _ (model : Model) (d v : ℕ) where
       let transits : way.transits +ℤ (t +ℤ (u +ℤ rest.transits)) ≡ (way.transits +ℤ t) +ℤ (u +ℤ rest.transits) = omega (arith, ints) in
       ap₂ (λ (x y : ℤ). (let w : Way = record { at = (vehicle_at model v).end; time = x; transits = y } in w)) time transits
 
-  through-end : (way : Way) → to_end model d v way (at_end model d v) ≡ to_node model d v way (vehicle_at model v).end (end_floor model d v)
+  through-end : (way : Way) → way_through_rest model d v way (at_end model d v) ≡ to_node model d v way (vehicle_at model v).end (end_floor model d v)
   through-end way =
       let t = transit model d v way.at (vehicle_at model v).end in
       let left : t +ℤ pos 0 ≡ t = omega (arith, ints) in
       ap (λ (x : ℤ). (let w : Way = record { at = (vehicle_at model v).end; time = int_max (way.time +ℤ x) (end_floor model d v); transits = way.transits +ℤ x } in w)) left
 
   -- what is left from visits on is the way along them to the end
-  pub through-rest : (nodes : List ℕ) (way : Way) → to_end model d v way (rest_of model d v nodes) ≡ to_node model d v (along model d v way nodes) (vehicle_at model v).end (end_floor model d v)
+  pub through-rest : (nodes : List ℕ) (way : Way) → way_through_rest model d v way (rest_of model d v nodes) ≡ to_node model d v (to_visits model d v way nodes) (vehicle_at model v).end (end_floor model d v)
   through-rest [] way = through-end way
-  through-rest (x ∷ xs) way = through-visit way x (rest_of model d v xs) ∙ through-rest xs (to_visit model d v way x)
+  through-rest (x ∷ xs) way = through-visit way x (rest_of model d v xs) ∙ through-rest xs (on_to_visit model d v way x)
 
   -- the whole way is a way along the front of a list, on along others, and through what is left
   pub whole-way : (front middle behind list : List ℕ) → list ≡ front ++ (middle ++ behind)
-      → to_end model d v (along model d v (way_along model d v front) middle) (rest_of model d v behind) ≡ whole_way model d v list
+      → way_through_rest model d v (to_visits model d v (way_along model d v front) middle) (rest_of model d v behind) ≡ whole_way model d v list
   whole-way front middle behind list is =
-      through-rest behind (along model d v (way_along model d v front) middle)
+      through-rest behind (to_visits model d v (way_along model d v front) middle)
       ∙ sym (ap (whole_way model d v) is
       ∙ ap (λ w. to_node model d v w (vehicle_at model v).end (end_floor model d v))
-      (fold-append (to_visit model d v) (setting_out model d v) front (middle ++ behind) ∙ fold-append (to_visit model d v) (way_along model d v front) middle behind))
+      (fold-append (on_to_visit model d v) (way_from_start model d v) front (middle ++ behind) ∙ fold-append (on_to_visit model d v) (way_along model d v front) middle behind))
 
 pub ordered-long : (back : Bool) (xs : List ℕ) → length (cond back (reverse xs) xs) ≡ length xs
 ordered-long false xs = refl

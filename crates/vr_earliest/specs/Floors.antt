@@ -16,8 +16,8 @@ use Rattle.vr_model.specs.declared.records.Vehicle.{Vehicle}
 use Rattle.vr_earliest.specs.declared.floors.Floors.{Floors}
 
 -- x, or the number behind a forbidden interval where x lies in it
-abbrev pub behind : ℤ → Interval → ℤ
-behind x interval = cond (within interval.lo interval.hi x) (interval.hi +ℤ pos 1) x
+abbrev pub behind_interval : ℤ → Interval → ℤ
+behind_interval x interval = cond (within interval.lo interval.hi x) (interval.hi +ℤ pos 1) x
 
 -- where a window begins, 0 where there is none
 abbrev pub opening : Option Interval → ℤ
@@ -27,7 +27,7 @@ opening (Some window) = window.lo
 -- the floor of a stop with this row: where its window begins, behind each forbidden interval in turn
 abbrev pub floor_of : Option StopRow → ℤ
 floor_of None = pos 0
-floor_of (Some row) = int_min horizon (fold behind (opening row.window) row.forbidden)
+floor_of (Some row) = int_min horizon (fold behind_interval (opening row.window) row.forbidden)
 
 -- the row of a stop has no forbidden interval
 abbrev pub forbids_none : Option StopRow → Bool

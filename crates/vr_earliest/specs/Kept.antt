@@ -10,8 +10,8 @@ use Rattle.vr_earliest.specs.declared.kept_ways.KeptWays.{KeptWays as KeptPlaces
 use Rattle.vr_earliest.specs.declared.ways.Rest.{Rest}
 use Rattle.vr_earliest.specs.declared.ways.Way.{Way}
 use Rattle.vr_earliest.specs.Entries.{KeepsWays}
-use Rattle.vr_earliest.specs.Rests.{at_end, before}
-use Rattle.vr_earliest.specs.Ways.{setting_out, to_visit}
+use Rattle.vr_earliest.specs.Rests.{at_end, rest_with_visit}
+use Rattle.vr_earliest.specs.Ways.{way_from_start, on_to_visit}
 
 -- what is kept of the list of a vehicle
 abbrev pub KeptWays : Type 0
@@ -20,7 +20,8 @@ KeptWays = KeptPlaces Way Rest
 -- what is kept has the ways along a list of vehicle v, and what is left behind each of its places
 abbrev pub HasWays : Model → ℕ → ℕ → List ℕ → KeptWays → Type 0
 HasWays model d v list kept =
-    KeepsWays (setting_out model d v) (to_visit model d v) (at_end model d v) (before model d v) list kept
+    KeepsWays (way_from_start model d v) (on_to_visit model d v) (at_end model d v) (rest_with_visit model d v) list
+    kept
 
 -- nothing is paid for spans in a dimension
 pub record IsUnpaid (dimension : Dimension) : Type 0 where

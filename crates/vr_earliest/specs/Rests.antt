@@ -14,8 +14,8 @@ abbrev pub at_end : Model → ℕ → ℕ → Rest
 at_end model d v = record { at = (vehicle_at model v).end; transits = pos 0; least_end = end_floor model d v }
 
 -- what is left from a visit on, which comes before what is left from the next stop on
-abbrev pub before : Model → ℕ → ℕ → ℕ → Rest → Rest
-before model d v node rest =
+abbrev pub rest_with_visit : Model → ℕ → ℕ → ℕ → Rest → Rest
+rest_with_visit model d v node rest =
     let transits = transit model d v node rest.at +ℤ rest.transits in
     record {
       at = node;
@@ -25,11 +25,11 @@ before model d v node rest =
 
 -- what is left from the first of some visits on, through all of them to the end of vehicle v
 abbrev pub rest_of : Model → ℕ → ℕ → List ℕ → Rest
-rest_of model d v nodes = back_from (at_end model d v) (before model d v) nodes
+rest_of model d v nodes = back_from (at_end model d v) (rest_with_visit model d v) nodes
 
 -- a way goes on to a stop and through what is left from there to the end
-abbrev pub to_end : Model → ℕ → ℕ → Way → Rest → Way
-to_end model d v way rest =
+abbrev pub way_through_rest : Model → ℕ → ℕ → Way → Rest → Way
+way_through_rest model d v way rest =
     let left = transit model d v way.at rest.at +ℤ rest.transits in
     record {
       at = (vehicle_at model v).end;

@@ -18,21 +18,21 @@ to_node model d v way node floor = record {
 }
 
 -- it goes on to a visit
-abbrev pub to_visit : Model → ℕ → ℕ → Way → ℕ → Way
-to_visit model d v way node = to_node model d v way node (visit_floor model d node)
+abbrev pub on_to_visit : Model → ℕ → ℕ → Way → ℕ → Way
+on_to_visit model d v way node = to_node model d v way node (visit_floor model d node)
 
 -- it goes on to visits in order
-abbrev pub along : Model → ℕ → ℕ → Way → List ℕ → Way
-along model d v way nodes = fold (to_visit model d v) way nodes
+abbrev pub to_visits : Model → ℕ → ℕ → Way → List ℕ → Way
+to_visits model d v way nodes = fold (on_to_visit model d v) way nodes
 
 -- vehicle v stands at its start
-abbrev pub setting_out : Model → ℕ → ℕ → Way
-setting_out model d v =
+abbrev pub way_from_start : Model → ℕ → ℕ → Way
+way_from_start model d v =
     record { at = (vehicle_at model v).start; time = start_floor model d v; transits = pos 0 }
 
 -- it has gone along visits from there
 abbrev pub way_along : Model → ℕ → ℕ → List ℕ → Way
-way_along model d v list = along model d v (setting_out model d v) list
+way_along model d v list = to_visits model d v (way_from_start model d v) list
 
 -- it has gone along a list to its end
 abbrev pub whole_way : Model → ℕ → ℕ → List ℕ → Way

@@ -5,7 +5,7 @@ ghost use Rattle.std.specs.Option.{option_copied};
 ghost use Rattle.vr_model.specs.tables.Numbers.{horizon};
 ghost use Rattle.vr_model.specs.tables.Tables.{dimension_at};
 ghost use Rattle.vr_model.specs.tables.WellFormed.{IsIn, IsInterval, IsStopRow, WherePresent};
-ghost use Rattle.vr_earliest.specs.Floors.{behind as behind_interval, floor_of as floor_of_row, opening as opening_of};
+ghost use Rattle.vr_earliest.specs.Floors.{behind_interval, floor_of as floor_of_row, opening as opening_of};
 ghost use Rattle.vr_earliest.specs.Floors.{forbids_none as row_forbids_none, is_earliest as is_earliest_rule};
 ghost use Rattle.vr_earliest.specs.Floors.{starts_freely as starts_freely_in};
 ghost use Rattle.vr_earliest.specs.Floors.{AreFloors, AreFree, HaveFloors};

@@ -9,9 +9,9 @@ ghost use Rattle.vr_model.specs.tables.WellFormed.{IsIn};
 ghost use Rattle.vr_model.specs.tables.WellFormedOnce.{IsWellFormed-prop};
 ghost use Rattle.vr_earliest.specs.Floors.{AreFloors};
 ghost use Rattle.vr_earliest.specs.Guides.{IsGuide};
-ghost use Rattle.vr_earliest.specs.Rests.{at_end, before, to_end as to_end_on, IsListRest, IsRestOf};
-ghost use Rattle.vr_earliest.specs.Ways.{arcs-more, setting_out, span_by as span_by_way};
-ghost use Rattle.vr_earliest.specs.Ways.{to_node as to_node_on, to_visit};
+ghost use Rattle.vr_earliest.specs.Rests.{at_end, rest_with_visit, way_through_rest as to_end_on, IsListRest, IsRestOf};
+ghost use Rattle.vr_earliest.specs.Ways.{arcs-more, way_from_start, span_by as span_by_way};
+ghost use Rattle.vr_earliest.specs.Ways.{to_node as to_node_on, on_to_visit};
 ghost use Rattle.vr_earliest.specs.Ways.{IsLongWay, IsMiddleWay, IsWayOf, IsWholeWay};
 
 use crate::floors::Floors;
@@ -138,13 +138,13 @@ impl<'m> Walk for Guide<'m> {
 
     ghost is_rest = { λ guide n rest. IsRestOf guide.model.now n rest };
 
-    ghost start_way = { λ guide. setting_out guide.model.now guide.d guide.v };
+    ghost start_way = { λ guide. way_from_start guide.model.now guide.d guide.v };
 
-    ghost way_on = { λ guide way node. to_visit guide.model.now guide.d guide.v way node };
+    ghost way_on = { λ guide way node. on_to_visit guide.model.now guide.d guide.v way node };
 
     ghost end_rest = { λ guide. at_end guide.model.now guide.d guide.v };
 
-    ghost rest_from = { λ guide node rest. before guide.model.now guide.d guide.v node rest };
+    ghost rest_from = { λ guide node rest. rest_with_visit guide.model.now guide.d guide.v node rest };
 
     ghost way_grows = { λ guide n m way more. arcs-more n m more };
 

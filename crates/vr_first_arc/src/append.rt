@@ -2,7 +2,7 @@
 
 ghost use Rattle.std.specs.Prelude.{◌≡◌, ◌++◌, IfOk, OnOk};
 ghost use Rattle.vr_rules.specs.Fronts.{IsDriven};
-ghost use Rattle.vr_rules.specs.Placing.{nodes_of};
+ghost use Rattle.vr_rules.specs.Placing.{item_nodes};
 ghost use Rattle.vr_first_arc.specs.Choices.{may_append as may_append_of};
 ghost use Rattle.vr_first_arc.specs.Growing.{filling_model, IsGrowing};
 
@@ -12,7 +12,7 @@ use vr_rules::{Item, Room, groups_have_room};
 
 // Puts an item at the end of a list.
 pub(crate) fn append(list: &mut Seq<u32>, item: Item) -> Result<(), NoMemory>
-    ensures { OnOk result (list.new ≡ list.old ++ nodes_of item) }
+    ensures { OnOk result (list.new ≡ list.old ++ item_nodes item) }
 {
     match item {
         Item::Visit(node) => list.push(node)?,
@@ -31,7 +31,7 @@ pub(crate) fn may_append(
     item: Item,
 ) -> Result<bool, NoMemory>
     requires growing { IsGrowing growing.now }
-    requires longer { IsDriven (filling_model growing.now.filling) (growing.now.list.now ++ nodes_of item) }
+    requires longer { IsDriven (filling_model growing.now.filling) (growing.now.list.now ++ item_nodes item) }
     ensures { IfOk result (λ may. may ≡ may_append_of (filling_model growing.now.filling) growing.now.v
         growing.now.list.now growing.now.marks.now item) }
 {

@@ -3,7 +3,7 @@
 ghost use Rattle.std.specs.Prelude.{◌≡◌, option_map};
 ghost use Rattle.vr_model.specs.tables.Numbers.{is_lex_less};
 ghost use Rattle.vr_rules.specs.Placing.{improves as improves_by};
-ghost use Rattle.vr_first_arc.specs.Choices.{key_of, item_of_choice};
+ghost use Rattle.vr_first_arc.specs.Choices.{arc_key, item_of_choice};
 
 use vr_rules::Item;
 
@@ -17,7 +17,7 @@ pub(crate) struct ArcChoice {
 
 // Whether a choice comes before another: by class, then by cost, then by number.
 fn comes_before(one: ArcChoice, other: ArcChoice) -> bool
-    ensures { result ≡ is_lex_less (key_of one) (key_of other) }
+    ensures { result ≡ is_lex_less (arc_key one) (arc_key other) }
 {
     let (number, others) = (one.item.number(), other.item.number());
     one.class < other.class
@@ -27,7 +27,7 @@ fn comes_before(one: ArcChoice, other: ArcChoice) -> bool
 
 // Whether a choice is better than the best so far, or the first.
 pub(crate) fn improves(best: Option<ArcChoice>, next: ArcChoice) -> bool
-    ensures { result ≡ improves_by key_of best next }
+    ensures { result ≡ improves_by arc_key best next }
 {
     match best {
         Some(best) => comes_before(next, best),

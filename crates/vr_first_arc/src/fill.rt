@@ -4,8 +4,8 @@ ghost use Rattle.std.specs.Prelude.{◌≡◌, ◌<◌, ◌++◌, false, cond, I
 ghost use Rattle.vr_model.specs.first.Choosing.{better};
 ghost use Rattle.vr_model.specs.first.Items.{first_node, items};
 ghost use Rattle.vr_model.specs.first.PathCheapestArc.{appended, filled, next_appended};
-ghost use Rattle.vr_rules.specs.Placing.{nodes_of, is_marked, AreBuilt, AreMarks};
-ghost use Rattle.vr_first_arc.specs.Choices.{all_filled, chosen_beside, key_of, may_append as may_append_of};
+ghost use Rattle.vr_rules.specs.Placing.{item_nodes, is_marked, AreBuilt, AreMarks};
+ghost use Rattle.vr_first_arc.specs.Choices.{all_filled, chosen_beside, arc_key, may_append as may_append_of};
 ghost use Rattle.vr_first_arc.specs.Choices.{MayBeAppended};
 ghost use Rattle.vr_first_arc.specs.Growing.{filling_model, IsFilling, IsGrowing};
 ghost use Rattle.vr_rules.specs.Fronts.{AreFrontsOf, IsDriven};
@@ -25,9 +25,9 @@ fn consider(
     best: Option<ArcChoice>,
 ) -> Result<Option<ArcChoice>, NoMemory>
     requires growing { IsGrowing growing.now }
-    requires longer { IsDriven (filling_model growing.now.filling) (growing.now.list.now ++ nodes_of next.item) }
+    requires longer { IsDriven (filling_model growing.now.filling) (growing.now.list.now ++ item_nodes next.item) }
     ensures { IfOk result (λ chosen. chosen ≡ cond (may_append_of (filling_model growing.now.filling) growing.now.v
-        growing.now.list.now growing.now.marks.now next.item) (better key_of best next) best) }
+        growing.now.list.now growing.now.marks.now next.item) (better arc_key best next) best) }
 {
     if !improves(best, next) {
         return Ok(best);
@@ -47,9 +47,9 @@ fn consider_candidate(
     best: Option<ArcChoice>,
 ) -> Result<Option<ArcChoice>, NoMemory>
     requires growing { IsGrowing growing.now }
-    requires first { first_node (nodes_of candidate.item) < (filling_model growing.now.filling).nodes }
-    requires longer { is_marked growing.now.marks.now (first_node (nodes_of candidate.item)) ≡ false
-        → IsDriven (filling_model growing.now.filling) (growing.now.list.now ++ nodes_of candidate.item) }
+    requires first { first_node (item_nodes candidate.item) < (filling_model growing.now.filling).nodes }
+    requires longer { is_marked growing.now.marks.now (first_node (item_nodes candidate.item)) ≡ false
+        → IsDriven (filling_model growing.now.filling) (growing.now.list.now ++ item_nodes candidate.item) }
     ensures { IfOk result (λ chosen. chosen ≡ chosen_beside (filling_model growing.now.filling) growing.now.v
         growing.now.list.now growing.now.marks.now candidate best) }
 {
@@ -82,7 +82,7 @@ fn next_item(
     requires built { AreBuilt (filling_model filling.now) lists.now }
     requires fronts { AreFrontsOf (filling_model filling.now) v (route lists.now v) fronts.now }
     requires marks { AreMarks (filling_model filling.now).nodes lists.now marks.now }
-    ensures next { IfOk result (λ next. option_map nodes_of next
+    ensures next { IfOk result (λ next. option_map item_nodes next
         ≡ next_appended (filling_model filling.now) lists.now v) }
     ensures may { IfOk result (λ next. IfSome next (MayBeAppended (filling_model filling.now) lists.now v)) }
 {
@@ -112,10 +112,10 @@ fn place(
 ) -> Result<(), NoMemory>
     requires vehicle { v < length lists.now }
     requires fronts { AreFrontsOf closed.model.now v (route lists.now v) fronts.old }
-    requires longer { IsDriven closed.model.now (route lists.now v ++ nodes_of item) }
-    ensures lists { OnOk result (lists.new ≡ appended lists.old v (nodes_of item)) }
+    requires longer { IsDriven closed.model.now (route lists.now v ++ item_nodes item) }
+    ensures lists { OnOk result (lists.new ≡ appended lists.old v (item_nodes item)) }
     ensures fronts { OnOk result (AreFrontsOf closed.entry.model.now v
-        (route lists.old v ++ nodes_of item) fronts.new) }
+        (route lists.old v ++ item_nodes item) fronts.new) }
 {
     fronts.append(room, closed, v, lists[v as usize].as_slice(), item)?;
     append(&mut lists[v as usize], item)?;

@@ -22,7 +22,7 @@ use Rattle.vr_model.proofs.tables.Members.{In, from_each, from_map, of_below, of
 use Rattle.vr_rules.specs.declared.items.Item.{Item}
 use Rattle.vr_rules.specs.declared.items.Item.TheVariants.{Visit, PickupAndDelivery}
 use Rattle.vr_rules.specs.declared.items.Candidate.{Candidate}
-use Rattle.vr_rules.specs.Placing.{nodes_of, is_marked, has_room, fits_beside, AreBuilt, AreMarks, AreCandidates, IsCandidate, IsItem}
+use Rattle.vr_rules.specs.Placing.{item_nodes, is_marked, has_room, fits_beside, AreBuilt, AreMarks, AreCandidates, IsCandidate, IsItem}
 use Rattle.vr_model.proofs.routes.Lists.{visit_below}
 use Rattle.vr_rules.proofs.LocalOpenness.{is_open-local}
 use Rattle.vr_model.proofs.routes.Lists.{route_set_same}
@@ -31,7 +31,7 @@ use Rattle.vr_rules.proofs.PlacingLemmas.{fits_beside-marks}
 use Rattle.vr_first_insert.specs.declared.choice.Placing.{Placing}
 use Rattle.vr_first_insert.specs.declared.choice.Placing.TheVariants.{One, Two}
 use Rattle.vr_first_insert.specs.declared.choice.InsertionChoice.{InsertionChoice}
-use Rattle.vr_first_insert.specs.Placings.{item_in, placed, insertion_of, key_of, tail_key, visit_choice, pair_choice, choices_in, best_in, best_in_lists, counts, best_beside, places_in, AreWithin, MayBeInserted, MayHold}
+use Rattle.vr_first_insert.specs.Placings.{item_in, placed, insertion_of, key_of, tail_key, visit_choice, pair_choice, choices_in, best_in, best_in_lists, may_be_placed, best_beside, places_in, AreWithin, MayBeInserted, MayHold}
 use Rattle.vr_first_insert.proofs.PlacedLemmas.{IsAdded-placed, MayHold-inactive}
 use Rattle.vr_first_insert.proofs.IncreaseLemmas.{increase_of, increase-is}
 
@@ -45,7 +45,7 @@ insertions_of lists item = each (vehicles lists) (insertions_in lists item)
 
 -- the unplaced items among the first candidates
 abbrev pub seen : List (List ℕ) → List Candidate → ℕ → List (List ℕ)
-seen lists candidates i = filter (λ item. not (is_active lists (first_node item))) (map (λ candidate. nodes_of candidate.item) (take i candidates))
+seen lists candidates i = filter (λ item. not (is_active lists (first_node item))) (map (λ candidate. item_nodes candidate.item) (take i candidates))
 
 -- the best choice among insertions
 abbrev pub IsBestOf : Model → List (List ℕ) → Option InsertionChoice → List Insertion → Type 0
@@ -65,7 +65,7 @@ each-both f h k e ts (s ∷ ss) =
     ∙ ap₂ (λ xs ys. xs ++ ys) (map-both (f s) insertion_of (h s) k (e s) (ts s)) (each-both f h k e ts ss)
     ∙ sym (map-append k (map (h s) (ts s)) (each ss (λ s. map (h s) (ts s))))
 
-choices-are : (model : Model) (lists : List (List ℕ)) (v cls : ℕ) (item : Item) → map insertion_of (choices_in model v (route lists v) cls item) ≡ insertions_in lists (nodes_of item) v
+choices-are : (model : Model) (lists : List (List ℕ)) (v cls : ℕ) (item : Item) → map insertion_of (choices_in model v (route lists v) cls item) ≡ insertions_in lists (item_nodes item) v
 choices-are model lists v cls (Visit n) =
     map-both (visit_choice model v (route lists v) cls n) insertion_of (λ t. t ∷ []) (λ places. record { item = n ∷ []; vehicle = v; places = places }) (λ t. refl) (gaps (route lists v))
 choices-are model lists v cls (PickupAndDelivery p d) =
@@ -94,16 +94,16 @@ and-false true b e = e
 and-false false b e = refl
 
 module _ (model : Model) (lists : List (List ℕ)) (well_formed : IsWellFormed model) (built : AreBuilt model lists) (marks : List Bool) (are : AreMarks model.nodes lists marks) (candidate : Candidate) (valid : IsCandidate model candidate)
-    (free : is_active lists (first_node (nodes_of candidate.item)) ≡ false) where
+    (free : is_active lists (first_node (item_nodes candidate.item)) ≡ false) where
   -- the lists after an insertion are open where the list is, and the groups have room
   local : (v : ℕ) (placing : Placing) → v < length lists → item_in placing ≡ candidate.item → AreWithin (route lists v) placing
       → is_open model (with_route lists v (placed (route lists v) placing)) ≡ (is_route_open model v (placed (route lists v) placing) && list_all (has_room marks candidate.item) model.groups)
   local v placing low is within =
       let item_valid : IsItem model (item_in placing) = subst (IsItem model) (sym is) valid.item in
-      let inactive : is_active lists (first_node (nodes_of (item_in placing))) ≡ false = ap (λ item. is_active lists (first_node (nodes_of item))) is ∙ free in
+      let inactive : is_active lists (first_node (item_nodes (item_in placing))) ≡ false = ap (λ item. is_active lists (first_node (item_nodes item))) is ∙ free in
       let added = IsAdded-placed model lists v placing built low item_valid inactive within in
-      is_open-local model lists v (placed (route lists v) placing) (nodes_of (item_in placing)) built.are_open low added.nodes_are
-      ∙ ap (λ b. is_route_open model v (placed (route lists v) placing) && b) (ap (λ item. fits_beside model lists (nodes_of item)) is ∙ sym (fits_beside-marks model well_formed lists marks candidate.item are))
+      is_open-local model lists v (placed (route lists v) placing) (item_nodes (item_in placing)) built.are_open low added.nodes_are
+      ∙ ap (λ b. is_route_open model v (placed (route lists v) placing) && b) (ap (λ item. fits_beside model lists (item_nodes item)) is ∙ sym (fits_beside-marks model well_formed lists marks candidate.item are))
 
   inserted-is : (v : ℕ) (placing : Placing) (increase : ℤ) → inserted lists (insertion_of (record { placing = placing; class = candidate.class; vehicle = v; increase = increase })) ≡ with_route lists v (placed (route lists v) placing)
   inserted-is v (One n t) increase = refl
@@ -127,7 +127,7 @@ module _ (model : Model) (lists : List (List ℕ)) (well_formed : IsWellFormed m
           let after = inserted-is v placing (increase_of model v (route lists v) placing) in
           let opens : is_open model (inserted lists (insertion_of next)) ≡ is_route_open model v (placed (route lists v) placing) =
           ap (is_open model) after ∙ local v placing low is within ∙ and-true (is_route_open model v (placed (route lists v) placing)) (list_all (has_room marks candidate.item) model.groups) room in
-          let cls : candidate.class ≡ class model (nodes_of (item_in placing)) = valid.class ∙ ap (λ item. class model (nodes_of item)) (sym is) in
+          let cls : candidate.class ≡ class model (item_nodes (item_in placing)) = valid.class ∙ ap (λ item. class model (item_nodes item)) (sym is) in
           let more : increase_of model v (route lists v) placing ≡ increase model lists (insertion_of next) =
           increase-is model v (route lists v) placing within
           ∙ sym (ap (λ list. route_cost model v list -ℤ route_cost model v (route lists v)) (ap (λ ls. route ls v) after ∙ route_set_same lists v (placed (route lists v) placing) low)) in
@@ -136,7 +136,7 @@ module _ (model : Model) (lists : List (List ℕ)) (well_formed : IsWellFormed m
             tested = sym opens;
             good = λ passes. record {
               is_item = subst (IsItem model) (sym is) valid.item;
-              inactive = ap (λ item. is_active lists (first_node (nodes_of item))) is ∙ free;
+              inactive = ap (λ item. is_active lists (first_node (item_nodes item))) is ∙ free;
               vehicle = low;
               within = within;
               stays_open = opens ∙ passes;
@@ -145,7 +145,7 @@ module _ (model : Model) (lists : List (List ℕ)) (well_formed : IsWellFormed m
 
   -- the best beside the choices in one list
   best-in : list_all (has_room marks candidate.item) model.groups ≡ true → (v : ℕ) → v < length lists → (best : Option InsertionChoice) (xs : List Insertion) → IsBestOf model lists best xs
-      → IsBestOf model lists (best_in model v (route lists v) candidate best) (xs ++ insertions_in lists (nodes_of candidate.item) v)
+      → IsBestOf model lists (best_in model v (route lists v) candidate best) (xs ++ insertions_in lists (item_nodes candidate.item) v)
   best-in room v low best xs before =
       subst (λ ys. IsBestOf model lists (best_in model v (route lists v) candidate best) (xs ++ ys)) (choices-are model lists v candidate.class candidate.item)
       (IsBest-fold insertion_of (insertion_key model lists) key_of (λ insertion. is_open model (inserted lists insertion)) (MayBeInserted model lists) (λ next. is_route_open model next.vehicle (placed (route lists v) next.placing))
@@ -153,17 +153,17 @@ module _ (model : Model) (lists : List (List ℕ)) (well_formed : IsWellFormed m
 
   -- in lists in turn
   best-in-each : list_all (has_room marks candidate.item) model.groups ≡ true → (vs : List ℕ) → ((v : ℕ) → In vs v → v < length lists) → (best : Option InsertionChoice) (xs : List Insertion) → IsBestOf model lists best xs
-      → IsBestOf model lists (fold (λ best v. best_in model v (route lists v) candidate best) best vs) (xs ++ each vs (insertions_in lists (nodes_of candidate.item)))
+      → IsBestOf model lists (fold (λ best v. best_in model v (route lists v) candidate best) best vs) (xs ++ each vs (insertions_in lists (item_nodes candidate.item)))
   best-in-each room [] low best xs before = subst (IsBestOf model lists best) (sym (append-nil xs)) before
   best-in-each room (v ∷ vs) low best xs before =
       subst (IsBestOf model lists (fold (λ best v. best_in model v (route lists v) candidate best) (best_in model v (route lists v) candidate best) vs))
-      (append_assoc xs (insertions_in lists (nodes_of candidate.item) v) (each vs (insertions_in lists (nodes_of candidate.item))))
-      (best-in-each room vs (λ w there. low w (inr there)) (best_in model v (route lists v) candidate best) (xs ++ insertions_in lists (nodes_of candidate.item) v) (best-in room v (low v (inl refl)) best xs before))
+      (append_assoc xs (insertions_in lists (item_nodes candidate.item) v) (each vs (insertions_in lists (item_nodes candidate.item))))
+      (best-in-each room vs (λ w there. low w (inr there)) (best_in model v (route lists v) candidate best) (xs ++ insertions_in lists (item_nodes candidate.item) v) (best-in room v (low v (inl refl)) best xs before))
 
   -- without room no insertion of the item may be made
-  no-room : list_all (has_room marks candidate.item) model.groups ≡ false → (insertion : Insertion) → In (insertions_of lists (nodes_of candidate.item)) insertion → is_open model (inserted lists insertion) ≡ false
+  no-room : list_all (has_room marks candidate.item) model.groups ≡ false → (insertion : Insertion) → In (insertions_of lists (item_nodes candidate.item)) insertion → is_open model (inserted lists insertion) ≡ false
   no-room full insertion there =
-      from_each (insertions_in lists (nodes_of candidate.item)) (vehicles lists) insertion there (λ v v_in inner.
+      from_each (insertions_in lists (item_nodes candidate.item)) (vehicles lists) insertion there (λ v v_in inner.
       from_map insertion_of (choices_in model v (route lists v) candidate.class candidate.item) insertion (subst (λ ys. In ys insertion) (sym (choices-are model lists v candidate.class candidate.item)) inner) (λ choice c_in is.
       let made = (choice-of model lists v candidate.class candidate.item choice c_in).made in
       let placing : Placing = made.0 in
@@ -176,20 +176,20 @@ module _ (model : Model) (lists : List (List ℕ)) (well_formed : IsWellFormed m
       ∙ and-false (is_route_open model v (placed (route lists v) placing)) (list_all (has_room marks candidate.item) model.groups) full))
 
   -- the best beside all insertions of an item that stands in no list
-  best-free : (best : Option InsertionChoice) (xs : List Insertion) → IsBestOf model lists best xs → is_marked marks (first_node (nodes_of candidate.item)) ≡ false
-      → IsBestOf model lists (best_beside model lists marks candidate best) (xs ++ insertions_of lists (nodes_of candidate.item))
+  best-free : (best : Option InsertionChoice) (xs : List Insertion) → IsBestOf model lists best xs → is_marked marks (first_node (item_nodes candidate.item)) ≡ false
+      → IsBestOf model lists (best_beside model lists marks candidate best) (xs ++ insertions_of lists (item_nodes candidate.item))
   best-free best xs before unmarked = by (list_all (has_room marks candidate.item) model.groups) refl
     where
-      counted : (b : Bool) → list_all (has_room marks candidate.item) model.groups ≡ b → counts model marks candidate ≡ b
+      counted : (b : Bool) → list_all (has_room marks candidate.item) model.groups ≡ b → may_be_placed model marks candidate ≡ b
       counted b e = ap (λ m. cond m false (list_all (has_room marks candidate.item) model.groups)) unmarked ∙ e
 
-      by : (b : Bool) → list_all (has_room marks candidate.item) model.groups ≡ b → IsBestOf model lists (best_beside model lists marks candidate best) (xs ++ insertions_of lists (nodes_of candidate.item))
+      by : (b : Bool) → list_all (has_room marks candidate.item) model.groups ≡ b → IsBestOf model lists (best_beside model lists marks candidate best) (xs ++ insertions_of lists (item_nodes candidate.item))
       by true room =
-          subst (λ c. IsBestOf model lists (cond c (best_in_lists model lists candidate (length lists) best) best) (xs ++ insertions_of lists (nodes_of candidate.item))) (sym (counted true room))
+          subst (λ c. IsBestOf model lists (cond c (best_in_lists model lists candidate (length lists) best) best) (xs ++ insertions_of lists (item_nodes candidate.item))) (sym (counted true room))
           (best-in-each room (vehicles lists) (λ v there. of_below (length lists) v there) best xs before)
       by false full =
-          subst (λ c. IsBestOf model lists (cond c (best_in_lists model lists candidate (length lists) best) best) (xs ++ insertions_of lists (nodes_of candidate.item))) (sym (counted false full))
-          (IsBest-failed insertion_of (insertion_key model lists) key_of (λ insertion. is_open model (inserted lists insertion)) (MayBeInserted model lists) best xs (insertions_of lists (nodes_of candidate.item)) before (no-room full))
+          subst (λ c. IsBestOf model lists (cond c (best_in_lists model lists candidate (length lists) best) best) (xs ++ insertions_of lists (item_nodes candidate.item))) (sym (counted false full))
+          (IsBest-failed insertion_of (insertion_key model lists) key_of (λ insertion. is_open model (inserted lists insertion)) (MayBeInserted model lists) best xs (insertions_of lists (item_nodes candidate.item)) before (no-room full))
 
 -- ---- all candidates
 
@@ -198,14 +198,14 @@ abbrev pub IsBestSoFar : Model → List (List ℕ) → List Candidate → ℕ �
 IsBestSoFar model lists candidates i best = IsBestOf model lists best (each (seen lists candidates i) (insertions_of lists))
 
 -- the first node of an item is a node
-pub first-below : (model : Model) (item : Item) → IsItem model item → first_node (nodes_of item) < model.nodes
+pub first-below : (model : Model) (item : Item) → IsItem model item → first_node (item_nodes item) < model.nodes
 first-below model (Visit n) valid = visit_below model n (and_left (is_visit model n) true valid.visits)
 first-below model (PickupAndDelivery p d) valid = visit_below model p (and_left (is_visit model p) _ valid.visits)
 
 seen-more : (lists : List (List ℕ)) (candidates : List Candidate) (i : ℕ) (candidate : Candidate) → i < length candidates → get_or candidates i candidate ≡ candidate
-    → seen lists candidates (i + 1) ≡ seen lists candidates i ++ cond (not (is_active lists (first_node (nodes_of candidate.item)))) (nodes_of candidate.item ∷ []) []
+    → seen lists candidates (i + 1) ≡ seen lists candidates i ++ cond (not (is_active lists (first_node (item_nodes candidate.item)))) (item_nodes candidate.item ∷ []) []
 seen-more lists candidates i candidate within is =
-    let nodes = λ (candidate : Candidate). nodes_of candidate.item in
+    let nodes = λ (candidate : Candidate). item_nodes candidate.item in
     let keep = λ (item : List ℕ). not (is_active lists (first_node item)) in
     ap (λ cs. filter keep (map nodes cs)) (take_more candidates i candidate within ∙ ap (λ c. take i candidates ++ c ∷ []) is)
     ∙ ap (filter keep) (map-append nodes (take i candidates) (candidate ∷ []))
@@ -221,7 +221,7 @@ pub best-more : (model : Model) (lists : List (List ℕ)) (marks : List Bool) (c
 best-more model lists marks candidates i candidate best chosen well_formed built are valid within is before e = by (is_marked marks number) refl
   where
     number : ℕ
-    number = first_node (nodes_of candidate.item)
+    number = first_node (item_nodes candidate.item)
 
     active : is_marked marks number ≡ is_active lists number
     active = are.each number false (first-below model candidate.item valid.item)
@@ -229,17 +229,17 @@ best-more model lists marks candidates i candidate best chosen well_formed built
     by : (b : Bool) → is_marked marks number ≡ b → IsBestSoFar model lists candidates (i + 1) chosen
     by true marked =
         let same : seen lists candidates (i + 1) ≡ seen lists candidates i =
-        seen-more lists candidates i candidate within is ∙ ap (λ b. seen lists candidates i ++ cond (not b) (nodes_of candidate.item ∷ []) []) (sym active ∙ marked) ∙ append-nil (seen lists candidates i) in
+        seen-more lists candidates i candidate within is ∙ ap (λ b. seen lists candidates i ++ cond (not b) (item_nodes candidate.item ∷ []) []) (sym active ∙ marked) ∙ append-nil (seen lists candidates i) in
         let kept : chosen ≡ best = e ∙ ap (λ m. cond (cond m false (list_all (has_room marks candidate.item) model.groups)) (best_in_lists model lists candidate (length lists) best) best) marked in
         subst (λ c. IsBestOf model lists c (each (seen lists candidates (i + 1)) (insertions_of lists))) (sym kept)
         (subst (λ items. IsBestOf model lists best (each items (insertions_of lists))) (sym same) before)
     by false marked =
         let free : is_active lists number ≡ false = sym active ∙ marked in
-        let longer : seen lists candidates (i + 1) ≡ seen lists candidates i ++ nodes_of candidate.item ∷ [] =
-        seen-more lists candidates i candidate within is ∙ ap (λ b. seen lists candidates i ++ cond (not b) (nodes_of candidate.item ∷ []) []) free in
-        let all : each (seen lists candidates i) (insertions_of lists) ++ insertions_of lists (nodes_of candidate.item) ≡ each (seen lists candidates (i + 1)) (insertions_of lists) =
-        ap (λ xs. each (seen lists candidates i) (insertions_of lists) ++ xs) (sym (append-nil (insertions_of lists (nodes_of candidate.item))))
-        ∙ sym (flat_map-append (insertions_of lists) (seen lists candidates i) (nodes_of candidate.item ∷ []))
+        let longer : seen lists candidates (i + 1) ≡ seen lists candidates i ++ item_nodes candidate.item ∷ [] =
+        seen-more lists candidates i candidate within is ∙ ap (λ b. seen lists candidates i ++ cond (not b) (item_nodes candidate.item ∷ []) []) free in
+        let all : each (seen lists candidates i) (insertions_of lists) ++ insertions_of lists (item_nodes candidate.item) ≡ each (seen lists candidates (i + 1)) (insertions_of lists) =
+        ap (λ xs. each (seen lists candidates i) (insertions_of lists) ++ xs) (sym (append-nil (insertions_of lists (item_nodes candidate.item))))
+        ∙ sym (flat_map-append (insertions_of lists) (seen lists candidates i) (item_nodes candidate.item ∷ []))
         ∙ sym (ap (λ items. each items (insertions_of lists)) longer) in
         subst (λ c. IsBestOf model lists c (each (seen lists candidates (i + 1)) (insertions_of lists))) (sym e)
         (subst (IsBestOf model lists (best_beside model lists marks candidate best)) all
@@ -249,18 +249,18 @@ best-more model lists marks candidates i candidate best chosen well_formed built
 pub best-end : (model : Model) (lists : List (List ℕ)) (candidates : List Candidate) (i : ℕ) (best : Option InsertionChoice) → AreCandidates model candidates → length candidates ≤ i → IsBestSoFar model lists candidates i best
     → option_map insertion_of best ≡ next_inserted model lists
 best-end model lists candidates i best all high before =
-    let whole : seen lists candidates i ≡ unplaced model lists = ap (λ cs. filter (λ item. not (is_active lists (first_node item))) (map (λ candidate. nodes_of candidate.item) cs)) (take_all i candidates high)
+    let whole : seen lists candidates i ≡ unplaced model lists = ap (λ cs. filter (λ item. not (is_active lists (first_node item))) (map (λ candidate. item_nodes candidate.item) cs)) (take_all i candidates high)
     ∙ ap (filter (λ item. not (is_active lists (first_node item)))) all.all in
     before.least ∙ ap (λ items. least_by (insertion_key model lists) (filter (λ insertion. is_open model (inserted lists insertion)) (each items (insertions_of lists)))) whole
 
 -- an item whose first node is not marked may be put into each list
-pub may_hold-by : (model : Model) (lists : List (List ℕ)) (marks : List Bool) (candidate : Candidate) → AreBuilt model lists → AreMarks model.nodes lists marks → IsCandidate model candidate → counts model marks candidate ≡ true
+pub may_hold-by : (model : Model) (lists : List (List ℕ)) (marks : List Bool) (candidate : Candidate) → AreBuilt model lists → AreMarks model.nodes lists marks → IsCandidate model candidate → may_be_placed model marks candidate ≡ true
     → (v : ℕ) → MayHold model (route lists v) candidate.item
 may_hold-by model lists marks candidate built are valid counted v =
     MayHold-inactive model lists v candidate.item built valid.item (sym (are.each number false (first-below model candidate.item valid.item)) ∙ unmarked (is_marked marks number) (list_all (has_room marks candidate.item) model.groups) counted)
   where
     number : ℕ
-    number = first_node (nodes_of candidate.item)
+    number = first_node (item_nodes candidate.item)
 
     unmarked : (b c : Bool) → cond b false c ≡ true → b ≡ false
     unmarked true c h = absurd (clash false h refl)
@@ -281,12 +281,12 @@ rebuilt-next model more less lists insertion e count =
 
 -- there are as many candidates as items
 pub candidates-count : (model : Model) (candidates : List Candidate) → AreCandidates model candidates → length candidates ≡ length (items model)
-candidates-count model candidates all = sym (length-map candidates (λ candidate. nodes_of candidate.item)) ∙ ap length all.all
+candidates-count model candidates all = sym (length-map candidates (λ candidate. item_nodes candidate.item)) ∙ ap length all.all
 
 -- the lists after a choice
 pub inserted-choice : (lists : List (List ℕ)) (choice : InsertionChoice) → inserted lists (insertion_of choice) ≡ with_route lists choice.vehicle (placed (route lists choice.vehicle) choice.placing)
 inserted-choice lists choice = by choice.placing
   where
-    by : (placing : Placing) → inserted lists (record { item = nodes_of (item_in placing); vehicle = choice.vehicle; places = places_in placing }) ≡ with_route lists choice.vehicle (placed (route lists choice.vehicle) placing)
+    by : (placing : Placing) → inserted lists (record { item = item_nodes (item_in placing); vehicle = choice.vehicle; places = places_in placing }) ≡ with_route lists choice.vehicle (placed (route lists choice.vehicle) placing)
     by (One n t) = refl
     by (Two p d s t) = refl

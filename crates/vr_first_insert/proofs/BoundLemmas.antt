@@ -12,8 +12,8 @@ use Rattle.vr_model.proofs.tables.Members.{In, from_map, of_from_to}
 use Rattle.vr_rules.specs.Placing.{improves}
 use Rattle.vr_rules.proofs.LazyLeast.{untested}
 use Rattle.vr_first_insert.specs.declared.choice.InsertionChoice.{InsertionChoice}
-use Rattle.vr_first_insert.specs.Increases.{arc_at, detour, node_before, node_behind, visit_increase, pair_increase}
-use Rattle.vr_first_insert.specs.Placings.{key_of, tail_key, may_improve, pair_choice, placed, weigh, AreLeastAhead, IsAddedAhead, IsLeast, IsLeastAhead, IsLeastIncrease}
+use Rattle.vr_first_insert.specs.Increases.{arc_cost_at, detour, node_before, node_behind, visit_increase, pair_increase}
+use Rattle.vr_first_insert.specs.Placings.{key_of, tail_key, may_improve, pair_choice, placed, weigh, AreLeastAhead, IsAddedAhead, VisitAddsAtLeast, IsLeastAhead, IsLeastIncrease}
 use Rattle.vr_first_insert.specs.declared.vehicle_list.LookedUpList.{LookedUpList}
 
 not-before : (n c : ℕ) (i l b : ℤ) (tail : Bool) → (nat_lt n c || (nat_le n c && int_le l b)) ≡ false → l ≤ℤ i
@@ -47,10 +47,10 @@ deliveries-passed_over model v list class pickup delivery s from best least low 
 -- the pair apart
 apart-is : (model : Model) (v : ℕ) (list : List ℕ) (pickup delivery s t : ℕ) → (s == t) ≡ false → pair_increase model v list pickup delivery s t ≡ (visit_increase model v list pickup s +ℤ visit_increase model v list delivery t)
 apart-is model v list pickup delivery s t e =
-    ap (λ b. cond b (arc_cost model v (node_before model v list s) pickup +ℤ detour model v pickup delivery (node_behind model v list s) (arc_at model v list s)) (visit_increase model v list pickup s +ℤ visit_increase model v list delivery t)) e
+    ap (λ b. cond b (arc_cost model v (node_before model v list s) pickup +ℤ detour model v pickup delivery (node_behind model v list s) (arc_cost_at model v list s)) (visit_increase model v list pickup s +ℤ visit_increase model v list delivery t)) e
 
 -- the pair with its delivery behind
-pub least-further : (model : Model) (v : ℕ) (list : List ℕ) (pickup delivery s t : ℕ) (least : ℤ) → IsLeast model v list delivery least → s < t → t ≤ length list
+pub least-further : (model : Model) (v : ℕ) (list : List ℕ) (pickup delivery s t : ℕ) (least : ℤ) → VisitAddsAtLeast model v list delivery least → s < t → t ≤ length list
     → (visit_increase model v list pickup s +ℤ least) ≤ℤ pair_increase model v list pickup delivery s t
 least-further model v list pickup delivery s t least is_least behind within =
     let low = is_least t within in
@@ -60,7 +60,7 @@ least-further model v list pickup delivery s t least is_least behind within =
     differ s t behind = grind arith
 
 -- the pair at each place of its delivery
-pub least-apart : (model : Model) (v : ℕ) (list : List ℕ) (pickup delivery s : ℕ) (least together result : ℤ) → IsLeast model v list delivery least → together ≡ pair_increase model v list pickup delivery s s
+pub least-apart : (model : Model) (v : ℕ) (list : List ℕ) (pickup delivery s : ℕ) (least together result : ℤ) → VisitAddsAtLeast model v list delivery least → together ≡ pair_increase model v list pickup delivery s s
     → result ≤ℤ together → result ≤ℤ (visit_increase model v list pickup s +ℤ least) → (t : ℕ) → t ≤ length list → result ≤ℤ pair_increase model v list pickup delivery s t
 least-apart model v list pickup delivery s least together result is_least same below_one below_two t within = by (s == t) refl
   where
@@ -132,7 +132,7 @@ all-read list node ahead x are read =
     record { adds = λ t within. is.behind t (omega arith) within; small = record { low = is.low; high = is.high } }
 
 -- the least of all places, as code hands it on
-pub least-read : (list : LookedUpList) (node : ℕ) (x : ℤ) → IsLeast list.lookups.now.closed.model.now list.vehicle list.nodes.now node x → neg_ℤ (pos (2 ^ 40)) ≤ℤ x → x ≤ℤ pos (2 ^ 41)
+pub least-read : (list : LookedUpList) (node : ℕ) (x : ℤ) → VisitAddsAtLeast list.lookups.now.closed.model.now list.vehicle list.nodes.now node x → neg_ℤ (pos (2 ^ 40)) ≤ℤ x → x ≤ℤ pos (2 ^ 41)
     → IsLeastIncrease list.lookups.now.closed.model.now list.vehicle list.nodes.now node (to_z w64 (of_z w64 x))
 least-read list node x is low high =
     let fits : to_z w64 (of_z w64 x) ≡ x = omega (arith, ints, low, high) in

@@ -15,7 +15,7 @@ use Rattle.vr_first_insert.specs.declared.bound.Cheapest.{Cheapest}
 use Rattle.vr_first_insert.specs.declared.choice.InsertionChoice.{InsertionChoice}
 use Rattle.vr_first_insert.specs.declared.choice.Placing.TheVariants.{One}
 use Rattle.vr_first_insert.specs.Increases.{visit_increase}
-use Rattle.vr_first_insert.specs.Placings.{key_of, placed, visit_choice, weigh, IsFirstLeast}
+use Rattle.vr_first_insert.specs.Placings.{key_of, placed, visit_choice, weigh, IsFirstLeastPlace}
 use Rattle.vr_first_insert.proofs.InsertLemmas.{fold-one}
 
 first-less : (c : ℕ) (i j : ℤ) (tail : Bool) → (i +ℤ pos 1) ≤ℤ j → (int_lt (pos c) (pos c) || (int_le (pos c) (pos c) && (int_lt i j || (int_le i j && tail)))) ≡ true
@@ -90,7 +90,7 @@ least-more f n at next is same here = by (int_lt next at.least) refl
 
 -- ---- the choice of the first place
 
-module _ (model : Model) (v : ℕ) (list : List ℕ) (class node place : ℕ) (is : IsFirstLeast model v list node place) where
+module _ (model : Model) (v : ℕ) (list : List ℕ) (class node place : ℕ) (is : IsFirstLeastPlace model v list node place) where
   choice : ℕ → InsertionChoice
   choice t = visit_choice model v list class node t
 

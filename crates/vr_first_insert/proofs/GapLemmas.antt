@@ -6,7 +6,7 @@ use Rattle.std.proofs.lemmas.List.{take-append-drop}
 use Rattle.vr_model.specs.declared.records.Model.{Model}
 use Rattle.vr_model.specs.tables.Tables.{arc_cost, vehicle_at}
 use Rattle.vr_first_insert.specs.Increases.{node_before, node_behind, detour}
-use Rattle.vr_first_insert.specs.Placings.{IsLeast}
+use Rattle.vr_first_insert.specs.Placings.{VisitAddsAtLeast}
 use Rattle.vr_first_insert.proofs.IncreaseLemmas.{last_of, first_of, last-taken, first-dropped}
 
 -- P holds of each two nodes in turn
@@ -43,7 +43,7 @@ split : (list : List ℕ) (t e : ℕ) → list ++ e ∷ [] ≡ take t list ++ (d
 split list t e = ap (λ l. l ++ e ∷ []) (sym (take-append-drop t list)) ∙ append_assoc (take t list) (drop t list) (e ∷ [])
 
 -- it is the least before each place
-pub least-of-gaps : (model : Model) (v : ℕ) (list : List ℕ) (x : ℕ) (least : ℤ) → pos 0 ≤ℤ arc_cost model v (vehicle_at model v).start (vehicle_at model v).end → IsLeastGap model v list x least → IsLeast model v list x least
+pub least-of-gaps : (model : Model) (v : ℕ) (list : List ℕ) (x : ℕ) (least : ℤ) → pos 0 ≤ℤ arc_cost model v (vehicle_at model v).start (vehicle_at model v).end → IsLeastGap model v list x least → VisitAddsAtLeast model v list x least
 least-of-gaps model v [] x least not_negative h zero within = let here = h.0 in omega (arith, ints, here, not_negative)
 least-of-gaps model v [] x least not_negative h (suc t) within = absurd (omega (arith, within))
 least-of-gaps model v (n ∷ ns) x least not_negative h t within =

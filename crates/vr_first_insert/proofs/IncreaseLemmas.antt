@@ -14,7 +14,7 @@ use Rattle.vr_model.specs.routes.Routes.{route_cost, arcs_from, cost_of_arc, is_
 use Rattle.vr_first_insert.specs.declared.choice.Placing.{Placing}
 use Rattle.vr_first_insert.specs.declared.choice.Placing.TheVariants.{One, Two}
 use Rattle.vr_first_insert.specs.Placings.{placed, AreWithin}
-use Rattle.vr_first_insert.specs.Increases.{node_before, node_behind, arc_at, detour, visit_increase, pair_increase}
+use Rattle.vr_first_insert.specs.Increases.{node_before, node_behind, arc_cost_at, detour, visit_increase, pair_increase}
 use Rattle.vr_first_insert.proofs.PlacedLemmas.{split-three}
 
 -- what the placing adds
@@ -159,7 +159,7 @@ module _ (model : Model) (v : ℕ) where
       let whole = take-append-drop t list in
       let before : last_of begin (take t list) ≡ node_before model v list t = last-taken begin list t h in
       let behind : first_of (drop t list) finish ≡ node_behind model v list t = first-dropped list t finish in
-      let old : arc_at model v list t ≡ arc_cost model v (node_before model v list t) (node_behind model v list t) = used_arc (is_empty list) (pos 0) (arc_cost model v (node_before model v list t) (node_behind model v list t)) some in
+      let old : arc_cost_at model v list t ≡ arc_cost model v (node_before model v list t) (node_behind model v list t) = used_arc (is_empty list) (pos 0) (arc_cost model v (node_before model v list t) (node_behind model v list t)) some in
       let used : is_empty (take t list ++ drop t list) ≡ false = ap is_empty whole ∙ some in
       ap (detour model v (node_before model v list t) x (node_behind model v list t)) old
       ∙ (λ i. detour model v (sym before i) x (sym behind i) (arc_cost model v (sym before i) (sym behind i)))
@@ -178,14 +178,14 @@ module _ (model : Model) (v : ℕ) where
   -- ---- a pair
 
   pair-together : (list : List ℕ) (p d s : ℕ) → s ≤ length list → is_empty list ≡ false
-      → arc_cost model v (node_before model v list s) p +ℤ detour model v p d (node_behind model v list s) (arc_at model v list s) ≡ at_cost (take s list ++ p ∷ d ∷ drop s list) -ℤ at_cost list
+      → arc_cost model v (node_before model v list s) p +ℤ detour model v p d (node_behind model v list s) (arc_cost_at model v list s) ≡ at_cost (take s list ++ p ∷ d ∷ drop s list) -ℤ at_cost list
   unfolding first_of
   pair-together list p d s h some =
       let c = arc_cost model v in
       let whole = take-append-drop s list in
       let before : last_of begin (take s list) ≡ node_before model v list s = last-taken begin list s h in
       let behind : first_of (drop s list) finish ≡ node_behind model v list s = first-dropped list s finish in
-      let old : arc_at model v list s ≡ c (node_before model v list s) (node_behind model v list s) = used_arc (is_empty list) (pos 0) (c (node_before model v list s) (node_behind model v list s)) some in
+      let old : arc_cost_at model v list s ≡ c (node_before model v list s) (node_behind model v list s) = used_arc (is_empty list) (pos 0) (c (node_before model v list s) (node_behind model v list s)) some in
       let same : take s list ++ [] ≡ take s list = append-nil (take s list) in
       let two = cost-two c begin finish (take s list) [] (drop s list) p d (ap is_empty whole ∙ some) in
       let read = λ (a b h : ℕ). (((c a p +ℤ c p d) -ℤ c a d) +ℤ ((c b d +ℤ c d h) -ℤ c b h)) in
@@ -208,8 +208,8 @@ module _ (model : Model) (v : ℕ) where
       let behind_s : first_of (slice_range list s t ++ d ∷ drop t list) finish ≡ node_behind model v list s = first-between list (d ∷ drop t list) s t finish low high in
       let before_t : last_of begin (take s list ++ slice_range list s t) ≡ node_before model v list t = ap (last_of begin) (take-split list s t order) ∙ last-taken begin list t high in
       let behind_t : first_of (drop t list) finish ≡ node_behind model v list t = first-dropped list t finish in
-      let old_s : arc_at model v list s ≡ c (node_before model v list s) (node_behind model v list s) = used_arc (is_empty list) (pos 0) (c (node_before model v list s) (node_behind model v list s)) some in
-      let old_t : arc_at model v list t ≡ c (node_before model v list t) (node_behind model v list t) = used_arc (is_empty list) (pos 0) (c (node_before model v list t) (node_behind model v list t)) some in
+      let old_s : arc_cost_at model v list s ≡ c (node_before model v list s) (node_behind model v list s) = used_arc (is_empty list) (pos 0) (c (node_before model v list s) (node_behind model v list s)) some in
+      let old_t : arc_cost_at model v list t ≡ c (node_before model v list t) (node_behind model v list t) = used_arc (is_empty list) (pos 0) (c (node_before model v list t) (node_behind model v list t)) some in
       let two = cost-two c begin finish (take s list) (slice_range list s t) (drop t list) p d (ap is_empty whole ∙ some) in
       (λ i. detour model v (node_before model v list s) p (node_behind model v list s) (old_s i) +ℤ detour model v (node_before model v list t) d (node_behind model v list t) (old_t i))
       ∙ (λ i. detour model v (sym before_s i) p (sym behind_s i) (c (sym before_s i) (sym behind_s i)) +ℤ detour model v (sym before_t i) d (sym behind_t i) (c (sym before_t i) (sym behind_t i)))
@@ -223,13 +223,13 @@ module _ (model : Model) (v : ℕ) where
       by true e =
           let same : s ≡ t = eqb-true s t e in
           let none : t - s ≡ 0 = omega (arith, same) in
-          ap (λ b. cond b (arc_cost model v (node_before model v list s) p +ℤ detour model v p d (node_behind model v list s) (arc_at model v list s)) (visit_increase model v list p s +ℤ visit_increase model v list d t)) e
+          ap (λ b. cond b (arc_cost model v (node_before model v list s) p +ℤ detour model v p d (node_behind model v list s) (arc_cost_at model v list s)) (visit_increase model v list p s +ℤ visit_increase model v list d t)) e
           ∙ pair-together list p d s (omega (arith, order, high)) some
           ∙ sym (ap (λ n. at_cost (take s list ++ p ∷ (take n (drop s list) ++ d ∷ drop s list)) -ℤ at_cost list) none)
           ∙ ap (λ k. at_cost (take s list ++ p ∷ (slice_range list s t ++ d ∷ drop k list)) -ℤ at_cost list) same
       by false e =
           let low : s < t = omega (arith, order, differ s t e) in
-          ap (λ b. cond b (arc_cost model v (node_before model v list s) p +ℤ detour model v p d (node_behind model v list s) (arc_at model v list s)) (visit_increase model v list p s +ℤ visit_increase model v list d t)) e
+          ap (λ b. cond b (arc_cost model v (node_before model v list s) p +ℤ detour model v p d (node_behind model v list s) (arc_cost_at model v list s)) (visit_increase model v list p s +ℤ visit_increase model v list d t)) e
           ∙ pair-apart list p d s t low high some
         where
           differ : (s t : ℕ) → (s == t) ≡ false → s ≢ t

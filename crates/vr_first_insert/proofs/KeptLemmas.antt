@@ -12,7 +12,7 @@ use Rattle.vr_model.specs.routes.Rules.{allows_vehicle, is_route_open}
 use Rattle.vr_model.specs.declared.records.Model.{Model}
 use Rattle.vr_model.proofs.routes.Lists.{route_set_other}
 use Rattle.vr_model.proofs.tables.Members.{from_each, from_map, of_below, of_from_to}
-use Rattle.vr_rules.specs.Placing.{nodes_of}
+use Rattle.vr_rules.specs.Placing.{item_nodes}
 use Rattle.vr_rules.specs.declared.items.Item.{Item}
 use Rattle.vr_rules.specs.declared.items.Item.TheVariants.{Visit, PickupAndDelivery}
 use Rattle.vr_rules.specs.declared.items.Candidate.{Candidate}
@@ -21,17 +21,17 @@ use Rattle.vr_first_insert.specs.declared.choice.Placing.TheVariants.{One, Two}
 use Rattle.vr_first_insert.specs.declared.known.KnownItem.{KnownItem}
 use Rattle.vr_first_insert.specs.declared.known.KnownItem.TheVariants.{Nothing, AtLeast, Best}
 use Rattle.vr_model.proofs.tables.Tests.{clash}
-use Rattle.vr_first_insert.specs.Kept.{best_of, candidate_at, is_settled, row_at, AreKnown, AreRows, IsForgotten, IsKnown}
+use Rattle.vr_first_insert.specs.Kept.{best_of, candidate_at, is_settled, known_row, AreCandidatesKnown, AreKnownRows, IsForgotten, IsCandidateKnown}
 use Rattle.vr_first_insert.specs.Placings.{best_in, choices_in, may_improve, pair_choice, placed, visit_choice}
 use Rattle.vr_first_insert.proofs.ReadyLemmas.{closed-by_vehicle, passed-closed}
 use Rattle.vr_first_insert.proofs.ToldLemmas.{best-merged, bound-passed_over}
 
 -- an item of which the vehicle may not visit some node
 pub item-closed : (model : Model) (v : ℕ) (list : List ℕ) (candidate : Candidate) (best : Option InsertionChoice) → is_route_open model v list ≡ true
-    → list_all (allows_vehicle model v) (nodes_of candidate.item) ≡ false → best ≡ best_in model v list candidate best
+    → list_all (allows_vehicle model v) (item_nodes candidate.item) ≡ false → best ≡ best_in model v list candidate best
 item-closed model v list candidate best stands = by candidate.item
   where
-    by : (item : Item) → list_all (allows_vehicle model v) (nodes_of item) ≡ false → best ≡ best_in model v list (record { item = item; class = candidate.class }) best
+    by : (item : Item) → list_all (allows_vehicle model v) (item_nodes item) ≡ false → best ≡ best_in model v list (record { item = item; class = candidate.class }) best
     by (Visit node) h = passed-closed model list best (choices_in model v list candidate.class (Visit node)) (λ choice there.
         from_map (visit_choice model v list candidate.class node) (gaps list) choice there (λ t low is.
         let l = of_below (suc (length list)) t low in
@@ -47,32 +47,32 @@ no-better false h = refl
 no-better true h = absurd (clash false h refl)
 
 -- where what is known tells the best, it is so beside the best so far
-pub settled-is : (model : Model) (v : ℕ) (list : List ℕ) (candidate : Candidate) (known : KnownItem) (best : Option InsertionChoice) → is_settled known candidate.class best ≡ true → IsKnown model v list candidate known → best_of known best ≡ best_in model v list candidate best
+pub settled-is : (model : Model) (v : ℕ) (list : List ℕ) (candidate : Candidate) (known : KnownItem) (best : Option InsertionChoice) → is_settled known candidate.class best ≡ true → IsCandidateKnown model v list candidate known → best_of known best ≡ best_in model v list candidate best
 settled-is model v list candidate Nothing best h is = absurd (clash false h refl)
 settled-is model v list candidate (AtLeast bound) best h is = bound-passed_over model v list candidate best bound.least is (no-better (may_improve best candidate.class bound.least) h)
 settled-is model v list candidate (Best found) best h is = best-merged model v list candidate found best is
 
 -- what is known of one candidate is written
-pub known-written : (model : Model) (v : ℕ) (list : List ℕ) (candidates : List Candidate) (row : List KnownItem) (i : ℕ) (known : KnownItem) → AreKnown model v list candidates row → IsKnown model v list (candidate_at candidates i) known
-    → AreKnown model v list candidates (slice_set row i known)
+pub known-written : (model : Model) (v : ℕ) (list : List ℕ) (candidates : List Candidate) (row : List KnownItem) (i : ℕ) (known : KnownItem) → AreCandidatesKnown model v list candidates row → IsCandidateKnown model v list (candidate_at candidates i) known
+    → AreCandidatesKnown model v list candidates (slice_set row i known)
 known-written model v list candidates row i known are is = record {
   many = length-set row i known ∙ are.many;
   each = λ k low. elim (eqb_tells k i) [
-    | inl same ↦ subst (λ u. IsKnown model v list (candidate_at candidates u) (slice_index_or (slice_set row i known) u Nothing)) (sym same.1)
-        (subst (IsKnown model v list (candidate_at candidates i)) (sym (get_or-set_same row i known Nothing (let m = are.many in let e = same.1 in omega (arith, low, m, e)))) is)
-    | inr other ↦ subst (IsKnown model v list (candidate_at candidates k)) (sym (get_or-set_other row i k known Nothing other.1)) (are.each k low)
+    | inl same ↦ subst (λ u. IsCandidateKnown model v list (candidate_at candidates u) (slice_index_or (slice_set row i known) u Nothing)) (sym same.1)
+        (subst (IsCandidateKnown model v list (candidate_at candidates i)) (sym (get_or-set_same row i known Nothing (let m = are.many in let e = same.1 in omega (arith, low, m, e)))) is)
+    | inr other ↦ subst (IsCandidateKnown model v list (candidate_at candidates k)) (sym (get_or-set_other row i k known Nothing other.1)) (are.each k low)
   ];
 }
 
 -- one row is written
-pub row-written : (model : Model) (lists : List (List ℕ)) (candidates : List Candidate) (rows : List (List KnownItem)) (v : ℕ) (row : List KnownItem) → AreRows model lists candidates rows
-    → AreKnown model v (route lists v) candidates row → AreRows model lists candidates (slice_set rows v row)
+pub row-written : (model : Model) (lists : List (List ℕ)) (candidates : List Candidate) (rows : List (List KnownItem)) (v : ℕ) (row : List KnownItem) → AreKnownRows model lists candidates rows
+    → AreCandidatesKnown model v (route lists v) candidates row → AreKnownRows model lists candidates (slice_set rows v row)
 row-written model lists candidates rows v row are is = record {
   many = length-set rows v row ∙ are.many;
   each = λ w low. elim (eqb_tells w v) [
-    | inl same ↦ subst (λ u. AreKnown model u (route lists u) candidates (row_at (slice_set rows v row) u)) (sym same.1)
-        (subst (AreKnown model v (route lists v) candidates) (sym (get_or-set_same rows v row [] (let m = are.many in let e = same.1 in omega (arith, low, m, e)))) is)
-    | inr other ↦ subst (AreKnown model w (route lists w) candidates) (sym (get_or-set_other rows v w row [] other.1)) (are.each w low)
+    | inl same ↦ subst (λ u. AreCandidatesKnown model u (route lists u) candidates (known_row (slice_set rows v row) u)) (sym same.1)
+        (subst (AreCandidatesKnown model v (route lists v) candidates) (sym (get_or-set_same rows v row [] (let m = are.many in let e = same.1 in omega (arith, low, m, e)))) is)
+    | inr other ↦ subst (AreCandidatesKnown model w (route lists w) candidates) (sym (get_or-set_other rows v w row [] other.1)) (are.each w low)
   ];
 }
 
@@ -84,23 +84,23 @@ nothing-more row i there done k low = elim (cases_lt k i) [
 ]
 
 -- nothing is known of a list
-known-nothing : (model : Model) (v : ℕ) (list : List ℕ) (candidates : List Candidate) (row : List KnownItem) → length row ≡ length candidates → ((i : ℕ) → slice_index_or row i Nothing ≡ Nothing) → AreKnown model v list candidates row
+known-nothing : (model : Model) (v : ℕ) (list : List ℕ) (candidates : List Candidate) (row : List KnownItem) → length row ≡ length candidates → ((i : ℕ) → slice_index_or row i Nothing ≡ Nothing) → AreCandidatesKnown model v list candidates row
 known-nothing model v list candidates row many nothing = record {
   many = many;
-  each = λ i low. subst (IsKnown model v list (candidate_at candidates i)) (sym (nothing i)) tt;
+  each = λ i low. subst (IsCandidateKnown model v list (candidate_at candidates i)) (sym (nothing i)) tt;
 }
 
 -- a list has changed, and nothing is known of it
-pub rows-forgotten : (model : Model) (lists : List (List ℕ)) (candidates : List Candidate) (rows after : List (List KnownItem)) (v : ℕ) (list : List ℕ) → v < length lists → AreRows model lists candidates rows
-    → IsForgotten v rows after → AreRows model (with_route lists v list) candidates after
-rows-forgotten model lists candidates rows after v list there are is = subst (AreRows model (with_route lists v list) candidates) (sym is.rows_are) (record {
+pub rows-forgotten : (model : Model) (lists : List (List ℕ)) (candidates : List Candidate) (rows after : List (List KnownItem)) (v : ℕ) (list : List ℕ) → v < length lists → AreKnownRows model lists candidates rows
+    → IsForgotten v rows after → AreKnownRows model (with_route lists v list) candidates after
+rows-forgotten model lists candidates rows after v list there are is = subst (AreKnownRows model (with_route lists v list) candidates) (sym is.rows_are) (record {
   many = length-set rows v is.row ∙ are.many ∙ sym (length-set lists v list);
   each = λ w low. elim (eqb_tells w v) [
-    | inl same ↦ subst (λ u. AreKnown model u (route (with_route lists v list) u) candidates (row_at (slice_set rows v is.row) u)) (sym same.1)
-        (subst (AreKnown model v (route (with_route lists v list) v) candidates) (sym (get_or-set_same rows v is.row [] (let m = are.many in omega (arith, there, m))))
+    | inl same ↦ subst (λ u. AreCandidatesKnown model u (route (with_route lists v list) u) candidates (known_row (slice_set rows v is.row) u)) (sym same.1)
+        (subst (AreCandidatesKnown model v (route (with_route lists v list) v) candidates) (sym (get_or-set_same rows v is.row [] (let m = are.many in omega (arith, there, m))))
         (known-nothing model v (route (with_route lists v list) v) candidates is.row (is.many ∙ (are.each v there).many) is.nothing))
-    | inr other ↦ subst (λ l. AreKnown model w l candidates (row_at (slice_set rows v is.row) w)) (sym (route_set_other lists v w list other.1))
-        (subst (AreKnown model w (route lists w) candidates) (sym (get_or-set_other rows v w is.row [] other.1)) (are.each w (let m = length-set lists v list in omega (arith, low, m))))
+    | inr other ↦ subst (λ l. AreCandidatesKnown model w l candidates (known_row (slice_set rows v is.row) w)) (sym (route_set_other lists v w list other.1))
+        (subst (AreCandidatesKnown model w (route lists w) candidates) (sym (get_or-set_other rows v w is.row [] other.1)) (are.each w (let m = length-set lists v list in omega (arith, low, m))))
   ];
 })
 
@@ -114,10 +114,10 @@ many-replicated zero x = refl
 many-replicated (suc n) x = ap suc (many-replicated n x)
 
 -- nothing is known of any list
-pub rows-begun : (model : Model) (lists : List (List ℕ)) (candidates : List Candidate) (vehicles : ℕ) → length lists ≡ vehicles → AreRows model lists candidates (replicate vehicles (replicate (length candidates) Nothing))
+pub rows-begun : (model : Model) (lists : List (List ℕ)) (candidates : List Candidate) (vehicles : ℕ) → length lists ≡ vehicles → AreKnownRows model lists candidates (replicate vehicles (replicate (length candidates) Nothing))
 rows-begun model lists candidates vehicles many = record {
   many = many-replicated vehicles (replicate (length candidates) Nothing) ∙ sym many;
-  each = λ v low. subst (AreKnown model v (route lists v) candidates) (sym (replicated vehicles v (replicate (length candidates) Nothing) [] (omega (arith, low, many))))
+  each = λ v low. subst (AreCandidatesKnown model v (route lists v) candidates) (sym (replicated vehicles v (replicate (length candidates) Nothing) [] (omega (arith, low, many))))
       (known-nothing model v (route lists v) candidates (replicate (length candidates) Nothing) (many-replicated (length candidates) Nothing) (nothing (length candidates)));
 }
   where

@@ -10,7 +10,7 @@ use Rattle.vr_model.specs.tables.Tables.{is_visit}
 use Rattle.vr_model.specs.routes.Routes.{route, holds, is_active, is_distinct}
 use Rattle.vr_model.specs.deciding.Testing.{and_left, and_right}
 use Rattle.vr_model.specs.first.Items.{first_node}
-use Rattle.vr_rules.specs.Placing.{nodes_of, AreBuilt, IsItem}
+use Rattle.vr_rules.specs.Placing.{item_nodes, AreBuilt, IsItem}
 use Rattle.vr_model.proofs.tables.Tests.{eq_turned, fails_not, or-false_left, or-false_right}
 use Rattle.vr_rules.proofs.PlacingLemmas.{IsAdded, item-inactive, inactive-route, built-visits, built-distinct}
 use Rattle.vr_rules.specs.declared.items.Item.{Item}
@@ -76,7 +76,7 @@ regroup-one : (a c : Bool) → (a || c) ≡ ((a || false) || c)
 regroup-one true c = refl
 regroup-one false c = refl
 
-pub placed-holds : (list : List ℕ) (placing : Placing) → AreWithin list placing → (x : ℕ) → holds (placed list placing) x ≡ (holds (nodes_of (item_in placing)) x || holds list x)
+pub placed-holds : (list : List ℕ) (placing : Placing) → AreWithin list placing → (x : ℕ) → holds (placed list placing) x ≡ (holds (item_nodes (item_in placing)) x || holds list x)
 placed-holds list (One n t) within x =
     one-holds (take t list) (drop t list) n x ∙ ap (λ l. (x == n) || holds l x) (take-append-drop t list) ∙ regroup-one (x == n) (holds list x)
 placed-holds list (Two p d s t) within x =
@@ -115,7 +115,7 @@ placed-distinct model list (Two p d s t) within may =
     (ap (λ l. holds l p) whole ∙ may.absent p (first-there p ((p == d) || false))) (ap (λ l. holds l d) whole ∙ may.absent d (second-there d p)) (apart p d may.nodes.distinct)
 
 -- an item that stands in no list may be put into each
-pub MayHold-inactive : (model : Model) (lists : List (List ℕ)) (v : ℕ) (item : Item) → AreBuilt model lists → IsItem model item → is_active lists (first_node (nodes_of item)) ≡ false → MayHold model (route lists v) item
+pub MayHold-inactive : (model : Model) (lists : List (List ℕ)) (v : ℕ) (item : Item) → AreBuilt model lists → IsItem model item → is_active lists (first_node (item_nodes item)) ≡ false → MayHold model (route lists v) item
 MayHold-inactive model lists v item built valid first = record {
   visits = built-visits model lists v built;
   distinct = built-distinct model lists v built;
@@ -124,8 +124,8 @@ MayHold-inactive model lists v item built valid first = record {
 }
 
 -- the list with the item is one with nodes added
-pub IsAdded-placed : (model : Model) (lists : List (List ℕ)) (v : ℕ) (placing : Placing) → AreBuilt model lists → v < length lists → IsItem model (item_in placing) → is_active lists (first_node (nodes_of (item_in placing))) ≡ false
-    → AreWithin (route lists v) placing → IsAdded model lists v (nodes_of (item_in placing)) (placed (route lists v) placing)
+pub IsAdded-placed : (model : Model) (lists : List (List ℕ)) (v : ℕ) (placing : Placing) → AreBuilt model lists → v < length lists → IsItem model (item_in placing) → is_active lists (first_node (item_nodes (item_in placing))) ≡ false
+    → AreWithin (route lists v) placing → IsAdded model lists v (item_nodes (item_in placing)) (placed (route lists v) placing)
 IsAdded-placed model lists v placing built low valid first within =
     let may = MayHold-inactive model lists v (item_in placing) built valid first in
     record {

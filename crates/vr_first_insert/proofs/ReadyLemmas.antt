@@ -17,7 +17,7 @@ use Rattle.vr_model.proofs.tables.Members.{In, from_map, of_from_to}
 use Rattle.vr_reach.specs.Lists.{IsUsed}
 use Rattle.vr_reach.proofs.Transfer.{not_empty}
 use Rattle.vr_rules.specs.RoutesOpen.{is_feasible_in_each}
-use Rattle.vr_rules.specs.Placing.{nodes_of}
+use Rattle.vr_rules.specs.Placing.{item_nodes}
 use Rattle.vr_rules.proofs.OpenLemmas.{inner_tell, last_fails}
 use Rattle.vr_lists.proofs.VisitLists.{visits-few}
 use Rattle.vr_rules.specs.declared.items.Item.{Item}
@@ -102,7 +102,7 @@ group-two true true c = refl
 group-two true false c = refl
 group-two false b c = refl
 
-all-placed : (p : ℕ → Bool) (list : List ℕ) (placing : Placing) → AreWithin list placing → list_all p (placed list placing) ≡ (list_all p (nodes_of (item_in placing)) && list_all p list)
+all-placed : (p : ℕ → Bool) (list : List ℕ) (placing : Placing) → AreWithin list placing → list_all p (placed list placing) ≡ (list_all p (item_nodes (item_in placing)) && list_all p list)
 all-placed q list (One n t) within = one-each q (take t list) (drop t list) n ∙ ap (λ l. q n && list_all q l) (take-append-drop t list) ∙ group-one (q n) (list_all q list)
 all-placed q list (Two p d s t) within =
     one-each q (take s list) (slice_range list s t ++ d ∷ drop t list) p
@@ -128,19 +128,19 @@ module _ (model : Model) (v : ℕ) (list : List ℕ) (placing : Placing) (within
   some : is_empty (placed list placing) ≡ false
   some = not_empty (placed list placing) (long-placed list placing within)
 
-  allowed : list_all (allows_vehicle model v) (placed list placing) ≡ list_all (allows_vehicle model v) (nodes_of (item_in placing))
-  allowed = all-placed (allows_vehicle model v) list placing within ∙ ap (λ b. list_all (allows_vehicle model v) (nodes_of (item_in placing)) && b) (allowed-so-far model v list stands) ∙ right (list_all (allows_vehicle model v) (nodes_of (item_in placing)))
+  allowed : list_all (allows_vehicle model v) (placed list placing) ≡ list_all (allows_vehicle model v) (item_nodes (item_in placing))
+  allowed = all-placed (allows_vehicle model v) list placing within ∙ ap (λ b. list_all (allows_vehicle model v) (item_nodes (item_in placing)) && b) (allowed-so-far model v list stands) ∙ right (list_all (allows_vehicle model v) (item_nodes (item_in placing)))
     where
       right : (a : Bool) → (a && true) ≡ a
       right true = refl
       right false = refl
 
-  pub closed-by_vehicle : list_all (allows_vehicle model v) (nodes_of (item_in placing)) ≡ false → is_route_open model v (placed list placing) ≡ false
+  pub closed-by_vehicle : list_all (allows_vehicle model v) (item_nodes (item_in placing)) ≡ false → is_route_open model v (placed list placing) ≡ false
   closed-by_vehicle h =
       (λ i. some i || (is_feasible_in_each model v (placed list placing) && (list_all (serves_pair (placed list placing)) model.pairs && (keeps_policy model v (placed list placing) && (allowed ∙ h) i))))
       ∙ last_fails (is_feasible_in_each model v (placed list placing)) (list_all (serves_pair (placed list placing)) model.pairs) (keeps_policy model v (placed list placing))
 
-  pub open-by_pairs : list_all (allows_vehicle model v) (nodes_of (item_in placing)) ≡ true → is_feasible_in_each model v (placed list placing) ≡ true
+  pub open-by_pairs : list_all (allows_vehicle model v) (item_nodes (item_in placing)) ≡ true → is_feasible_in_each model v (placed list placing) ≡ true
       → is_route_open model v (placed list placing) ≡ (list_all (serves_pair (placed list placing)) model.pairs && keeps_policy model v (placed list placing))
   open-by_pairs h g =
       (λ i. some i || (g i && (list_all (serves_pair (placed list placing)) model.pairs && (keeps_policy model v (placed list placing) && (allowed ∙ h) i))))

@@ -12,7 +12,7 @@ use Rattle.vr_reach.specs.Stretches.{SharesFront}
 use Rattle.vr_reach.proofs.StandingLemmas.{reached_in}
 use Rattle.vr_first_insert.specs.declared.list_rows.ListRows.{ListRows}
 use Rattle.vr_first_insert.specs.declared.probes.Probes.{Probes}
-use Rattle.vr_first_insert.specs.KeptRows.{AreKept, AreKeptOf, IsKept, IsKeptOf}
+use Rattle.vr_first_insert.specs.KeptRows.{AreKeptRows, AreKeptOf, AreKeptRowsIn, IsKeptOf}
 use Rattle.vr_first_insert.specs.Probes.{AreReachedAt}
 
 -- the list that code reads at a place
@@ -28,7 +28,7 @@ pub rows_at : (model : Model) (d v : ℕ) (list : List ℕ) (kept : ListRows) �
 rows_at model d v list kept is rows read = subst (AreRowsIfUsed model d v list) (sym read) (is.rows_of_list rows)
 
 -- what is kept of all lists is kept of each
-pub kept_of : (model : Model) (lists : List (List ℕ)) (list_rows : List ListRows) → AreKept model lists list_rows → (v : ℕ) → v < length lists → AreKeptOf model v (route lists v) list_rows
+pub kept_of : (model : Model) (lists : List (List ℕ)) (list_rows : List ListRows) → AreKeptRows model lists list_rows → (v : ℕ) → v < length lists → AreKeptOf model v (route lists v) list_rows
 kept_of model lists list_rows are v low = record {
   one_of_each = are.one_of_each;
   each = λ d other d_low.
@@ -39,7 +39,7 @@ kept_of model lists list_rows are v low = record {
 
 -- the rows of one list were written over those of another
 pub kept_again : (model : Model) (d : ℕ) (lists : List (List ℕ)) (v : ℕ) (list : List ℕ) (before after : ListRows) (rows : BothWays) → after.rows.items ≡ set before.rows.items v rows
-    → v < length lists → AreRowsIfUsed model d v list rows → IsKept model d lists before → IsKept model d (with_route lists v list) after
+    → v < length lists → AreRowsIfUsed model d v list rows → AreKeptRowsIn model d lists before → AreKeptRowsIn model d (with_route lists v list) after
 kept_again model d lists v list before after rows written there new kept = record {
   many = ap length written ∙ length-set before.rows.items v rows ∙ kept.many ∙ sym (length-set lists v list);
   rows_of_each = λ w other low.

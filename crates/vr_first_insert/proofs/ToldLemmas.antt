@@ -15,7 +15,7 @@ use Rattle.vr_rules.proofs.LazyLeast.{untested}
 use Rattle.vr_first_insert.specs.declared.choice.InsertionChoice.{InsertionChoice}
 use Rattle.vr_first_insert.specs.declared.known.KnownItem.{KnownItem}
 use Rattle.vr_first_insert.specs.declared.known.KnownItem.TheVariants.{AtLeast, Best}
-use Rattle.vr_first_insert.specs.Kept.{begun_with, best_of, told_by, AddsAtLeast, BestAddsAtLeast, IsKnown}
+use Rattle.vr_first_insert.specs.Kept.{begun_with, best_of, known_by_search, AddsAtLeast, BestAddsAtLeast, IsCandidateKnown}
 use Rattle.vr_first_insert.specs.Placings.{best_in, choices_in, key_of, may_improve, pair_choice, placed, tail_key, visit_choice, weigh}
 use Rattle.vr_first_insert.proofs.BoundLemmas.{none-improves}
 use Rattle.vr_first_insert.proofs.LeastMerged.{merged_best, weighed-merged}
@@ -96,8 +96,8 @@ less-self best = by (is_lex_less (key_of best) (key_of best)) refl
 
 -- what a search tells beside the best so far: the best of the list, or that none there is better
 abbrev Tells : InsertionChoice → Option InsertionChoice → Type 0
-Tells best found = (told_by (Some best) (merged_best key_of (Some best) found) ≡ Best found)
-    ⊎ ((told_by (Some best) (merged_best key_of (Some best) found) ≡ AtLeast (record { least = best.increase; searched = true }))
+Tells best found = (known_by_search (Some best) (merged_best key_of (Some best) found) ≡ Best found)
+    ⊎ ((known_by_search (Some best) (merged_best key_of (Some best) found) ≡ AtLeast (record { least = best.increase; searched = true }))
     × (merged_best key_of (Some best) found ≡ Some best) × IfSome found (λ f. is_lex_less (key_of f) (key_of best) ≡ false))
 
 tells : (best : InsertionChoice) (found : Option InsertionChoice) → Tells best found
@@ -105,7 +105,7 @@ tells best None = inr (ap (λ b. cond b (Best (Some best)) (AtLeast (record { le
 tells best (Some f) = by (is_lex_less (key_of f) (key_of best)) refl
   where
     told : InsertionChoice → KnownItem
-    told next = told_by (Some best) (Some next)
+    told next = known_by_search (Some best) (Some next)
 
     by : (b : Bool) → is_lex_less (key_of f) (key_of best) ≡ b → Tells best (Some f)
     by true e = inl (ap told (ap (λ b. cond b f best) e) ∙ ap (λ b. cond b (Best (Some f)) (AtLeast (record { least = best.increase; searched = true }))) e)
@@ -119,46 +119,46 @@ not-less n c i l b tail may h = Prim.grind arith
 
 -- what is better is the best of the list, and else the best of the list adds no less
 pub told-known : (model : Model) (v : ℕ) (list : List ℕ) (candidate : Candidate) (best : Option InsertionChoice) (least : ℤ) → may_improve best candidate.class least ≡ true
-    → IsKnown model v list candidate (told_by best (best_in model v list candidate best))
+    → IsCandidateKnown model v list candidate (known_by_search best (best_in model v list candidate best))
 told-known model v list candidate None least may = refl
 told-known model v list candidate (Some best) least may =
-    subst (λ found. IsKnown model v list candidate (told_by (Some best) found)) (sym (in-merged model v list candidate (Some best))) (by (tells best (best_in model v list candidate None)))
+    subst (λ found. IsCandidateKnown model v list candidate (known_by_search (Some best) found)) (sym (in-merged model v list candidate (Some best))) (by (tells best (best_in model v list candidate None)))
   where
     low : (found : Option InsertionChoice) → IfSome found (λ f. is_lex_less (key_of f) (key_of best) ≡ false) → IfSome found (λ f. f.class ≡ candidate.class) → IfSome found (λ f. best.increase ≤ℤ f.increase)
     low None less same = tt
     low (Some f) less same =
         not-less f.class best.class f.increase least best.increase (is_lex_less (tail_key f) (tail_key best)) (ap (λ n. nat_lt n best.class || (nat_le n best.class && int_le least best.increase)) same ∙ may) less
 
-    by : Tells best (best_in model v list candidate None) → IsKnown model v list candidate (told_by (Some best) (merged_best key_of (Some best) (best_in model v list candidate None)))
-    by (inl e) = subst (IsKnown model v list candidate) (sym e) refl
-    by (inr (e, same, less)) = subst (IsKnown model v list candidate) (sym e) (low (best_in model v list candidate None) less (best-class model v list candidate))
+    by : Tells best (best_in model v list candidate None) → IsCandidateKnown model v list candidate (known_by_search (Some best) (merged_best key_of (Some best) (best_in model v list candidate None)))
+    by (inl e) = subst (IsCandidateKnown model v list candidate) (sym e) refl
+    by (inr (e, same, less)) = subst (IsCandidateKnown model v list candidate) (sym e) (low (best_in model v list candidate None) less (best-class model v list candidate))
 
 -- and it tells the best beside the best so far
-pub told-better : (model : Model) (v : ℕ) (list : List ℕ) (candidate : Candidate) (best : Option InsertionChoice) → best_of (told_by best (best_in model v list candidate best)) best ≡ best_in model v list candidate best
+pub told-better : (model : Model) (v : ℕ) (list : List ℕ) (candidate : Candidate) (best : Option InsertionChoice) → best_of (known_by_search best (best_in model v list candidate best)) best ≡ best_in model v list candidate best
 told-better model v list candidate None = best-merged model v list candidate (best_in model v list candidate None) None refl
 told-better model v list candidate (Some best) =
-    ap (λ found. best_of (told_by (Some best) found) (Some best)) (in-merged model v list candidate (Some best)) ∙ by (tells best (best_in model v list candidate None)) ∙ sym (in-merged model v list candidate (Some best))
+    ap (λ found. best_of (known_by_search (Some best) found) (Some best)) (in-merged model v list candidate (Some best)) ∙ by (tells best (best_in model v list candidate None)) ∙ sym (in-merged model v list candidate (Some best))
   where
-    by : Tells best (best_in model v list candidate None) → best_of (told_by (Some best) (merged_best key_of (Some best) (best_in model v list candidate None))) (Some best) ≡ merged_best key_of (Some best) (best_in model v list candidate None)
+    by : Tells best (best_in model v list candidate None) → best_of (known_by_search (Some best) (merged_best key_of (Some best) (best_in model v list candidate None))) (Some best) ≡ merged_best key_of (Some best) (best_in model v list candidate None)
     by (inl e) = ap (λ known. best_of known (Some best)) e ∙ best_of-merged (best_in model v list candidate None) (Some best)
     by (inr (e, same, less)) = ap (λ known. best_of known (Some best)) e ∙ sym same
 
 -- ---- the same of what the search of an item begins with
 
 pub begun-known : (model : Model) (v : ℕ) (list : List ℕ) (candidate : Candidate) (searched : Bool) (best : Option InsertionChoice) (least : ℤ) → may_improve best candidate.class least ≡ true
-    → IsKnown model v list candidate (told_by (begun_with candidate.item searched best) (best_in model v list candidate (begun_with candidate.item searched best)))
+    → IsCandidateKnown model v list candidate (known_by_search (begun_with candidate.item searched best) (best_in model v list candidate (begun_with candidate.item searched best)))
 begun-known model v list candidate searched best least may = by candidate.item searched
   where
-    by : (item : Item) (searched : Bool) → IsKnown model v list candidate (told_by (begun_with item searched best) (best_in model v list candidate (begun_with item searched best)))
+    by : (item : Item) (searched : Bool) → IsCandidateKnown model v list candidate (known_by_search (begun_with item searched best) (best_in model v list candidate (begun_with item searched best)))
     by item true = refl
     by (Visit node) false = refl
     by (PickupAndDelivery pickup delivery) false = told-known model v list candidate best least may
 
 pub begun-better : (model : Model) (v : ℕ) (list : List ℕ) (candidate : Candidate) (searched : Bool) (best : Option InsertionChoice)
-    → best_of (told_by (begun_with candidate.item searched best) (best_in model v list candidate (begun_with candidate.item searched best))) best ≡ best_in model v list candidate best
+    → best_of (known_by_search (begun_with candidate.item searched best) (best_in model v list candidate (begun_with candidate.item searched best))) best ≡ best_in model v list candidate best
 begun-better model v list candidate searched best = by candidate.item searched
   where
-    by : (item : Item) (searched : Bool) → best_of (told_by (begun_with item searched best) (best_in model v list candidate (begun_with item searched best))) best ≡ best_in model v list candidate best
+    by : (item : Item) (searched : Bool) → best_of (known_by_search (begun_with item searched best) (best_in model v list candidate (begun_with item searched best))) best ≡ best_in model v list candidate best
     by item true = best-merged model v list candidate (best_in model v list candidate None) best refl
     by (Visit node) false = best-merged model v list candidate (best_in model v list candidate None) best refl
     by (PickupAndDelivery pickup delivery) false = told-better model v list candidate best

@@ -5,15 +5,15 @@ use Rattle.vr_model.specs.first.Items.{first_node}
 use Rattle.vr_model.specs.routes.Routes.{route}
 use Rattle.vr_model.specs.declared.records.Model.{Model}
 use Rattle.vr_rules.specs.declared.items.Candidate.{Candidate}
-use Rattle.vr_rules.specs.Placing.{fits_by, nodes_of, AreBuilt, AreCandidates, AreMarks}
+use Rattle.vr_rules.specs.Placing.{fits_by, item_nodes, AreBuilt, AreCandidates, AreMarks}
 use Rattle.vr_first_insert.specs.declared.choice.InsertionChoice.{InsertionChoice}
 use Rattle.vr_first_insert.specs.declared.list_rows.ListRows.{ListRows}
 use Rattle.vr_first_insert.specs.declared.known.KnownItem.{KnownItem}
 use Rattle.vr_first_insert.specs.declared.search.Items.{Items}
 use Rattle.vr_first_insert.specs.declared.search.AskedLists.{AskedLists}
-use Rattle.vr_first_insert.specs.Kept.{candidate_at, AreKnown, AreRows}
-use Rattle.vr_first_insert.specs.KeptRows.{AreKept}
-use Rattle.vr_first_insert.specs.Placings.{best_in, best_in_lists, counts, MayHold}
+use Rattle.vr_first_insert.specs.Kept.{candidate_at, AreCandidatesKnown, AreKnownRows}
+use Rattle.vr_first_insert.specs.KeptRows.{AreKeptRows}
+use Rattle.vr_first_insert.specs.Placings.{best_in, best_in_lists, may_be_placed, MayHold}
 use Rattle.vr_first_insert.specs.Ready.{AreReady}
 
 -- the model whose items they are
@@ -45,11 +45,11 @@ best_asked_of_each on i = best_in_lists (items_model on.items) on.lists.now (can
 
 -- a row has what is known of the candidates in the list of vehicle v
 abbrev pub AreKnownIn : AskedLists → ℕ → List KnownItem → Type 0
-AreKnownIn on v = AreKnown (items_model on.items) v (route on.lists.now v) on.items.candidates.now
+AreKnownIn on v = AreCandidatesKnown (items_model on.items) v (route on.lists.now v) on.items.candidates.now
 
 -- the same of each list
 abbrev pub AreKnownInEach : AskedLists → List (List KnownItem) → Type 0
-AreKnownInEach on = AreRows (items_model on.items) on.lists.now on.items.candidates.now
+AreKnownInEach on = AreKnownRows (items_model on.items) on.lists.now on.items.candidates.now
 
 -- the list of vehicle v may be asked for candidate i, where the row has what is known of the candidates in it
 pub record MayAsk (on : AskedLists) (v i : ℕ) (known : List KnownItem) : Type 0 where
@@ -70,7 +70,7 @@ pub record MayAskEach (on : AskedLists) (i : ℕ) (known : List (List KnownItem)
 pub record MayCount (items : Items) (marked : List Bool) (candidate : Candidate) : Type 0 where
   pub marks : length marked ≡ (items_model items).nodes
   pub fit : IsTrue (list_all (fits_by marked) (items_model items).groups)
-  pub first : first_node (nodes_of candidate.item) < (items_model items).nodes
+  pub first : first_node (item_nodes candidate.item) < (items_model items).nodes
 
 -- the best so far may be set beside candidate i: each list may be asked for it where it counts
 pub record MayWeigh (on : AskedLists) (marked : List Bool) (i : ℕ) (known : List (List KnownItem)) : Type 0 where
@@ -78,8 +78,8 @@ pub record MayWeigh (on : AskedLists) (marked : List Bool) (i : ℕ) (known : Li
   pub marks : length marked ≡ (items_model on.items).nodes
   pub fit : IsTrue (list_all (fits_by marked) (items_model on.items).groups)
   pub candidate : i < length on.items.candidates.now
-  pub first : first_node (nodes_of (candidate_at on.items.candidates.now i).item) < (items_model on.items).nodes
-  pub may_hold : counts (items_model on.items) marked (candidate_at on.items.candidates.now i) ≡ true
+  pub first : first_node (item_nodes (candidate_at on.items.candidates.now i).item) < (items_model on.items).nodes
+  pub may_hold : may_be_placed (items_model on.items) marked (candidate_at on.items.candidates.now i) ≡ true
       → MayBeHeld on i
   pub rows : AreKnownInEach on known
 
@@ -88,17 +88,17 @@ pub record MayWeigh (on : AskedLists) (marked : List Bool) (i : ℕ) (known : Li
 pub record MayInsert (items : Items) (list_rows : List ListRows) (marked : List Bool) (lists : List (List ℕ))
     (known : List (List KnownItem)) : Type 0 where
   pub items_are : AreItems items
-  pub kept : AreKept (items_model items) lists list_rows
+  pub kept : AreKeptRows (items_model items) lists list_rows
   pub built : AreBuilt (items_model items) lists
   pub marks : AreMarks (items_model items).nodes lists marked
-  pub rows : AreRows (items_model items) lists items.candidates.now known
+  pub rows : AreKnownRows (items_model items) lists items.candidates.now known
 
 -- other open lists may be taken over, whose nodes are marked, and items be inserted into them
 pub record MayTakeOver (items : Items) (others : List (List ℕ)) (list_rows : List ListRows) (lists : List (List ℕ))
     (marked : List Bool) (known : List (List KnownItem)) : Type 0 where
   pub items_are : AreItems items
   pub vehicles : length lists ≡ length (items_model items).vehicles
-  pub kept : AreKept (items_model items) lists list_rows
-  pub rows : AreRows (items_model items) lists items.candidates.now known
+  pub kept : AreKeptRows (items_model items) lists list_rows
+  pub rows : AreKnownRows (items_model items) lists items.candidates.now known
   pub built : AreBuilt (items_model items) others
   pub marks : AreMarks (items_model items).nodes others marked

@@ -2,8 +2,8 @@
 use Rattle.std.specs.Prelude.{◌≡◌, length, Option, Some, None}
 use Rattle.vr_model.specs.declared.records.Model.{Model}
 use Rattle.vr_rules.specs.Placing.{AreCandidates}
-use Rattle.vr_first_insert.specs.KeptRows.{AreKept}
-use Rattle.vr_first_insert.specs.Kept.{AreRows}
+use Rattle.vr_first_insert.specs.KeptRows.{AreKeptRows}
+use Rattle.vr_first_insert.specs.Kept.{AreKnownRows}
 use Rattle.vr_first_insert.specs.declared.keeper.Keeper.{Keeper}
 use Rattle.vr_first_insert.specs.declared.solution.Rebuilder.{Rebuilder}
 
@@ -11,8 +11,8 @@ use Rattle.vr_first_insert.specs.declared.solution.Rebuilder.{Rebuilder}
 pub record IsKeeper (model : Model) (keeper : Keeper) : Type 0 where
   pub candidates : AreCandidates model keeper.candidates.items
   pub vehicles : length keeper.lists.items ≡ length model.vehicles
-  pub kept : AreKept model keeper.lists.items keeper.list_rows.items
-  pub rows : AreRows model keeper.lists.items keeper.candidates.items keeper.known_items.items
+  pub kept : AreKeptRows model keeper.lists.items keeper.list_rows.items
+  pub rows : AreKnownRows model keeper.lists.items keeper.candidates.items keeper.known_items.items
 
 -- the same of what rebuilds routes
 abbrev pub IsRebuilder : Model → Rebuilder → Type 0

@@ -13,7 +13,7 @@ use Rattle.vr_first_insert.specs.declared.known.Bound.{Bound}
 use Rattle.vr_first_insert.specs.declared.known.KnownItem.{KnownItem}
 use Rattle.vr_first_insert.specs.declared.known.KnownItem.TheVariants.{Nothing, AtLeast, Best}
 use Rattle.vr_first_insert.specs.Increases.{pair_increase}
-use Rattle.vr_first_insert.specs.Placings.{key_of, best_in, may_improve, IsLeast}
+use Rattle.vr_first_insert.specs.Placings.{key_of, best_in, may_improve, VisitAddsAtLeast}
 
 -- the better of two choices, the first of equal ones
 abbrev pub better_choice : Option InsertionChoice → InsertionChoice → Option InsertionChoice
@@ -34,7 +34,7 @@ is_settled (Best found) class best = true
 
 -- an item adds at least so much, wherever it is put in the list of vehicle v
 abbrev pub AddsAtLeast : Model → ℕ → List ℕ → Item → ℤ → Type 0
-AddsAtLeast model v list (Visit node) least = IsLeast model v list node least
+AddsAtLeast model v list (Visit node) least = VisitAddsAtLeast model v list node least
 AddsAtLeast model v list (PickupAndDelivery pickup delivery) least = (s t : ℕ) → s ≤ length list → t ≤ length list
     → least ≤ℤ pair_increase model v list pickup delivery s t
 
@@ -45,10 +45,10 @@ BestAddsAtLeast model v list candidate least = IfSome (best_in model v list cand
 
 -- what a search of a list tells that began with the best so far: what is better is the best of the list, and where
 -- nothing is, the best of the list adds no less than the best so far. A search that began with some best found one.
-abbrev pub told_by : Option InsertionChoice → Option InsertionChoice → KnownItem
-told_by None found = Best found
-told_by (Some best) None = Best None
-told_by (Some best) (Some next) = cond (is_lex_less (key_of next) (key_of best)) (Best (Some next))
+abbrev pub known_by_search : Option InsertionChoice → Option InsertionChoice → KnownItem
+known_by_search None found = Best found
+known_by_search (Some best) None = Best None
+known_by_search (Some best) (Some next) = cond (is_lex_less (key_of next) (key_of best)) (Best (Some next))
     (AtLeast (record { least = best.increase; searched = true }))
 
 -- what a search for an item begins with: for a pair whose bound no search told the best so far, and else nothing
@@ -59,23 +59,23 @@ begun_with (PickupAndDelivery pickup delivery) false best = best
 
 -- what a search of the list of vehicle v tells of a candidate that begins with the best so far
 abbrev pub sought : Model → ℕ → List ℕ → Candidate → Option InsertionChoice → KnownItem
-sought model v list candidate best = told_by best (best_in model v list candidate best)
+sought model v list candidate best = known_by_search best (best_in model v list candidate best)
 
 -- what is known once a candidate of which a bound is known was asked whether it is better than the best so far: the
 -- bound, where that is not better, and else what a search tells
-abbrev pub tried : Model → ℕ → List ℕ → Candidate → Bound → Option InsertionChoice → KnownItem
-tried model v list candidate bound best = cond (may_improve best candidate.class bound.least)
+abbrev pub known_once_tried : Model → ℕ → List ℕ → Candidate → Bound → Option InsertionChoice → KnownItem
+known_once_tried model v list candidate bound best = cond (may_improve best candidate.class bound.least)
     (sought model v list candidate (begun_with candidate.item bound.searched best)) (AtLeast bound)
 
 -- what is known of a candidate in the list of vehicle v is so
-abbrev pub IsKnown : Model → ℕ → List ℕ → Candidate → KnownItem → Type 0
-IsKnown model v list candidate Nothing = ⊤
-IsKnown model v list candidate (AtLeast bound) = BestAddsAtLeast model v list candidate bound.least
-IsKnown model v list candidate (Best best) = best ≡ best_in model v list candidate None
+abbrev pub IsCandidateKnown : Model → ℕ → List ℕ → Candidate → KnownItem → Type 0
+IsCandidateKnown model v list candidate Nothing = ⊤
+IsCandidateKnown model v list candidate (AtLeast bound) = BestAddsAtLeast model v list candidate bound.least
+IsCandidateKnown model v list candidate (Best best) = best ≡ best_in model v list candidate None
 
 -- row v of rows
-abbrev pub row_at : List (List KnownItem) → ℕ → List KnownItem
-row_at rows v = slice_index_or rows v []
+abbrev pub known_row : List (List KnownItem) → ℕ → List KnownItem
+known_row rows v = slice_index_or rows v []
 
 -- the candidate that is read where there is none
 abbrev pub unread : Candidate
@@ -86,21 +86,21 @@ abbrev pub candidate_at : List Candidate → ℕ → Candidate
 candidate_at candidates i = slice_index_or candidates i unread
 
 -- what is known of each candidate in the list of vehicle v is so
-pub record AreKnown (model : Model) (v : ℕ) (list : List ℕ) (candidates : List Candidate)
+pub record AreCandidatesKnown (model : Model) (v : ℕ) (list : List ℕ) (candidates : List Candidate)
     (row : List KnownItem) : Type 0 where
   pub many : length row ≡ length candidates
   pub each : (i : ℕ) → i < length candidates
-      → IsKnown model v list (candidate_at candidates i) (slice_index_or row i Nothing)
+      → IsCandidateKnown model v list (candidate_at candidates i) (slice_index_or row i Nothing)
 
 -- the same of each list
-pub record AreRows (model : Model) (lists : List (List ℕ)) (candidates : List Candidate)
+pub record AreKnownRows (model : Model) (lists : List (List ℕ)) (candidates : List Candidate)
     (rows : List (List KnownItem)) : Type 0 where
   pub many : length rows ≡ length lists
-  pub each : (v : ℕ) → v < length lists → AreKnown model v (route lists v) candidates (row_at rows v)
+  pub each : (v : ℕ) → v < length lists → AreCandidatesKnown model v (route lists v) candidates (known_row rows v)
 
 -- nothing is known of any candidate in the list of vehicle v any more
 pub record IsForgotten (v : ℕ) (rows after : List (List KnownItem)) : Type 0 where
   pub row : List KnownItem
-  pub many : length row ≡ length (row_at rows v)
+  pub many : length row ≡ length (known_row rows v)
   pub nothing : (i : ℕ) → slice_index_or row i Nothing ≡ Nothing
   pub rows_are : after ≡ slice_set rows v row

@@ -14,8 +14,8 @@ abbrev pub list_model : LookedUpList → Model
 list_model list = list.lookups.now.closed.model.now
 
 -- each list holds distinct visits
-abbrev pub AreTours : Model → List (List ℕ) → Type 0
-AreTours model lists = (v : ℕ) → v < length lists → IsTour model (route lists v)
+abbrev pub AreAllTours : Model → List (List ℕ) → Type 0
+AreAllTours model lists = (v : ℕ) → v < length lists → IsTour model (route lists v)
 
 -- the rows of each vehicle are those of its list
 abbrev pub AreRowsOfEach : Model → ℕ → List (List ℕ) → List BothWays → Type 0
@@ -23,7 +23,7 @@ AreRowsOfEach model d lists rows = (v : ℕ) (other : BothWays) → v < length r
     → AreRowsIfUsed model d v (route lists v) (slice_index_or rows v other)
 
 -- the rows that are kept in dimension d are those of the lists
-pub record IsKept (model : Model) (d : ℕ) (lists : List (List ℕ)) (kept : ListRows) : Type 0 where
+pub record AreKeptRowsIn (model : Model) (d : ℕ) (lists : List (List ℕ)) (kept : ListRows) : Type 0 where
   pub many : length kept.rows.items ≡ length lists
   pub rows_of_each : AreRowsOfEach model d lists kept.rows.items
 
@@ -33,9 +33,10 @@ pub record IsKeptOf (model : Model) (d v : ℕ) (list : List ℕ) (kept : ListRo
   pub rows_of_list : (other : BothWays) → AreRowsIfUsed model d v list (slice_index_or kept.rows.items v other)
 
 -- in each dimension
-pub record AreKept (model : Model) (lists : List (List ℕ)) (list_rows : List ListRows) : Type 0 where
+pub record AreKeptRows (model : Model) (lists : List (List ℕ)) (list_rows : List ListRows) : Type 0 where
   pub one_of_each : length list_rows ≡ length model.dimensions
-  pub each : (d : ℕ) (other : ListRows) → d < length list_rows → IsKept model d lists (slice_index_or list_rows d other)
+  pub each : (d : ℕ) (other : ListRows) → d < length list_rows
+      → AreKeptRowsIn model d lists (slice_index_or list_rows d other)
 
 pub record AreKeptOf (model : Model) (v : ℕ) (list : List ℕ) (list_rows : List ListRows) : Type 0 where
   pub one_of_each : length list_rows ≡ length model.dimensions

@@ -15,7 +15,7 @@ use Rattle.vr_model.specs.declared.records.Model.{Model}
 use Rattle.vr_rules.specs.declared.items.Item.{Item}
 use Rattle.vr_rules.specs.declared.items.Item.TheVariants.{Visit, PickupAndDelivery}
 use Rattle.vr_rules.specs.declared.items.Candidate.{Candidate}
-use Rattle.vr_rules.specs.Placing.{nodes_of, has_room, is_marked, IsItem}
+use Rattle.vr_rules.specs.Placing.{item_nodes, has_room, is_marked, IsItem}
 use Rattle.vr_reach.specs.Lists.{IsTour}
 use Rattle.vr_first_insert.specs.declared.choice.Placing.{Placing}
 use Rattle.vr_first_insert.specs.declared.choice.Placing.TheVariants.{One, Two}
@@ -45,14 +45,14 @@ AreWithin list (Two pickup delivery s t) = (s ≤ t) × (t ≤ length list)
 -- the insertion that a choice stands for
 abbrev pub insertion_of : InsertionChoice → Insertion
 insertion_of choice = record {
-  item = nodes_of (item_in choice.placing);
+  item = item_nodes (item_in choice.placing);
   vehicle = choice.vehicle;
   places = places_in choice.placing;
 }
 
 -- what choices of one class and increase are compared by: the number of the item, the vehicle, the places
 abbrev pub tail_key : InsertionChoice → List ℤ
-tail_key choice = pos (first_node (nodes_of (item_in choice.placing))) ∷ pos choice.vehicle ∷
+tail_key choice = pos (first_node (item_nodes (item_in choice.placing))) ∷ pos choice.vehicle ∷
     map pos (places_in choice.placing)
 
 -- what a choice is compared by: the class, the increase, the number of the item, the vehicle, the places
@@ -99,26 +99,26 @@ best_in_lists model lists candidate count best = fold (λ best v. best_in model 
     (below count)
 
 -- an item counts where its first node is not marked and the groups have room for it
-abbrev pub counts : Model → List Bool → Candidate → Bool
-counts model marks candidate = cond (is_marked marks (first_node (nodes_of candidate.item))) false
+abbrev pub may_be_placed : Model → List Bool → Candidate → Bool
+may_be_placed model marks candidate = cond (is_marked marks (first_node (item_nodes candidate.item))) false
     (list_all (has_room marks candidate.item) model.groups)
 
 -- the best beside all choices of a candidate
 abbrev pub best_beside : Model → List (List ℕ) → List Bool → Candidate → Option InsertionChoice → Option InsertionChoice
-best_beside model lists marks candidate best = cond (counts model marks candidate)
+best_beside model lists marks candidate best = cond (may_be_placed model marks candidate)
     (best_in_lists model lists candidate (length lists) best) best
 
 -- a list of distinct visits that an item may be put into: its nodes are distinct visits too, and none stands there
 pub record MayHold (model : Model) (list : List ℕ) (item : Item) : Type 0 where
   pub visits : IsTrue (list_all (is_visit model) list)
   pub distinct : IsTrue (is_distinct list)
-  pub nodes : IsTour model (nodes_of item)
-  pub absent : (node : ℕ) → holds (nodes_of item) node ≡ true → holds list node ≡ false
+  pub nodes : IsTour model (item_nodes item)
+  pub absent : (node : ℕ) → holds (item_nodes item) node ≡ true → holds list node ≡ false
 
 -- an insertion that may be made: its item stands in no list, its places are there, and the lists stay open
 pub record MayBeInserted (model : Model) (lists : List (List ℕ)) (choice : InsertionChoice) : Type 0 where
   pub is_item : IsItem model (item_in choice.placing)
-  pub inactive : is_active lists (first_node (nodes_of (item_in choice.placing))) ≡ false
+  pub inactive : is_active lists (first_node (item_nodes (item_in choice.placing))) ≡ false
   pub vehicle : choice.vehicle < length lists
   pub within : AreWithin (route lists choice.vehicle) choice.placing
   pub stays_open : IsTrue (is_open model (inserted lists (insertion_of choice)))
@@ -129,12 +129,12 @@ may_improve None class least = true
 may_improve (Some best) class least = nat_lt class best.class || (nat_le class best.class && int_le least best.increase)
 
 -- a visit adds at least so much before each place of the list of vehicle v
-abbrev pub IsLeast : Model → ℕ → List ℕ → ℕ → ℤ → Type 0
-IsLeast model v list node least = (t : ℕ) → t ≤ length list → least ≤ℤ visit_increase model v list node t
+abbrev pub VisitAddsAtLeast : Model → ℕ → List ℕ → ℕ → ℤ → Type 0
+VisitAddsAtLeast model v list node least = (t : ℕ) → t ≤ length list → least ≤ℤ visit_increase model v list node t
 
 -- the same of a number that a visit may add
 pub record IsLeastIncrease (model : Model) (v : ℕ) (list : List ℕ) (node : ℕ) (least : ℤ) : Type 0 where
-  pub adds : IsLeast model v list node least
+  pub adds : VisitAddsAtLeast model v list node least
   pub small : IsIncrease least
 
 -- a visit adds just so much before one of the last places of the list of vehicle v, from the k-th from its end on
@@ -157,7 +157,7 @@ pub record AreLeastAhead (model : Model) (v : ℕ) (list : List ℕ) (node : ℕ
   pub each : (k : ℕ) (d : ℤ) → k < length ahead → IsLeastAhead model v list node k (slice_index_or ahead k d)
 
 -- of the places before which a visit adds least to the list of vehicle v, the first
-pub record IsFirstLeast (model : Model) (v : ℕ) (list : List ℕ) (node place : ℕ) : Type 0 where
+pub record IsFirstLeastPlace (model : Model) (v : ℕ) (list : List ℕ) (node place : ℕ) : Type 0 where
   pub within : place ≤ length list
   pub least : (t : ℕ) → t ≤ length list → visit_increase model v list node place ≤ℤ visit_increase model v list node t
   pub before : (t : ℕ) → t < place

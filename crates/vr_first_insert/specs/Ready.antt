@@ -7,10 +7,10 @@ use Rattle.vr_first_insert.specs.declared.list_rows.ListRows.{ListRows}
 use Rattle.vr_first_insert.specs.KeptRows.{AreKeptOf}
 
 -- vehicle v may drive its list, and what is kept is that of the list
-pub record IsReady (model : Model) (v : ℕ) (list : List ℕ) (list_rows : List ListRows) : Type 0 where
+pub record IsListReady (model : Model) (v : ℕ) (list : List ℕ) (list_rows : List ListRows) : Type 0 where
   pub stands : IsTrue (is_route_open model v list)
   pub kept : AreKeptOf model v list list_rows
 
 -- the same of each list
 abbrev pub AreReady : Model → List (List ℕ) → List ListRows → Type 0
-AreReady model lists list_rows = (v : ℕ) → v < length lists → IsReady model v (route lists v) list_rows
+AreReady model lists list_rows = (v : ℕ) → v < length lists → IsListReady model v (route lists v) list_rows

@@ -10,15 +10,15 @@ use Rattle.vr_first_insert.specs.declared.vehicle_list.LookedUpList.{LookedUpLis
 use Rattle.vr_first_insert.specs.declared.vehicle_list.CandidateIn.{CandidateIn}
 use Rattle.vr_first_insert.specs.declared.vehicle_list.VisitIn.{VisitIn}
 use Rattle.vr_first_insert.specs.declared.vehicle_list.PairIn.{PairIn}
-use Rattle.vr_first_insert.specs.Kept.{sought, tried, IsKnown}
+use Rattle.vr_first_insert.specs.Kept.{sought, known_once_tried, IsCandidateKnown}
 use Rattle.vr_first_insert.specs.Placings.{best_in, pair_choice, placed, visit_choice, weigh, AreLeastAhead}
 use Rattle.vr_first_insert.specs.KeptRows.{list_model}
 use Rattle.vr_first_insert.specs.Probes.{AreReachedAt}
-use Rattle.vr_first_insert.specs.Ready.{IsReady}
+use Rattle.vr_first_insert.specs.Ready.{IsListReady}
 
 -- the vehicle may drive its list, and what is kept is that of the list
 abbrev pub IsReadyList : LookedUpList → List ListRows → Type 0
-IsReadyList list = IsReady (list_model list) list.vehicle list.nodes.now
+IsReadyList list = IsListReady (list_model list) list.vehicle list.nodes.now
 
 -- the better of the best so far and a choice in the list
 abbrev pub weigh_in : LookedUpList → Option InsertionChoice → InsertionChoice → Option InsertionChoice
@@ -44,11 +44,11 @@ sought_in of = sought (list_model of.list) of.list.vehicle of.list.nodes.now of.
 
 -- what is known once the candidate was asked whether it is better than the best so far
 abbrev pub tried_in : CandidateIn → Bound → Option InsertionChoice → KnownItem
-tried_in of = tried (list_model of.list) of.list.vehicle of.list.nodes.now of.candidate
+tried_in of = known_once_tried (list_model of.list) of.list.vehicle of.list.nodes.now of.candidate
 
 -- what is known of the candidate is so
 abbrev pub IsKnownOf : CandidateIn → KnownItem → Type 0
-IsKnownOf of = IsKnown (list_model of.list) of.list.vehicle of.list.nodes.now of.candidate
+IsKnownOf of = IsCandidateKnown (list_model of.list) of.list.vehicle of.list.nodes.now of.candidate
 
 -- a visit before place t may be tested: the list is ready, and the list with the visit is written
 pub record MayTestVisit (visit : VisitIn) (t : ℕ) (written : List ℕ) : Type 0 where

@@ -2,7 +2,7 @@
 
 ghost use Rattle.std.specs.Prelude.{◌≡◌, ℕ, ◌<◌, ◌≤◌, ◌^◌, OnOk, cond, int_lt, length, neg_ℤ, pos, ◌+ℤ◌, ◌≤ℤ◌};
 ghost use Rattle.vr_first_insert.specs.Increases.{pair_increase as pair_increase_of, IsIncrease};
-ghost use Rattle.vr_first_insert.specs.Placings.{AreLeastAhead, IsFirstLeast, IsLeast, IsLeastIncrease};
+ghost use Rattle.vr_first_insert.specs.Placings.{AreLeastAhead, IsFirstLeastPlace, VisitAddsAtLeast, IsLeastIncrease};
 ghost use Rattle.vr_first_insert.specs.KeptRows.{list_model};
 
 use crate::increase::{pair_increase, visit_increase};
@@ -12,7 +12,7 @@ use vr_model::{NoMemory, Seq};
 /// The least that a visit adds to a list.
 pub(crate) fn least_visit(list: &LookedUpList<'_, '_, '_>, node: u32) -> i64
     requires { node < (list_model list.now).nodes }
-    ensures least { IsLeast (list_model list.now) list.now.vehicle list.now.nodes.now node result }
+    ensures least { VisitAddsAtLeast (list_model list.now) list.now.vehicle list.now.nodes.now node result }
     ensures low { neg_ℤ (pos (2 ^ 40)) ≤ℤ result }
     ensures high { result ≤ℤ pos (2 ^ 41) }
 {
@@ -47,7 +47,7 @@ fn cheaper(at: Cheapest, t: usize, next: i64) -> Cheapest
 /// The first of the places of a list before which a visit adds least.
 pub(crate) fn least_place(list: &LookedUpList<'_, '_, '_>, node: u32) -> usize
     requires { node < (list_model list.now).nodes }
-    ensures { IsFirstLeast (list_model list.now) list.now.vehicle list.now.nodes.now node result }
+    ensures { IsFirstLeastPlace (list_model list.now) list.now.vehicle list.now.nodes.now node result }
 {
     let mut at = Cheapest {
         place: 0,
@@ -125,7 +125,7 @@ pub(crate) fn least_further(
     requires within { s ≤ length list.now.nodes.now }
     requires least { IsIncrease least }
     ensures least { (delivery t : ℕ)
-        → IsLeast (list_model list.now) list.now.vehicle list.now.nodes.now delivery least
+        → VisitAddsAtLeast (list_model list.now) list.now.vehicle list.now.nodes.now delivery least
         → s < t → t ≤ length list.now.nodes.now
         → result ≤ℤ pair_increase_of (list_model list.now) list.now.vehicle list.now.nodes.now
         pickup delivery s t }

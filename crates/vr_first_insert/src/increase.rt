@@ -2,7 +2,7 @@
 
 ghost use Rattle.std.specs.Prelude.{◌≡◌, ◌<◌, ◌≤◌, ◌^◌, cond, length, neg_ℤ, pos, ◌+ℤ◌, ◌≤ℤ◌};
 ghost use Rattle.vr_model.specs.tables.Tables.{arc_cost};
-ghost use Rattle.vr_first_insert.specs.Increases.{arc_at as arc_at_of, detour as detour_of};
+ghost use Rattle.vr_first_insert.specs.Increases.{arc_cost_at as arc_at_of, detour as detour_of};
 ghost use Rattle.vr_model.specs.routes.Routes.{is_empty};
 ghost use Rattle.vr_first_insert.specs.Increases.{node_before as node_before_of, node_behind as node_behind_of};
 ghost use Rattle.vr_first_insert.specs.Increases.{pair_increase as pair_increase_of};

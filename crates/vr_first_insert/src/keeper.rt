@@ -8,9 +8,9 @@ ghost use Rattle.vr_model.specs.routes.Routes.{route};
 ghost use Rattle.vr_rules.specs.declared.items.Candidate.{Candidate as AnyCandidate};
 ghost use Rattle.vr_rules.specs.Placing.{AreBuilt};
 ghost use Rattle.vr_first_insert.specs.Asking.{items_model, MayTakeOver};
-ghost use Rattle.vr_first_insert.specs.KeptRows.{list_model, AreKept};
+ghost use Rattle.vr_first_insert.specs.KeptRows.{list_model, AreKeptRows};
 ghost use Rattle.vr_first_insert.specs.Keeping.{IsKeeper};
-ghost use Rattle.vr_first_insert.specs.Kept.{AreRows};
+ghost use Rattle.vr_first_insert.specs.Kept.{AreKnownRows};
 
 use crate::known::{forget, nothing_known};
 use crate::known_items::KnownItems;
@@ -53,13 +53,13 @@ fn take_list(
     known_items: &mut [KnownItems],
 ) -> Result<(), NoMemory>
     requires there { new.now.vehicle < length lists.old }
-    requires kept { AreKept (list_model new.now) lists.old list_rows.old }
+    requires kept { AreKeptRows (list_model new.now) lists.old list_rows.old }
     requires known { new.now.vehicle < length known_items.old }
     ensures lists { OnOk result (lists.new ≡ with_route lists.old new.now.vehicle new.now.nodes.now) }
-    ensures kept { OnOk result (AreKept (list_model new.now) lists.new list_rows.new) }
+    ensures kept { OnOk result (AreKeptRows (list_model new.now) lists.new list_rows.new) }
     ensures known { OnOk result ((known : List AnyCandidate)
-        → AreRows (list_model new.now) lists.old known known_items.old
-        → AreRows (list_model new.now) lists.new known known_items.new) }
+        → AreKnownRows (list_model new.now) lists.old known known_items.old
+        → AreKnownRows (list_model new.now) lists.new known known_items.new) }
 {
     let v = new.vehicle;
     let before = lists[v as usize].as_slice();
@@ -85,8 +85,9 @@ fn insert_into(
     ensures rebuilt { OnOk result (lists.new
         ≡ rebuilt (items_model items.now) (length (items_of (items_model items.now))) routes.now.lists) }
     ensures built { OnOk result (AreBuilt (items_model items.now) lists.new) }
-    ensures kept { OnOk result (AreKept (items_model items.now) lists.new list_rows.new) }
-    ensures known { OnOk result (AreRows (items_model items.now) lists.new items.now.candidates.now known_items.new) }
+    ensures kept { OnOk result (AreKeptRows (items_model items.now) lists.new list_rows.new) }
+    ensures known { OnOk result (AreKnownRows (items_model items.now) lists.new items.now.candidates.now
+        known_items.new) }
 {
     for v in 0..routes.vehicles() {
         let new = LookedUpList {

@@ -2,7 +2,7 @@
 
 ghost use Rattle.std.specs.Prelude.{◌≡◌, ◌<◌, IfOk, length, replicate};
 ghost use Rattle.vr_first_insert.specs.Kept.{begun_with as begun_with_of, best_of, better_choice};
-ghost use Rattle.vr_first_insert.specs.Kept.{is_settled as is_settled_of, told_by as told_by_of};
+ghost use Rattle.vr_first_insert.specs.Kept.{is_settled as is_settled_of, known_by_search as told_by_of};
 ghost use Rattle.vr_first_insert.specs.Kept.{AddsAtLeast, BestAddsAtLeast, IsForgotten};
 ghost use Rattle.vr_first_insert.specs.VehicleLists.{best_of_candidate, sought_in, tried_in, IsKnownOf, IsReadyList};
 ghost use Rattle.vr_first_insert.specs.KeptRows.{list_model};

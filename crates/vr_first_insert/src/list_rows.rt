@@ -3,7 +3,7 @@
 ghost use Rattle.std.specs.Prelude.{◌≡◌, ◌<◌, length, IfOk, OnOk};
 ghost use Rattle.vr_model.specs.moves.Moves.{with_route};
 ghost use Rattle.vr_rules.specs.RoutesOpen.{is_feasible_in_each};
-ghost use Rattle.vr_first_insert.specs.KeptRows.{list_model, AreKept, AreTours, IsKept, MayGoBetween};
+ghost use Rattle.vr_first_insert.specs.KeptRows.{list_model, AreKeptRows, AreAllTours, AreKeptRowsIn, MayGoBetween};
 
 use crate::place::write_list;
 use crate::vehicle_list::LookedUpList;
@@ -28,8 +28,8 @@ impl ListRows {
     ) -> Result<ListRows, NoMemory>
         requires dimension { d < length lookups.now.closed.model.now.dimensions }
         requires vehicles { length lists.now ≡ length lookups.now.closed.model.now.vehicles }
-        requires tours { AreTours lookups.now.closed.model.now lists.now }
-        ensures { IfOk result (IsKept lookups.now.closed.model.now d lists.now) }
+        requires tours { AreAllTours lookups.now.closed.model.now lists.now }
+        ensures { IfOk result (AreKeptRowsIn lookups.now.closed.model.now d lists.now) }
     {
         let table = lookups.table(d);
         let mut known = Vec::with_capacity(alloc, lists.len())?;
@@ -58,8 +58,8 @@ impl ListRows {
     ) -> Result<(), NoMemory>
         requires dimension { d < length (list_model new.now).dimensions }
         requires there { new.now.vehicle < length lists.now }
-        requires kept { IsKept (list_model new.now) d lists.now self.old }
-        ensures { OnOk result (IsKept (list_model new.now) d
+        requires kept { AreKeptRowsIn (list_model new.now) d lists.now self.old }
+        ensures { OnOk result (AreKeptRowsIn (list_model new.now) d
             (with_route lists.now new.now.vehicle new.now.nodes.now) self.new) }
     {
         let v = new.vehicle;
@@ -83,8 +83,8 @@ pub(crate) fn keep_each(
     lists: &[Seq<u32>],
 ) -> Result<Vec<ListRows>, NoMemory>
     requires vehicles { length lists.now ≡ length lookups.now.closed.model.now.vehicles }
-    requires tours { AreTours lookups.now.closed.model.now lists.now }
-    ensures { IfOk result (λ list_rows. AreKept lookups.now.closed.model.now lists.now list_rows.items) }
+    requires tours { AreAllTours lookups.now.closed.model.now lists.now }
+    ensures { IfOk result (λ list_rows. AreKeptRows lookups.now.closed.model.now lists.now list_rows.items) }
 {
     let model = lookups.closed.model;
     let mut list_rows = Vec::with_capacity(alloc, model.dimensions.len())?;
@@ -105,8 +105,8 @@ pub(crate) fn learn(
     new: &LookedUpList<'_, '_, '_>,
 ) -> Result<(), NoMemory>
     requires there { new.now.vehicle < length lists.now }
-    requires kept { AreKept (list_model new.now) lists.now list_rows.old }
-    ensures { OnOk result (AreKept (list_model new.now)
+    requires kept { AreKeptRows (list_model new.now) lists.now list_rows.old }
+    ensures { OnOk result (AreKeptRows (list_model new.now)
         (with_route lists.now new.now.vehicle new.now.nodes.now) list_rows.new) }
 {
     for d in 0..list_rows.len() {
@@ -124,9 +124,9 @@ pub(crate) fn change_list(
     new: &LookedUpList<'_, '_, '_>,
 ) -> Result<(), NoMemory>
     requires there { new.now.vehicle < length lists.old }
-    requires kept { AreKept (list_model new.now) lists.old list_rows.old }
+    requires kept { AreKeptRows (list_model new.now) lists.old list_rows.old }
     ensures lists { OnOk result (lists.new ≡ with_route lists.old new.now.vehicle new.now.nodes.now) }
-    ensures kept { OnOk result (AreKept (list_model new.now) lists.new list_rows.new) }
+    ensures kept { OnOk result (AreKeptRows (list_model new.now) lists.new list_rows.new) }
 {
     learn(alloc, list_rows, lists, new)?;
     write_list(new.nodes, &mut lists[new.vehicle as usize])?;

@@ -5,7 +5,7 @@ ghost use Rattle.std.specs.List.{list_all};
 ghost use Rattle.vr_model.specs.moves.Moves.{gaps};
 ghost use Rattle.vr_model.specs.routes.Rules.{allows_vehicle, is_route_open};
 ghost use Rattle.vr_model.specs.tables.Numbers.{each, from_to};
-ghost use Rattle.vr_rules.specs.Placing.{improves as improves_by, nodes_of};
+ghost use Rattle.vr_rules.specs.Placing.{improves as improves_by, item_nodes};
 ghost use Rattle.vr_first_insert.specs.Probes.{AreReachedAt};
 ghost use Rattle.vr_first_insert.specs.Placings.{key_of, placed, IsLeastIncrease};
 ghost use Rattle.vr_first_insert.specs.declared.choice.Placing.TheVariants.{One};
@@ -326,7 +326,7 @@ fn best_where_allowed(
 ) -> Result<Option<InsertionChoice>, NoMemory>
     requires ready { IsReadyList of.now.list of.now.list_rows.now }
     requires allowed { IsTrue (list_all (allows_vehicle (list_model of.now.list) of.now.list.vehicle)
-        (nodes_of of.now.candidate.item)) }
+        (item_nodes of.now.candidate.item)) }
     ensures { IfOk result (λ chosen. chosen ≡ best_of_candidate of.now best) }
 {
     let list = of.list;

@@ -5,7 +5,7 @@ ghost use Rattle.vr_model.specs.moves.Moves.{with_route};
 ghost use Rattle.vr_model.specs.routes.Routes.{route};
 ghost use Rattle.vr_model.specs.tables.Limits.{most_nodes};
 ghost use Rattle.vr_rules.specs.Placing.{AreBuilt};
-ghost use Rattle.vr_first_insert.specs.KeptRows.{AreKept};
+ghost use Rattle.vr_first_insert.specs.KeptRows.{AreKeptRows};
 ghost use Rattle.vr_first_insert.specs.Placings.{placed as placed_of, AreWithin, MayBeInserted};
 
 use crate::choice::{InsertionChoice, Placing};
@@ -75,10 +75,10 @@ pub(crate) fn place_in(
 ) -> Result<(), NoMemory>
     requires may { MayBeInserted lookups.now.closed.model.now lists.old choice }
     requires built { AreBuilt lookups.now.closed.model.now lists.old }
-    requires kept { AreKept lookups.now.closed.model.now lists.old list_rows.old }
+    requires kept { AreKeptRows lookups.now.closed.model.now lists.old list_rows.old }
     ensures lists { OnOk result (lists.new ≡ with_route lists.old choice.vehicle
         (placed_of (route lists.old choice.vehicle) choice.placing)) }
-    ensures kept { OnOk result (AreKept lookups.now.closed.model.now lists.new list_rows.new) }
+    ensures kept { OnOk result (AreKeptRows lookups.now.closed.model.now lists.new list_rows.new) }
 {
     let v = choice.vehicle;
     let before = lists[v as usize].as_slice();

@@ -4,9 +4,9 @@ ghost use Rattle.std.specs.Prelude.{◌≡◌, IfOk, IfSome, OnOk, length, optio
 ghost use Rattle.vr_model.specs.first.CheapestInsertion.{next_inserted, rebuilt};
 ghost use Rattle.vr_model.specs.first.Items.{items as items_of};
 ghost use Rattle.vr_rules.specs.Placing.{AreBuilt, AreMarks};
-ghost use Rattle.vr_first_insert.specs.KeptRows.{AreKept};
-ghost use Rattle.vr_first_insert.specs.Kept.{candidate_at, AreRows};
-ghost use Rattle.vr_first_insert.specs.Placings.{best_beside, counts as counts_of, insertion_of, MayBeInserted};
+ghost use Rattle.vr_first_insert.specs.KeptRows.{AreKeptRows};
+ghost use Rattle.vr_first_insert.specs.Kept.{candidate_at, AreKnownRows};
+ghost use Rattle.vr_first_insert.specs.Placings.{best_beside, may_be_placed as counts_of, insertion_of, MayBeInserted};
 ghost use Rattle.vr_first_insert.specs.Asking.{best_asked, best_asked_of_each, items_model, AreKnownIn, AreKnownInEach};
 ghost use Rattle.vr_first_insert.specs.Asking.{MayAsk, MayAskEach, MayCount, MayInsert, MayWeigh};
 
@@ -158,7 +158,8 @@ fn next_insertion(
     ensures next { IfOk result (λ next. option_map insertion_of next
         ≡ next_inserted (items_model items.now) lists.now) }
     ensures may { IfOk result (λ next. IfSome next (MayBeInserted (items_model items.now) lists.now)) }
-    ensures known { OnOk result (AreRows (items_model items.now) lists.now items.now.candidates.now known_items.new) }
+    ensures known { OnOk result (AreKnownRows (items_model items.now) lists.now items.now.candidates.now
+        known_items.new) }
 {
     let on = AskedLists {
         items: *items,
@@ -189,8 +190,9 @@ pub(crate) fn insert_all(
         ≡ rebuilt (items_model items.now) (length (items_of (items_model items.now))) lists.old) }
     ensures built { OnOk result (AreBuilt (items_model items.now) lists.new) }
     ensures marked { OnOk result (AreMarks (items_model items.now).nodes lists.new marks.new) }
-    ensures kept { OnOk result (AreKept (items_model items.now) lists.new list_rows.new) }
-    ensures known { OnOk result (AreRows (items_model items.now) lists.new items.now.candidates.now known_items.new) }
+    ensures kept { OnOk result (AreKeptRows (items_model items.now) lists.new list_rows.new) }
+    ensures known { OnOk result (AreKnownRows (items_model items.now) lists.new items.now.candidates.now
+        known_items.new) }
 {
     for _step in 0..items.candidates.len() {
         match next_insertion(scratch, items, list_rows, marks, lists, known_items)? {

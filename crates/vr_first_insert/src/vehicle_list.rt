@@ -5,7 +5,7 @@ ghost use Rattle.std.specs.List.{list_all};
 ghost use Rattle.vr_model.specs.routes.Rules.{allows_vehicle};
 ghost use Rattle.vr_reach.specs.Lists.{IsTour};
 ghost use Rattle.vr_rules.specs.declared.items.Item.TheVariants.{Visit, PickupAndDelivery};
-ghost use Rattle.vr_rules.specs.Placing.{nodes_of};
+ghost use Rattle.vr_rules.specs.Placing.{item_nodes};
 ghost use Rattle.vr_first_insert.specs.Placings.{MayHold};
 
 use crate::list_rows::ListRows;
@@ -41,7 +41,7 @@ pub(crate) struct VisitIn<'l, 'm, 'k> {
     pub(crate) node: u32,
     ghost may_hold: { MayHold list.lookups.now.closed.model.now list.nodes.now (Visit node) },
     ghost allowed: { IsTrue (list_all (allows_vehicle list.lookups.now.closed.model.now list.vehicle)
-        (nodes_of (Visit node))) },
+        (item_nodes (Visit node))) },
 }
 
 /// A pair of a class that a list may hold, and that its vehicle may serve.
@@ -54,5 +54,5 @@ pub(crate) struct PairIn<'l, 'm, 'k> {
     pub(crate) delivery: u32,
     ghost may_hold: { MayHold list.lookups.now.closed.model.now list.nodes.now (PickupAndDelivery pickup delivery) },
     ghost allowed: { IsTrue (list_all (allows_vehicle list.lookups.now.closed.model.now list.vehicle)
-        (nodes_of (PickupAndDelivery pickup delivery))) },
+        (item_nodes (PickupAndDelivery pickup delivery))) },
 }

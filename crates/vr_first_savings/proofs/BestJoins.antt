@@ -15,7 +15,7 @@ use Rattle.vr_model.proofs.tables.Members.{In, from_map, of_below}
 use Rattle.vr_model.proofs.tables.Ranges.{below-more}
 use Rattle.vr_rules.proofs.LazyLeast.{IsBest, IsBest-none, IsBest-fold, IsKnown}
 use Rattle.vr_first_savings.specs.declared.choice.JoinChoice.{JoinChoice}
-use Rattle.vr_first_savings.specs.Joins.{MayBeJoined, join_of, key_of, choice_at, best_behind, best_of_joins}
+use Rattle.vr_first_savings.specs.Joins.{MayBeJoined, join_of, saving_key, choice_at, best_behind, best_of_joins}
 use Rattle.vr_first_savings.proofs.JoinLemmas.{not-itself}
 
 -- the routes by their places
@@ -36,10 +36,10 @@ row routes front = map (λ back. record { front = front; back = back }) routes
 
 module _ (model : Model) (routes : List (List ℕ)) where
   abbrev IsBestJoin : Option JoinChoice → List Join → Type 0
-  IsBestJoin = IsBest (join_of routes) (join_key model) key_of (may_join model) (MayBeJoined model routes)
+  IsBestJoin = IsBest (join_of routes) (join_key model) saving_key (may_join model) (MayBeJoined model routes)
 
   abbrev Known : JoinChoice → Type 0
-  Known = IsKnown (join_of routes) (join_key model) key_of (may_join model) (MayBeJoined model routes) (λ choice. may_join model (join_of routes choice))
+  Known = IsKnown (join_of routes) (join_key model) saving_key (may_join model) (MayBeJoined model routes) (λ choice. may_join model (join_of routes choice))
 
   known : (i j : ℕ) → i < length routes → j < length routes → Known (choice_at model routes i j)
   known i j low_i low_j = record {
@@ -63,7 +63,7 @@ module _ (model : Model) (routes : List (List ℕ)) where
   best-row : (i : ℕ) → i < length routes → (best : Option JoinChoice) (xs : List Join) → IsBestJoin best xs → IsBestJoin (best_behind model routes i (length routes) best) (xs ++ row routes (route routes i))
   best-row i low best xs before =
       subst (λ ys. IsBestJoin (best_behind model routes i (length routes) best) (xs ++ ys)) (same-row i)
-      (IsBest-fold (join_of routes) (join_key model) key_of (may_join model) (MayBeJoined model routes) (λ choice. may_join model (join_of routes choice))
+      (IsBest-fold (join_of routes) (join_key model) saving_key (may_join model) (MayBeJoined model routes) (λ choice. may_join model (join_of routes choice))
       best (map (choice_at model routes i) (below (length routes))) xs before
       (λ choice there. from_map (choice_at model routes i) (below (length routes)) choice there (λ j j_in is. subst Known (sym is) (known i j low (of_below (length routes) j j_in)))))
 
@@ -80,7 +80,7 @@ module _ (model : Model) (routes : List (List ℕ)) where
 
   best : IsBestJoin (best_of_joins model routes (length routes)) (each routes (row routes))
   best = subst (IsBestJoin (best_of_joins model routes (length routes))) all-rows
-      (best-rows (below (length routes)) (λ i there. of_below (length routes) i there) None [] (IsBest-none (join_of routes) (join_key model) key_of (may_join model) (MayBeJoined model routes)))
+      (best-rows (below (length routes)) (λ i there. of_below (length routes) i there) None [] (IsBest-none (join_of routes) (join_key model) saving_key (may_join model) (MayBeJoined model routes)))
 
   pub best_join-least : option_map (join_of routes) (best_of_joins model routes (length routes)) ≡ least_by (join_key model) (joins model routes)
   best_join-least = best.least

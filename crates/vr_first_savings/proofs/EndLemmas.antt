@@ -10,11 +10,11 @@ use Rattle.vr_model.specs.first.Items.{first_node, last_node}
 use Rattle.vr_model.proofs.tables.Bounds.{arc_cost_in_range}
 use Rattle.vr_first_savings.specs.declared.ends.EndsOfRoute.{EndsOfRoute}
 use Rattle.vr_first_savings.specs.Joins.{AreApart}
-use Rattle.vr_first_savings.specs.RouteEnds.{ends_of, unread, AreEnds}
+use Rattle.vr_first_savings.specs.RouteEnds.{ends_of, no_ends, AreRouteEnds}
 use Rattle.vr_first_savings.proofs.JoinLemmas.{last-below, first-below}
 
 -- the ends of each route are ends
-pub are_ends : (model : Model) (routes : List (List ℕ)) (i : ℕ) → IsWellFormed model → AreApart model routes → i < length routes → AreEnds model (ends_of model (route routes i))
+pub are_ends : (model : Model) (routes : List (List ℕ)) (i : ℕ) → IsWellFormed model → AreApart model routes → i < length routes → AreRouteEnds model (ends_of model (route routes i))
 are_ends model routes i well are low =
     let some : 0 < length model.vehicles = well.number_of_vehicles.at_least in
     let last = last-below model routes i are low in
@@ -27,9 +27,9 @@ are_ends model routes i well are low =
     }
 
 -- the ends that code reads
-pub ends_read : (model : Model) (routes : List (List ℕ)) (ends : List EndsOfRoute) (i : ℕ) → ends ≡ map (ends_of model) routes → i < length routes → slice_index_or ends i unread ≡ ends_of model (route routes i)
-ends_read model routes ends i are low = ap (λ es. slice_index_or es i unread) are ∙ get_or-map (ends_of model) routes i [] unread low
+pub ends_read : (model : Model) (routes : List (List ℕ)) (ends : List EndsOfRoute) (i : ℕ) → ends ≡ map (ends_of model) routes → i < length routes → slice_index_or ends i no_ends ≡ ends_of model (route routes i)
+ends_read model routes ends i are low = ap (λ es. slice_index_or es i no_ends) are ∙ get_or-map (ends_of model) routes i [] no_ends low
 
 -- they are ends
-pub read_are_ends : (model : Model) (routes : List (List ℕ)) (ends : List EndsOfRoute) (i : ℕ) → IsWellFormed model → AreApart model routes → ends ≡ map (ends_of model) routes → i < length routes → AreEnds model (slice_index_or ends i unread)
-read_are_ends model routes ends i well apart are low = subst (AreEnds model) (sym (ends_read model routes ends i are low)) (are_ends model routes i well apart low)
+pub read_are_ends : (model : Model) (routes : List (List ℕ)) (ends : List EndsOfRoute) (i : ℕ) → IsWellFormed model → AreApart model routes → ends ≡ map (ends_of model) routes → i < length routes → AreRouteEnds model (slice_index_or ends i no_ends)
+read_are_ends model routes ends i well apart are low = subst (AreRouteEnds model) (sym (ends_read model routes ends i are low)) (are_ends model routes i well apart low)

@@ -15,7 +15,7 @@ use Rattle.vr_model.specs.first.Items.{class, items, items_at, pair_of}
 use Rattle.vr_model.specs.first.SavingsJoins.{items_by_class, single_routes}
 use Rattle.vr_model.specs.deciding.Testing.{and_both}
 use Rattle.vr_model.proofs.tables.Tests.{clash, fails}
-use Rattle.vr_model.specs.tables.WellFormed.{IsWellFormed, nodes_of as nodes_of_pair}
+use Rattle.vr_model.specs.tables.WellFormed.{IsWellFormed, pair_nodes as nodes_of_pair}
 use Rattle.vr_model.proofs.tables.Members.{of_filter}
 use Rattle.vr_rules.specs.declared.items.Item.TheVariants.{PickupAndDelivery}
 use Rattle.vr_rules.specs.declared.items.Candidate.{Candidate}
@@ -26,7 +26,7 @@ use Rattle.vr_model.proofs.tables.Tests.{apart}
 use Rattle.vr_model.proofs.routes.Lists.{is_distinct-right}
 use Rattle.vr_rules.proofs.PlacingLemmas.{is_distinct-apart}
 use Rattle.vr_first_savings.specs.Joins.{AreApart}
-use Rattle.vr_first_savings.specs.Singles.{nodes_of_each, begun}
+use Rattle.vr_first_savings.specs.Singles.{nodes_of_each, route_begun}
 use Rattle.vr_first_savings.proofs.SingleLemmas.{singles-fold, AreApart-begun}
 use Rattle.vr_first_savings.proofs.ApartLemmas.{AreApart-none, AreApart-each, AreApart-parts, holds-append}
 
@@ -215,8 +215,8 @@ classes-candidates model candidates are =
     All-append (IsCandidate model) (of 0) (of 1 ++ (of 2 ++ [])) (part 0) (All-append (IsCandidate model) (of 1) (of 2 ++ []) (part 1) (All-append (IsCandidate model) (of 2) [] (part 2) (λ k d low. absurd (omega (arith, low)))))
 
 -- the candidates by class that may begin become the single routes
-pub begun-singles : (model : Model) (ordered : List Candidate) → map nodes_of_each ordered ≡ items_by_class model → fold (begun model) [] (map nodes_of_each ordered) ≡ single_routes model [] (items_by_class model)
-begun-singles model ordered e = ap (fold (begun model) []) e ∙ singles-fold model [] (items_by_class model)
+pub begun-singles : (model : Model) (ordered : List Candidate) → map nodes_of_each ordered ≡ items_by_class model → fold (route_begun model) [] (map nodes_of_each ordered) ≡ single_routes model [] (items_by_class model)
+begun-singles model ordered e = ap (fold (route_begun model) []) e ∙ singles-fold model [] (items_by_class model)
 
 pub AreApart-singles : (model : Model) → IsWellFormed model → AreApart model (single_routes model [] (items_by_class model))
 AreApart-singles model well_formed = subst (AreApart model) (singles-fold model [] (items_by_class model)) (AreApart-begun model (items_by_class model) [] (AreApart-items_by_class model well_formed))

@@ -21,7 +21,7 @@ use Rattle.vr_lists.proofs.VisitLists.{visits-below}
 use Rattle.vr_rules.proofs.PlacingLemmas.{inactive-route, is_distinct-apart, is_distinct-both}
 use Rattle.vr_model.proofs.routes.Lists.{is_active-concat}
 use Rattle.vr_first_savings.specs.declared.choice.JoinChoice.{JoinChoice}
-use Rattle.vr_first_savings.specs.Joins.{AreApart, join_of, choice_at, weigh, best_behind, best_of_joins}
+use Rattle.vr_first_savings.specs.Joins.{AreApart, join_of, choice_at, weigh_join, best_behind, best_of_joins}
 
 -- a node of one of the lists is active
 active-route : (lists : List (List ℕ)) (v x : ℕ) → holds (route lists v) x ≡ true → is_active lists x ≡ true
@@ -81,11 +81,11 @@ where-open model routes choice are low_front low_back other =
 
 -- ---- the best join
 
-pub best_behind-more : (model : Model) (routes : List (List ℕ)) (i j : ℕ) (best : Option JoinChoice) → best_behind model routes i (j + 1) best ≡ weigh model routes (best_behind model routes i j best) (choice_at model routes i j)
+pub best_behind-more : (model : Model) (routes : List (List ℕ)) (i j : ℕ) (best : Option JoinChoice) → best_behind model routes i (j + 1) best ≡ weigh_join model routes (best_behind model routes i j best) (choice_at model routes i j)
 best_behind-more model routes i j best =
-    ap (λ ks. fold (weigh model routes) best (map (choice_at model routes i) ks)) (below-more j)
-    ∙ ap (fold (weigh model routes) best) (map-append (choice_at model routes i) (below j) (j ∷ []))
-    ∙ fold-append (weigh model routes) best (map (choice_at model routes i) (below j)) (choice_at model routes i j ∷ [])
+    ap (λ ks. fold (weigh_join model routes) best (map (choice_at model routes i) ks)) (below-more j)
+    ∙ ap (fold (weigh_join model routes) best) (map-append (choice_at model routes i) (below j) (j ∷ []))
+    ∙ fold-append (weigh_join model routes) best (map (choice_at model routes i) (below j)) (choice_at model routes i j ∷ [])
 
 pub best_of_joins-more : (model : Model) (routes : List (List ℕ)) (i : ℕ) → best_of_joins model routes (i + 1) ≡ best_behind model routes i (length routes) (best_of_joins model routes i)
 best_of_joins-more model routes i =

@@ -10,7 +10,7 @@ use Rattle.vr_model.specs.declared.records.Model.{Model}
 use Rattle.vr_model.specs.tables.Tables.{is_visit}
 use Rattle.vr_model.specs.routes.Routes.{route, holds, is_distinct}
 use Rattle.vr_model.specs.first.Items.{first_node}
-use Rattle.vr_model.specs.first.SavingsJoins.{Join, joined, joined_route, is_part_of}
+use Rattle.vr_model.specs.first.SavingsJoins.{Join, after_join, joined_route, is_part_of}
 use Rattle.vr_model.specs.deciding.Testing.{and_left, and_right, and_both}
 use Rattle.vr_model.proofs.tables.Tests.{clash}
 use Rattle.vr_model.proofs.tables.Tests.{or-false_left, or-false_right}
@@ -68,7 +68,7 @@ kept-other false false h = (λ e. clash false e refl, λ e. clash false e refl)
 same-first : (x y : ℕ) → x ≡ y → (x == y) ≡ true
 same-first x y e = eq-eqb x y e
 
-pub AreApart-joined : (model : Model) (routes : List (List ℕ)) (choice : JoinChoice) → AreApart model routes → MayBeJoined model routes choice → AreApart model (joined routes (join_of routes choice))
+pub AreApart-joined : (model : Model) (routes : List (List ℕ)) (choice : JoinChoice) → AreApart model routes → MayBeJoined model routes choice → AreApart model (after_join routes (join_of routes choice))
 AreApart-joined model routes choice are may =
     let join : Join = join_of routes choice in
     let keep = λ (list : List ℕ). not (is_part_of join list) in

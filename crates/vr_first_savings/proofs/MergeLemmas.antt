@@ -7,7 +7,7 @@ use Rattle.std.proofs.lemmas.List.Elements.{filter_more}
 use Rattle.vr_model.specs.declared.records.Model.{Model}
 use Rattle.vr_model.specs.first.Items.{first_node}
 use Rattle.vr_model.specs.first.Choosing.{least_by}
-use Rattle.vr_model.specs.first.SavingsJoins.{Join, joined, joined_route, is_part_of, is_wanted, join_key, joins, merged}
+use Rattle.vr_model.specs.first.SavingsJoins.{Join, after_join, joined_route, is_part_of, is_wanted, join_key, joins, merged}
 use Rattle.vr_first_savings.specs.declared.choice.JoinChoice.{JoinChoice}
 use Rattle.vr_first_savings.specs.Joins.{join_of, MayBeJoined}
 
@@ -26,22 +26,22 @@ kept-more join routes i front back route after more low is at_front at_back so_f
 -- no join may be made
 pub merged-stops : (model : Model) (more : ℕ) (routes : List (List ℕ)) → least_by (join_key model) (joins model routes) ≡ None → merged model more routes ≡ routes
 merged-stops model zero routes e = refl
-merged-stops model (suc more) routes e = ap (λ best. elim best [ None ↦ routes | Some join ↦ elim (is_wanted model routes join) [ true ↦ merged model more (joined routes join) | false ↦ routes ] ]) e
+merged-stops model (suc more) routes e = ap (λ best. elim best [ None ↦ routes | Some join ↦ elim (is_wanted model routes join) [ true ↦ merged model more (after_join routes join) | false ↦ routes ] ]) e
 
 -- the best join is not wanted
 pub merged-unwanted : (model : Model) (more : ℕ) (routes : List (List ℕ)) (join : Join) → least_by (join_key model) (joins model routes) ≡ Some join → is_wanted model routes join ≡ false → merged model more routes ≡ routes
 merged-unwanted model zero routes join e w = refl
 merged-unwanted model (suc more) routes join e w =
-    ap (λ best. elim best [ None ↦ routes | Some join ↦ elim (is_wanted model routes join) [ true ↦ merged model more (joined routes join) | false ↦ routes ] ]) e
-    ∙ ap (λ b. elim b [ true ↦ merged model more (joined routes join) | false ↦ routes ]) w
+    ap (λ best. elim best [ None ↦ routes | Some join ↦ elim (is_wanted model routes join) [ true ↦ merged model more (after_join routes join) | false ↦ routes ] ]) e
+    ∙ ap (λ b. elim b [ true ↦ merged model more (after_join routes join) | false ↦ routes ]) w
 
 -- it is made
 pub merged-next : (model : Model) (more less : ℕ) (routes : List (List ℕ)) (join : Join) → least_by (join_key model) (joins model routes) ≡ Some join → is_wanted model routes join ≡ true → more ≡ suc less
-    → merged model more routes ≡ merged model less (joined routes join)
+    → merged model more routes ≡ merged model less (after_join routes join)
 merged-next model more less routes join e w count =
     ap (λ n. merged model n routes) count
-    ∙ ap (λ best. elim best [ None ↦ routes | Some join ↦ elim (is_wanted model routes join) [ true ↦ merged model less (joined routes join) | false ↦ routes ] ]) e
-    ∙ ap (λ b. elim b [ true ↦ merged model less (joined routes join) | false ↦ routes ]) w
+    ∙ ap (λ best. elim best [ None ↦ routes | Some join ↦ elim (is_wanted model routes join) [ true ↦ merged model less (after_join routes join) | false ↦ routes ] ]) e
+    ∙ ap (λ b. elim b [ true ↦ merged model less (after_join routes join) | false ↦ routes ]) w
 
 -- the entry that code reads
 pub read-item : (routes : List (List ℕ)) (i : ℕ) (route item : List ℕ) → i < length routes → route ≡ item → item ≡ get_or routes i item → get_or routes i route ≡ route

@@ -10,11 +10,11 @@ use Rattle.vr_model.specs.routes.Rules.{is_route_open, fits_group}
 use Rattle.vr_model.specs.first.SavingsJoins.{may_begin, single_routes}
 use Rattle.vr_model.specs.tables.WellFormed.{IsWellFormed}
 use Rattle.vr_rules.specs.declared.items.Item.{Item}
-use Rattle.vr_rules.specs.Placing.{nodes_of, has_room, fits_beside, AreMarks}
+use Rattle.vr_rules.specs.Placing.{item_nodes, has_room, fits_beside, AreMarks}
 use Rattle.vr_rules.proofs.PlacingLemmas.{list_all-within, count_by-within, fits_beside-marks}
 use Rattle.vr_rules.proofs.CompleteLemmas.{and-false}
 use Rattle.vr_first_savings.specs.Joins.{AreApart}
-use Rattle.vr_first_savings.specs.Singles.{begun}
+use Rattle.vr_first_savings.specs.Singles.{route_begun}
 use Rattle.vr_first_savings.proofs.ApartLemmas.{AreApart-without}
 
 -- ---- one more route
@@ -42,33 +42,33 @@ AreMarks-behind nodes routes route marks marked are count each = record {
 }
 
 module _ (model : Model) (well_formed : IsWellFormed model) (routes : List (List ℕ)) (marks : List Bool) (item : Item) (are : AreMarks model.nodes routes marks) where
-  room : list_all (has_room marks item) model.groups ≡ list_all (fits_group (routes ++ nodes_of item ∷ [])) model.groups
-  room = fits_beside-marks model well_formed routes marks item are ∙ sym (fits-behind model routes (nodes_of item))
+  room : list_all (has_room marks item) model.groups ≡ list_all (fits_group (routes ++ item_nodes item ∷ [])) model.groups
+  room = fits_beside-marks model well_formed routes marks item are ∙ sym (fits-behind model routes (item_nodes item))
 
-  kept : may_begin model routes (nodes_of item) ≡ false → routes ≡ begun model routes (nodes_of item)
-  kept h = sym (ap (λ b. cond b (routes ++ nodes_of item ∷ []) routes) h)
+  kept : may_begin model routes (item_nodes item) ≡ false → routes ≡ route_begun model routes (item_nodes item)
+  kept h = sym (ap (λ b. cond b (routes ++ item_nodes item ∷ []) routes) h)
 
   -- a group is full
-  pub begun-full : list_all (has_room marks item) model.groups ≡ false → routes ≡ begun model routes (nodes_of item)
-  begun-full h = kept (ap (λ b. is_route_open model 0 (nodes_of item) && b) (sym room ∙ h) ∙ and-false (is_route_open model 0 (nodes_of item)))
+  pub begun-full : list_all (has_room marks item) model.groups ≡ false → routes ≡ route_begun model routes (item_nodes item)
+  begun-full h = kept (ap (λ b. is_route_open model 0 (item_nodes item) && b) (sym room ∙ h) ∙ and-false (is_route_open model 0 (item_nodes item)))
 
   -- the route is not open
-  pub begun-closed : is_route_open model 0 (nodes_of item) ≡ false → routes ≡ begun model routes (nodes_of item)
-  begun-closed h = kept (ap (λ b. b && list_all (fits_group (routes ++ nodes_of item ∷ [])) model.groups) h)
+  pub begun-closed : is_route_open model 0 (item_nodes item) ≡ false → routes ≡ route_begun model routes (item_nodes item)
+  begun-closed h = kept (ap (λ b. b && list_all (fits_group (routes ++ item_nodes item ∷ [])) model.groups) h)
 
   -- it may
-  pub begun-open : list_all (has_room marks item) model.groups ≡ true → is_route_open model 0 (nodes_of item) ≡ true → routes ++ nodes_of item ∷ [] ≡ begun model routes (nodes_of item)
-  begun-open h passes = sym (ap (λ b. cond (is_route_open model 0 (nodes_of item) && b) (routes ++ nodes_of item ∷ []) routes) (sym room ∙ h) ∙ ap (λ b. cond (b && true) (routes ++ nodes_of item ∷ []) routes) passes)
+  pub begun-open : list_all (has_room marks item) model.groups ≡ true → is_route_open model 0 (item_nodes item) ≡ true → routes ++ item_nodes item ∷ [] ≡ route_begun model routes (item_nodes item)
+  begun-open h passes = sym (ap (λ b. cond (is_route_open model 0 (item_nodes item) && b) (routes ++ item_nodes item ∷ []) routes) (sym room ∙ h) ∙ ap (λ b. cond (b && true) (routes ++ item_nodes item ∷ []) routes) passes)
 
 -- ---- all in turn
 
-pub singles-fold : (model : Model) (routes items : List (List ℕ)) → fold (begun model) routes items ≡ single_routes model routes items
+pub singles-fold : (model : Model) (routes items : List (List ℕ)) → fold (route_begun model) routes items ≡ single_routes model routes items
 singles-fold model routes [] = refl
-singles-fold model routes (item ∷ rest) = singles-fold model (begun model routes item) rest
+singles-fold model routes (item ∷ rest) = singles-fold model (route_begun model routes item) rest
 
-pub AreApart-begun : (model : Model) (items routes : List (List ℕ)) → AreApart model (routes ++ items) → AreApart model (fold (begun model) routes items)
+pub AreApart-begun : (model : Model) (items routes : List (List ℕ)) → AreApart model (routes ++ items) → AreApart model (fold (route_begun model) routes items)
 AreApart-begun model [] routes are = subst (AreApart model) (append-nil routes) are
-AreApart-begun model (item ∷ rest) routes are = AreApart-begun model rest (begun model routes item) (by (may_begin model routes item))
+AreApart-begun model (item ∷ rest) routes are = AreApart-begun model rest (route_begun model routes item) (by (may_begin model routes item))
   where
     by : (b : Bool) → AreApart model (cond b (routes ++ item ∷ []) routes ++ rest)
     by true = subst (AreApart model) (sym (append_assoc routes (item ∷ []) rest)) are

@@ -22,8 +22,8 @@ abbrev pub join_of : List (List ℕ) → JoinChoice → Join
 join_of routes choice = record { front = route routes choice.front; back = route routes choice.back }
 
 -- what a choice is compared by: the greatest saving first, then the last node in front, then the first node behind
-abbrev pub key_of : JoinChoice → List ℤ
-key_of choice = neg_ℤ choice.saving ∷ pos choice.last ∷ pos choice.first ∷ []
+abbrev pub saving_key : JoinChoice → List ℤ
+saving_key choice = neg_ℤ choice.saving ∷ pos choice.last ∷ pos choice.first ∷ []
 
 -- what it saves to drive from one node to another, and not over the end and the start
 abbrev pub saved : Model → ℕ → ℕ → ℤ
@@ -41,12 +41,13 @@ choice_at model routes i j = record {
 }
 
 -- the better of the best so far and a choice, which counts only where the two routes may be joined
-abbrev pub weigh : Model → List (List ℕ) → Option JoinChoice → JoinChoice → Option JoinChoice
-weigh model routes best next = cond (may_join model (join_of routes next)) (better key_of best next) best
+abbrev pub weigh_join : Model → List (List ℕ) → Option JoinChoice → JoinChoice → Option JoinChoice
+weigh_join model routes best next = cond (may_join model (join_of routes next)) (better saving_key best next) best
 
 -- the best beside the joins of route i with the first routes
 abbrev pub best_behind : Model → List (List ℕ) → ℕ → ℕ → Option JoinChoice → Option JoinChoice
-best_behind model routes i count best = fold (weigh model routes) best (map (choice_at model routes i) (below count))
+best_behind model routes i count best = fold (weigh_join model routes) best
+    (map (choice_at model routes i) (below count))
 
 -- the best of the joins of the first routes with all
 abbrev pub best_of_joins : Model → List (List ℕ) → ℕ → Option JoinChoice

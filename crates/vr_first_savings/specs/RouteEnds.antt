@@ -21,12 +21,12 @@ abbrev pub ends_of : Model → List ℕ → EndsOfRoute
 ends_of model route = ends_between model (last_node route) (first_node route)
 
 -- ends at nodes of the model, whose arcs cost what arcs cost
-pub record AreEnds (model : Model) (ends : EndsOfRoute) : Type 0 where
+pub record AreRouteEnds (model : Model) (ends : EndsOfRoute) : Type 0 where
   pub last_below : ends.last < model.nodes
   pub first_below : ends.first < model.nodes
   pub to_end_in_range : IsIn (pos 0) greatest_cost ends.to_end
   pub from_start_in_range : IsIn (pos 0) greatest_cost ends.from_start
 
 -- the ends that are read where there are none
-abbrev pub unread : EndsOfRoute
-unread = record { last = 0; first = 0; to_end = pos 0; from_start = pos 0 }
+abbrev pub no_ends : EndsOfRoute
+no_ends = record { last = 0; first = 0; to_end = pos 0; from_start = pos 0 }

@@ -3,7 +3,7 @@
 ghost use Rattle.std.specs.Prelude.{◌≡◌};
 ghost use Rattle.vr_model.specs.tables.Numbers.{is_lex_less};
 ghost use Rattle.vr_rules.specs.Placing.{improves as improves_by};
-ghost use Rattle.vr_first_savings.specs.Joins.{key_of};
+ghost use Rattle.vr_first_savings.specs.Joins.{saving_key};
 
 /// Two routes by their places, what joining them saves, and the nodes where they meet.
 #[derive(Clone, Copy)]
@@ -17,7 +17,7 @@ pub(crate) struct JoinChoice {
 
 // Whether a choice comes before another: the greater saving, then the lesser nodes.
 fn comes_before(one: JoinChoice, other: JoinChoice) -> bool
-    ensures { result ≡ is_lex_less (key_of one) (key_of other) }
+    ensures { result ≡ is_lex_less (saving_key one) (saving_key other) }
 {
     other.saving < one.saving
         || (other.saving <= one.saving
@@ -26,7 +26,7 @@ fn comes_before(one: JoinChoice, other: JoinChoice) -> bool
 
 /// Whether a choice is better than the best so far, or the first.
 pub(crate) fn improves(best: Option<JoinChoice>, next: JoinChoice) -> bool
-    ensures { result ≡ improves_by key_of best next }
+    ensures { result ≡ improves_by saving_key best next }
 {
     match best {
         Some(best) => comes_before(next, best),

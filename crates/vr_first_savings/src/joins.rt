@@ -7,8 +7,8 @@ ghost use Rattle.vr_model.specs.routes.Routes.{route};
 ghost use Rattle.vr_model.specs.first.SavingsJoins.{join_key, joins};
 ghost use Rattle.vr_model.specs.tables.Tables.{arc_cost};
 ghost use Rattle.vr_first_savings.specs.Joins.{best_behind as best_behind_of, choice_at as choice_at_of, join_of};
-ghost use Rattle.vr_first_savings.specs.Joins.{weigh, AreApart, MayBeJoined};
-ghost use Rattle.vr_first_savings.specs.RouteEnds.{ends_of, AreEnds};
+ghost use Rattle.vr_first_savings.specs.Joins.{weigh_join, AreApart, MayBeJoined};
+ghost use Rattle.vr_first_savings.specs.RouteEnds.{ends_of, AreRouteEnds};
 
 use crate::choice::{JoinChoice, improves};
 use crate::ends::{EndsOfRoute, ends_of_each};
@@ -19,8 +19,8 @@ use vr_rules::{Driving, is_route_open};
 
 // What it saves to drive from the last node of one route to the first of another, and not over the end and the start.
 fn saved(closed: Closed<'_>, front: EndsOfRoute, back: EndsOfRoute) -> i64
-    requires front { AreEnds closed.model.now front }
-    requires back { AreEnds closed.model.now back }
+    requires front { AreRouteEnds closed.model.now front }
+    requires back { AreRouteEnds closed.model.now back }
     ensures value { result ≡ ((front.to_end +ℤ back.from_start) -ℤ arc_cost closed.entry.model.now 0 front.last
         back.first) }
     ensures low { neg_ℤ (pos (2 ^ 40)) ≤ℤ result }
@@ -84,7 +84,7 @@ fn consider(
     requires apart { AreApart lookups.now.closed.model.now routes.now }
     requires front { next.front < length routes.now }
     requires back { next.back < length routes.now }
-    ensures { IfOk result (λ chosen. chosen ≡ weigh lookups.now.closed.model.now routes.now best next) }
+    ensures { IfOk result (λ chosen. chosen ≡ weigh_join lookups.now.closed.model.now routes.now best next) }
 {
     if !improves(best, next) {
         return Ok(best);

@@ -4,7 +4,7 @@ ghost use Rattle.std.specs.Prelude.{◌≡◌, ◌<◌, ◌++◌, ◌==◌, ◌|
 ghost use Rattle.std.specs.Prelude.{IfOk, OnOk};
 ghost use Rattle.vr_model.specs.first.Items.{first_node};
 ghost use Rattle.vr_model.specs.routes.Routes.{route};
-ghost use Rattle.vr_model.specs.first.SavingsJoins.{joined as joined_by, merged as merged_of};
+ghost use Rattle.vr_model.specs.first.SavingsJoins.{after_join as joined_by, merged as merged_of};
 ghost use Rattle.vr_first_savings.specs.Joins.{join_of, AreApart};
 
 use crate::choice::JoinChoice;

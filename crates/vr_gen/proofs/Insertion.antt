@@ -14,7 +14,7 @@ use Rattle.vr_model.specs.moves.MoveTests.{is_move}
 use Rattle.vr_model.specs.deciding.Testing.{and_left, and_right, and_both, or_left, range_list_all}
 use Rattle.vr_model.specs.search.ChoosingLaws.{IsFirstLeast}
 use Rattle.vr_model.specs.first.Choosing.{least_by}
-use Rattle.vr_model.specs.first.Items.{items, items_at, pair_of, has_penalty, unplaced, empty_lists, first_node}
+use Rattle.vr_model.specs.first.Items.{items, items_at, pair_of, is_penalty_given, unplaced, empty_lists, first_node}
 use Rattle.vr_model.specs.first.CheapestInsertion.{Insertion, inserted, insertions, insertion_key, next_inserted, places_for, rebuilt, parallel_cheapest_insertion}
 use Rattle.vr_model.specs.declared.records.Model.{Model}
 use Rattle.vr_model.specs.declared.records.Group.{Group}
@@ -134,7 +134,7 @@ empty_open model =
 -- each visit stands in a group, and each group has a penalty
 pub record MayStayIdle (model : Model) : Type 0 where
   pub each_grouped : (node : ℕ) → IsTrue (is_visit model node) → IsTrue (is_grouped model node)
-  pub each_penalty : IsTrue (list_all (λ group. has_penalty group.penalty) model.groups)
+  pub each_penalty : IsTrue (list_all (λ group. is_penalty_given group.penalty) model.groups)
 
 kept_pass : (p q : ℕ → Bool) (xs : List ℕ) → ((x : ℕ) → IsTrue (q x) → IsTrue (p x)) → IsTrue (list_all p (filter q xs))
 kept_pass p q [] h = refl
@@ -144,11 +144,11 @@ kept_pass p q (x ∷ xs) h = by (q x) refl (kept_pass p q xs h)
     by true e rest = and_both (p x) _ (h x e) rest
     by false e rest = rest
 
-enough_with_penalty : (lists : List (List ℕ)) (groups : List Group) → IsTrue (list_all (λ group. has_penalty group.penalty) groups) → IsTrue (list_all (λ group. has_enough group.penalty group.max (active_in lists group)) groups)
+enough_with_penalty : (lists : List (List ℕ)) (groups : List Group) → IsTrue (list_all (λ group. is_penalty_given group.penalty) groups) → IsTrue (list_all (λ group. has_enough group.penalty group.max (active_in lists group)) groups)
 enough_with_penalty lists [] h = refl
-enough_with_penalty lists (g ∷ gs) h = and_both _ _ (one g.penalty g.max (active_in lists g) (and_left (has_penalty g.penalty) _ h)) (enough_with_penalty lists gs (and_right (has_penalty g.penalty) _ h))
+enough_with_penalty lists (g ∷ gs) h = and_both _ _ (one g.penalty g.max (active_in lists g) (and_left (is_penalty_given g.penalty) _ h)) (enough_with_penalty lists gs (and_right (is_penalty_given g.penalty) _ h))
   where
-    one : (o : Option ℤ) (max active : ℕ) → IsTrue (has_penalty o) → IsTrue (has_enough o max active)
+    one : (o : Option ℤ) (max active : ℕ) → IsTrue (is_penalty_given o) → IsTrue (has_enough o max active)
     one None max active h = absurd (clash false h refl)
     one (Some penalty) max active h = refl
 

@@ -12,7 +12,7 @@ use Rattle.vr_model.specs.tables.Tables.{is_visit}
 use Rattle.vr_model.specs.deciding.Testing.{and_left, range_list_any}
 use Rattle.vr_model.specs.routes.Routes.{holds}
 use Rattle.vr_model.specs.routes.Rules.{is_grouped, is_valid}
-use Rattle.vr_model.specs.first.Items.{has_penalty}
+use Rattle.vr_model.specs.first.Items.{is_penalty_given}
 use Rattle.vr_model.specs.first.CheapestInsertion.{parallel_cheapest_insertion}
 use Rattle.vr_model.specs.first.FirstSolutions.{build, build_by, first_lists}
 use Rattle.vr_model.specs.declared.records.Model.{Model}
@@ -22,7 +22,7 @@ use Rattle.vr_read.specs.Models.{read_model}
 use Rattle.vr_read.proofs.WellFormedModels.{well_formed_from_read}
 use Rattle.vr_gen.specs.declared.draws.Site.{Site}
 use Rattle.vr_gen.specs.declared.draws.Customer.{Customer}
-use Rattle.vr_gen.specs.Draws.{words_of, site, customer, repeated, sites, customers}
+use Rattle.vr_gen.specs.Draws.{words_of, site, customer, repeated, drawn_sites, customers}
 use Rattle.vr_gen.specs.Generated.{generated, model_of}
 use Rattle.vr_gen.specs.Solved.{IsSolved}
 use Rattle.vr_gen.proofs.Repeating.{length_repeated}
@@ -59,7 +59,7 @@ module _ (sites : List Site) (customers : List Customer) where
   idle : MayStayIdle (model_read sites customers)
   idle = record {
     each_grouped = grouped;
-    each_penalty = list_all-map (λ group. has_penalty group.penalty) group_read (below 60) ∙ list_all-true (λ k. has_penalty (group_read k).penalty) (λ k. refl) (below 60);
+    each_penalty = list_all-map (λ group. is_penalty_given group.penalty) group_read (below 60) ∙ list_all-true (λ k. is_penalty_given (group_read k).penalty) (λ k. refl) (below 60);
   }
 
 -- the first solution is the construction's, where that is valid
@@ -83,7 +83,7 @@ solved sites customers path sites_all customers_all near modest =
 pub generated_models_are_solved : (number : ℕ) (path : List ℕ) → IsSolved (read_model path (generated number))
 unfolding generated
 generated_models_are_solved number path =
-    solved (sites number).0 (customers number) path
-    (length_repeated site 61 (words_of number)) (length_repeated customer 60 (sites number).1)
+    solved (drawn_sites number).0 (customers number) path
+    (length_repeated site 61 (words_of number)) (length_repeated customer 60 (drawn_sites number).1)
     (each_drawn IsNear site near_site 61 (words_of number))
-    (each_drawn IsModest customer modest_customer 60 (sites number).1)
+    (each_drawn IsModest customer modest_customer 60 (drawn_sites number).1)

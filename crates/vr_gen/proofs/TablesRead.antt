@@ -35,7 +35,7 @@ use Rattle.vr_read.specs.Visits.{group_node, group as group_of}
 use Rattle.vr_read.specs.Searches.{choices, default_search, search_row as search_of}
 use Rattle.vr_gen.specs.declared.draws.Site.{Site}
 use Rattle.vr_gen.specs.declared.draws.Customer.{Customer}
-use Rattle.vr_gen.specs.Generated.{apart, distance, row, matrix, values, vehicle, pause, rest, window, services, times, demand_of, loads, dimensions, group, search_row}
+use Rattle.vr_gen.specs.Generated.{apart, distance_entry, row, matrix, values, vehicle, pause, rest, window, services, times, demand_of, loads, dimensions, group, search_row}
 use Rattle.vr_json.specs.Trees.{count, listed}
 use Rattle.vr_gen.proofs.ExactReadings.{All-below, ReadsAs, step, whole_reads, below_reads, array_each, array_below, refuse_none}
 
@@ -73,9 +73,9 @@ module _ (n : ℕ) (sites : List Site) (all : length sites ≡ n) (near : All Is
 
   row_reads : (a : Site) → IsNear a → ReadsAs row_of (row sites) (row_read sites) a
   row_reads a h earlier path =
-      array_each entry_of (distance a) (λ b. pos (distance_read a b)) n n path sites (omega (arith, all)) (omega (arith, all)) (All-weaker IsNear (ReadsAs entry_of (distance a) (λ b. pos (distance_read a b))) each sites near)
+      array_each entry_of (distance_entry a) (λ b. pos (distance_read a b)) n n path sites (omega (arith, all)) (omega (arith, all)) (All-weaker IsNear (ReadsAs entry_of (distance_entry a) (λ b. pos (distance_read a b))) each sites near)
     where
-      each : (b : Site) → IsNear b → ReadsAs entry_of (distance a) (λ b. pos (distance_read a b)) b
+      each : (b : Site) → IsNear b → ReadsAs entry_of (distance_entry a) (λ b. pos (distance_read a b)) b
       each b k so_far path =
           let few = distance_few a b h k in
           whole_reads (distance_read a b) (omega (arith, few)) least_value greatest_cost path (omega (arith, ints)) (omega (arith, ints, few))

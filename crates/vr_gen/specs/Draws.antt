@@ -37,9 +37,9 @@ repeated next (suc n) words =
     (first.0 ∷ rest.0, rest.1)
 
 -- the sites of the 61 nodes
-abbrev pub sites : ℕ → List Site × Lcg
-sites number = repeated site 61 (words_of number)
+abbrev pub drawn_sites : ℕ → List Site × Lcg
+drawn_sites number = repeated site 61 (words_of number)
 
 -- the customers of nodes 1 to 60, drawn behind the sites
 abbrev pub customers : ℕ → List Customer
-customers number = (repeated customer 60 (sites number).1).0
+customers number = (repeated customer 60 (drawn_sites number).1).0

@@ -4,7 +4,7 @@ use Rattle.serde_json.specs.Data.{Data, string, array, object, boolean, no_membe
 use Rattle.serde_json.specs.View.{items_of}
 use Rattle.vr_model.specs.tables.Numbers.{below}
 use Rattle.vr_json.specs.Trees.{count, listed, one}
-use Rattle.vr_gen.specs.Draws.{sites, customers}
+use Rattle.vr_gen.specs.Draws.{drawn_sites, customers}
 use Rattle.vr_gen.specs.declared.draws.Site.{Site}
 use Rattle.vr_gen.specs.declared.draws.Customer.{Customer}
 
@@ -12,12 +12,12 @@ use Rattle.vr_gen.specs.declared.draws.Customer.{Customer}
 abbrev pub apart : ℕ → ℕ → ℕ
 apart m n = (m - n) + (n - m)
 
-abbrev pub distance : Site → Site → Data
-distance a b = count (apart a.x b.x + apart a.y b.y)
+abbrev pub distance_entry : Site → Site → Data
+distance_entry a b = count (apart a.x b.x + apart a.y b.y)
 
 -- the matrix of distances
 abbrev pub row : List Site → Site → Data
-row sites a = listed (distance a) sites
+row sites a = listed (distance_entry a) sites
 
 abbrev pub matrix : List Site → Data
 matrix sites = listed (row sites) sites
@@ -109,4 +109,4 @@ model_of sites customers = object
 
 -- the model of a number
 unfoldable pub generated : ℕ → Data
-generated n = model_of (sites n).0 (customers n)
+generated n = model_of (drawn_sites n).0 (customers n)

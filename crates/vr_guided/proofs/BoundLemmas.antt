@@ -19,7 +19,7 @@ use Rattle.vr_routes.specs.declared.pieces.Piece.{Piece}
 use Rattle.vr_routes.specs.Pieces.{IsSplice, joined}
 use Rattle.vr_guided.specs.Bounding.{AugmentedCostsAreBounded}
 use Rattle.vr_guided.specs.Counts.{AtMost}
-use Rattle.vr_guided.specs.Walks.{route_weight, stretch_weight, unused_weight, weight}
+use Rattle.vr_guided.specs.Walks.{route_weight, stretch_weight, unused_weight, arc_weight}
 use Rattle.vr_balance.specs.Sums.{last_of}
 use Rattle.vr_guided.proofs.PartLemmas.{bare, part_value, sums, used}
 use Rattle.vr_routes.proofs.JoinedPieces.{all_left, all_right}
@@ -31,14 +31,14 @@ most = 1000000000 * 1099511627776
 
 module _ (model : Model) (well : IsWellFormed model) (p : Penalties) (few : AtMost 1000000000 p) where
   weight-up_to : (v origin target : ℕ) → v < length model.vehicles → origin < model.nodes → target < model.nodes
-      → IsUpTo most (weight model p (record { vehicle = v; origin = origin; target = target }))
+      → IsUpTo most (arc_weight model p (record { vehicle = v; origin = origin; target = target }))
   weight-up_to v origin target known low next =
       let costs = arc_cost_in_range model well v origin target known low next in
       let often = few.each origin target in
       product-up_to 1000000000 1099511627776 (pos (p origin target)) _ (record { at_least = omega (arith, ints); at_most = omega (arith, ints, often) }) costs.at_most (inr costs.at_least)
 
   pub path-up_to : (v node : ℕ) (nodes : List ℕ) → v < length model.vehicles → node < model.nodes → All (λ x. x < model.nodes) nodes
-      → IsUpTo (length nodes * most) (total_by (weight model p) (arcs_from v node nodes))
+      → IsUpTo (length nodes * most) (total_by (arc_weight model p) (arcs_from v node nodes))
   path-up_to v node [] known low each = up_to-zero _
   path-up_to v node (next ∷ rest) known low each =
       let next_low = each 0 next (omega arith) in
@@ -111,8 +111,8 @@ module _ (model : Model) (well : IsWellFormed model) (p : Penalties) (few : AtMo
   whole_low : (front middle rest others : List ℕ) (next : ℕ) → rest ++ end ∷ [] ≡ next ∷ others → Below (front ++ (middle ++ rest))
       → pos 0 ≤ℤ (stretch_weight model p v (last_of start front) middle next -ℤ unused_weight model p v (length (front ++ (middle ++ rest))))
   whole_low [] [] [] others next e each =
-      less_itself _ _ (weight model p (record { vehicle = v; origin = start; target = end }))
-      (ap (λ x. weight model p (record { vehicle = v; origin = start; target = x }) +ℤ pos 0) (sym (same_head end next [] others e))) refl
+      less_itself _ _ (arc_weight model p (record { vehicle = v; origin = start; target = end }))
+      (ap (λ x. arc_weight model p (record { vehicle = v; origin = start; target = x }) +ℤ pos 0) (sym (same_head end next [] others e))) refl
   whole_low (x ∷ xs) middle rest others next e each = less_nothing _ _ (stretch_low (x ∷ xs) middle rest others next e each) (used model p v (length ((x ∷ xs) ++ (middle ++ rest))) (omega arith))
   whole_low [] (x ∷ xs) rest others next e each = less_nothing _ _ (stretch_low [] (x ∷ xs) rest others next e each) (used model p v (length ((x ∷ xs) ++ rest)) (omega arith))
   whole_low [] [] (x ∷ xs) others next e each = less_nothing _ _ (stretch_low [] [] (x ∷ xs) others next e each) (used model p v (length (x ∷ xs)) (omega arith))

@@ -12,7 +12,7 @@ use Rattle.vr_model.specs.declared.records.Model.{Model}
 use Rattle.vr_model.proofs.routes.Bounded.{up_to-more}
 use Rattle.vr_guided.specs.Counts.{AtMost}
 use Rattle.vr_guided.specs.Sums.{weight_back}
-use Rattle.vr_guided.specs.Walks.{walked, weight}
+use Rattle.vr_guided.specs.Walks.{walked, arc_weight}
 use Rattle.vr_balance.specs.Sums.{last_of}
 use Rattle.vr_guided.specs.declared.walks.Walk.{Walk}
 use Rattle.vr_guided.proofs.BoundLemmas.{last_below, most, path-up_to}
@@ -46,7 +46,7 @@ same_walk a b k l x y at arcs total = λ i. record { at = at i; arcs = arcs i; t
 
 -- where a walk through nodes ends, and what it adds up to
 pub walked-jump : (model : Model) (p : Penalties) (v : ℕ) (walk : Walk) (nodes : List ℕ)
-    → walked model p v walk nodes ≡ walk_of (last_of walk.at nodes) (walk.arcs + length nodes) (walk.total +ℤ along (weight model p) v walk.at nodes)
+    → walked model p v walk nodes ≡ walk_of (last_of walk.at nodes) (walk.arcs + length nodes) (walk.total +ℤ along (arc_weight model p) v walk.at nodes)
 walked-jump model p v walk nodes = λ i. record {
   at = node_walked model p v walk nodes i;
   arcs = arcs_walked model p v walk nodes i;
@@ -55,7 +55,7 @@ walked-jump model p v walk nodes = λ i. record {
 
 -- vehicles of the same arc costs add the same
 pub along-same : (model : Model) (p : Penalties) (v w : ℕ) → (vehicle_at model v).costs ≡ (vehicle_at model w).costs → (x : ℕ) (nodes : List ℕ)
-    → along (weight model p) v x nodes ≡ along (weight model p) w x nodes
+    → along (arc_weight model p) v x nodes ≡ along (arc_weight model p) w x nodes
 along-same model p v w same x [] = refl
 along-same model p v w same x (y ∷ ys) = ap₂ (λ a b. a +ℤ b) (ap (λ c. pos (p x y) *ℤ entry model c x y) same) (along-same model p v w same y ys)
 
@@ -64,7 +64,7 @@ pub record IsTurned (model : Model) (p : Penalties) (v x : ℕ) (nodes others : 
   pub is : reverse (x ∷ nodes) ≡ last_of x nodes ∷ others
   pub many : length nodes ≡ length others
   pub last : x ≡ last_of (last_of x nodes) others
-  pub sum : along (weight_back model p) v x nodes ≡ along (weight model p) v (last_of x nodes) others
+  pub sum : along (weight_back model p) v x nodes ≡ along (arc_weight model p) v (last_of x nodes) others
 
 pub turned : (model : Model) (p : Penalties) (v x : ℕ) (nodes : List ℕ) → (others : List ℕ) × IsTurned model p v x nodes others
 turned model p v x [] = ([], record { is = refl; many = refl; last = refl; sum = refl })
@@ -79,10 +79,10 @@ turned model p v x (y ∷ ys) =
         many = ap suc h.many ∙ (one_more (length others) ∙ sym (length-append others (x ∷ [])));
         last = sym (last_behind end x others);
         sum =
-            let split = along_split (weight model p) v end others (x ∷ []) in
-            let here : along (weight model p) v (last_of end others) (x ∷ []) ≡ weight model p (record { vehicle = v; origin = y; target = x }) +ℤ pos 0 = ap (λ z. along (weight model p) v z (x ∷ [])) (sym h.last) in
+            let split = along_split (arc_weight model p) v end others (x ∷ []) in
+            let here : along (arc_weight model p) v (last_of end others) (x ∷ []) ≡ arc_weight model p (record { vehicle = v; origin = y; target = x }) +ℤ pos 0 = ap (λ z. along (arc_weight model p) v z (x ∷ [])) (sym h.last) in
             let before = h.sum in
-            turned_sum (along (weight_back model p) v y ys) (weight model p (record { vehicle = v; origin = y; target = x })) (along (weight model p) v end others) (along (weight model p) v (last_of end others) (x ∷ [])) _ before here split;
+            turned_sum (along (weight_back model p) v y ys) (arc_weight model p (record { vehicle = v; origin = y; target = x })) (along (arc_weight model p) v end others) (along (arc_weight model p) v (last_of end others) (x ∷ [])) _ before here split;
       },
     )
   where
@@ -126,7 +126,7 @@ module _ (list : List ℕ) (from to : ℕ) (order : from < to) (high : to ≤ le
 
 -- what as many arcs add
 pub arcs-range : (model : Model) → IsWellFormed model → (p : Penalties) → AtMost 1000000000 p → (v : ℕ) → v < length model.vehicles → (x : ℕ) (nodes : List ℕ) (n : ℕ) (z : ℤ)
-    → All (λ node. node < model.nodes) (x ∷ nodes) → n ≡ length nodes → z ≡ along (weight model p) v x nodes → IsIn (pos 0) (pos (n * 2 ^ 70)) z
+    → All (λ node. node < model.nodes) (x ∷ nodes) → n ≡ length nodes → z ≡ along (arc_weight model p) v x nodes → IsIn (pos 0) (pos (n * 2 ^ 70)) z
 arcs-range model well p few v known x nodes n z below many is =
     let up = path-up_to model well p few v x nodes known (All-head (λ node. node < model.nodes) x nodes below) (All-tail (λ node. node < model.nodes) x nodes below) in
     subst (IsIn (pos 0) (pos (n * 2 ^ 70))) (sym is) (up_to-more _ up (more (length nodes) n many))
@@ -144,7 +144,7 @@ pub record AreJump (model : Model) (p : Penalties) (w : ℕ) (nodes : List ℕ) 
   pub is : nodes ≡ first ∷ others
   pub many : arcs ≡ length others
   pub ends : last ≡ last_of first others
-  pub sum : total ≡ along (weight model p) w first others
+  pub sum : total ≡ along (arc_weight model p) w first others
 
 module _ (model : Model) (p : Penalties) (v w : ℕ) (same : (vehicle_at model v).costs ≡ (vehicle_at model w).costs) (list : List ℕ) (from to : ℕ) (order : from < to) (high : to ≤ length list) where
   abbrev start : ℕ
@@ -159,14 +159,14 @@ module _ (model : Model) (p : Penalties) (v w : ℕ) (same : (vehicle_at model v
   abbrev low : ℕ
   low = get_or list from 0
 
-  pub kept-on : (total : ℤ) → total ≡ along (weight model p) v (last_of start (take (from + 1) (list ++ end ∷ []))) (slice_range (list ++ end ∷ []) (from + 1) to)
+  pub kept-on : (total : ℤ) → total ≡ along (arc_weight model p) v (last_of start (take (from + 1) (list ++ end ∷ []))) (slice_range (list ++ end ∷ []) (from + 1) to)
       → AreJump model p w (slice_range list from to) (get_or list from 0) (get_or list (to - 1) 0) (to - from - 1) total
   kept-on total is = record {
     others = xs;
     is = chain-first list from to order high;
     many = sym (chain-many list from to order high);
     ends = chain-last list from to order high 0;
-    sum = is ∙ (ap₂ (λ x ys. along (weight model p) v x ys) (chain-start list from to order high start end) (chain-line_nodes list from to order high end) ∙ along-same model p v w same low xs);
+    sum = is ∙ (ap₂ (λ x ys. along (arc_weight model p) v x ys) (chain-start list from to order high start end) (chain-line_nodes list from to order high end) ∙ along-same model p v w same low xs);
   }
 
   pub kept-back : (total : ℤ) → total ≡ along (weight_back model p) v (last_of start (take (from + 1) (list ++ end ∷ []))) (slice_range (list ++ end ∷ []) (from + 1) to)

@@ -19,10 +19,10 @@ use Rattle.vr_model.proofs.searches.SearchBounds.{guided_bound_unmet}
 use Rattle.vr_descent.specs.Searching.{events_after, move_event, scan_of, behind, standing}
 use Rattle.vr_descent.proofs.EndLemmas.{accepted_where, completed_where}
 use Rattle.vr_descent.proofs.GoingOn.{Goes, breaks_off, goes_as, goes_more}
-use Rattle.vr_watch.specs.Told.{Told, ToldInPart}
+use Rattle.vr_watch.specs.Told.{Reported, ReportedInPart}
 use Rattle.vr_guided.specs.Counts.{AtMost}
 use Rattle.vr_guided.specs.Guides.{makes_less}
-use Rattle.vr_guided.specs.Standing.{from_here}
+use Rattle.vr_guided.specs.Standing.{guided_from_here}
 use Rattle.vr_descent.specs.Incumbents.{kept}
 
 -- penalties of which none is greater than the tries rise by one at most, where one more was tried
@@ -34,26 +34,26 @@ few_raised model p lists used n one few = record { each = λ origin target. go (
     go false origin target low = omega (arith, low)
 
 module _ (model : Model) (limit : Limit) (lambda : Lambda) where
-  pub at_start : (lists : List (List ℕ)) → guided model lists limit lambda ≡ with_event (event_at model (begun lists) kind.First) (from_here model limit lambda no_penalties lists lists 0 1)
+  pub at_start : (lists : List (List ℕ)) → guided model lists limit lambda ≡ with_event (event_at model (begun lists) kind.First) (guided_from_here model limit lambda no_penalties lists lists 0 1)
   unfolding guided
   at_start lists = let all : limit.tries ≡ limit.tries - 0 = omega arith in
       ap (λ tries. with_event (event_at model (begun lists) kind.First) (guided_from model limit lambda (suc tries) no_penalties (begun lists))) all
 
   module _ (penalties : Penalties) (lists best : List (List ℕ)) (used found : ℕ) where
     -- enough solutions were found
-    pub enough : (found == limit.solutions) ≡ true → from_here model limit lambda penalties lists best used found ≡ ended (standing lists best used found) Solutions
+    pub enough : (found == limit.solutions) ≡ true → guided_from_here model limit lambda penalties lists best used found ≡ ended (standing lists best used found) Solutions
     unfolding guided_from
     enough e = rw (e, guided_from) refl
 
     -- else the moves are scanned
     scanned : (found == limit.solutions) ≡ false → (s : Scan) → scan_of model (makes_less model lambda penalties) limit lists used ≡ s
-        → from_here model limit lambda penalties lists best used found ≡ guided_on model limit (guided_from model limit lambda (limit.tries - used)) penalties (standing lists best used found) s
+        → guided_from_here model limit lambda penalties lists best used found ≡ guided_on model limit (guided_from model limit lambda (limit.tries - used)) penalties (standing lists best used found) s
     unfolding guided_from
     scanned e s h = rw (e, guided_from) (ap (guided_on model limit (guided_from model limit lambda (limit.tries - used)) penalties (standing lists best used found)) h)
 
     -- fewer scans do as well after some tries
     fewer : (more : Penalties) (n : ℕ) → 1 ≤ n → n ≤ limit.tries - used → (after kept : List (List ℕ)) (now : ℕ)
-        → guided_from model limit lambda (limit.tries - used) more (standing after kept (used + n) now) ≡ from_here model limit lambda more after kept (used + n) now
+        → guided_from model limit lambda (limit.tries - used) more (standing after kept (used + n) now) ≡ guided_from_here model limit lambda more after kept (used + n) now
     fewer more n one low after kept now = let scans = suc (limit.tries - (used + n)) in let rest = (limit.tries - used) - suc (limit.tries - (used + n)) in
         let sum : limit.tries - used ≡ scans + rest = omega (arith, one, low) in
         ap (λ k. guided_from model limit lambda k more (standing after kept (used + n) now)) sum
@@ -61,10 +61,10 @@ module _ (model : Model) (limit : Limit) (lambda : Lambda) where
 
     -- what is left of the search after a scan
     abbrev pub left_after : Scan → Outcome
-    left_after (accepted_as n mv) = from_here model limit lambda penalties (apply model lists mv) (cheaper model best (apply model lists mv)) (used + n) (found + 1)
+    left_after (accepted_as n mv) = guided_from_here model limit lambda penalties (apply model lists mv) (cheaper model best (apply model lists mv)) (used + n) (found + 1)
     left_after (complete n) = elim (is_at_end model (standing lists best used found) n) [
       | true ↦ ended (tried (standing lists best used found) n) Optimum
-      | false ↦ with_event (event_at model (tried (standing lists best used found) n) kind.Round) (from_here model limit lambda (raised model penalties lists) lists best (used + n) found)
+      | false ↦ with_event (event_at model (tried (standing lists best used found) n) kind.Round) (guided_from_here model limit lambda (raised model penalties lists) lists best (used + n) found)
     ]
     left_after cut = ended (tried (standing lists best used found) (limit.tries - used)) Tries
 
@@ -74,7 +74,7 @@ module _ (model : Model) (limit : Limit) (lambda : Lambda) where
 
     -- the penalties rise
     pub at_round : (n : ℕ) → is_at_end model (standing lists best used found) n ≡ false
-        → left_after (complete n) ≡ behind (event_at model (tried (standing lists best used found) n) kind.Round ∷ []) (from_here model limit lambda (raised model penalties lists) lists best (used + n) found)
+        → left_after (complete n) ≡ behind (event_at model (tried (standing lists best used found) n) kind.Round ∷ []) (guided_from_here model limit lambda (raised model penalties lists) lists best (used + n) found)
     at_round n e = rw (e, left_after) refl
 
     -- it takes a move to get to a round
@@ -86,7 +86,7 @@ module _ (model : Model) (limit : Limit) (lambda : Lambda) where
     some_moves (suc n) e = omega arith
 
     -- the search is the events of a scan, and what is left after it
-    pub on_scan : (found == limit.solutions) ≡ false → from_here model limit lambda penalties lists best used found
+    pub on_scan : (found == limit.solutions) ≡ false → guided_from_here model limit lambda penalties lists best used found
         ≡ behind (events_after model lists used (scan_of model (makes_less model lambda penalties) limit lists used)) (left_after (scan_of model (makes_less model lambda penalties) limit lists used))
     on_scan e = go (scan_of model (makes_less model lambda penalties) limit lists used) refl
       where
@@ -104,7 +104,7 @@ module _ (model : Model) (limit : Limit) (lambda : Lambda) where
             ∙ (ap (with_event (event_at model (tried (standing lists best used found) n) kind.Round)) (fewer (raised model penalties lists) n (some_moves n h) low lists best found)
             ∙ sym (at_round n h))
 
-        go : (s : Scan) → scan_of model (makes_less model lambda penalties) limit lists used ≡ s → from_here model limit lambda penalties lists best used found ≡ behind (events_after model lists used s) (left_after s)
+        go : (s : Scan) → scan_of model (makes_less model lambda penalties) limit lists used ≡ s → guided_from_here model limit lambda penalties lists best used found ≡ behind (events_after model lists used s) (left_after s)
         go (accepted_as n mv) h = let at = accepted_where model (makes_less model lambda penalties) lists (limit.tries - used) n mv h in
             scanned e (accepted_as n mv) h ∙ ap (with_event (move_event model lists mv (used + n))) (goes_on n mv at.from_one at.within)
         go (complete n) h = scanned e (complete n) h ∙ stuck n (completed_where model (makes_less model lambda penalties) lists (limit.tries - used) n h) (is_at_end model (standing lists best used found) n) refl
@@ -119,14 +119,14 @@ module _ (model : Model) (limit : Limit) (lambda : Lambda) (penalties : Penaltie
   told_by = events_after model lists used scan
 
   module _ {W : Type 0} (after : W → List Event → List ℕ) (whole : Outcome) (a b c : List W) (more : (found == limit.solutions) ≡ false)
-      (goes : Goes after whole (from_here model limit lambda penalties lists best used found) a b) where
+      (goes : Goes after whole (guided_from_here model limit lambda penalties lists best used found) a b) where
     on : Goes after whole (behind told_by (left_after model limit lambda penalties lists best used found scan)) a b
     on = goes_as after whole _ _ a b (on_scan model limit lambda penalties lists best used found more) goes
 
-    pub after_scan : Told after b c told_by → Goes after whole (left_after model limit lambda penalties lists best used found scan) a c
+    pub after_scan : Reported after b c told_by → Goes after whole (left_after model limit lambda penalties lists best used found scan) a c
     after_scan told = goes_more after whole _ told_by a b c on told
 
-    pub scan_in_part : ToldInPart after b c told_by → ToldInPart after a c whole.events
+    pub scan_in_part : ReportedInPart after b c told_by → ReportedInPart after a c whole.events
     scan_in_part told = breaks_off after whole _ told_by a b c on told
 
 pub few_more : (p : Penalties) (used more : ℕ) → used ≤ more → AtMost used p → AtMost more p

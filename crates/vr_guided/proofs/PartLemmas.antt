@@ -21,7 +21,7 @@ use Rattle.vr_model.specs.tables.WellFormed.{IsWellFormed}
 use Rattle.std.proofs.Math.IntN.{zero-*ℤ}
 use Rattle.vr_routes.proofs.PartLemmas.{part_is}
 use Rattle.vr_guided.specs.Parts.{IsPart, weight_change}
-use Rattle.vr_guided.specs.Walks.{route_weight, stretch_weight, unused_weight, weight}
+use Rattle.vr_guided.specs.Walks.{route_weight, stretch_weight, unused_weight, arc_weight}
 use Rattle.vr_balance.specs.Sums.{last_of}
 use Rattle.vr_guided.proofs.LocalChanges.{along, local_change, total_by_each}
 
@@ -43,7 +43,7 @@ module _ (model : Model) (p : Penalties) (v : ℕ) where
 
   -- a vehicle with visits does not go from its start to its end
   pub used : (len : ℕ) → 1 ≤ len → unused_weight model p v len ≡ pos 0
-  used len some = ap (λ b. cond b (weight model p (record { vehicle = v; origin = start; target = end })) (pos 0)) (differs len some)
+  used len some = ap (λ b. cond b (arc_weight model p (record { vehicle = v; origin = start; target = end })) (pos 0)) (differs len some)
     where
       differs : (len : ℕ) → 1 ≤ len → (len == 0) ≡ false
       differs len some = Prim.grind (arith, some)
@@ -64,12 +64,12 @@ module _ (model : Model) (p : Penalties) (v : ℕ) where
   part_value lists pieces middle front behind next others ends e =
       let list : List ℕ = route lists v in
       let new : List ℕ = joined lists pieces in
-      let w = weight model p in
-      let after : along (weight model p) v start (new ++ end ∷ []) ≡ along (weight model p) v start (take front list ++ (joined lists middle ++ next ∷ others))
-      = ap (along (weight model p) v start) (ap (λ xs. xs ++ end ∷ []) ends.joins ∙ joins_end (take front list) (joined lists middle) (drop behind list) others next e) in
-      let before : along (weight model p) v start (list ++ end ∷ []) ≡ along (weight model p) v start (take front list ++ (slice_range list front behind ++ next ∷ others))
-      = ap (along (weight model p) v start) (ap (λ xs. xs ++ end ∷ []) (three list front behind ends.order) ∙ joins_end (take front list) (slice_range list front behind) (drop behind list) others next e) in
-      let local = local_change (weight model p) v start next (take front list) (slice_range list front behind) (joined lists middle) others in
+      let w = arc_weight model p in
+      let after : along (arc_weight model p) v start (new ++ end ∷ []) ≡ along (arc_weight model p) v start (take front list ++ (joined lists middle ++ next ∷ others))
+      = ap (along (arc_weight model p) v start) (ap (λ xs. xs ++ end ∷ []) ends.joins ∙ joins_end (take front list) (joined lists middle) (drop behind list) others next e) in
+      let before : along (arc_weight model p) v start (list ++ end ∷ []) ≡ along (arc_weight model p) v start (take front list ++ (slice_range list front behind ++ next ∷ others))
+      = ap (along (arc_weight model p) v start) (ap (λ xs. xs ++ end ∷ []) (three list front behind ends.order) ∙ joins_end (take front list) (slice_range list front behind) (drop behind list) others next e) in
+      let local = local_change (arc_weight model p) v start next (take front list) (slice_range list front behind) (joined lists middle) others in
       omega (arith, ints, bare new, bare list, after, before, local)
 
 -- the lengths of the three parts of the new list
@@ -121,7 +121,7 @@ module _ (g : ℕ → List ℕ → ℤ) (lists : List (List ℕ)) (v : ℕ) (xs 
 module _ (model : Model) (p : Penalties) where
   -- what all arcs add up to, vehicle by vehicle
   pub sums : (lists : List (List ℕ)) → penalised model p lists ≡ total_by (λ v. route_weight model p v (route lists v)) (below (length lists))
-  sums lists = total_by_each (weight model p) (λ v. arcs_of model v (route lists v)) (vehicles lists)
+  sums lists = total_by_each (arc_weight model p) (λ v. arcs_of model v (route lists v)) (vehicles lists)
 
   -- one list is changed
   pub one_changed : (lists : List (List ℕ)) (v : ℕ) (xs : List ℕ) → v < length lists → penalised model p (slice_set lists v xs) -ℤ penalised model p lists ≡ route_weight model p v xs -ℤ route_weight model p v (route lists v)
@@ -226,7 +226,7 @@ total-none f (x ∷ xs) none = let here = none x in let rest = total-none f xs n
 
 -- where no arc was penalised, nothing is added
 unpenalised : (model : Model) (p : Penalties) (lists : List (List ℕ)) → p ≡ no_penalties → penalised model p lists ≡ pos 0
-unpenalised model p lists none = ap (λ q. penalised model q lists) none ∙ total-none (weight model no_penalties) (used_arcs model lists) (λ arc. zero-*ℤ (cost_of_arc model arc))
+unpenalised model p lists none = ap (λ q. penalised model q lists) none ∙ total-none (arc_weight model no_penalties) (used_arcs model lists) (λ arc. zero-*ℤ (cost_of_arc model arc))
 
 -- nor is anything changed
 pub unchanged : (model : Model) (p : Penalties) (lists after : List (List ℕ)) → p ≡ no_penalties → penalised model p after -ℤ penalised model p lists ≡ pos 0
@@ -237,4 +237,4 @@ unchanged model p lists after none =
 
 -- nor do the arcs of a vehicle add anything
 pub unweighed : (model : Model) (p : Penalties) (v : ℕ) (list : List ℕ) → p ≡ no_penalties → route_weight model p v list ≡ pos 0
-unweighed model p v list none = ap (λ q. route_weight model q v list) none ∙ total-none (weight model no_penalties) (arcs_of model v list) (λ arc. zero-*ℤ (cost_of_arc model arc))
+unweighed model p v list none = ap (λ q. route_weight model q v list) none ∙ total-none (arc_weight model no_penalties) (arcs_of model v list) (λ arc. zero-*ℤ (cost_of_arc model arc))

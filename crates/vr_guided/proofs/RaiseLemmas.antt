@@ -9,7 +9,7 @@ use Rattle.vr_model.specs.declared.records.Model.{Model}
 use Rattle.vr_descent.proofs.EndLemmas.{both}
 use Rattle.vr_guided.specs.declared.worths.Worth.{Worth}
 use Rattle.vr_guided.specs.Counts.{AtMost}
-use Rattle.vr_guided.specs.Worths.{worth_of, is_no_more, greatest, worthless, leads, increased, raised_once, raised_in_turn}
+use Rattle.vr_guided.specs.Worths.{worth_of, is_no_more, greatest_worth, worthless, leads, increased, raised_once, raised_in_turn}
 use Rattle.vr_guided.proofs.CountLemmas.{same_pair, increased_most}
 use Rattle.vr_guided.proofs.WorthLemmas.{beaten, tells, greatest_is, greatest_costs}
 
@@ -85,9 +85,9 @@ module _ (model : Model) (best : Worth) (some : int_lt (pos 0) best.cost ≡ tru
 
 -- raising the arcs one after the other is raising those of the greatest worth
 pub raised_all : (model : Model) (p : Penalties) (lists : List (List ℕ)) → has_costly_arc model lists ≡ true
-    → raised_in_turn model (greatest (worth_of model p) worthless (used_arcs model lists)) p (used_arcs model lists) ≡ raised model p lists
+    → raised_in_turn model (greatest_worth (worth_of model p) worthless (used_arcs model lists)) p (used_arcs model lists) ≡ raised model p lists
 raised_all model p lists costly =
-    in_turn model (greatest (worth_of model p) worthless (used_arcs model lists)) (greatest_costs (worth_of model p) (used_arcs model lists) costly) p (λ origin target. false) (used_arcs model lists)
+    in_turn model (greatest_worth (worth_of model p) worthless (used_arcs model lists)) (greatest_costs (worth_of model p) (used_arcs model lists) costly) p (λ origin target. false) (used_arcs model lists)
     (greatest_is (worth_of model p) (used_arcs model lists) costly)
     ∙ sym (λ i origin target. cond (list_any (λ arc. leads origin target arc && tells (worth_of model p) (used_arcs model lists) costly (worth_of model p arc) i) (used_arcs model lists)) (suc (p origin target)) (p origin target))
 

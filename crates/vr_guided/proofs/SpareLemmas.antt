@@ -31,7 +31,7 @@ use Rattle.vr_known.proofs.MemoryLemmas.{later_known, later_source}
 use Rattle.vr_descent.specs.Refused.{AreRefused}
 use Rattle.vr_guided.specs.Guides.{makes_less, penalised_change}
 use Rattle.vr_guided.specs.Sparing.{AreSpared, SparesKnown, StandsNowhereElse}
-use Rattle.vr_guided.specs.Walks.{route_weight, weight}
+use Rattle.vr_guided.specs.Walks.{route_weight, arc_weight}
 use Rattle.vr_guided.specs.Worths.{increased, is_no_more, leads, raised_in_turn, raised_once, worth_of}
 use Rattle.vr_guided.specs.declared.worths.Worth.{Worth}
 use Rattle.vr_guided.proofs.GuideLemmas.{makes_less_where}
@@ -159,11 +159,11 @@ module _ (model : Model) (v : ℕ) (low : v < length model.vehicles) where
 -- ---- sums along arcs between nodes of a kind
 
 module _ (model : Model) (p q : Penalties) (Meant : ℕ → Type 0) (same : (origin target : ℕ) → Meant origin → Meant target → q origin target ≡ p origin target) (v last : ℕ) where
-  same_weight : (at node : ℕ) → Meant at → Meant node → weight model q (record { vehicle = v; origin = at; target = node }) ≡ weight model p (record { vehicle = v; origin = at; target = node })
+  same_weight : (at node : ℕ) → Meant at → Meant node → arc_weight model q (record { vehicle = v; origin = at; target = node }) ≡ arc_weight model p (record { vehicle = v; origin = at; target = node })
   same_weight at node a b = ap (λ n. pos n *ℤ arc_cost model v at node) (same at node a b)
 
   same_from : (at : ℕ) (nodes : List ℕ) → Meant at → Meant last → ((x : ℕ) → IsTrue (holds nodes x) → Meant x)
-      → total_by (weight model q) (arcs_from v at (nodes ++ last ∷ [])) ≡ total_by (weight model p) (arcs_from v at (nodes ++ last ∷ []))
+      → total_by (arc_weight model q) (arcs_from v at (nodes ++ last ∷ [])) ≡ total_by (arc_weight model p) (arcs_from v at (nodes ++ last ∷ []))
   same_from at [] here ends each = ap (λ x. x +ℤ pos 0) (same_weight at last here ends)
   same_from at (node ∷ nodes) here ends each =
       let next = each node (or_left (node == node) _ (test_of_eq node node refl)) in
@@ -172,9 +172,9 @@ module _ (model : Model) (p q : Penalties) (Meant : ℕ → Type 0) (same : (ori
   same_route : (list : List ℕ) → (vehicle_at model v).end ≡ last → Meant (vehicle_at model v).start → Meant last → ((x : ℕ) → IsTrue (holds list x) → Meant x) → route_weight model q v list ≡ route_weight model p v list
   same_route [] is here ends each = refl
   same_route (node ∷ nodes) is here ends each =
-      ap (λ l. total_by (weight model q) (arcs_from v (vehicle_at model v).start ((node ∷ nodes) ++ l ∷ []))) is
+      ap (λ l. total_by (arc_weight model q) (arcs_from v (vehicle_at model v).start ((node ∷ nodes) ++ l ∷ []))) is
       ∙ same_from (vehicle_at model v).start (node ∷ nodes) here ends each
-      ∙ ap (λ l. total_by (weight model p) (arcs_from v (vehicle_at model v).start ((node ∷ nodes) ++ l ∷ []))) (sym is)
+      ∙ ap (λ l. total_by (arc_weight model p) (arcs_from v (vehicle_at model v).start ((node ∷ nodes) ++ l ∷ []))) (sym is)
 
 -- ---- a move of two vehicles
 

@@ -24,7 +24,7 @@ use Rattle.vr_descent.proofs.GoingOn.{Goes, goes_as}
 use Rattle.vr_descent.proofs.ScanGave.{Moved, RanOut, TriedAll, under_way_still}
 use Rattle.vr_guided.specs.Counts.{AtMost, counted}
 use Rattle.vr_guided.specs.Guides.{makes_less}
-use Rattle.vr_guided.specs.Standing.{Stands, from_here}
+use Rattle.vr_guided.specs.Standing.{GuidedStands, guided_from_here}
 use Rattle.vr_guided.specs.declared.searching.State.{State}
 use Rattle.vr_guided.proofs.GuidedLemmas.{at_end, at_round, few_more, left_after}
 
@@ -46,12 +46,12 @@ module _ (model : Model) (limit : Limit) (lambda : Lambda) (penalties : Penaltie
 
     -- a move was made, and these lists are kept
     pub goes_moved : (place : ℕ) (mv : Move) (kept : List (List ℕ)) → Moved model takes limit routes tours at now place mv → kept ≡ cheaper model best tours.lists
-        → Goes after whole (from_here model limit lambda penalties tours.lists kept now.used now.found) old new
+        → Goes after whole (guided_from_here model limit lambda penalties tours.lists kept now.used now.found) old new
     goes_moved place mv kept gave keeps =
         let made = goes_as after whole _ _ old new (ap left gave.scanned) goes in
-        let there = ap (λ r. from_here model limit lambda penalties r.lists (cheaper model best r.lists) (at.used + place) (at.found + 1)) (sym gave.routes_are) in
-        let counted_on = ap (λ p. from_here model limit lambda penalties tours.lists (cheaper model best tours.lists) p.used p.found) (sym gave.at_is) in
-        goes_as after whole _ _ old new (there ∙ counted_on ∙ ap (λ b. from_here model limit lambda penalties tours.lists b now.used now.found) (sym keeps)) made
+        let there = ap (λ r. guided_from_here model limit lambda penalties r.lists (cheaper model best r.lists) (at.used + place) (at.found + 1)) (sym gave.routes_are) in
+        let counted_on = ap (λ p. guided_from_here model limit lambda penalties tours.lists (cheaper model best tours.lists) p.used p.found) (sym gave.at_is) in
+        goes_as after whole _ _ old new (there ∙ counted_on ∙ ap (λ b. guided_from_here model limit lambda penalties tours.lists b now.used now.found) (sym keeps)) made
 
     module _ (n : ℕ) (gave : TriedAll model takes limit routes tours at now n) where
       -- no penalty can help
@@ -60,7 +60,7 @@ module _ (model : Model) (limit : Limit) (lambda : Lambda) (penalties : Penaltie
 
       -- the penalties rise
       pub goes_to_round : is_at_end model (standing routes.lists best at.used at.found) n ≡ false
-          → Goes after whole (behind (event_at model (tried (standing routes.lists best at.used at.found) n) kind.Round ∷ []) (from_here model limit lambda (raised model penalties routes.lists) routes.lists best (at.used + n) at.found)) old new
+          → Goes after whole (behind (event_at model (tried (standing routes.lists best at.used at.found) n) kind.Round ∷ []) (guided_from_here model limit lambda (raised model penalties routes.lists) routes.lists best (at.used + n) at.found)) old new
       goes_to_round ends = left_as (complete n) _ gave.scanned (at_round model limit lambda penalties routes.lists best at.used at.found n ends)
 
     -- the tries ran out
@@ -72,7 +72,7 @@ module _ (model : Model) (limit : Limit) (lambda : Lambda) (penalties : Penaltie
 -- a scan that makes no move leaves the routes as they are, and only the tries are counted
 module _ (model : Model) (limit : Limit) (routes tours : Tours) (state : State) (now : Progress) (used : ℕ)
     (routes_are : tours ≡ routes) (at_is : now ≡ record { used = used; found = state.at.found; cost = state.at.cost }) where
-  pub stands_still : (committed judged : List (List ℕ)) → Stands model limit committed routes state → HoldSame model judged tours → state.at.used ≤ used → used ≤ limit.tries → Stands model limit judged tours (record state { at = now })
+  pub stands_still : (committed judged : List (List ℕ)) → GuidedStands model limit committed routes state → HoldSame model judged tours → state.at.used ≤ used → used ≤ limit.tries → GuidedStands model limit judged tours (record state { at = now })
   stands_still committed judged stands holds more low =
       let used_new = ap (λ p. p.used) at_is in
       record {
@@ -90,5 +90,5 @@ module _ (model : Model) (limit : Limit) (routes tours : Tours) (state : State) 
       (subst (λ p. HasStopped after whole routes.lists p state.best old new stop) (sym at_is) (stops after whole routes.lists (record { used = used; found = state.at.found; cost = state.at.cost }) state.best old new stop goes))
 
 -- no arc was penalised more often than there may be tries
-pub few_stand : (model : Model) (limit : Limit) (committed : List (List ℕ)) (routes : Tours) (state : State) → Stands model limit committed routes state → limit.tries ≤ 1000000000 → AtMost 1000000000 (counted state.penalties)
+pub few_stand : (model : Model) (limit : Limit) (committed : List (List ℕ)) (routes : Tours) (state : State) → GuidedStands model limit committed routes state → limit.tries ≤ 1000000000 → AtMost 1000000000 (counted state.penalties)
 few_stand model limit committed routes state stands most = let low = stands.going.used in few_more (counted state.penalties) state.at.used 1000000000 (omega (arith, low, most)) stands.few

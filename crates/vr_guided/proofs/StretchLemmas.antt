@@ -12,7 +12,7 @@ use Rattle.vr_model.specs.declared.records.Model.{Model}
 use Rattle.vr_model.proofs.routes.Bounded.{up_to-more}
 use Rattle.vr_guided.specs.Counts.{AtMost}
 use Rattle.vr_guided.specs.Sums.{weight_by}
-use Rattle.vr_guided.specs.Walks.{stretch_weight, weight}
+use Rattle.vr_guided.specs.Walks.{stretch_weight, arc_weight}
 use Rattle.vr_balance.specs.Sums.{last_of, line_nodes}
 use Rattle.vr_guided.proofs.BoundLemmas.{last_below, most, path-up_to}
 use Rattle.vr_guided.proofs.LocalChanges.{along}
@@ -33,7 +33,7 @@ module _ (model : Model) (well : IsWellFormed model) (p : Penalties) (few : AtMo
 
   -- the stretch from the node before it to the next one
   pub stretch-value : (next : ℕ) (others : List ℕ) → drop behind list ++ end ∷ [] ≡ next ∷ others → z ≡ stretch_weight model p v (last_of start (take front list)) (slice_range list front behind) next
-  stretch-value next others first = is ∙ ap₂ (λ xs ys. along (weight model p) v (last_of start xs) ys) same_front (stretch-line_nodes front behind end next list others order high first)
+  stretch-value next others first = is ∙ ap₂ (λ xs ys. along (arc_weight model p) v (last_of start xs) ys) same_front (stretch-line_nodes front behind end next list others order high first)
 
   pub stretch-range : IsIn (pos 0) (pos (1001 * 2 ^ 70)) z
   stretch-range =

@@ -10,7 +10,7 @@ use Rattle.vr_routes.specs.Pieces.{joined, nodes_of}
 use Rattle.vr_routes.proofs.JoinedPieces.{all_left, all_right}
 use Rattle.vr_routes.specs.declared.pieces.Piece.{Piece}
 use Rattle.vr_guided.specs.declared.walks.Walk.{Walk}
-use Rattle.vr_guided.specs.Walks.{weight, stepped, stretch_weight, walked, begun}
+use Rattle.vr_guided.specs.Walks.{arc_weight, stepped, stretch_weight, walked, walk_begun}
 use Rattle.vr_balance.specs.Sums.{last_of}
 use Rattle.vr_guided.proofs.LocalChanges.{along, last_behind}
 
@@ -57,20 +57,20 @@ module _ (model : Model) (p : Penalties) (v : ℕ) where
   node_walked walk [] = refl
   node_walked walk (x ∷ xs) = node_walked (stepped model p v walk x) xs
 
-  pub total_walked : (walk : Walk) (nodes : List ℕ) → (walked model p v walk nodes).total ≡ walk.total +ℤ along (weight model p) v walk.at nodes
+  pub total_walked : (walk : Walk) (nodes : List ℕ) → (walked model p v walk nodes).total ≡ walk.total +ℤ along (arc_weight model p) v walk.at nodes
   total_walked walk [] = omega (arith, ints)
   total_walked walk (x ∷ xs) = let h = total_walked (stepped model p v walk x) xs in omega (arith, ints, h)
 
   -- the total of a walk from a node through nodes to a last one
-  pub total_to : (from next : ℕ) (nodes : List ℕ) → (stepped model p v (walked model p v (begun from) nodes) next).total ≡ along (weight model p) v from (nodes ++ next ∷ [])
-  total_to from next nodes = ap (λ walk. walk.total) (sym (walked_more (begun from) nodes (next ∷ []))) ∙ (total_walked (begun from) (nodes ++ next ∷ []) ∙ nothing (along (weight model p) v from (nodes ++ next ∷ [])))
+  pub total_to : (from next : ℕ) (nodes : List ℕ) → (stepped model p v (walked model p v (walk_begun from) nodes) next).total ≡ along (arc_weight model p) v from (nodes ++ next ∷ [])
+  total_to from next nodes = ap (λ walk. walk.total) (sym (walked_more (walk_begun from) nodes (next ∷ []))) ∙ (total_walked (walk_begun from) (nodes ++ next ∷ []) ∙ nothing (along (arc_weight model p) v from (nodes ++ next ∷ [])))
     where
       nothing : (x : ℤ) → pos 0 +ℤ x ≡ x
       nothing x = omega (arith, ints)
 
-  module _ (from next : ℕ) (nodes : List ℕ) (walk last : Walk) (goes : walk ≡ walked model p v (begun from) nodes) (ends : last ≡ stepped model p v walk next) where
+  module _ (from next : ℕ) (nodes : List ℕ) (walk last : Walk) (goes : walk ≡ walked model p v (walk_begun from) nodes) (ends : last ≡ stepped model p v walk next) where
     pub stretch_arcs : walk.arcs ≡ length nodes
-    stretch_arcs = let arcs = ap (λ w. w.arcs) goes ∙ arcs_walked (begun from) nodes in omega (arith, arcs)
+    stretch_arcs = let arcs = ap (λ w. w.arcs) goes ∙ arcs_walked (walk_begun from) nodes in omega (arith, arcs)
 
     pub stretch_total : last.total ≡ stretch_weight model p v from nodes next
     stretch_total = ap (λ w. w.total) (ends ∙ ap (λ w. stepped model p v w next) goes) ∙ total_to from next nodes

@@ -6,7 +6,7 @@ use Rattle.std.proofs.Math.Nat.{mul-le-mul_right, le_of_mul-le-mul_left}
 use Rattle.std.proofs.lemmas.Int.{ints}
 use Rattle.vr_model.specs.routes.Routes.{UsedArc}
 use Rattle.vr_guided.specs.declared.worths.Worth.{Worth}
-use Rattle.vr_guided.specs.Worths.{is_no_more, greater, greatest, worthless}
+use Rattle.vr_guided.specs.Worths.{is_no_more, greater, greatest_worth, worthless}
 use Rattle.vr_descent.proofs.EndLemmas.{both}
 
 -- a / x ≤ b / y and b / y ≤ c / z give a / x ≤ c / z
@@ -122,19 +122,19 @@ instead false true b h = refl
 instead false false b h = refl
 
 module _ (worth : UsedArc → Worth) where
-  pub greatest_more : (best : Worth) (xs ys : List UsedArc) → greatest worth best (xs ++ ys) ≡ greatest worth (greatest worth best xs) ys
+  pub greatest_more : (best : Worth) (xs ys : List UsedArc) → greatest_worth worth best (xs ++ ys) ≡ greatest_worth worth (greatest_worth worth best xs) ys
   greatest_more best [] ys = refl
   greatest_more best (x ∷ xs) ys = greatest_more (greater best (worth x)) xs ys
 
   -- no arc is worth more than x exactly where the greatest is not
-  none_is_more : (x best : Worth) (arcs : List UsedArc) → (list_all (λ arc. is_no_more (worth arc) x) arcs && is_no_more best x) ≡ is_no_more (greatest worth best arcs) x
+  none_is_more : (x best : Worth) (arcs : List UsedArc) → (list_all (λ arc. is_no_more (worth arc) x) arcs && is_no_more best x) ≡ is_no_more (greatest_worth worth best arcs) x
   none_is_more x best [] = refl
   none_is_more x best (arc ∷ arcs) = go (is_no_more (worth arc) best) refl (none_is_more x best arcs) (none_is_more x (worth arc) arcs)
     where
       go : (b : Bool) → is_no_more (worth arc) best ≡ b
-          → (list_all (λ arc. is_no_more (worth arc) x) arcs && is_no_more best x) ≡ is_no_more (greatest worth best arcs) x
-          → (list_all (λ arc. is_no_more (worth arc) x) arcs && is_no_more (worth arc) x) ≡ is_no_more (greatest worth (worth arc) arcs) x
-          → ((is_no_more (worth arc) x && list_all (λ arc. is_no_more (worth arc) x) arcs) && is_no_more best x) ≡ is_no_more (greatest worth (cond b best (worth arc)) arcs) x
+          → (list_all (λ arc. is_no_more (worth arc) x) arcs && is_no_more best x) ≡ is_no_more (greatest_worth worth best arcs) x
+          → (list_all (λ arc. is_no_more (worth arc) x) arcs && is_no_more (worth arc) x) ≡ is_no_more (greatest_worth worth (worth arc) arcs) x
+          → ((is_no_more (worth arc) x && list_all (λ arc. is_no_more (worth arc) x) arcs) && is_no_more best x) ≡ is_no_more (greatest_worth worth (cond b best (worth arc)) arcs) x
       go true e h k = all_but (is_no_more (worth arc) x) (list_all (λ arc. is_no_more (worth arc) x) arcs) (is_no_more best x) (λ g. no_more_trans (worth arc) best x e g) ∙ h
       go false e h k = instead (is_no_more (worth arc) x) (list_all (λ arc. is_no_more (worth arc) x) arcs) (is_no_more best x) (λ g. no_more_trans best (worth arc) x (no_more_total (worth arc) best e) g) ∙ k
 
@@ -159,7 +159,7 @@ module _ (worth : UsedArc → Worth) where
 
   module _ (arcs : List UsedArc) (some : list_any (λ arc. int_lt (pos 0) (worth arc).cost) arcs ≡ true) where
     -- no arc is worth more than x exactly where the greatest is not
-    pub tells : (x : Worth) → list_all (λ arc. is_no_more (worth arc) x) arcs ≡ is_no_more (greatest worth worthless arcs) x
+    pub tells : (x : Worth) → list_all (λ arc. is_no_more (worth arc) x) arcs ≡ is_no_more (greatest_worth worth worthless arcs) x
     tells x = go (list_all (λ arc. is_no_more (worth arc) x) arcs) refl ∙ none_is_more x worthless arcs
       where
         go : (all : Bool) → list_all (λ arc. is_no_more (worth arc) x) arcs ≡ all → all ≡ (all && is_no_more worthless x)
@@ -167,9 +167,9 @@ module _ (worth : UsedArc → Worth) where
         go false e = refl
 
     -- no arc is worth more than the greatest
-    pub greatest_is : list_all (λ arc. is_no_more (worth arc) (greatest worth worthless arcs)) arcs ≡ true
-    greatest_is = tells (greatest worth worthless arcs) ∙ no_more_refl (greatest worth worthless arcs)
+    pub greatest_is : list_all (λ arc. is_no_more (worth arc) (greatest_worth worth worthless arcs)) arcs ≡ true
+    greatest_is = tells (greatest_worth worth worthless arcs) ∙ no_more_refl (greatest_worth worth worthless arcs)
 
     -- the greatest has a cost
-    pub greatest_costs : int_lt (pos 0) (greatest worth worthless arcs).cost ≡ true
-    greatest_costs = some_cost (greatest worth worthless arcs) arcs some greatest_is
+    pub greatest_costs : int_lt (pos 0) (greatest_worth worth worthless arcs).cost ≡ true
+    greatest_costs = some_cost (greatest_worth worth worthless arcs) arcs some greatest_is

@@ -2,6 +2,6 @@
 use Rattle.std.specs.Prelude.{◌≡◌, ℕ, List, ◌∷◌}
 
 -- a node is the first of some nodes
-pub record IsNext (node : ℕ) (nodes : List ℕ) : Type 0 where
+pub record IsFirstOf (node : ℕ) (nodes : List ℕ) : Type 0 where
   pub others : List ℕ
   pub first : nodes ≡ node ∷ others

@@ -22,7 +22,7 @@ pub record AreLimits (limit : Limit) (lambda : Lambda) : Type 0 where
   pub q_to_1000 : lambda.q ≤ℤ pos 1000
 
 -- what guided search begins with: these routes are the best, they cost what is known there, and no arc was penalised
-pub record IsBegun (model : Model) (routes : Tours) (at : Progress) (state : State) : Type 0 where
+pub record IsGuidedBegun (model : Model) (routes : Tours) (at : Progress) (state : State) : Type 0 where
   pub at_is : state.at ≡ at
   pub best_is : state.best ≡ record { routes = routes; cost = at.cost }
   pub none : counted state.penalties ≡ no_penalties
@@ -31,7 +31,7 @@ pub record IsBegun (model : Model) (routes : Tours) (at : Progress) (state : Sta
 
 -- the search is under way; no arc was penalised more often than a move was tried; each arc has a count; and each
 -- vehicle has sums
-pub record Stands (model : Model) (limit : Limit) (committed : List (List ℕ)) (routes : Tours) (state : State) :
+pub record GuidedStands (model : Model) (limit : Limit) (committed : List (List ℕ)) (routes : Tours) (state : State) :
     Type 0 where
   pub going : IsUnderWay model limit committed routes state.at state.best
   pub few : AtMost state.at.used (counted state.penalties)
@@ -39,11 +39,12 @@ pub record Stands (model : Model) (limit : Limit) (committed : List (List ℕ)) 
   pub route_sums : length state.route_sums ≡ length model.vehicles
 
 -- guided search from there, by one scan more than there are tries left
-abbrev pub from_here : Model → Limit → Lambda → Penalties → List (List ℕ) → List (List ℕ) → ℕ → ℕ → Outcome
-from_here model limit lambda penalties lists best used found =
+abbrev pub guided_from_here : Model → Limit → Lambda → Penalties → List (List ℕ) → List (List ℕ) → ℕ → ℕ → Outcome
+guided_from_here model limit lambda penalties lists best used found =
     guided_from model limit lambda (suc (limit.tries - used)) penalties (standing lists best used found)
 
 -- the same from where the code stands
-abbrev pub from_state : Model → Limit → Lambda → List (List ℕ) → State → Outcome
-from_state model limit lambda lists state =
-    from_here model limit lambda (counted state.penalties) lists state.best.routes.lists state.at.used state.at.found
+abbrev pub guided_from_state : Model → Limit → Lambda → List (List ℕ) → State → Outcome
+guided_from_state model limit lambda lists state =
+    guided_from_here model limit lambda (counted state.penalties) lists state.best.routes.lists state.at.used
+    state.at.found

@@ -6,15 +6,19 @@ use Rattle.vr_model.specs.tables.WellFormed.{IsIn}
 use Rattle.vr_model.specs.routes.Routes.{UsedArc, arcs_from}
 use Rattle.vr_model.specs.search.GuidedSearches.{Penalties}
 use Rattle.vr_model.specs.declared.records.Model.{Model}
-use Rattle.vr_guided.specs.Walks.{weight}
+use Rattle.vr_guided.specs.Walks.{arc_weight}
 
 -- what an arc adds that is taken from its target back to its origin
 abbrev pub weight_back : Model → Penalties → UsedArc → ℤ
-weight_back model p arc = weight model p (record { vehicle = arc.vehicle; origin = arc.target; target = arc.origin })
+weight_back model p arc = arc_weight model p (record {
+  vehicle = arc.vehicle;
+  origin = arc.target;
+  target = arc.origin;
+})
 
 -- what an arc adds that is taken on, or back
 abbrev pub weight_by : Model → Penalties → Bool → UsedArc → ℤ
-weight_by model p back = cond back (weight_back model p) (weight model p)
+weight_by model p back = cond back (weight_back model p) (arc_weight model p)
 
 -- each sum is one of as many arcs as stand before it
 abbrev pub HaveWideRange : List ℤ → Type 0

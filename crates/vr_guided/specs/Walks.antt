@@ -8,19 +8,19 @@ use Rattle.vr_model.specs.declared.records.Model.{Model}
 use Rattle.vr_guided.specs.declared.walks.Walk.{Walk}
 
 -- what an arc adds: its cost times its penalty
-abbrev pub weight : Model → Penalties → UsedArc → ℤ
-weight model penalties arc = pos (penalty_of penalties arc) *ℤ cost_of_arc model arc
+abbrev pub arc_weight : Model → Penalties → UsedArc → ℤ
+arc_weight model penalties arc = pos (penalty_of penalties arc) *ℤ cost_of_arc model arc
 
 -- what the arcs of vehicle v with this list add up to
 abbrev pub route_weight : Model → Penalties → ℕ → List ℕ → ℤ
-route_weight model penalties v list = total_by (weight model penalties) (arcs_of model v list)
+route_weight model penalties v list = total_by (arc_weight model penalties) (arcs_of model v list)
 
 -- a walk goes on to a node
 abbrev pub stepped : Model → Penalties → ℕ → Walk → ℕ → Walk
 stepped model penalties v walk node = record {
   at = node;
   arcs = walk.arcs + 1;
-  total = walk.total +ℤ weight model penalties (record { vehicle = v; origin = walk.at; target = node });
+  total = walk.total +ℤ arc_weight model penalties (record { vehicle = v; origin = walk.at; target = node });
 }
 
 -- a walk goes on through nodes
@@ -29,8 +29,8 @@ walked model penalties v walk [] = walk
 walked model penalties v walk (node ∷ nodes) = walked model penalties v (stepped model penalties v walk node) nodes
 
 -- a walk that begins at a node
-abbrev pub begun : ℕ → Walk
-begun node = record { at = node; arcs = 0; total = pos 0 }
+abbrev pub walk_begun : ℕ → Walk
+walk_begun node = record { at = node; arcs = 0; total = pos 0 }
 
 -- the walk stands at a node below n, and each arc added at most 2^70
 pub record IsSoundWalk (n : ℕ) (walk : Walk) : Type 0 where
@@ -41,11 +41,11 @@ pub record IsSoundWalk (n : ℕ) (walk : Walk) : Type 0 where
 -- what the arcs of vehicle v add up to from a node through others to a last one
 abbrev pub stretch_weight : Model → Penalties → ℕ → ℕ → List ℕ → ℕ → ℤ
 stretch_weight model penalties v start nodes next =
-    total_by (weight model penalties) (arcs_from v start (nodes ++ next ∷ []))
+    total_by (arc_weight model penalties) (arcs_from v start (nodes ++ next ∷ []))
 
 -- what the arc from the start of vehicle v to its end would add where it has no visits
 abbrev pub unused_weight : Model → Penalties → ℕ → ℕ → ℤ
 unused_weight model penalties v len =
     let ends = vehicle_at model v in
     let bare : UsedArc = record { vehicle = v; origin = ends.start; target = ends.end } in
-    cond (len == 0) (weight model penalties bare) (pos 0)
+    cond (len == 0) (arc_weight model penalties bare) (pos 0)

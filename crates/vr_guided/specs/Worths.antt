@@ -18,9 +18,9 @@ abbrev pub greater : Worth → Worth → Worth
 greater best worth = cond (is_no_more worth best) best worth
 
 -- the greatest of a worth and those of some arcs, the first of equally great ones
-abbrev pub greatest : (UsedArc → Worth) → Worth → List UsedArc → Worth
-greatest worth best [] = best
-greatest worth best (arc ∷ arcs) = greatest worth (greater best (worth arc)) arcs
+abbrev pub greatest_worth : (UsedArc → Worth) → Worth → List UsedArc → Worth
+greatest_worth worth best [] = best
+greatest_worth worth best (arc ∷ arcs) = greatest_worth worth (greater best (worth arc)) arcs
 
 -- no cost at all
 abbrev pub worthless : Worth

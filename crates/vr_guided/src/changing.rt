@@ -4,7 +4,7 @@ ghost use Rattle.std.proofs.Props.{props};
 ghost use Rattle.std.specs.Prelude.{◌≡◌, ◌<◌, ◌≤◌, ◌-ℤ◌, ◌+ℤ◌, ◌≤ℤ◌, ◌^◌, negsuc, ◌∷◌, ◌++◌, [], IsTrue, ◌*◌};
 ghost use Rattle.std.specs.Prelude.{All, ℕ, drop, length, pos, take, unsigned_abs};
 ghost use Rattle.vr_guided.specs.Counts.{counted};
-ghost use Rattle.vr_guided.specs.Nexts.{IsNext};
+ghost use Rattle.vr_guided.specs.Nexts.{IsFirstOf};
 ghost use Rattle.vr_guided.specs.Parts.{IsPart, IsWithin-prop, weight_change};
 ghost use Rattle.vr_guided.specs.RouteSums.{AreAllRouteSums};
 ghost use Rattle.vr_guided.specs.Savings.{touched_weight};
@@ -40,7 +40,7 @@ fn node_before(list: &[u32], place: u32, start: u32) -> u32
 #[inline]
 fn node_from(list: &[u32], place: u32, end: u32) -> u32
     requires { place ≤ length list.now }
-    ensures node { IsNext result (drop place list.now ++ end ∷ []) }
+    ensures node { IsFirstOf result (drop place list.now ++ end ∷ []) }
     ensures below { (n : ℕ) → end < n → All (λ node. node < n) list.now → result < n }
 {
     if place as usize == list.len() {

@@ -3,7 +3,7 @@
 ghost use Rattle.std.specs.Prelude.{◌≡◌, ◌<◌, ◌+◌, ◌*◌, ℕ, false, IsTrue, List};
 ghost use Rattle.vr_guided.specs.Counts.{AreUpTo, AtMost, counted};
 ghost use Rattle.vr_guided.specs.Sparing.{SparesKnown};
-ghost use Rattle.vr_guided.specs.Worths.{greatest, raised_in_turn, raised_once, worth_of, worthless};
+ghost use Rattle.vr_guided.specs.Worths.{greatest_worth, raised_in_turn, raised_once, worth_of, worthless};
 ghost use Rattle.vr_known.specs.Blocks.{AreSettled, Learns, is_known};
 ghost use Rattle.vr_model.specs.search.GuidedSearches.{has_costly_arc, raised, Penalties as Raised};
 ghost use Rattle.vr_model.specs.routes.Routes.{arcs_of, route, used_arcs};
@@ -67,7 +67,7 @@ impl Penalties {
         requires valid { IsTrue (is_valid closed.model.now routes.now.lists) }
         requires covers { self.now.nodes ≡ closed.model.now.nodes }
         ensures { result
-            ≡ greatest (worth_of closed.entry.model.now (counted self.now)) worthless
+            ≡ greatest_worth (worth_of closed.entry.model.now (counted self.now)) worthless
             (used_arcs closed.entry.model.now routes.now.lists) }
     {
         let mut best = Worth {
@@ -89,7 +89,7 @@ impl Penalties {
     fn greatest_in(&self, list: &VehicleList<'_, '_>, so_far: Worth) -> Worth
         requires { self.now.nodes ≡ list.now.closed.model.now.nodes }
         ensures { result
-            ≡ greatest (worth_of list.now.closed.model.now (counted self.now)) so_far
+            ≡ greatest_worth (worth_of list.now.closed.model.now (counted self.now)) so_far
             (arcs_of list.now.closed.model.now list.now.vehicle list.now.nodes.now) }
     {
         let nodes = list.nodes;

@@ -3,12 +3,12 @@
 ghost use Rattle.std.specs.Prelude.{◌≡◌, ◌==◌, ◌||◌, not, ◌≤ℤ◌, pos, IsTrue, IfOk, OnOk, OnErr};
 ghost use Rattle.vr_descent.specs.Asking.{AsksFor, AsksOn};
 ghost use Rattle.vr_descent.specs.Ending.{CanBegin, HasEnded, HasStopped};
-ghost use Rattle.vr_guided.specs.Standing.{AreLimits, IsBegun, Stands, from_state};
+ghost use Rattle.vr_guided.specs.Standing.{AreLimits, IsGuidedBegun, GuidedStands, guided_from_state};
 ghost use Rattle.vr_model.specs.search.GuidedSearches.{guided, has_costly_arc};
 ghost use Rattle.vr_model.specs.routes.Rules.{is_valid};
 ghost use Rattle.vr_model.specs.tables.WellFormed.{IsWellFormed};
 ghost use Rattle.vr_routes.specs.Judging.{HoldSame};
-ghost use Rattle.vr_watch.specs.Told.{ToldInPart};
+ghost use Rattle.vr_watch.specs.Told.{ReportedInPart};
 
 use crate::costly::has_costly_arc;
 use crate::guiding::Guiding;
@@ -73,7 +73,7 @@ pub fn guide<J: Judge, L: Ledger>(
 
     ensures judge_model { J.model judge.new ≡ model.now }
     ensures holds { HoldSame model.now (J.committed judge.new) routes.new }
-    ensures told_in_part { OnErr result (ToldInPart (λ w later. after w later) watch.old.items watch.new.items
+    ensures told_in_part { OnErr result (ReportedInPart (λ w later. after w later) watch.old.items watch.new.items
         (guided model.now routes.old.lists limit lambda).events) }
     ensures asked_at_most { OnErr result (AsksFor J.asked J.looked judge.old judge.new limit.tries) }
 {
@@ -111,7 +111,7 @@ impl State {
         routes: &Routes,
         at: Progress,
     ) -> Result<State, NoMemory>
-        ensures { IfOk result (IsBegun closed.entry.model.now routes.now at) }
+        ensures { IfOk result (IsGuidedBegun closed.entry.model.now routes.now at) }
     {
         let penalties = Penalties::new(alloc, closed.model.nodes)?;
         let route_sums = AllRouteSums::new(alloc, closed.model)?;
@@ -147,19 +147,19 @@ fn improve<J: Judge, L: Ledger>(
 ) -> Result<End, NoMemory>
     requires judge_model { J.model judge.old ≡ closed.model.now }
     requires limits { AreLimits bounds.limit bounds.lambda }
-    requires stands { Stands closed.model.now bounds.limit (J.committed judge.old) routes.old state.old }
+    requires stands { GuidedStands closed.model.now bounds.limit (J.committed judge.old) routes.old state.old }
     ensures stopped { IfOk result (HasStopped (λ w later. after w later)
-        (from_state closed.entry.model.now bounds.limit bounds.lambda routes.old.lists state.old)
+        (guided_from_state closed.entry.model.now bounds.limit bounds.lambda routes.old.lists state.old)
         routes.new.lists state.new.at state.new.best watch.old.items watch.new.items) }
     ensures asked { OnOk result (AsksOn J.asked J.looked judge.old judge.new state.old.at.used state.new.at.used) }
-    ensures stands { OnOk result (Stands closed.entry.model.now bounds.limit
+    ensures stands { OnOk result (GuidedStands closed.entry.model.now bounds.limit
         (J.committed judge.new) routes.new state.new) }
     ensures no_dearer { OnOk result (state.new.best.cost ≤ℤ state.old.best.cost) }
 
     ensures judge_model { J.model judge.new ≡ closed.entry.model.now }
     ensures holds { HoldSame closed.entry.model.now (J.committed judge.new) routes.new }
-    ensures told_in_part { OnErr result (ToldInPart (λ w later. after w later) watch.old.items watch.new.items
-        (from_state closed.entry.model.now bounds.limit bounds.lambda routes.old.lists state.old).events) }
+    ensures told_in_part { OnErr result (ReportedInPart (λ w later. after w later) watch.old.items watch.new.items
+        (guided_from_state closed.entry.model.now bounds.limit bounds.lambda routes.old.lists state.old).events) }
     ensures asked_at_most { OnErr result (AsksOn J.asked J.looked judge.old judge.new state.old.at.used
         bounds.limit.tries) }
 {

@@ -3,7 +3,7 @@
 ghost use Rattle.std.specs.Prelude.{◌≡◌, ◌<◌, ◌≤◌, ◌+◌, ◌*◌, ◌^◌, ◌∷◌, ℕ, List, All, length};
 ghost use Rattle.std.specs.Prelude.{pos, reverse};
 ghost use Rattle.vr_guided.specs.Counts.{counted};
-ghost use Rattle.vr_guided.specs.Walks.{IsSoundWalk, begun, stepped, walked, weight};
+ghost use Rattle.vr_guided.specs.Walks.{IsSoundWalk, walk_begun, stepped, walked, arc_weight};
 ghost use Rattle.vr_model.specs.routes.Routes.{arcs_from};
 ghost use Rattle.vr_model.specs.tables.Numbers.{total_by};
 ghost use Rattle.vr_model.specs.tables.WellFormed.{IsIn};
@@ -23,7 +23,7 @@ impl Walk {
     /// A walk that begins at a node.
     #[inline]
     pub fn begin(at: u32) -> Walk
-        ensures { result ≡ begun at }
+        ensures { result ≡ walk_begun at }
     {
         Walk {
             at,
@@ -91,7 +91,7 @@ impl<'m, 'p> VehicleWeights<'m, 'p> {
         requires room { walk.old.arcs + arcs < 100000 }
         requires total { IsIn (pos 0) (pos (arcs * 2 ^ 70)) total }
         ensures value { (nodes : List ℕ) → arcs ≡ length nodes → last ≡ last_of first nodes
-            → total ≡ total_by (weight self.now.on.closed.model.now (counted self.now.on.penalties.now))
+            → total ≡ total_by (arc_weight self.now.on.closed.model.now (counted self.now.on.penalties.now))
             (arcs_from self.now.vehicle first nodes)
             → walk.new ≡ walked self.now.on.closed.model.now (counted self.now.on.penalties.now) self.now.vehicle
             walk.old (first ∷ nodes) }

@@ -4,7 +4,7 @@ ghost use Rattle.std.specs.Prelude.{◌≡◌, ◌<◌, ◌≤◌, ◌≤ℤ◌,
 ghost use Rattle.vr_guided.specs.Counts.{AtMost, counted};
 ghost use Rattle.vr_guided.specs.Lists.{AreFewNodes};
 ghost use Rattle.vr_guided.specs.Sums.{weight_by};
-ghost use Rattle.vr_guided.specs.Walks.{unused_weight, weight};
+ghost use Rattle.vr_guided.specs.Walks.{unused_weight, arc_weight};
 ghost use Rattle.vr_model.specs.tables.Tables.{vehicle_at};
 ghost use Rattle.vr_model.specs.tables.WellFormed.{IsIn};
 
@@ -80,7 +80,7 @@ impl<'m, 'p> VehicleWeights<'m, 'p> {
     pub fn weight(&self, origin: u32, target: u32) -> i128
         requires origin { origin < self.now.on.closed.model.now.nodes }
         requires target { target < self.now.on.closed.model.now.nodes }
-        ensures value { result ≡ weight self.now.on.closed.model.now (counted self.now.on.penalties.now)
+        ensures value { result ≡ arc_weight self.now.on.closed.model.now (counted self.now.on.penalties.now)
             (record { vehicle = self.now.vehicle; origin = origin; target = target }) }
         ensures low { pos 0 ≤ℤ result }
         ensures high { result ≤ℤ pos (2 ^ 70) }

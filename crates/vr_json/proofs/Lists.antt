@@ -4,7 +4,7 @@ use Rattle.std.specs.List.{list_any, position_or_len}
 use Rattle.std.proofs.lemmas.List.{length-map, at_drop_more, at_drop_all}
 use Rattle.serde_json.specs.View.{view, items_view, members_view}
 use Rattle.serde_json.specs.declared.value.Value.{Value}
-use Rattle.vr_json.specs.Reading.{list_of, keys_of}
+use Rattle.vr_json.specs.Reading.{list_of, member_keys}
 
 pub list_of-items_view : (vs : List Value) → list_of (items_view vs) ≡ map view vs
 list_of-items_view [] = refl
@@ -35,12 +35,12 @@ pub find-map : {A B : Type 0} (f : A → B) (p : B → Bool) (xs : List A) → f
 find-map f p [] = refl
 find-map f p (x ∷ xs) = found-map f x (p (f x)) _ _ (find-map f p xs)
 
-keys_of-members_view : (es : List (String Global × Value)) → keys_of (members_view es) ≡ map string_bytes (map (λ e. e.0) es)
+keys_of-members_view : (es : List (String Global × Value)) → member_keys (members_view es) ≡ map string_bytes (map (λ e. e.0) es)
 keys_of-members_view [] = refl
 keys_of-members_view (e ∷ es) = ap (λ ks. string_bytes e.0 ∷ ks) (keys_of-members_view es)
 
 -- the first key that passes, in an object's map and in its members
-pub found_key : (p : List ℕ → Bool) (es : List (String Global × Value)) → option_map string_bytes (find (λ key. p (string_bytes key)) (map (λ e. e.0) es)) ≡ find p (keys_of (members_view es))
+pub found_key : (p : List ℕ → Bool) (es : List (String Global × Value)) → option_map string_bytes (find (λ key. p (string_bytes key)) (map (λ e. e.0) es)) ≡ find p (member_keys (members_view es))
 found_key p es = sym (find-map string_bytes p (map (λ e. e.0) es)) ∙ ap (find p) (sym (keys_of-members_view es))
 
 pub shown_key : (o : Option (Bor (String Global))) → option_map (λ key. string_bytes key.now) o ≡ option_map string_bytes (option_map (λ key. key.now) o)

@@ -72,16 +72,16 @@ present reading = reading >>= λ x. Ok (Some x)
 unfoldable pub maybe : {A : Type 0} → List ℕ → ReaderOf A → ReaderOf (Option A)
 maybe key read path d = field key path d >>= if_present (Ok None) (λ e. present (read (name_path path key) e))
 
-abbrev pub keys_of : Members → List (List ℕ)
-keys_of no_members = []
-keys_of (member key d members) = key ∷ keys_of members
+abbrev pub member_keys : Members → List (List ℕ)
+member_keys no_members = []
+member_keys (member key d members) = key ∷ member_keys members
 
 -- an object has no field but these: the first other key, in byte order, is refused
 abbrev pub is_named : List (List ℕ) → List ℕ → Bool
 is_named names key = list_any (λ name. bytes_eq name key) names
 
 abbrev pub unknown_key : List (List ℕ) → Members → Option (List ℕ)
-unknown_key names members = find (λ key. not (is_named names key)) (keys_of members)
+unknown_key names members = find (λ key. not (is_named names key)) (member_keys members)
 
 unfoldable pub if_unknown : List ℕ → Option (List ℕ) → Result ⊤ Fault
 if_unknown path None = Ok tt

@@ -10,8 +10,8 @@ abbrev pub members_put : Tree → Members
 members_put tree = members_view tree.members.entries
 
 -- a tree as one line: its compact text and a line feed
-abbrev pub line_of : Data → List ℕ
-line_of d = compact_text d ++ 10 ∷ []
+abbrev pub text_line : Data → List ℕ
+text_line d = compact_text d ++ 10 ∷ []
 
 -- a natural number
 abbrev pub count : ℕ → Data

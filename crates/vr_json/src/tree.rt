@@ -5,7 +5,7 @@ ghost use Rattle.serde_json.specs.Data.{depth, no_members, object, put, string};
 ghost use Rattle.serde_json.specs.Read.{max_depth, read};
 ghost use Rattle.serde_json.specs.View.{view};
 ghost use Rattle.serde_json.specs.Written.{has_float};
-ghost use Rattle.vr_json.specs.Trees.{line_of, one};
+ghost use Rattle.vr_json.specs.Trees.{text_line, one};
 
 use serde_json::{Map, Value};
 use std::alloc::Global;
@@ -69,7 +69,7 @@ pub fn text_value(alloc: Global, text: &str) -> Result<Value, NoMemory>
 pub fn to_line(alloc: Global, value: &Value) -> Result<Seq<u8>, NoMemory>
     requires whole { has_float (view value.now) ≡ false }
     requires nested { depth (view value.now) ≤ max_depth }
-    ensures text { IfOk result (λ line. line ≡ line_of (view value.now)) }
+    ensures text { IfOk result (λ line. line ≡ text_line (view value.now)) }
     ensures reads_back { IfOk result (λ line. read line ≡ Some (view value.now)) }
 {
     let text = value.to_string(alloc)?;

@@ -11,7 +11,7 @@ use Rattle.vr_model.specs.declared.neighbours.Move.{Move}
 use Rattle.vr_model.specs.declared.neighbours.Move.TheVariants.{TwoOpt, OrOpt, Relocate, Exchange, Cross, RelocatePair, PairActive, PairInactive, MakeActive, MakeInactive, SwapActive}
 use Rattle.vr_model.specs.declared.records.Model.{Model}
 use Rattle.vr_model.proofs.routes.CostBounds.{penalties-up_to}
-use Rattle.vr_routes.specs.Judging.{IsLeast}
+use Rattle.vr_routes.specs.Judging.{IsDifferenceBound}
 use Rattle.vr_routes.specs.Runs.{with_last}
 use Rattle.vr_known.specs.Blocks.{kind_of}
 use Rattle.vr_usecosts.specs.Groups.{SavesAtMost}
@@ -41,7 +41,7 @@ same_kind (SwapActive v a u) k = refl
 module _ (model : Model) (pays : PaysArcsAndGroups model) (lists : List (List ℕ)) (valid : IsTrue (is_valid model lists)) where
   -- the penalties do not fall
   by_groups : (mv : Move) → (IsTrue (is_valid model (apply model lists mv)) → penalty_part model lists ≤ℤ penalty_part model (apply model lists mv))
-      → IsLeast model lists mv (arcs_added model lists mv)
+      → IsDifferenceBound model lists mv (arcs_added model lists mv)
   by_groups mv more after =
       let later : List (List ℕ) = apply model lists mv in
       let differ : cost model later -ℤ cost model lists ≡ (arcs_part model later -ℤ arcs_part model lists) +ℤ (penalty_part model later -ℤ penalty_part model lists) = pays lists later valid after in
@@ -96,9 +96,9 @@ numbers_tell model lists mv (Some added) least is = is
 
 -- what is known is the least
 pub known_least : (model : Model) (lists : List (List ℕ)) (mv : Move) (known : Option ℤ) (P : Type 0) → MatchOption known P (λ added. added ≡ arcs_added model lists mv)
-    → IsLeast model lists mv (arcs_added model lists mv) → IfSome known (IsLeast model lists mv)
+    → IsDifferenceBound model lists mv (arcs_added model lists mv) → IfSome known (IsDifferenceBound model lists mv)
 known_least model lists mv None P exact least = cc
-known_least model lists mv (Some added) P exact least = subst (IsLeast model lists mv) (sym exact) least
+known_least model lists mv (Some added) P exact least = subst (IsDifferenceBound model lists mv) (sym exact) least
 
 -- what is told of the arcs of a model that is the same
 pub known_of : (m model : Model) (lists : List (List ℕ)) (mv : Move) (bound : ℤ) → m ≡ model → AddsNoLess m lists mv bound → AddsNoLess model lists mv bound

@@ -8,7 +8,7 @@ use Rattle.vr_model.specs.routes.Rules.{is_valid}
 use Rattle.vr_costfilter.specs.GlobalCosts.{global_cost_of}
 use Rattle.vr_parts.specs.Parts.{CostAlike}
 use Rattle.vr_costfilter.specs.PlanCosts.{soft_and_span}
-use Rattle.vr_judge.specs.Costs.{AreBounded, PaysArcsAndGroups}
+use Rattle.vr_judge.specs.Costs.{AreChangesInRange, PaysArcsAndGroups}
 
 -- a number as code reads it
 abbrev pub read : ℤ → ℤ
@@ -26,7 +26,7 @@ pub record AreRead (arcs fixed groups plans spans : ℤ) : Type 0 where
   pub four : read (arcs +ℤ fixed +ℤ groups +ℤ plans) ≡ arcs +ℤ fixed +ℤ groups +ℤ plans
   pub five : read (arcs +ℤ fixed +ℤ groups +ℤ plans +ℤ spans) ≡ arcs +ℤ fixed +ℤ groups +ℤ plans +ℤ spans
 
-module _ (arcs fixed groups plans spans : ℤ) (h : AreBounded arcs fixed groups plans spans) where
+module _ (arcs fixed groups plans spans : ℤ) (h : AreChangesInRange arcs fixed groups plans spans) where
   pub are_read : AreRead arcs fixed groups plans spans
   are_read =
       let a = h.arcs_are in
@@ -47,7 +47,7 @@ module _ (arcs fixed groups plans spans : ℤ) (h : AreBounded arcs fixed groups
       }
 
   -- so all of them may be added up as they are read
-  pub read_bounded : AreBounded (read arcs) (read fixed) (read groups) (read plans) (read spans)
+  pub read_bounded : AreChangesInRange (read arcs) (read fixed) (read groups) (read plans) (read spans)
   read_bounded = let r = are_read in rw (r.arcs_are, r.fixed_are, r.groups_are, r.plans_are, r.spans_are) h
 
   pub read_sum : (sum : ℤ) → sum ≡ read arcs +ℤ read fixed +ℤ read groups +ℤ read plans +ℤ read spans → read sum ≡ arcs +ℤ fixed +ℤ groups +ℤ plans +ℤ spans

@@ -7,7 +7,7 @@ use Rattle.vr_model.specs.moves.MoveTests.{is_move}
 use Rattle.vr_model.specs.routes.Rules.{is_valid}
 use Rattle.vr_model.specs.declared.neighbours.Move.{Move}
 use Rattle.vr_model.specs.declared.records.Model.{Model}
-use Rattle.vr_routes.specs.Judging.{IsLeast}
+use Rattle.vr_routes.specs.Judging.{IsDifferenceBound}
 use Rattle.vr_routes.specs.Runs.{with_last}
 use Rattle.vr_routes.specs.Tours.{Tours}
 use Rattle.vr_known.specs.Blocks.{kind_of}
@@ -51,17 +51,17 @@ IsKnownByNumbers model lists mv least =
 abbrev pub AddArcsAtLeast : Model → List (List ℕ) → ℕ → Type 0
 AddArcsAtLeast model lists kind =
     (mv : Move) → kind_of mv ≡ kind → IsTrue (is_move model lists mv)
-    → IsLeast model lists mv (arcs_added model lists mv)
+    → IsDifferenceBound model lists mv (arcs_added model lists mv)
 
 -- each move of a run, whose moves differ in their last number, adds no less to the cost of lists than it adds to the
 -- cost of their arcs, but for what it saves
 abbrev pub AddArcsBut : Model → List (List ℕ) → Move → ℤ → Type 0
 AddArcsBut model lists mv saved =
     (k : ℕ) → IsTrue (is_move model lists (with_last mv k))
-    → IsLeast model lists (with_last mv k) (arcs_added model lists (with_last mv k) -ℤ saved)
+    → IsDifferenceBound model lists (with_last mv k) (arcs_added model lists (with_last mv k) -ℤ saved)
 
 -- what arcs, fixed costs, groups, plans and global spans add is within the ranges of these cost terms
-pub record AreBounded (arcs fixed groups plans spans : ℤ) : Type 0 where
+pub record AreChangesInRange (arcs fixed groups plans spans : ℤ) : Type 0 where
   pub arcs_are : IsAddedByChange arcs
   pub fixed_are : IsAddedByChange fixed
   pub groups_are : IsAddedByChange groups

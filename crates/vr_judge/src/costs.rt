@@ -8,13 +8,13 @@ ghost use Rattle.vr_model.specs.routes.Rules.{is_valid};
 ghost use Rattle.vr_model.specs.tables.Tables.{visits};
 ghost use Rattle.vr_routes.specs.Changes.{IsChange, IsMadeOn, after};
 ghost use Rattle.vr_routes.specs.Pieces.{changed};
-ghost use Rattle.vr_routes.specs.Judging.{IsLeast, IsNoLess};
+ghost use Rattle.vr_routes.specs.Judging.{IsDifferenceBound, IsNoLess};
 ghost use Rattle.vr_routes.specs.Runs.{with_last};
 ghost use Rattle.vr_known.specs.Blocks.{kind_of};
 ghost use Rattle.vr_usecosts.specs.Fixed.{StandsFixed};
 ghost use Rattle.vr_parts.specs.Bounds.{IsAddedByChange};
 ghost use Rattle.vr_judge.specs.Costs.{AddArcsAtLeast, AddArcsBut, PaysArcsAndGroups, StandsCosts};
-ghost use Rattle.vr_judge.specs.Costs.{is_least_by_arcs, pays_arcs_and_groups, AreBounded, IsKnownByNumbers};
+ghost use Rattle.vr_judge.specs.Costs.{is_least_by_arcs, pays_arcs_and_groups, AreChangesInRange, IsKnownByNumbers};
 
 use crate::try_both::try_both;
 use std::alloc::Global;
@@ -94,7 +94,7 @@ fn keeps_activity(mv: Move) -> bool
 // What all cost terms add together.
 #[inline(always)]
 fn sum(arcs: i64, fixed: i64, groups: i64, plans: i64, spans: i64) -> i64
-    requires { AreBounded arcs fixed groups plans spans }
+    requires { AreChangesInRange arcs fixed groups plans spans }
     ensures { result ≡ arcs +ℤ fixed +ℤ groups +ℤ plans +ℤ spans }
 {
     arcs + fixed + groups + plans + spans
@@ -165,7 +165,7 @@ impl<'m> Costs<'m> {
         requires stands { StandsCosts self.now routes.now }
         requires is_one { is_move self.now.model routes.now.lists mv ≡ true }
         ensures known { IsKnownByNumbers self.now.model routes.now.lists mv result }
-        ensures least { IfSome result (IsLeast self.now.model routes.now.lists mv) }
+        ensures least { IfSome result (IsDifferenceBound self.now.model routes.now.lists mv) }
     {
         if !self.adds_arcs_at_least(routes, mv) {
             return None;

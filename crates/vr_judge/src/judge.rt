@@ -7,7 +7,7 @@ ghost use Rattle.vr_model.specs.routes.Rules.{is_valid};
 ghost use Rattle.vr_model.specs.tables.Tables.{visits};
 ghost use Rattle.vr_model.specs.tables.WellFormed.{IsWellFormed};
 ghost use Rattle.vr_routes.specs.Changes.{IsChange};
-ghost use Rattle.vr_routes.specs.Judging.{HoldSame, IsLeast, moved, verdict_of};
+ghost use Rattle.vr_routes.specs.Judging.{HoldSame, IsDifferenceBound, moved, verdict_of};
 ghost use Rattle.vr_judge.specs.Costs.{IsKnownByNumbers};
 ghost use Rattle.vr_judge.specs.Rules.{total_weight};
 
@@ -128,7 +128,7 @@ impl<'m> Judge for FilterJudge<'m> {
         requires holds { HoldSame self.old.model self.old.lists routes.now }
         requires mv { IsTrue (is_move self.old.model routes.now.lists mv) }
         ensures known { IsKnownByNumbers self.old.model routes.now.lists mv result }
-        ensures least { IfSome result (IsLeast self.old.model routes.now.lists mv) }
+        ensures least { IfSome result (IsDifferenceBound self.old.model routes.now.lists mv) }
         ensures model { self.new.model ≡ self.old.model }
         ensures committed { self.new.lists ≡ self.old.lists }
         ensures looked { 0 ≤ 0 + 1 }

@@ -11,7 +11,7 @@ ghost use Rattle.vr_judge.specs.Costs.{IsKnownByNumbers, StandsCosts};
 ghost use Rattle.vr_judge.specs.Verdicts.{verdict_by};
 ghost use Rattle.vr_routes.specs.Changes.{IsChange, IsMadeOn};
 ghost use Rattle.vr_routes.specs.Pieces.{changed};
-ghost use Rattle.vr_routes.specs.Judging.{HoldSame, IsLeast, moved, verdict_of};
+ghost use Rattle.vr_routes.specs.Judging.{HoldSame, IsDifferenceBound, moved, verdict_of};
 ghost use Rattle.vr_judge.specs.Rules.{keeps_rules, total_weight};
 
 use crate::costs::Costs;
@@ -156,7 +156,7 @@ impl<'m, F: PathFilter + Drop> Judge for Judging<'m, F> {
         requires holds { HoldSame self.old.model self.old.lists routes.now }
         requires mv { IsTrue (is_move self.old.model routes.now.lists mv) }
         ensures known { IsKnownByNumbers self.old.model routes.now.lists mv result }
-        ensures least { IfSome result (IsLeast self.old.model routes.now.lists mv) }
+        ensures least { IfSome result (IsDifferenceBound self.old.model routes.now.lists mv) }
         ensures model { self.new.model ≡ self.old.model }
         ensures committed { self.new.lists ≡ self.old.lists }
         ensures looked { 0 ≤ 0 + 1 }

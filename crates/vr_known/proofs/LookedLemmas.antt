@@ -5,25 +5,25 @@ use Rattle.std.proofs.lemmas.Bool.{cases_lt}
 use Rattle.vr_model.specs.tables.Numbers.{from_to}
 use Rattle.vr_model.specs.declared.neighbours.Move.{Move}
 use Rattle.vr_known.specs.Nests.{run_of}
-use Rattle.vr_known.specs.Passing.{any_of, capped, tried, within, IsFirst, Looked}
+use Rattle.vr_known.specs.Passing.{any_of, capped, tries_taken, tries_within, IsFirst, Looked}
 use Rattle.vr_known.proofs.NestLemmas.{from_to_step, run_takes}
 
-pub within_rises : (limit i k : ℕ) → i ≤ k → within limit i ≤ within limit k
+pub within_rises : (limit i k : ℕ) → i ≤ k → tries_within limit i ≤ tries_within limit k
 within_rises limit i k low = Prim.grind arith
 
-within_next : (limit i : ℕ) → i < limit → limit < 2 ^ 64 → within limit (i + 1) ≡ within limit i + 1
+within_next : (limit i : ℕ) → i < limit → limit < 2 ^ 64 → tries_within limit (i + 1) ≡ tries_within limit i + 1
 within_next limit i low fits = Prim.grind arith
 
 -- passing over moves uses no less tries, where none was taken before
-pub within_more : (limit i n k : ℕ) → k ≡ capped (i + n) → within limit (i + 0) ≤ within limit k
+pub within_more : (limit i n k : ℕ) → k ≡ capped (i + n) → tries_within limit (i + 0) ≤ tries_within limit k
 within_more limit i n k e = Prim.grind arith
 
 -- at least one move was passed over
-within_one : (limit i n k more : ℕ) → 1 ≤ n → k ≡ capped (i + n) → within limit (i + 1) ≤ within limit (k + more)
+within_one : (limit i n k more : ℕ) → 1 ≤ n → k ≡ capped (i + n) → tries_within limit (i + 1) ≤ tries_within limit (k + more)
 within_one limit i n k more some e = Prim.grind arith
 
 -- or one is left
-within_left : (limit i n k : ℕ) → k ≡ capped (i + n) → within limit (i + 1) ≤ within limit (k + 1)
+within_left : (limit i n k : ℕ) → k ≡ capped (i + n) → tries_within limit (i + 1) ≤ tries_within limit (k + 1)
 within_left limit i n k e = Prim.grind arith
 
 -- the first of a range is one of those that are counted
@@ -36,24 +36,24 @@ count_some passes a b low there =
 -- a question from a number on that has a move is followed by a try: that move is passed over, or left to be taken
 pub followed_by : (limit : ℕ) (passes : ℕ → Bool) (f : ℕ → Move) (next first end count many counted : ℕ) → next < end → passes next ≡ true → next ≤ first
     → many ≡ length (filter passes (from_to next first)) → counted ≡ capped (count + many)
-    → within limit (count + 1) ≤ within limit (counted + any_of (run_of passes f first end))
+    → tries_within limit (count + 1) ≤ tries_within limit (counted + any_of (run_of passes f first end))
 followed_by limit passes f next first end count many counted low there order number counts = elim (cases_lt next first) [
   | inl further ↦ (let some = count_some passes next first further there in within_one limit count many counted (any_of (run_of passes f first end)) (omega (arith, some, number)) counts)
   | inr high ↦ (
       let same : next ≡ first = omega (arith, order, high) in
       let one : any_of (run_of passes f first end) ≡ 1 = subst (λ k. any_of (run_of passes f k end) ≡ 1) same (ap any_of (run_takes passes f next end low there)) in
-      subst (λ n. within limit (count + 1) ≤ within limit (counted + n)) (sym one) (within_left limit count many counted counts)
+      subst (λ n. tries_within limit (count + 1) ≤ tries_within limit (counted + n)) (sym one) (within_left limit count many counted counts)
       )
 ]
 
 -- the move that is left is the one that is taken
-pub tried_first : (moves left : List Move) (result : Option Move) → IsFirst moves result left → any_of moves ≡ tried result
+pub tried_first : (moves left : List Move) (result : Option Move) → IsFirst moves result left → any_of moves ≡ tries_taken result
 tried_first moves left None first = ap any_of first.0
 tried_first moves left (Some mv) first = ap any_of first
 
 module _ {J : Type 0} (can_ask : J → Type 0) (judged looked : J → ℕ) (limit : ℕ) where
   -- nothing was asked
-  pub looked_none : (judge : J) (count counted : ℕ) → can_ask judge → within limit count ≤ within limit counted → Looked can_ask judged looked limit judge count judge counted
+  pub looked_none : (judge : J) (count counted : ℕ) → can_ask judge → tries_within limit count ≤ tries_within limit counted → Looked can_ask judged looked limit judge count judge counted
   looked_none judge count counted ready more = record { ready = ready; judges_none = refl; followed = omega (arith, more) }
 
   -- one question before the limit
@@ -67,6 +67,6 @@ module _ {J : Type 0} (can_ask : J → Type 0) (judged looked : J → ℕ) (limi
       record { ready = q.ready; judges_none = q.judges_none ∙ p.judges_none; followed = omega (arith, first, second) }
 
   -- more was tried
-  pub looked_further : (a b : J) (i k n : ℕ) → within limit k ≤ within limit n → Looked can_ask judged looked limit a i b k → Looked can_ask judged looked limit a i b n
+  pub looked_further : (a b : J) (i k n : ℕ) → tries_within limit k ≤ tries_within limit n → Looked can_ask judged looked limit a i b k → Looked can_ask judged looked limit a i b n
   looked_further a b i k n more p = let first = p.followed in
       record { ready = p.ready; judges_none = p.judges_none; followed = omega (arith, first, more) }

@@ -20,7 +20,7 @@ use Rattle.vr_model.proofs.moves.Times.{held_times, times_route}
 use Rattle.vr_model.proofs.moves.Kept.{pair_of_test}
 use Rattle.vr_routes.specs.Seats.{IsSeat, IsOnce}
 use Rattle.vr_routes.proofs.OnceLemmas.{few_times}
-use Rattle.vr_model.specs.tables.WellFormed.{number_of as kind_at}
+use Rattle.vr_model.specs.tables.WellFormed.{neighbourhood_number as kind_at}
 use Rattle.vr_known.specs.Blocks.{Memory, AreSettled, IsApart, IsSource, common_change, covers, seen_at, changed_at, is_known, is_later, is_behind, is_by_pair, is_kind_of, rows_of, stamp_of, kind_of, first_of, second_of}
 use Rattle.vr_known.proofs.Applied.{same_or_not}
 use Rattle.vr_known.proofs.Pairs.{nowhere_else, some_active}

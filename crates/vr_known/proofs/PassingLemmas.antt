@@ -6,7 +6,7 @@ use Rattle.std.proofs.lemmas.List.{append-nil, length-map, map-append}
 use Rattle.std.proofs.lemmas.List.Elements.{All-append, All-cons, All-head, All-nil, filter-append}
 use Rattle.vr_model.proofs.tables.Tests.{clash}
 use Rattle.vr_model.specs.tables.Numbers.{from_to}
-use Rattle.vr_model.specs.tables.WellFormed.{number_of as kind_at}
+use Rattle.vr_model.specs.tables.WellFormed.{neighbourhood_number as kind_at}
 use Rattle.vr_model.specs.declared.neighbours.Move.{Move}
 use Rattle.vr_known.proofs.NestLemmas.{range_split}
 use Rattle.vr_known.specs.Blocks.{Memory, covers, is_known, kind_of, first_of, second_of}

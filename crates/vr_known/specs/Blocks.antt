@@ -3,7 +3,7 @@ use Rattle.std.specs.Prelude.{◌≡◌, ◌≢◌, ℕ, ◌+◌, ◌*◌, ◌<�
 use Rattle.std.specs.Prelude.{List, [], ◌∷◌, slice_index_or, length, Option, Some, None, IsTrue}
 use Rattle.vr_model.specs.routes.Routes.{route, holds, is_active}
 use Rattle.vr_model.specs.tables.Tables.{pair_at}
-use Rattle.vr_model.specs.tables.WellFormed.{number_of as kind_at}
+use Rattle.vr_model.specs.tables.WellFormed.{neighbourhood_number as kind_at}
 use Rattle.vr_model.specs.declared.records.Model.{Model}
 use Rattle.vr_model.specs.declared.neighbours.Move.{Move}
 use Rattle.vr_model.specs.declared.neighbours.Move.TheVariants.{TwoOpt, OrOpt, Relocate, Exchange, Cross, RelocatePair}

@@ -3,9 +3,9 @@ use Rattle.std.specs.Prelude.{ℕ, Bool, List, [], map, filter, Option, Some, No
 use Rattle.vr_model.specs.tables.Numbers.{each, from_to}
 
 -- the moves of a list that may be there
-abbrev pub rest_of : {L A : Type 0} → (L → List A) → Option L → List A
-rest_of rest None = []
-rest_of rest (Some inner) = rest inner
+abbrev pub rest_inside : {L A : Type 0} → (L → List A) → Option L → List A
+rest_inside rest None = []
+rest_inside rest (Some inner) = rest inner
 
 -- what f gives of the numbers from a on, below b, that pass
 abbrev pub run_of : {A : Type 0} → (ℕ → Bool) → (ℕ → A) → ℕ → ℕ → List A

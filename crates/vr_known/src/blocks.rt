@@ -2,7 +2,7 @@
 
 ghost use Rattle.std.specs.Prelude.{◌≡◌, ◌<◌};
 ghost use Rattle.vr_known.specs.Blocks as blocks;
-ghost use Rattle.vr_model.specs.tables.WellFormed.{number_of};
+ghost use Rattle.vr_model.specs.tables.WellFormed.{neighbourhood_number};
 
 use vr_model::{Move, Neighbourhood};
 
@@ -32,7 +32,7 @@ impl Block {
 /// The number of a kind of moves.
 #[inline(always)]
 pub(crate) fn kind_at(neighbourhood: Neighbourhood) -> u32
-    ensures value { result ≡ number_of neighbourhood }
+    ensures value { result ≡ neighbourhood_number neighbourhood }
     ensures few { result < 11 }
 {
     match neighbourhood {

@@ -5,7 +5,7 @@ ghost use Rattle.vr_known.specs.Blocks.{AreSettled, IsApart, Learns, covers, fir
 ghost use Rattle.vr_known.specs.Blocks.{is_known, is_later, kind_of, rows_of};
 ghost use Rattle.vr_known.specs.Locality.{HasNoGlobalSpans};
 ghost use Rattle.vr_model.specs.moves.MoveTests.{is_move};
-ghost use Rattle.vr_model.specs.tables.WellFormed.{IsWellFormed, number_of as kind_at};
+ghost use Rattle.vr_model.specs.tables.WellFormed.{IsWellFormed, neighbourhood_number as kind_at};
 ghost use Rattle.vr_model.specs.declared.neighbours.Move.{Move as Moved};
 
 use crate::stamps::Stamps;

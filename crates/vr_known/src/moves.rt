@@ -2,7 +2,7 @@
 
 ghost use Rattle.std.specs.Prelude.{◌≡◌, ◌+◌, ◌++◌};
 ghost use Rattle.std.specs.Iterator.{YieldsFirst, item_count};
-ghost use Rattle.vr_known.specs.Passing.{Looked, Takes, tried};
+ghost use Rattle.vr_known.specs.Passing.{Looked, Takes, tries_taken};
 
 use crate::{Known, Listed, Sieve, Stretch};
 use std::marker::Model;
@@ -44,7 +44,7 @@ impl<L: Listed> Moves<L> {
         requires can_ask { S.can_ask sieve.now judge.old }
         ensures takes { Takes (S.covers sieve.now) self.old passed.old result self.new passed.new }
         ensures looked { Looked (S.can_ask sieve.now) S.judged S.looked (S.tries sieve.now)
-            judge.old passed.old judge.new (passed.new + tried result) }
+            judge.old passed.old judge.new (passed.new + tries_taken result) }
     {
         self.left.step(sieve, judge, passed)
     }

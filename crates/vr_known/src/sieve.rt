@@ -3,7 +3,7 @@
 ghost use Rattle.std.specs.Prelude.{◌≡◌, ℕ, ◌+◌, ◌<◌, ◌≤◌, IfSome, IsTrue};
 ghost use Rattle.vr_model.specs.declared.neighbours.Move.{Move as Moved};
 ghost use Rattle.vr_routes.specs.Runs.{with_last};
-ghost use Rattle.vr_model.specs.tables.WellFormed.{number_of as kind_at};
+ghost use Rattle.vr_model.specs.tables.WellFormed.{neighbourhood_number as kind_at};
 ghost use Rattle.vr_known.specs.Blocks.{covers, rows_of};
 ghost use Rattle.vr_known.specs.Passing.{CoversBlock};
 

@@ -5,7 +5,7 @@ use Rattle.std.specs.List.{list_any, position_or_len}
 use Rattle.std.proofs.lemmas.List.Concat.{flat_map-cons}
 use Rattle.std.proofs.lemmas.List.Sums.{position_or_len_is}
 use Rattle.vr_model.specs.declared.records.Group.{Group}
-use Rattle.vr_model.specs.first.Items.{has_penalty}
+use Rattle.vr_model.specs.first.Items.{is_penalty_given}
 use Rattle.vr_model.specs.routes.Routes.{holds}
 use Rattle.vr_model.specs.tables.Numbers.{each}
 use Rattle.vr_model.proofs.moves.Times.{times, times_append, held_times}
@@ -49,18 +49,18 @@ number_at groups k y few low held =
 
 -- a node is in a group that must be filled
 abbrev pub is_needed : ℕ → Group → Bool
-is_needed y q = holds q.nodes y && not (has_penalty q.penalty)
+is_needed y q = holds q.nodes y && not (is_penalty_given q.penalty)
 
 none_needed : (groups : List Group) (y : ℕ) → times y (each groups nodes_in) ≡ 0 → list_any (is_needed y) groups ≡ false
 none_needed [] y none = refl
 none_needed (q ∷ qs) y none =
     let all = times-cons q qs y in
     let here : holds q.nodes y ≡ false = fails (holds q.nodes y) (λ h. let some = held_times y q.nodes h in omega (arith, some, none, all)) in
-    ap₂ (λ a b. (a && not (has_penalty q.penalty)) || b) here (none_needed qs y (omega (arith, none, all)))
+    ap₂ (λ a b. (a && not (is_penalty_given q.penalty)) || b) here (none_needed qs y (omega (arith, none, all)))
 
 -- that is told by the group of its number
 pub needed-number : (groups : List Group) (y : ℕ) → times y (each groups nodes_in) ≤ 1 → position_or_len (λ q. holds q.nodes y) groups < length groups
-    → list_any (is_needed y) groups ≡ not (has_penalty (slice_index_or groups (position_or_len (λ q. holds q.nodes y) groups) no_group).penalty)
+    → list_any (is_needed y) groups ≡ not (is_penalty_given (slice_index_or groups (position_or_len (λ q. holds q.nodes y) groups) no_group).penalty)
 needed-number [] y few low = absurd (omega (arith, low))
 needed-number (q ∷ qs) y few low = by (holds q.nodes y) refl low (λ few_behind within. needed-number qs y few_behind within)
   where
@@ -75,11 +75,11 @@ needed-number (q ∷ qs) y few low = by (holds q.nodes y) refl low (λ few_behin
     or-none false = refl
 
     by : (b : Bool) → holds q.nodes y ≡ b → cond (not b) (1 + place) 0 < suc (length qs)
-        → (times y (each qs nodes_in) ≤ 1 → place < length qs → list_any (is_needed y) qs ≡ not (has_penalty (slice_index_or qs place no_group).penalty))
-        → ((b && not (has_penalty q.penalty)) || list_any (is_needed y) qs) ≡ not (has_penalty (slice_index_or (q ∷ qs) (cond (not b) (1 + place) 0) no_group).penalty)
+        → (times y (each qs nodes_in) ≤ 1 → place < length qs → list_any (is_needed y) qs ≡ not (is_penalty_given (slice_index_or qs place no_group).penalty))
+        → ((b && not (is_penalty_given q.penalty)) || list_any (is_needed y) qs) ≡ not (is_penalty_given (slice_index_or (q ∷ qs) (cond (not b) (1 + place) 0) no_group).penalty)
     by true e within behind =
         let some = held_times y q.nodes e in
-        ap (λ b. not (has_penalty q.penalty) || b) (none_needed qs y (omega (arith, few, all, some))) ∙ or-none (not (has_penalty q.penalty))
+        ap (λ b. not (is_penalty_given q.penalty) || b) (none_needed qs y (omega (arith, few, all, some))) ∙ or-none (not (is_penalty_given q.penalty))
     by false e within behind =
         let more : suc place ≡ 1 + place = omega arith in
-        behind (omega (arith, few, all)) (omega (arith, within)) ∙ ap (λ k. not (has_penalty (slice_index_or (q ∷ qs) k no_group).penalty)) more
+        behind (omega (arith, few, all)) (omega (arith, within)) ∙ ap (λ k. not (is_penalty_given (slice_index_or (q ∷ qs) k no_group).penalty)) more

@@ -16,7 +16,7 @@ use Rattle.vr_model.specs.routes.Rules.{allows_vehicle, row_allows_vehicle}
 use Rattle.vr_model.specs.deciding.Testing.{eq_of_test, test_of_eq}
 use Rattle.vr_model.proofs.tables.Tests.{apart, fails, clash}
 use Rattle.vr_model.proofs.routes.Lists.{visit_below, place_of_held}
-use Rattle.vr_lists.specs.Nodes.{group_number, pair_number, row_number, number_of, AreNodeTables, AreWritten}
+use Rattle.vr_lists.specs.Nodes.{group_number, pair_number, row_number, node_number, AreNodeTables, AreWritten}
 
 -- the first place from k on, by the entry there and the first place behind
 pub number_step : {A : Type 0} (p : A → Bool) (xs : List A) (k : ℕ) (d : A) → k < length xs
@@ -104,20 +104,20 @@ numbers_step p xs k n x old new more low is before written =
     ∙ ap (λ i. cond (p x) k i) (sym before))
 
 -- one number written over
-pub set_number : (numbers : List ℕ) (i y node : ℕ) → i < length numbers → number_of (slice_set numbers i y) node ≡ cond (i == node) y (number_of numbers node)
+pub set_number : (numbers : List ℕ) (i y node : ℕ) → i < length numbers → node_number (slice_set numbers i y) node ≡ cond (i == node) y (node_number numbers node)
 set_number numbers i y node low = by (i == node) refl
   where
-    by : (b : Bool) → (i == node) ≡ b → number_of (slice_set numbers i y) node ≡ cond b y (number_of numbers node)
-    by true e = let same : i ≡ node = eq_of_test i node e in subst (λ k. number_of (slice_set numbers i y) k ≡ y) same (get_or-set_same numbers i y 0 low)
+    by : (b : Bool) → (i == node) ≡ b → node_number (slice_set numbers i y) node ≡ cond b y (node_number numbers node)
+    by true e = let same : i ≡ node = eq_of_test i node e in subst (λ k. node_number (slice_set numbers i y) k ≡ y) same (get_or-set_same numbers i y 0 low)
     by false e = get_or-set_other numbers i node y 0 (λ same. clash (i == node) (test_of_eq i node (sym same)) e)
 
 -- two numbers written over, one behind the other
 pub set_two : (numbers : List ℕ) (i j y node : ℕ) → i < length numbers → j < length numbers
-    → number_of (slice_set (slice_set numbers i y) j y) node ≡ cond ((i == node) || (j == node)) y (number_of numbers node)
+    → node_number (slice_set (slice_set numbers i y) j y) node ≡ cond ((i == node) || (j == node)) y (node_number numbers node)
 set_two numbers i j y node low low_too =
     let long = length-set numbers i y in
     set_number (slice_set numbers i y) j y node (omega (arith, low_too, long)) ∙ ap (λ n. cond (j == node) y n) (set_number numbers i y node low)
-    ∙ either (i == node) (j == node) (number_of numbers node)
+    ∙ either (i == node) (j == node) (node_number numbers node)
   where
     either : (a b : Bool) (n : ℕ) → cond b y (cond a y n) ≡ cond (a || b) y n
     either true true n = refl

@@ -20,13 +20,13 @@ abbrev pub group_at : Model → ℕ → Group
 group_at model g = slice_index_or model.groups g no_group
 
 -- the number that is kept of a node
-abbrev pub number_of : List ℕ → ℕ → ℕ
-number_of numbers node = slice_index_or numbers node 0
+abbrev pub node_number : List ℕ → ℕ → ℕ
+node_number numbers node = slice_index_or numbers node 0
 
 -- each node has the number of its group
 pub record AreNumbers (model : Model) (numbers : List ℕ) : Type 0 where
   pub long : length numbers ≡ model.nodes
-  pub each : (node : ℕ) → node < model.nodes → number_of numbers node ≡ group_number model node
+  pub each : (node : ℕ) → node < model.nodes → node_number numbers node ≡ group_number model node
 
 -- the number of the row of a node among the rows of allowed vehicles, that of all rows where it has none
 abbrev pub row_number : Model → ℕ → ℕ
@@ -39,7 +39,7 @@ pair_number model node = position_or_len (λ pair. (pair.pickup == node) || (pai
 -- each of so many nodes has the number that is its
 pub record AreNumbersBy (number : ℕ → ℕ) (nodes : ℕ) (numbers : List ℕ) : Type 0 where
   pub long : length numbers ≡ nodes
-  pub each : (node : ℕ) → node < nodes → number_of numbers node ≡ number node
+  pub each : (node : ℕ) → node < nodes → node_number numbers node ≡ number node
 
 -- the vehicles of a row are marked
 abbrev pub AreMarksOf : Allowed → List Bool → Type 0

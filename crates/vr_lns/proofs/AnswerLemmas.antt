@@ -10,7 +10,7 @@ use Rattle.vr_model.specs.declared.records.Model.{Model}
 use Rattle.vr_model.specs.declared.records.End.{End}
 use Rattle.vr_model.specs.declared.search.Event.{Event}
 use Rattle.vr_model.specs.declared.search.Limit.{Limit}
-use Rattle.vr_lns.specs.Cuts.{improves}
+use Rattle.vr_lns.specs.Cuts.{improves_on}
 use Rattle.vr_lns.specs.Rounds.{Round}
 use Rattle.vr_lns.specs.Rounds.Round.{Accepted, Complete, Short}
 use Rattle.vr_lns.specs.PathLns.{after_round, cut_made, path_lns, path_lns_from}
@@ -44,7 +44,7 @@ module _ (model : Model) (first : List (List ℕ)) (limit : Limit) where
 
   -- after a cut with a better result
   is_made : (state : SearchState) (n : ℕ) (after : List (List ℕ)) → IsSoundAtBest state → n ≤ limit.tries - state.used → (state.found == limit.solutions) ≡ false
-      → IsTrue (improves model state.lists after) → IsSoundAtBest (cut_made state n after)
+      → IsTrue (improves_on model state.lists after) → IsSoundAtBest (cut_made state n after)
   is_made state n after s low more better =
       let used = s.sound.tries in
       let valid = and_left (is_valid model after) _ better in
@@ -67,7 +67,7 @@ module _ (model : Model) (first : List (List ℕ)) (limit : Limit) where
 module _ (model : Model) (most : ℕ) (first : List (List ℕ)) (limit : Limit) where
   goes_on : (rounds : ℕ) (state : SearchState) → IsSoundAtBest model first limit state → (state.found == limit.solutions) ≡ false
       → ((next : SearchState) → IsSoundAtBest model first limit next → IsSoundAtLast model first limit (path_lns_from model most limit rounds next))
-      → (r : Round) → Tells (λ after. IsTrue (improves model state.lists after)) (limit.tries - state.used) 0 r
+      → (r : Round) → Tells (λ after. IsTrue (improves_on model state.lists after)) (limit.tries - state.used) 0 r
       → IsSoundAtLast model first limit (after_round model limit (path_lns_from model most limit rounds) state r)
   goes_on rounds state sound more again (Accepted n after) h =
       let a = again (cut_made state n after) (is_made model first limit state n after sound h.1 more h.2) in

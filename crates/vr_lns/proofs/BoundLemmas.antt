@@ -6,11 +6,11 @@ use Rattle.vr_model.specs.declared.records.Model.{Model}
 use Rattle.vr_model.specs.declared.records.End.TheVariants.{Solutions}
 use Rattle.vr_model.specs.declared.search.Limit.{Limit}
 use Rattle.vr_model.specs.declared.search.Kind.TheVariants as kind
-use Rattle.vr_lns.specs.Cuts.{accepted_by, cuts, improves}
+use Rattle.vr_lns.specs.Cuts.{accepted_by, cuts, improves_on}
 use Rattle.vr_lns.specs.Rounds.{Round, ends_at, round, round_from}
 use Rattle.vr_lns.specs.Rounds.Round.{Accepted, Complete, Short}
 use Rattle.vr_lns.specs.PathLns.{after_round, cut_made, path_lns_from}
-use Rattle.vr_lns.specs.Standing.{round_end, tries_of}
+use Rattle.vr_lns.specs.Standing.{round_end, tries_in_round}
 use Rattle.vr_lns.specs.declared.cutting.Cut.{Cut}
 use Rattle.vr_lns.specs.declared.rounds.RoundEnd.{RoundEnd}
 use Rattle.vr_lns.specs.declared.rounds.RoundEnd.TheVariants as ends
@@ -48,9 +48,9 @@ module _ (accepted : Cut → Option (List (List ℕ))) (rest : ℕ) (P : List (L
       by (Some after) e behind = at after (told c after e) (nat_le (suc place) rest) refl
 
 -- what the round of lists tells
-pub told_by_round : (model : Model) (most : ℕ) (lists : List (List ℕ)) (rest : ℕ) → Tells (λ after. IsTrue (improves model lists after)) rest 0 (round model most lists rest)
+pub told_by_round : (model : Model) (most : ℕ) (lists : List (List ℕ)) (rest : ℕ) → Tells (λ after. IsTrue (improves_on model lists after)) rest 0 (round model most lists rest)
 told_by_round model most lists rest =
-    round_tells (accepted_by model most lists) rest (λ after. IsTrue (improves model lists after)) (accepted_told model most lists) 0 (cuts lists)
+    round_tells (accepted_by model most lists) rest (λ after. IsTrue (improves_on model lists after)) (accepted_told model most lists) 0 (cuts lists)
 
 -- ---- the search, round by round
 
@@ -90,16 +90,16 @@ module _ (model : Model) (most : ℕ) (limit : Limit) where
       go same true e = enough (rounds + more) state e ∙ sym (enough rounds state e)
       go same false e = rounded (rounds + more) state e
           ∙ (same_after (path_lns_from model most limit (rounds + more)) (path_lns_from model most limit rounds) rounds same state few
-          (λ after. IsTrue (improves model state.lists after)) (round_of state) (told_by_round model most state.lists (limit.tries - state.used))
+          (λ after. IsTrue (improves_on model state.lists after)) (round_of state) (told_by_round model most state.lists (limit.tries - state.used))
           ∙ sym (rounded rounds state e))
 
 -- ---- what the end of a round tells, as code tells it
 
 -- no more cuts were tried than could be
-pub tried_within : (P : List (List ℕ) → Type 0) (rest : ℕ) (r : Round) (ended : RoundEnd) → Tells P rest 0 r → ended ≡ round_end r → tries_of rest ended ≤ rest
-tried_within P rest (Accepted n after) ended h e = let low = h.1 in let same = ap (tries_of rest) e in omega (arith, low, same)
-tried_within P rest (Complete n) ended h e = let low = h in let same = ap (tries_of rest) e in omega (arith, low, same)
-tried_within P rest Short ended h e = let same = ap (tries_of rest) e in omega (arith, same)
+pub tried_within : (P : List (List ℕ) → Type 0) (rest : ℕ) (r : Round) (ended : RoundEnd) → Tells P rest 0 r → ended ≡ round_end r → tries_in_round rest ended ≤ rest
+tried_within P rest (Accepted n after) ended h e = let low = h.1 in let same = ap (tries_in_round rest) e in omega (arith, low, same)
+tried_within P rest (Complete n) ended h e = let low = h in let same = ap (tries_in_round rest) e in omega (arith, low, same)
+tried_within P rest Short ended h e = let same = ap (tries_in_round rest) e in omega (arith, same)
 
 -- a cut was made, with some result
 pub made_told : (r : Round) (n : ℕ) → ends.Accepted n ≡ round_end r → (after : List (List ℕ)) × (r ≡ Accepted n after)

@@ -11,7 +11,7 @@ use Rattle.vr_model.specs.first.Items.{pair_of}
 use Rattle.vr_model.specs.declared.records.Model.{Model}
 use Rattle.vr_model.proofs.moves.Times.{hit, times, times_in, joined_times, held_times, times_held, distinct_of_times, all_held, all_of_held}
 use Rattle.vr_model.proofs.moves.KeptLists.{few}
-use Rattle.vr_lns.specs.Cuts.{chain_of, goes_with, left_by}
+use Rattle.vr_lns.specs.Cuts.{cut_chain, goes_with, left_by}
 use Rattle.vr_lns.specs.declared.leaving.CutOf.{CutOf}
 
 module _ (stays : ℕ → Bool) where
@@ -49,7 +49,7 @@ module _ (stays : ℕ → Bool) where
 -- what a cut leaves are lists of the model
 pub left_are_lists : (cut : CutOf) → are_lists cut.lookups.now.closed.model.now (left_by cut.lookups.now.closed.model.now cut.most cut.routes.now.lists cut.at) ≡ true
 left_are_lists cut =
-    let chain = chain_of cut.most cut.routes.now.lists cut.at in
+    let chain = cut_chain cut.most cut.routes.now.lists cut.at in
     lists_left (λ node. not (goes_with chain node (pair_of cut.lookups.now.closed.model.now node))) cut.lookups.now.closed.model.now cut.routes.now.lists cut.lists
 
 -- ---- list by list

@@ -10,9 +10,9 @@ use Rattle.vr_model.specs.declared.search.Event.{Event}
 use Rattle.vr_model.specs.declared.search.Limit.{Limit}
 use Rattle.vr_descent.specs.declared.progress.Progress.{Progress}
 use Rattle.vr_descent.proofs.GoingOn.{Goes, goes_as}
-use Rattle.vr_lns.specs.Cuts.{improves}
+use Rattle.vr_lns.specs.Cuts.{improves_on}
 use Rattle.vr_descent.specs.Ending.{report_of}
-use Rattle.vr_lns.specs.Ending.{EndsAs}
+use Rattle.vr_lns.specs.Ending.{SearchEndsAs}
 use Rattle.vr_lns.specs.Rounds.{Round}
 use Rattle.vr_lns.specs.Rounds.Round.{Accepted, Complete, Short}
 use Rattle.vr_lns.specs.Standing.{lists_after_round, round_at, round_end, standing_after}
@@ -46,7 +46,7 @@ module _ {W : Type 0} (after : W → List Event → List ℕ) (whole : Outcome) 
     pub cut_made : (place : ℕ) → told ≡ ends.Accepted place → CutMade after whole model most limit later at now old new
     cut_made place is =
         let made = made_told here place (sym is ∙ ends_so) in
-        let tells = subst (Tells (λ found. IsTrue (improves model lists found)) (limit.tries - at.used) 0) made.1 (told_by_round model most lists (limit.tries - at.used)) in
+        let tells = subst (Tells (λ found. IsTrue (improves_on model lists found)) (limit.tries - at.used) 0) made.1 (told_by_round model most lists (limit.tries - at.used)) in
         let so = subst Gave made.1 gave in
         let one = tells.0 in
         let within = tells.1 in
@@ -60,19 +60,19 @@ module _ {W : Type 0} (after : W → List Event → List ℕ) (whole : Outcome) 
         }
 
     -- it ends where all cuts were tried ..
-    pub ends_complete : (n : ℕ) → told ≡ ends.Complete n → (report : Report) → report ≡ report_of now Optimum → EndsAs after whole later old new report
+    pub ends_complete : (n : ℕ) → told ≡ ends.Complete n → (report : Report) → report ≡ report_of now Optimum → SearchEndsAs after whole later old new report
     ends_complete n is report report_is =
         let so = subst Gave (completed here n (sym is ∙ ends_so)) gave in
-        subst (λ ls. EndsAs after whole ls old new report) (sym so.lists_are)
-        (subst (EndsAs after whole lists old new) (sym (report_is ∙ ap (λ s. report_of s Optimum) so.at_is))
+        subst (λ ls. SearchEndsAs after whole ls old new report) (sym so.lists_are)
+        (subst (SearchEndsAs after whole lists old new) (sym (report_is ∙ ap (λ s. report_of s Optimum) so.at_is))
         (ends_as after whole (tried (standing model most limit lists at.used at.found) n) Optimum old new so.goes))
 
     -- .. and where the tries ran out
-    pub ends_short : at.used ≤ limit.tries → told ≡ ends.Short → (report : Report) → report ≡ report_of now Tries → EndsAs after whole later old new report
+    pub ends_short : at.used ≤ limit.tries → told ≡ ends.Short → (report : Report) → report ≡ report_of now Tries → SearchEndsAs after whole later old new report
     ends_short used is report report_is =
         let so = subst Gave (ran_short here (sym is ∙ ends_so)) gave in
         let all : at.used + (limit.tries - at.used) ≡ limit.tries = omega (arith, used) in
-        subst (λ ls. EndsAs after whole ls old new report) (sym so.lists_are)
-        (subst (EndsAs after whole lists old new) (sym (report_is ∙ ap (λ s. report_of s Tries) so.at_is))
+        subst (λ ls. SearchEndsAs after whole ls old new report) (sym so.lists_are)
+        (subst (SearchEndsAs after whole lists old new) (sym (report_is ∙ ap (λ s. report_of s Tries) so.at_is))
         (ends_as after whole (standing model most limit lists limit.tries at.found) Tries old new
         (goes_as after whole _ _ old new (ap (λ k. ended (standing model most limit lists k at.found) Tries) all) so.goes)))

@@ -5,7 +5,7 @@ use Rattle.vr_model.specs.tables.Numbers.{from_to}
 use Rattle.vr_model.proofs.tables.Ranges.{walk_opens}
 use Rattle.vr_lns.specs.Rounds.{Round, ends_at, round_from}
 use Rattle.vr_lns.specs.Rounds.Round.{Accepted, Complete, Short}
-use Rattle.vr_lns.specs.Standing.{is_taken, round_end}
+use Rattle.vr_lns.specs.Standing.{is_taken_over, round_end}
 use Rattle.vr_lns.specs.declared.cutting.Cut.{Cut}
 use Rattle.vr_lns.specs.declared.rounds.RoundEnd.{RoundEnd}
 use Rattle.vr_lns.specs.declared.rounds.RoundEnd.TheVariants as ends
@@ -19,14 +19,14 @@ pub next_cut : {A : Type 0} (f : List Cut → A) (v n a : ℕ) (whole : A) → f
 next_cut f v n a whole left low = walk_opens (λ xs. f (map (cut_at v) xs)) n a left low
 
 -- a result that is taken over is there, and one that is not is not
-taken_told : (o : Option (List (List ℕ))) → is_taken o ≡ true → (after : List (List ℕ)) × (o ≡ Some after)
+taken_told : (o : Option (List (List ℕ))) → is_taken_over o ≡ true → (after : List (List ℕ)) × (o ≡ Some after)
 taken_told None h = absurd (no h)
   where
     no : false ≡ true → ⊥
     no h = Prim.cc
 taken_told (Some after) h = (after, refl)
 
-pub not_taken : (o : Option (List (List ℕ))) → is_taken o ≡ false → o ≡ None
+pub not_taken : (o : Option (List (List ℕ))) → is_taken_over o ≡ false → o ≡ None
 not_taken None h = refl
 not_taken (Some after) h = absurd (no h)
   where
@@ -72,7 +72,7 @@ module _ (accepted : Cut → Option (List (List ℕ))) (rest : ℕ) where
       here : nat_le (suc place) rest ≡ true
       here = Prim.grind arith
 
-  pub taken_here : (place : ℕ) (c : Cut) (cs : List Cut) (whole : Round) → round_from place accepted rest (c ∷ cs) ≡ whole → place < rest → is_taken (accepted c) ≡ true
+  pub taken_here : (place : ℕ) (c : Cut) (cs : List Cut) (whole : Round) → round_from place accepted rest (c ∷ cs) ≡ whole → place < rest → is_taken_over (accepted c) ≡ true
       → (after : List (List ℕ)) × (accepted c ≡ Some after) × (whole ≡ Accepted (place + 1) after)
   taken_here place c cs whole e low h = let t = taken_told (accepted c) h in (t.0, t.1, sym e ∙ accepted_here place c cs t.0 low t.1)
 

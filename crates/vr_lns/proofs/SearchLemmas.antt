@@ -8,15 +8,15 @@ use Rattle.vr_model.specs.declared.records.End.TheVariants.{Optimum, Tries, Solu
 use Rattle.vr_model.specs.declared.search.Event.{Event}
 use Rattle.vr_model.specs.declared.search.Limit.{Limit}
 use Rattle.vr_model.specs.declared.search.Kind.TheVariants as kind
-use Rattle.vr_watch.specs.Told.{Told, ToldInPart}
+use Rattle.vr_watch.specs.Told.{Reported, ReportedInPart}
 use Rattle.vr_descent.proofs.GoingOn.{breaks_off, Goes, goes_as, goes_more, goes_to_end}
 use Rattle.vr_descent.specs.Searching.{behind}
-use Rattle.vr_lns.specs.Cuts.{improves}
-use Rattle.vr_lns.specs.Ending.{EndsAs}
+use Rattle.vr_lns.specs.Cuts.{improves_on}
+use Rattle.vr_lns.specs.Ending.{SearchEndsAs}
 use Rattle.vr_lns.specs.Rounds.{Round}
 use Rattle.vr_lns.specs.Rounds.Round.{Accepted, Complete, Short}
 use Rattle.vr_lns.specs.PathLns.{after_round, cut_made, path_lns, path_lns_from}
-use Rattle.vr_lns.specs.Standing.{cut_event, events_after, round_at}
+use Rattle.vr_lns.specs.Standing.{cut_event, round_events, round_at}
 use Rattle.vr_lns.proofs.BoundLemmas.{bound_unmet, enough, rounded, told_by_round, Tells}
 
 module _ (model : Model) (most : ℕ) (limit : Limit) where
@@ -42,11 +42,11 @@ module _ (model : Model) (most : ℕ) (limit : Limit) where
     left_after Short = ended (tried (standing lists used found) (limit.tries - used)) Tries
 
     -- the search is the events of a round, and what is left after it
-    pub on_round : (found == limit.solutions) ≡ false → from_here lists used found ≡ behind (events_after model used (round_at model most limit lists used)) (left_after (round_at model most limit lists used))
+    pub on_round : (found == limit.solutions) ≡ false → from_here lists used found ≡ behind (round_events model used (round_at model most limit lists used)) (left_after (round_at model most limit lists used))
     on_round e = rounded model most limit (limit.tries - used) (standing lists used found) e ∙ go (round_at model most limit lists used) (told_by_round model most lists (limit.tries - used))
       where
-        go : (r : Round) → Tells (λ after. IsTrue (improves model lists after)) (limit.tries - used) 0 r
-            → after_round model limit (path_lns_from model most limit (limit.tries - used)) (standing lists used found) r ≡ behind (events_after model used r) (left_after r)
+        go : (r : Round) → Tells (λ after. IsTrue (improves_on model lists after)) (limit.tries - used) 0 r
+            → after_round model limit (path_lns_from model most limit (limit.tries - used)) (standing lists used found) r ≡ behind (round_events model used r) (left_after r)
         go (Accepted n after) h = ap (with_event (cut_event model after (used + n))) (ap (path_lns_from model most limit (limit.tries - used)) same ∙ fewer h.0 h.1)
           where
             same : cut_made (standing lists used found) n after ≡ standing after (used + n) (found + 1)
@@ -68,16 +68,16 @@ module _ (model : Model) (most : ℕ) (limit : Limit) where
 
 module _ {W : Type 0} (after : W → List Event → List ℕ) (whole : Outcome) where
   -- the next events are told, and another outcome is left
-  pub goes_on : (rest next : Outcome) (events : List Event) (a b c : List W) → rest ≡ behind events next → Goes after whole rest a b → Told after b c events → Goes after whole next a c
+  pub goes_on : (rest next : Outcome) (events : List Event) (a b c : List W) → rest ≡ behind events next → Goes after whole rest a b → Reported after b c events → Goes after whole next a c
   goes_on rest next events a b c e g t = goes_more after whole next events a b c (goes_as after whole rest (behind events next) a b e g) t
 
   -- the search breaks off where it tells the next events
-  pub breaks_off_at : (rest next : Outcome) (events : List Event) (a b c : List W) → rest ≡ behind events next → Goes after whole rest a b → ToldInPart after b c events → ToldInPart after a c whole.events
+  pub breaks_off_at : (rest next : Outcome) (events : List Event) (a b c : List W) → rest ≡ behind events next → Goes after whole rest a b → ReportedInPart after b c events → ReportedInPart after a c whole.events
   breaks_off_at rest next events a b c e g p = breaks_off after whole next events a b c (goes_as after whole rest (behind events next) a b e g) p
 
   -- nothing more is told
   pub ends_as : (state : SearchState) (stop : End) (a b : List W) → Goes after whole (ended state stop) a b
-      → EndsAs after whole state.lists a b (record { tries = state.used; solutions = state.found; «end» = stop })
+      → SearchEndsAs after whole state.lists a b (record { tries = state.used; solutions = state.found; «end» = stop })
   ends_as state stop a b g = record {
     report_is = sym (ap (λ o. o.report) g.outcome);
     lists_are = sym (ap (λ o. o.last) g.outcome);

@@ -5,8 +5,8 @@ use Rattle.vr_routes.specs.declared.seats.Seat.{Seat}
 use Rattle.vr_lns.specs.declared.cutting.Cut.{Cut}
 
 -- the place behind the chain of a cut
-abbrev pub end_of : ℕ → List (List ℕ) → Cut → ℕ
-end_of most lists at = min (at.place + most) (length (route lists at.vehicle))
+abbrev pub chain_end : ℕ → List (List ℕ) → Cut → ℕ
+chain_end most lists at = min (at.place + most) (length (route lists at.vehicle))
 
 -- a seat lies in the chain of a cut that ends before place `end`
 abbrev pub is_between : Cut → ℕ → Seat → Bool

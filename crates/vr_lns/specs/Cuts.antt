@@ -20,8 +20,8 @@ abbrev pub cuts : List (List ℕ) → List Cut
 cuts lists = each (vehicles lists) λ v. cuts_of v (route lists v)
 
 -- the chain that a cut takes out of its list: the visits from its place on, at most so many
-abbrev pub chain_of : ℕ → List (List ℕ) → Cut → List ℕ
-chain_of most lists at =
+abbrev pub cut_chain : ℕ → List (List ℕ) → Cut → List ℕ
+cut_chain most lists at =
     let list = route lists at.vehicle in slice_range list at.place (min (at.place + most) (length list))
 
 -- a node goes with a chain where it stands in it, or where the other node of its pair does
@@ -35,7 +35,7 @@ without_chain model chain list = filter (λ node. not (goes_with chain node (pai
 
 -- what a cut leaves of lists
 abbrev pub left_by : Model → ℕ → List (List ℕ) → Cut → List (List ℕ)
-left_by model most lists at = map (without_chain model (chain_of most lists at)) lists
+left_by model most lists at = map (without_chain model (cut_chain most lists at)) lists
 
 -- open lists after parallel cheapest insertion of all items that stand in none; of other lists nothing is made
 abbrev pub rebuilt_where_open : Model → List (List ℕ) → Option (List (List ℕ))
@@ -46,13 +46,13 @@ abbrev pub result_of : Model → ℕ → List (List ℕ) → Cut → Option (Lis
 result_of model most lists at = rebuilt_where_open model (left_by model most lists at)
 
 -- lists that are valid and cost less than others
-abbrev pub improves : Model → List (List ℕ) → List (List ℕ) → Bool
-improves model lists after = is_valid model after && int_lt (cost model after) (cost model lists)
+abbrev pub improves_on : Model → List (List ℕ) → List (List ℕ) → Bool
+improves_on model lists after = is_valid model after && int_lt (cost model after) (cost model lists)
 
 -- a result where it is accepted: it is valid and costs less
 abbrev pub where_better : Model → List (List ℕ) → Option (List (List ℕ)) → Option (List (List ℕ))
 where_better model lists None = None
-where_better model lists (Some after) = cond (improves model lists after) (Some after) None
+where_better model lists (Some after) = cond (improves_on model lists after) (Some after) None
 
 -- the result of a cut where the cut is acceptable
 unfoldable pub accepted_by : Model → ℕ → List (List ℕ) → Cut → Option (List (List ℕ))

@@ -21,9 +21,9 @@ pub record HoldValid (model : Model) (routes : Tours) (total : ℤ) : Type 0 whe
   pub costs : total ≡ cost model routes.lists
 
 -- the result of a cut was taken over
-abbrev pub is_taken : Option (List (List ℕ)) → Bool
-is_taken None = false
-is_taken (Some after) = true
+abbrev pub is_taken_over : Option (List (List ℕ)) → Bool
+is_taken_over None = false
+is_taken_over (Some after) = true
 
 -- the lists after a cut was tried
 abbrev pub lists_after : List (List ℕ) → Option (List (List ℕ)) → List (List ℕ)
@@ -43,20 +43,20 @@ lists_after_round lists (Complete n) = lists
 lists_after_round lists Short = lists
 
 -- how many cuts were tried by the end of a round of which `rest` could be tried
-abbrev pub tries_of : ℕ → RoundEnd → ℕ
-tries_of rest (ends.Accepted place) = place
-tries_of rest (ends.Complete length) = length
-tries_of rest ends.Short = rest
+abbrev pub tries_in_round : ℕ → RoundEnd → ℕ
+tries_in_round rest (ends.Accepted place) = place
+tries_in_round rest (ends.Complete length) = length
+tries_in_round rest ends.Short = rest
 
 -- the event of a cut that was made, after so many tries
 abbrev pub cut_event : Model → List (List ℕ) → ℕ → Event
 cut_event model after tries = record { tries = tries; kind = kind.Move; cost = cost model after }
 
 -- the events of a round of a search that has used so many tries
-abbrev pub events_after : Model → ℕ → Round → List Event
-events_after model used (Accepted n after) = cut_event model after (used + n) ∷ []
-events_after model used (Complete n) = []
-events_after model used Short = []
+abbrev pub round_events : Model → ℕ → Round → List Event
+round_events model used (Accepted n after) = cut_event model after (used + n) ∷ []
+round_events model used (Complete n) = []
+round_events model used Short = []
 
 -- where a search stands after a round
 abbrev pub standing_after : Model → Limit → Progress → Round → Progress

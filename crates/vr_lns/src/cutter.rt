@@ -8,7 +8,7 @@ ghost use Rattle.vr_model.specs.tables.Tables.{visits};
 ghost use Rattle.vr_rules.specs.Placing.{AreBuilt};
 ghost use Rattle.vr_lns.specs.Cutters.{result_in, AreRoutesOf};
 ghost use Rattle.vr_lns.specs.Cuts.{result_of, where_better};
-ghost use Rattle.vr_lns.specs.Standing.{is_taken, lists_after, HoldValid};
+ghost use Rattle.vr_lns.specs.Standing.{is_taken_over, lists_after, HoldValid};
 
 use crate::Rebuild;
 use crate::cutting::Cut;
@@ -122,7 +122,7 @@ impl<'m> Cutter<'m> {
         requires built { AreBuilt self.old.model after.now.lists }
         requires visits { after.now.visits ≡ visits self.old.model }
         ensures taken { IfOk result (λ taken. taken
-            ≡ is_taken (where_better self.old.model routes.old.lists (Some after.now.lists))) }
+            ≡ is_taken_over (where_better self.old.model routes.old.lists (Some after.now.lists))) }
         ensures lists { OnOk result (routes.new.lists
             ≡ lists_after routes.old.lists (where_better self.old.model routes.old.lists (Some after.now.lists))) }
         ensures holds { HoldValid self.old.model routes.new total.new }

@@ -5,7 +5,7 @@ ghost use Rattle.vr_model.specs.routes.Costs.{cost};
 ghost use Rattle.vr_model.specs.routes.Routes.{route};
 ghost use Rattle.vr_model.specs.routes.Rules.{is_valid};
 ghost use Rattle.vr_lns.specs.Cuts.{accepted_by};
-ghost use Rattle.vr_lns.specs.Standing.{is_taken, lists_after, HoldValid};
+ghost use Rattle.vr_lns.specs.Standing.{is_taken_over, lists_after, HoldValid};
 
 use crate::Rebuild;
 use crate::cutter::Cutter;
@@ -87,7 +87,7 @@ impl<'m> Cutting<'m> {
         requires vehicle { at.vehicle < length routes.old.lists }
         requires place { at.place < length (route routes.old.lists at.vehicle) }
         ensures taken { IfOk result (λ taken. taken
-            ≡ is_taken (accepted_by self.old.model self.old.most routes.old.lists at)) }
+            ≡ is_taken_over (accepted_by self.old.model self.old.most routes.old.lists at)) }
         ensures lists { OnOk result (routes.new.lists
             ≡ lists_after routes.old.lists (accepted_by self.old.model self.old.most routes.old.lists at)) }
         ensures holds { HoldValid self.old.model routes.new total.new }

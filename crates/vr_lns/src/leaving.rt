@@ -5,7 +5,7 @@ ghost use Rattle.vr_model.specs.first.Items.{pair_of as pair_in};
 ghost use Rattle.vr_model.specs.routes.Routes.{are_lists, holds, route};
 ghost use Rattle.vr_lns.specs.Chains.{is_between as is_between_of};
 ghost use Rattle.vr_lns.specs.Cutters.{AreRoutesOf};
-ghost use Rattle.vr_lns.specs.Cuts.{chain_of, goes_with as goes_with_of, left_by, without_chain as without_chain_of};
+ghost use Rattle.vr_lns.specs.Cuts.{cut_chain, goes_with as goes_with_of, left_by, without_chain as without_chain_of};
 
 use crate::cutting::Cut;
 use std::alloc::Global;
@@ -35,7 +35,7 @@ fn is_between(seat: Seat, at: Cut, end: u32) -> bool
 
 // Whether a node stands in the chain that a cut takes out.
 fn is_in_chain(cut: &CutOf<'_, '_, '_>, node: u32) -> bool
-    ensures { result ≡ holds (chain_of cut.now.most cut.now.routes.now.lists cut.now.at) node }
+    ensures { result ≡ holds (cut_chain cut.now.most cut.now.routes.now.lists cut.now.at) node }
 {
     let (routes, at) = (cut.routes, cut.at);
     routes.know_once();
@@ -56,7 +56,7 @@ fn pair_of(lookups: &Lookups<'_>, node: u32) -> Option<Pair>
 
 // Whether a node goes with that chain: it stands in it, or the other node of its pair does.
 fn goes_with(cut: &CutOf<'_, '_, '_>, node: u32) -> bool
-    ensures { result ≡ goes_with_of (chain_of cut.now.most cut.now.routes.now.lists cut.now.at) node
+    ensures { result ≡ goes_with_of (cut_chain cut.now.most cut.now.routes.now.lists cut.now.at) node
         (pair_in cut.now.lookups.now.closed.model.now node) }
 {
     match pair_of(cut.lookups, node) {
@@ -68,7 +68,7 @@ fn goes_with(cut: &CutOf<'_, '_, '_>, node: u32) -> bool
 // A list without the nodes that go with that chain.
 fn without_chain(alloc: Global, cut: &CutOf<'_, '_, '_>, list: &[u32]) -> Result<Seq<u32>, NoMemory>
     ensures { IfOk result (λ left. left ≡ without_chain_of cut.now.lookups.now.closed.model.now
-        (chain_of cut.now.most cut.now.routes.now.lists cut.now.at) list.now) }
+        (cut_chain cut.now.most cut.now.routes.now.lists cut.now.at) list.now) }
 {
     let mut left = Seq::with_capacity(alloc, list.len())?;
     for &node in list {

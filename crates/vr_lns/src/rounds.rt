@@ -4,7 +4,7 @@ ghost use Rattle.std.specs.Prelude.{◌≡◌, ◌+◌, ◌<◌, ◌≤◌, IfOk
 ghost use Rattle.vr_model.specs.routes.Routes.{route};
 ghost use Rattle.vr_lns.specs.Cuts.{accepted_by, cuts_of};
 ghost use Rattle.vr_lns.specs.Rounds.{round as round_of, round_from};
-ghost use Rattle.vr_lns.specs.Standing.{lists_after_round, round_end, tries_of, HoldValid};
+ghost use Rattle.vr_lns.specs.Standing.{lists_after_round, round_end, tries_in_round, HoldValid};
 
 use crate::Rebuild;
 use crate::cutting::{Cut, Cutting};
@@ -45,7 +45,7 @@ fn cut_list<R: Rebuild>(
     ensures holds { HoldValid cutting.old.model routes.new total.new }
     ensures cutter { cutting.new ≡ cutting.old }
     ensures knows { OnOk result (R.knows rebuild.new cutting.old.model) }
-    ensures made { IfOk result (λ ended. R.made rebuild.new + tried ≤ R.made rebuild.old + tries_of rest ended) }
+    ensures made { IfOk result (λ ended. R.made rebuild.new + tried ≤ R.made rebuild.old + tries_in_round rest ended) }
     ensures made_at_most { OnErr result (R.made rebuild.new + tried ≤ R.made rebuild.old + rest) }
 {
     let mut place = tried;
@@ -85,7 +85,7 @@ pub(crate) fn round<R: Rebuild>(
     ensures holds { HoldValid cutting.old.model routes.new total.new }
     ensures cutter { cutting.new ≡ cutting.old }
     ensures knows { OnOk result (R.knows rebuild.new cutting.old.model) }
-    ensures made { IfOk result (λ ended. R.made rebuild.new ≤ R.made rebuild.old + tries_of rest ended) }
+    ensures made { IfOk result (λ ended. R.made rebuild.new ≤ R.made rebuild.old + tries_in_round rest ended) }
     ensures made_at_most { OnErr result (R.made rebuild.new ≤ R.made rebuild.old + rest) }
 {
     let mut tried = 0;

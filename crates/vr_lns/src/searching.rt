@@ -2,13 +2,13 @@
 
 ghost use Rattle.std.specs.Prelude.{◌≡◌, ◌+◌, ◌≤◌, IsTrue, IfOk, OnErr};
 ghost use Rattle.vr_descent.specs.Ending.{HasEnded, IsSearchLimit};
-ghost use Rattle.vr_lns.specs.Ending.{EndsAs};
+ghost use Rattle.vr_lns.specs.Ending.{SearchEndsAs};
 ghost use Rattle.vr_lns.specs.PathLns.{path_lns};
 ghost use Rattle.vr_lns.specs.Standing.{HoldValid};
 ghost use Rattle.vr_model.specs.routes.Rules.{is_valid};
 ghost use Rattle.vr_model.specs.tables.Tables.{visits};
 ghost use Rattle.vr_model.specs.tables.WellFormed.{IsWellFormed};
-ghost use Rattle.vr_watch.specs.Told.{ToldInPart};
+ghost use Rattle.vr_watch.specs.Told.{ReportedInPart};
 
 use crate::Rebuild;
 use crate::cutting::Cutting;
@@ -54,7 +54,7 @@ pub fn lns<R: Rebuild>(
 
     ensures of_model { routes.new.visits ≡ routes.old.visits }
     ensures valid { IsTrue (is_valid model.now routes.new.lists) }
-    ensures told_in_part { OnErr result (ToldInPart (λ w later. after w later) watch.old.items watch.new.items
+    ensures told_in_part { OnErr result (ReportedInPart (λ w later. after w later) watch.old.items watch.new.items
         (path_lns model.now routes.old.lists limit cut).events) }
     ensures made_at_most { OnErr result (R.made rebuild.new ≤ R.made rebuild.old + limit.tries) }
 {
@@ -84,7 +84,7 @@ pub fn lns_over<R: Rebuild>(
 
     ensures of_model { routes.new.visits ≡ routes.old.visits }
     ensures valid { IsTrue (is_valid lookups.now.closed.model.now routes.new.lists) }
-    ensures told_in_part { OnErr result (ToldInPart (λ w later. after w later) watch.old.items watch.new.items
+    ensures told_in_part { OnErr result (ReportedInPart (λ w later. after w later) watch.old.items watch.new.items
         (path_lns lookups.now.closed.model.now routes.old.lists limit cut).events) }
     ensures made_at_most { OnErr result (R.made rebuild.new ≤ R.made rebuild.old + limit.tries) }
 {
@@ -104,13 +104,13 @@ fn search<R: Rebuild>(
     requires of_model { routes.old.visits ≡ visits cutting.old.model }
     requires valid { IsTrue (is_valid cutting.old.model routes.old.lists) }
     requires limit { IsSearchLimit limit }
-    ensures ends { IfOk result (EndsAs (λ w later. after w later)
+    ensures ends { IfOk result (SearchEndsAs (λ w later. after w later)
         (path_lns cutting.old.model routes.old.lists limit cutting.old.most) routes.new.lists
         watch.old.items watch.new.items) }
     ensures made { IfOk result (λ report. R.made rebuild.new ≤ R.made rebuild.old + report.tries) }
     ensures of_model { routes.new.visits ≡ routes.old.visits }
     ensures valid { IsTrue (is_valid cutting.old.model routes.new.lists) }
-    ensures told_in_part { OnErr result (ToldInPart (λ w later. after w later) watch.old.items watch.new.items
+    ensures told_in_part { OnErr result (ReportedInPart (λ w later. after w later) watch.old.items watch.new.items
         (path_lns cutting.old.model routes.old.lists limit cutting.old.most).events) }
     ensures made_at_most { OnErr result (R.made rebuild.new ≤ R.made rebuild.old + limit.tries) }
 {

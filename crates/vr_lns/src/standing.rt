@@ -1,9 +1,9 @@
 //! One round of a search.
 
 ghost use Rattle.std.specs.Prelude.{◌≡◌, ◌+◌, ◌≤◌, IfOk, OnOk, OnErr};
-ghost use Rattle.vr_lns.specs.Standing.{events_after, lists_after_round, round_at, round_end};
+ghost use Rattle.vr_lns.specs.Standing.{round_events, lists_after_round, round_at, round_end};
 ghost use Rattle.vr_lns.specs.Standing.{standing_after, HoldValid};
-ghost use Rattle.vr_watch.specs.Told.{Told, ToldInPart};
+ghost use Rattle.vr_watch.specs.Told.{Reported, ReportedInPart};
 
 use crate::Rebuild;
 use crate::cutting::Cutting;
@@ -36,11 +36,11 @@ pub(crate) fn advance<R: Rebuild>(
         (round_at cutting.old.model cutting.old.most limit routes.old.lists at.old.used)) }
     ensures lists { OnOk result (routes.new.lists ≡ lists_after_round routes.old.lists
         (round_at cutting.old.model cutting.old.most limit routes.old.lists at.old.used)) }
-    ensures told { OnOk result (Told (λ w later. after w later) watch.old.items watch.new.items
-        (events_after cutting.old.model at.old.used
+    ensures told { OnOk result (Reported (λ w later. after w later) watch.old.items watch.new.items
+        (round_events cutting.old.model at.old.used
         (round_at cutting.old.model cutting.old.most limit routes.old.lists at.old.used))) }
-    ensures told_in_part { OnErr result (ToldInPart (λ w later. after w later) watch.old.items watch.new.items
-        (events_after cutting.old.model at.old.used
+    ensures told_in_part { OnErr result (ReportedInPart (λ w later. after w later) watch.old.items watch.new.items
+        (round_events cutting.old.model at.old.used
         (round_at cutting.old.model cutting.old.most limit routes.old.lists at.old.used))) }
     ensures holds { HoldValid cutting.old.model routes.new at.new.cost }
     ensures cutter { cutting.new ≡ cutting.old }

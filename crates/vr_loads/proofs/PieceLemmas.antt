@@ -13,7 +13,7 @@ use Rattle.vr_routes.specs.Pieces.{joined, nodes_of}
 use Rattle.vr_routes.proofs.JoinedPieces.{joined_next}
 use Rattle.vr_balance.specs.Sums.{last_of, IsUpTo}
 use Rattle.vr_balance.proofs.Paths.{read-up, sums-between}
-use Rattle.vr_loads.specs.Kept.{at_target, AreTaken, IsAlong}
+use Rattle.vr_loads.specs.Kept.{at_target, AreTaken, IsTotalAlong}
 use Rattle.vr_loads.proofs.Totals.{AreSmall, total-bounds, total-reversed, up-to-few}
 use Rattle.vr_loads.proofs.ValueLemmas.{taken-total}
 
@@ -64,11 +64,11 @@ module _ (f : ℕ → ℤ) (small : AreSmall f) (lists : List (List ℕ)) (v fro
       subst (IsUpTo 1001) (chain-total f lists v from to back) (record { low = z.low; high = omega (arith, ints, b, t, x.high, y.low, few, low) })
 
   pub chain-along : (piece : Piece) → piece ≡ Chain v from to back → IsUpTo 1001 (total_by f (nodes_of lists (Chain v from to back)))
-      → (result : ℤ) → result ≡ total_by f (slice_range (route lists v) from to) → IsAlong f (nodes_of lists piece) (to_z w64 (of_z w64 result))
+      → (result : ℤ) → result ≡ total_by f (slice_range (route lists v) from to) → IsTotalAlong f (nodes_of lists piece) (to_z w64 (of_z w64 result))
   chain-along piece is_chain up result is =
       let nodes : List ℕ = nodes_of lists (Chain v from to back) in
       let read : to_z w64 (of_z w64 result) ≡ total_by f nodes = ap (λ x. to_z w64 (of_z w64 x)) (is ∙ chain-total f lists v from to back) ∙ read-up 1001 (total_by f nodes) up (omega arith) in
-      subst (λ p. IsAlong f (nodes_of lists p) (to_z w64 (of_z w64 result))) (sym is_chain) (record { value = read; range = subst (IsUpTo 1001) (sym read) up })
+      subst (λ p. IsTotalAlong f (nodes_of lists p) (to_z w64 (of_z w64 result))) (sym is_chain) (record { value = read; range = subst (IsUpTo 1001) (sym read) up })
 
 -- one piece more, and how it is read
 module _ (f : ℕ → ℤ) (lists : List (List ℕ)) (pieces : List Piece) (k : ℕ) (d : Piece) (low : k < length pieces) (few : length pieces ≤ 8) (sum more : ℤ)

@@ -17,7 +17,7 @@ abbrev pub AreTaken : (ℕ → ℤ) → List ℕ → List ℤ → Type 0
 AreTaken f list sums = AreSums (at_target f) 0 list sums
 
 -- a number is what f gives of some nodes, and no greater than that of 1001
-pub record IsAlong (f : ℕ → ℤ) (nodes : List ℕ) (total : ℤ) : Type 0 where
+pub record IsTotalAlong (f : ℕ → ℤ) (nodes : List ℕ) (total : ℤ) : Type 0 where
   pub value : total ≡ total_by f nodes
   pub range : IsUpTo 1001 total
 

@@ -7,7 +7,7 @@ ghost use Rattle.vr_model.specs.routes.Routes.{route};
 ghost use Rattle.vr_model.specs.moves.Moves.{with_route};
 ghost use Rattle.vr_routes.specs.Pieces.{joined, nodes_of, IsWithin};
 ghost use Rattle.vr_loads.specs.Loads.{HasLoad, can_carry, taken, value_of};
-ghost use Rattle.vr_loads.specs.Kept.{AreCarried, IsAlong, IsCarried};
+ghost use Rattle.vr_loads.specs.Kept.{AreCarried, IsTotalAlong, IsCarried};
 
 use crate::sums::{sum_of, value, write_sums};
 use std::alloc::Global;
@@ -152,7 +152,7 @@ impl Loads {
         requires evaluator { evaluator < length (dimension_at model.now d).evaluators }
         requires within { IsWithin routes.now.lists piece }
         requires nodes { All (λ node. node < model.now.nodes) (nodes_of routes.now.lists piece) }
-        ensures { IsAlong (value_of model.now d evaluator) (nodes_of routes.now.lists piece) result }
+        ensures { IsTotalAlong (value_of model.now d evaluator) (nodes_of routes.now.lists piece) result }
     {
         match piece {
             Piece::Node { node } => value(model, d, evaluator, node),

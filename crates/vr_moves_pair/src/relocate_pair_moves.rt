@@ -3,7 +3,7 @@
 ghost use Rattle.std.specs.Prelude.{◌≡◌, ◌<◌, ◌≤◌, filter, length, map, suc};
 ghost use Rattle.vr_known.specs.Listing.{each, from_to, is_pair_served, moves_in, pair_at, route, vehicles};
 ghost use Rattle.vr_known.specs.Listing.{IsWellFormed, RelocatePair, RelocatePairKind};
-ghost use Rattle.vr_routes.specs.Pairs.{ArePlaces, is_elsewhere};
+ghost use Rattle.vr_routes.specs.Pairs.{ArePairPlaces, is_elsewhere};
 ghost use Rattle.vr_moves_pair.specs.Putting.{puts_into};
 
 use vr_known::{Block, Each, Family, Moves, Numbered, Run};
@@ -105,7 +105,7 @@ pub struct Targets<'a> {
     at: PairPlaces,
     ghost pair: { p < 500 },
     ghost order: { at.pickup < at.delivery },
-    ghost places: { ArePlaces routes.now.lists (pair_at model.now p) at.vehicle at.pickup at.delivery },
+    ghost places: { ArePairPlaces routes.now.lists (pair_at model.now p) at.vehicle at.pickup at.delivery },
 }
 
 impl<'a> Family for Targets<'a> {

@@ -15,7 +15,7 @@ use Rattle.vr_routes.specs.Changes.{AreParts}
 use Rattle.vr_model.proofs.routes.Lists.{route_set_same, route_set_other}
 use Rattle.vr_routes.proofs.CommitLemmas.{as_many_lists}
 use Rattle.vr_routes.proofs.PartLemmas.{part_is}
-use Rattle.vr_parts.specs.Sums.{over_routes, part_change}
+use Rattle.vr_parts.specs.Sums.{sum_over_routes, part_change}
 
 -- a sum over one value more of a list
 pub total-more : {A : Type 0} (f : A → ℤ) (xs : List A) (k : ℕ) (d : A) → k < length xs → total_by f (take (k + 1) xs) ≡ total_by f (take k xs) +ℤ f (slice_index_or xs k d)
@@ -43,7 +43,7 @@ sum-but g h a (suc n) v low high same = go (cases_lt a v) (λ less. sum-but g h 
 
 -- one list of another
 pub over-set : (f : ℕ → List ℕ → ℤ) (lists : List (List ℕ)) (v : ℕ) (list : List ℕ) → v < length lists
-    → over_routes f (with_route lists v list) ≡ over_routes f lists +ℤ (f v list -ℤ f v (route lists v))
+    → sum_over_routes f (with_route lists v list) ≡ sum_over_routes f lists +ℤ (f v list -ℤ f v (route lists v))
 over-set f lists v list low =
     let set : List (List ℕ) = with_route lists v list in
     let b = sum-but (λ u. f u (route set u)) (λ u. f u (route lists u)) 0 (length lists) v (omega arith) (omega (arith, low)) (λ u other. ap (f u) (route_set_other lists v u list other)) in
@@ -93,13 +93,13 @@ pub change-next : (f : ℕ → List ℕ → ℤ) (lists : List (List ℕ)) (part
 change-next f lists parts k low = ap (λ n. total_by (part_change f lists) (take n parts)) (sym (add-one k)) ∙ total-more (part_change f lists) parts k no_part low
 
 module _ (f : ℕ → List ℕ → ℤ) (lists : List (List ℕ)) (parts : List ListAfter) (are : AreParts lists parts) where
-  sum-upto : (k : ℕ) → k ≤ length parts → over_routes f (upto lists parts k) ≡ over_routes f lists +ℤ total_by (part_change f lists) (take k parts)
+  sum-upto : (k : ℕ) → k ≤ length parts → sum_over_routes f (upto lists parts k) ≡ sum_over_routes f lists +ℤ total_by (part_change f lists) (take k parts)
   sum-upto zero low = omega (arith, ints)
   sum-upto (suc k) low =
       let part : ListAfter = part_at parts k in
       let under : k < length parts = omega (arith, low) in
       let i = sum-upto k (omega (arith, low)) in
-      let next = ap (over_routes f) (upto-next lists parts k under) in
+      let next = ap (sum_over_routes f) (upto-next lists parts k under) in
       let known : part.vehicle < length (upto lists parts k) = (let a = are.each_vehicle k no_part under in let m = upto-many lists parts k in omega (arith, a, m)) in
       let one = over-set f (upto lists parts k) part.vehicle (joined lists part.pieces) known in
       let kept = ap (f part.vehicle) (upto-kept lists parts are k under) in
@@ -107,11 +107,11 @@ module _ (f : ℕ → List ℕ → ℤ) (lists : List (List ℕ)) (parts : List 
       omega (arith, ints, i, next, one, kept, more)
 
   -- the sum over the vehicles after a change is the one before, and what the parts add
-  pub changed-sum : over_routes f (changed lists parts) ≡ over_routes f lists +ℤ total_by (part_change f lists) parts
+  pub changed-sum : sum_over_routes f (changed lists parts) ≡ sum_over_routes f lists +ℤ total_by (part_change f lists) parts
   changed-sum =
       let all = take_all (length parts) parts (omega arith) in
       let s = sum-upto (length parts) (omega arith) in
-      let a = ap (λ ps. over_routes f (with_parts lists ps lists)) all in
+      let a = ap (λ ps. sum_over_routes f (with_parts lists ps lists)) all in
       let b = ap (total_by (part_change f lists)) all in
       omega (arith, ints, s, a, b)
 
@@ -136,7 +136,7 @@ sum-step f lists parts k v pieces sum next low vehicle same so_far value =
 
 -- what all parts add is the difference of the sums
 pub sum-whole : (f : ℕ → List ℕ → ℤ) (lists : List (List ℕ)) (parts : List ListAfter) → AreParts lists parts → (k : ℕ) (sum : ℤ) → length parts ≤ k
-    → sum ≡ total_by (part_change f lists) (take k parts) → sum ≡ over_routes f (changed lists parts) -ℤ over_routes f lists
+    → sum ≡ total_by (part_change f lists) (take k parts) → sum ≡ sum_over_routes f (changed lists parts) -ℤ sum_over_routes f lists
 sum-whole f lists parts are k sum high so_far =
     let all = ap (total_by (part_change f lists)) (take_all k parts high) in
     let s = changed-sum f lists parts are in

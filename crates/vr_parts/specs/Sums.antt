@@ -5,8 +5,8 @@ use Rattle.vr_model.specs.routes.Routes.{route}
 use Rattle.vr_routes.specs.Pieces.{ListAfter, joined}
 
 -- the sum over the vehicles of what f gives of each and its list
-abbrev pub over_routes : (ℕ → List ℕ → ℤ) → List (List ℕ) → ℤ
-over_routes f lists = total_by (λ v. f v (route lists v)) (below (length lists))
+abbrev pub sum_over_routes : (ℕ → List ℕ → ℤ) → List (List ℕ) → ℤ
+sum_over_routes f lists = total_by (λ v. f v (route lists v)) (below (length lists))
 
 -- what one list after a change adds to such a sum
 abbrev pub part_change : (ℕ → List ℕ → ℤ) → List (List ℕ) → ListAfter → ℤ

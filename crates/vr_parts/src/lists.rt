@@ -11,7 +11,7 @@ ghost use Rattle.vr_routes.specs.Changes.{IsMadeOn};
 ghost use Rattle.vr_routes.specs.Tours.{Tours};
 ghost use Rattle.vr_parts.specs.Bounds.{IsAddedByChange, IsAddedByList};
 ghost use Rattle.vr_parts.specs.Splices.{spliced, MayBeSpliced};
-ghost use Rattle.vr_parts.specs.Sums.{over_routes};
+ghost use Rattle.vr_parts.specs.Sums.{sum_over_routes};
 
 use vr_routes::{Change, Routes, Splice};
 
@@ -49,8 +49,8 @@ pub fn added_by<C: ListCost>(cost: &C, routes: &Routes, change: &Change) -> i64
     requires of_model { routes.now.visits ≡ visits (C.of_model cost.now) }
     requires made { IsMadeOn routes.now change.now }
     requires valid { IsTrue (is_valid (C.of_model cost.now) routes.now.lists) }
-    ensures value { result ≡ over_routes (C.list_cost (C.of_model cost.now)) (changed routes.now.lists change.now)
-        -ℤ over_routes (C.list_cost (C.of_model cost.now)) routes.now.lists }
+    ensures value { result ≡ sum_over_routes (C.list_cost (C.of_model cost.now)) (changed routes.now.lists change.now)
+        -ℤ sum_over_routes (C.list_cost (C.of_model cost.now)) routes.now.lists }
     ensures range { IsAddedByChange result }
 {
     let mut total = 0;

@@ -20,8 +20,8 @@ use Rattle.std.proofs.lemmas.List.{reverse-append}
 use Rattle.std.proofs.lemmas.List.Folds.{list_all-append}
 use Rattle.std.specs.Prelude.{reverse, slice_range}
 use Rattle.vr_balance.specs.Balances.{Turnover, IsBalance}
-use Rattle.vr_lists.specs.Nodes.{group_at, no_group, number_of}
-use Rattle.vr_pathfilters.specs.Groups.{keeps_groups, one_of, many_of, allows_number, allows_node, allows_pieces, KnowsGroups}
+use Rattle.vr_lists.specs.Nodes.{group_at, no_group, node_number}
+use Rattle.vr_pathfilters.specs.Groups.{keeps_groups, one_in_group, many_of, allows_number, allows_node, allows_pieces, KnowsGroups}
 use Rattle.vr_pathfilters.specs.TourLists.{AreTours}
 use Rattle.vr_pathfilters.proofs.GroupNumbers.{required, group-count, required-count}
 
@@ -120,21 +120,21 @@ lt_fails m n h = Prim.grind arith
 
 -- ---- nodes of a group among pieces
 
-one-passes : (numbers : List ℕ) (P : ℕ → Bool) (xs : List ℕ) (g : ℕ) → IsTrue (list_all (λ x. P (number_of numbers x)) xs) → 1 ≤ sum_by (one_of numbers g) xs → IsTrue (P g)
+one-passes : (numbers : List ℕ) (P : ℕ → Bool) (xs : List ℕ) (g : ℕ) → IsTrue (list_all (λ x. P (node_number numbers x)) xs) → 1 ≤ sum_by (one_in_group numbers g) xs → IsTrue (P g)
 one-passes numbers P [] g all some = absurd (omega (arith, some))
-one-passes numbers P (x ∷ xs) g all some = by (number_of numbers x == g) refl (one-passes numbers P xs g (and_right (P (number_of numbers x)) _ all))
+one-passes numbers P (x ∷ xs) g all some = by (node_number numbers x == g) refl (one-passes numbers P xs g (and_right (P (node_number numbers x)) _ all))
   where
-    by : (b : Bool) → (number_of numbers x == g) ≡ b → (1 ≤ sum_by (one_of numbers g) xs → IsTrue (P g)) → IsTrue (P g)
-    by true e later = subst (λ n. IsTrue (P n)) (eq_of_test (number_of numbers x) g e) (and_left (P (number_of numbers x)) _ all)
-    by false e later = later (let c = sum_by-cons (one_of numbers g) x xs in let none : one_of numbers g x ≡ 0 = ap (λ b. cond b 1 0) e in omega (arith, c, none, some))
+    by : (b : Bool) → (node_number numbers x == g) ≡ b → (1 ≤ sum_by (one_in_group numbers g) xs → IsTrue (P g)) → IsTrue (P g)
+    by true e later = subst (λ n. IsTrue (P n)) (eq_of_test (node_number numbers x) g e) (and_left (P (node_number numbers x)) _ all)
+    by false e later = later (let c = sum_by-cons (one_in_group numbers g) x xs in let none : one_in_group numbers g x ≡ 0 = ap (λ b. cond b 1 0) e in omega (arith, c, none, some))
 
-piece-passes : (numbers : List ℕ) (P : ℕ → Bool) (lists : List (List ℕ)) (pieces : List Piece) (g : ℕ) → IsTrue (list_all (λ piece. list_all (λ x. P (number_of numbers x)) (nodes_of lists piece)) pieces)
+piece-passes : (numbers : List ℕ) (P : ℕ → Bool) (lists : List (List ℕ)) (pieces : List Piece) (g : ℕ) → IsTrue (list_all (λ piece. list_all (λ x. P (node_number numbers x)) (nodes_of lists piece)) pieces)
     → 1 ≤ many_of numbers lists pieces g → IsTrue (P g)
 piece-passes numbers P lists [] g all some = absurd (omega (arith, some))
-piece-passes numbers P lists (p ∷ ps) g all some = elim (cases_lt 0 (sum_by (one_of numbers g) (nodes_of lists p))) [
-  | inl here ↦ one-passes numbers P (nodes_of lists p) g (and_left (list_all (λ x. P (number_of numbers x)) (nodes_of lists p)) _ all) (omega (arith, here))
-  | inr none ↦ piece-passes numbers P lists ps g (and_right (list_all (λ x. P (number_of numbers x)) (nodes_of lists p)) _ all)
-      (let c = sum_by-cons (λ piece. sum_by (one_of numbers g) (nodes_of lists piece)) p ps in omega (arith, c, none, some))
+piece-passes numbers P lists (p ∷ ps) g all some = elim (cases_lt 0 (sum_by (one_in_group numbers g) (nodes_of lists p))) [
+  | inl here ↦ one-passes numbers P (nodes_of lists p) g (and_left (list_all (λ x. P (node_number numbers x)) (nodes_of lists p)) _ all) (omega (arith, here))
+  | inr none ↦ piece-passes numbers P lists ps g (and_right (list_all (λ x. P (node_number numbers x)) (nodes_of lists p)) _ all)
+      (let c = sum_by-cons (λ piece. sum_by (one_in_group numbers g) (nodes_of lists piece)) p ps in omega (arith, c, none, some))
 ]
 
 -- ---- the whole rule
@@ -156,14 +156,14 @@ module _ (model : Model) (numbers : List ℕ) (tours : Tours) (stands : KnowsGro
   in-group g low =
       let a = group-count model stands.well_formed numbers stands.numbers_are tours stands.tours_are g low in
       let b = group-count model stands.well_formed numbers stands.numbers_are later tours_are g low in
-      let e = balance.balanced (one_of numbers g) in
+      let e = balance.balanced (one_in_group numbers g) in
       omega (arith, a, b, e)
 
   in-none : count_by (is_active later.lists) (required model) + gone (length model.groups) ≡ count_by (is_active tours.lists) (required model) + come (length model.groups)
   in-none =
       let a = required-count model stands.well_formed numbers stands.numbers_are tours stands.tours_are in
       let b = required-count model stands.well_formed numbers stands.numbers_are later tours_are in
-      let e = balance.balanced (one_of numbers (length model.groups)) in
+      let e = balance.balanced (one_in_group numbers (length model.groups)) in
       omega (arith, a, b, e)
 
   -- where the rule holds afterwards, each group allows the change
@@ -208,10 +208,10 @@ module _ (model : Model) (numbers : List ℕ) (tours : Tours) (stands : KnowsGro
             | inr none ↦ or_left (come g == gone g) _ (test_of_eq (come g) (gone g) (omega (arith, none)))
           ])
 
-  number-few : (x : ℕ) → number_of numbers x ≤ length model.groups
+  number-few : (x : ℕ) → node_number numbers x ≤ length model.groups
   number-few x = elim (cases_lt x model.nodes) [
     | inl low ↦ subst (λ n. n ≤ length model.groups) (sym (stands.numbers_are.each x low)) (prefix_len-le-length (λ group. not (holds group.nodes x)) model.groups)
-    | inr high ↦ (let e : number_of numbers x ≡ 0 = get_or_past numbers x 0 (let n = stands.numbers_are.long in omega (arith, n, high)) in omega (arith, e))
+    | inr high ↦ (let e : node_number numbers x ≡ 0 = get_or_past numbers x 0 (let n = stands.numbers_are.long in omega (arith, n, high)) in omega (arith, e))
   ]
 
   -- the groups of all nodes that come or go allow it exactly where the rule holds afterwards
@@ -226,7 +226,7 @@ module _ (model : Model) (numbers : List ℕ) (tours : Tours) (stands : KnowsGro
 
       pieces_pass : IsKept model later.lists → (pieces : List Piece) → IsTrue (allows_pieces model numbers tours.lists turnover pieces)
       pieces_pass kept = list_all-true (λ piece. list_all (allows_node model numbers tours.lists turnover) (nodes_of tours.lists piece))
-          (λ piece. list_all-true (allows_node model numbers tours.lists turnover) (λ x. each-allows kept (number_of numbers x) (number-few x)) (nodes_of tours.lists piece))
+          (λ piece. list_all-true (allows_node model numbers tours.lists turnover) (λ x. each-allows kept (node_number numbers x) (number-few x)) (nodes_of tours.lists piece))
 
       from : IsTrue (keeps_groups model later.lists) → IsTrue (allows_pieces model numbers tours.lists turnover turnover.come && allows_pieces model numbers tours.lists turnover turnover.gone)
       from h =
@@ -236,7 +236,7 @@ module _ (model : Model) (numbers : List ℕ) (tours : Tours) (stands : KnowsGro
 -- ---- where the code asks
 
 -- the group of a node, asked by its number and by what comes and goes of it
-pub node-asked : (model : Model) (numbers : List ℕ) (lists : List (List ℕ)) (turnover : Turnover) (x : ℕ) {g come gone : ℕ} {coming going : List Piece} {answer : Bool} → g ≡ number_of numbers x
+pub node-asked : (model : Model) (numbers : List ℕ) (lists : List (List ℕ)) (turnover : Turnover) (x : ℕ) {g come gone : ℕ} {coming going : List Piece} {answer : Bool} → g ≡ node_number numbers x
     → come ≡ many_of numbers lists coming g → coming ≡ turnover.come → gone ≡ many_of numbers lists going g → going ≡ turnover.gone
     → answer ≡ allows_number model lists g come gone → answer ≡ allows_node model numbers lists turnover x
 node-asked model numbers lists turnover x {g} {come} {gone} g_is come_is coming_is gone_is going_is is =

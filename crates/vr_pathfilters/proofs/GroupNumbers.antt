@@ -18,9 +18,9 @@ use Rattle.vr_routes.proofs.TourLemmas.{visit_held, visit_test}
 use Rattle.vr_routes.specs.Tours.{Tours}
 use Rattle.vr_balance.specs.Balances.{over_lists}
 use Rattle.vr_balance.proofs.ActiveLemmas.{active-count, over-active, times-held}
-use Rattle.vr_lists.specs.Nodes.{group_number, group_at, no_group, number_of, AreNumbers}
+use Rattle.vr_lists.specs.Nodes.{group_number, group_at, no_group, node_number, AreNumbers}
 use Rattle.vr_lists.proofs.GroupLemmas.{group-times, nodes_in, times-cons}
-use Rattle.vr_pathfilters.specs.Groups.{one_of}
+use Rattle.vr_pathfilters.specs.Groups.{one_in_group}
 use Rattle.vr_pathfilters.specs.TourLists.{AreTours}
 
 -- ---- how often a node stands
@@ -126,20 +126,20 @@ module _ (model : Model) (well_formed : IsWellFormed model) (numbers : List ℕ)
   entry : (y : ℕ) → IsTrue (is_active tours.lists y) → IsTrue (is_visit model y)
   entry y active = sym (visit_test model y) ∙ subst (λ l. IsTrue (holds l y)) of_model.visits_are (of_model.entries y active)
 
-  number-is : (y : ℕ) → IsTrue (is_active tours.lists y) → number_of numbers y ≡ group_number model y
+  number-is : (y : ℕ) → IsTrue (is_active tours.lists y) → node_number numbers y ≡ group_number model y
   number-is y active = are.each y (visit_below model y (entry y active))
 
   -- the active nodes of a group
-  pub group-count : (g : ℕ) → g < length model.groups → active_in tours.lists (group_at model g) ≡ over_lists (one_of numbers g) tours.lists
+  pub group-count : (g : ℕ) → g < length model.groups → active_in tours.lists (group_at model g) ≡ over_lists (one_in_group numbers g) tours.lists
   group-count g low =
       let nodes : List ℕ = (group_at model g).nodes in
       active-count tours.lists of_model.once nodes
-      ∙ over-active (λ y. times y nodes) (one_of numbers g) tours.lists (λ y active. sym
+      ∙ over-active (λ y. times y nodes) (one_in_group numbers g) tours.lists (λ y active. sym
       (ap (λ n. cond (n == g) 1 0) (number-is y active) ∙ number-times model.groups y g (times_of_distinct (each model.groups nodes_in) well_formed.no_node_in_groups_twice y) low))
 
   -- the active visits in no group
-  pub required-count : count_by (is_active tours.lists) (required model) ≡ over_lists (one_of numbers (length model.groups)) tours.lists
+  pub required-count : count_by (is_active tours.lists) (required model) ≡ over_lists (one_in_group numbers (length model.groups)) tours.lists
   required-count =
       active-count tours.lists of_model.once (required model)
-      ∙ over-active (λ y. times y (required model)) (one_of numbers (length model.groups)) tours.lists (λ y active. sym
+      ∙ over-active (λ y. times y (required model)) (one_in_group numbers (length model.groups)) tours.lists (λ y active. sym
       (ap (λ n. cond (n == length model.groups) 1 0) (number-is y active) ∙ required-times model y (entry y active)))

@@ -24,7 +24,7 @@ use Rattle.vr_reach.specs.Spliced.{spliced}
 use Rattle.vr_reach.proofs.Splicing.{at_front, at_middle, at_back, long}
 use Rattle.vr_pathfilters.proofs.PairsFound.{is_of, pair_found}
 use Rattle.vr_pathfilters.proofs.Places.{place_is}
-use Rattle.vr_pathfilters.specs.Pairs.{AreMarked, IsNewList, is_marked, serves_if_any, serves_node, serves_unmarked}
+use Rattle.vr_pathfilters.specs.Pairs.{AreMarked, IsNewList, is_at_mark, serves_if_any, serves_node, serves_unmarked}
 
 -- ---- pairs of nodes that are not among those between
 
@@ -255,12 +255,12 @@ all_marked list marks n high marked x held =
     let low = p.1 in
     let at = marked p.0 (omega (arith, low, high)) in
     let y = slice_index list p.0 in
-    subst (λ z. IsTrue (is_marked list marks z)) p.2
+    subst (λ z. IsTrue (is_at_mark list marks z)) p.2
     (and_both (nat_lt (slice_index marks y) (length list)) (slice_index list (slice_index marks y) == y)
     (test_of_lt (slice_index marks y) (length list) at.0) (test_of_eq (slice_index list (slice_index marks y)) y at.1))
 
 -- a node that is marked is one of the list
-marked_held : (list marks : List ℕ) (x : ℕ) → IsTrue (is_marked list marks x) → IsTrue (holds list x)
+marked_held : (list marks : List ℕ) (x : ℕ) → IsTrue (is_at_mark list marks x) → IsTrue (holds list x)
 marked_held list marks x marked =
     held_at list x (slice_index marks x)
     (lt_of_test (slice_index marks x) (length list) (and_left (nat_lt (slice_index marks x) (length list)) (slice_index list (slice_index marks x) == x) marked))
@@ -271,8 +271,8 @@ pub serves-unmarked : (model : Model) (list middle marks gone : List ℕ) → Is
     → list_all (serves_unmarked model list middle marks) gone ≡ list_all (serves_node model list) gone
 serves-unmarked model list middle marks [] served = refl
 serves-unmarked model list middle marks (x ∷ xs) served =
-    ap₂ (λ a b. a && b) (by (is_marked middle marks x) refl) (serves-unmarked model list middle marks xs served)
+    ap₂ (λ a b. a && b) (by (is_at_mark middle marks x) refl) (serves-unmarked model list middle marks xs served)
   where
-    by : (b : Bool) → is_marked middle marks x ≡ b → (b || serves_node model list x) ≡ serves_node model list x
+    by : (b : Bool) → is_at_mark middle marks x ≡ b → (b || serves_node model list x) ≡ serves_node model list x
     by true marked = sym (all_held (serves_node model list) middle served x (marked_held middle marks x marked))
     by false marked = refl

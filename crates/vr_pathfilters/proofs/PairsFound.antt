@@ -9,7 +9,7 @@ use Rattle.vr_model.specs.declared.records.Pair.{Pair}
 use Rattle.vr_model.specs.declared.records.Policy.{Policy}
 use Rattle.vr_model.specs.routes.Routes.{holds, is_distinct}
 use Rattle.vr_model.specs.tables.Numbers.{each}
-use Rattle.vr_model.specs.tables.WellFormed.{nodes_of}
+use Rattle.vr_model.specs.tables.WellFormed.{pair_nodes}
 use Rattle.vr_model.proofs.routes.Lists.{is_distinct-right}
 use Rattle.vr_model.proofs.tables.Members.{In}
 use Rattle.vr_model.proofs.tables.Tests.{clash, eq_turned, fails, fails_not, or-false_left, or-false_right}
@@ -21,20 +21,20 @@ abbrev pub is_of : ℕ → Pair → Bool
 is_of x pair = (pair.pickup == x) || (pair.delivery == x)
 
 -- a node of one of some pairs is a node of them
-held_in : (pairs : List Pair) (pair : Pair) (x : ℕ) → In pairs pair → IsTrue (is_of x pair) → IsTrue (holds (each pairs nodes_of) x)
+held_in : (pairs : List Pair) (pair : Pair) (x : ℕ) → In pairs pair → IsTrue (is_of x pair) → IsTrue (holds (each pairs pair_nodes) x)
 held_in [] pair x among of = absurd among
 held_in (q ∷ qs) pair x (inl e) of =
-    subst (λ xs. IsTrue (holds xs x)) (sym (flat_map-cons nodes_of q qs))
+    subst (λ xs. IsTrue (holds xs x)) (sym (flat_map-cons pair_nodes q qs))
     (elim (or_cases (pair.pickup == x) (pair.delivery == x) of) [
-      | inl h ↦ or_left (x == q.pickup) ((x == q.delivery) || holds (each qs nodes_of) x) (subst (λ (p : Pair). IsTrue (x == p.pickup)) e (eq_turned x pair.pickup ∙ h))
-      | inr h ↦ or_right (x == q.pickup) ((x == q.delivery) || holds (each qs nodes_of) x) (or_left (x == q.delivery) (holds (each qs nodes_of) x) (subst (λ (p : Pair). IsTrue (x == p.delivery)) e (eq_turned x pair.delivery ∙ h)))
+      | inl h ↦ or_left (x == q.pickup) ((x == q.delivery) || holds (each qs pair_nodes) x) (subst (λ (p : Pair). IsTrue (x == p.pickup)) e (eq_turned x pair.pickup ∙ h))
+      | inr h ↦ or_right (x == q.pickup) ((x == q.delivery) || holds (each qs pair_nodes) x) (or_left (x == q.delivery) (holds (each qs pair_nodes) x) (subst (λ (p : Pair). IsTrue (x == p.delivery)) e (eq_turned x pair.delivery ∙ h)))
     ])
 held_in (q ∷ qs) pair x (inr more) of =
-    subst (λ xs. IsTrue (holds xs x)) (sym (flat_map-cons nodes_of q qs))
-    (or_right (x == q.pickup) ((x == q.delivery) || holds (each qs nodes_of) x) (or_right (x == q.delivery) (holds (each qs nodes_of) x) (held_in qs pair x more of)))
+    subst (λ xs. IsTrue (holds xs x)) (sym (flat_map-cons pair_nodes q qs))
+    (or_right (x == q.pickup) ((x == q.delivery) || holds (each qs pair_nodes) x) (or_right (x == q.delivery) (holds (each qs pair_nodes) x) (held_in qs pair x more of)))
 
 -- among pairs of distinct nodes, the pair of a node is the one that has it
-pub pair_found : (pairs : List Pair) (pair : Pair) (x : ℕ) → IsTrue (is_distinct (each pairs nodes_of)) → In pairs pair → IsTrue (is_of x pair) → find (is_of x) pairs ≡ Some pair
+pub pair_found : (pairs : List Pair) (pair : Pair) (x : ℕ) → IsTrue (is_distinct (each pairs pair_nodes)) → In pairs pair → IsTrue (is_of x pair) → find (is_of x) pairs ≡ Some pair
 pair_found [] pair x distinct among of = absurd among
 pair_found (q ∷ qs) pair x distinct (inl e) of =
     ap (λ b. cond b (Some q) (find (is_of x) qs)) (subst (λ p. IsTrue (is_of x p)) e of) ∙ ap Some (sym e)
@@ -42,10 +42,10 @@ pair_found (q ∷ qs) pair x distinct (inr more) of =
     ap (λ b. cond b (Some q) (find (is_of x) qs)) other ∙ pair_found qs pair x (and_right (not (holds rest q.delivery)) (is_distinct rest) (and_right (not ((q.pickup == q.delivery) || holds rest q.pickup)) _ both)) more of
   where
     rest : List ℕ
-    rest = each qs nodes_of
+    rest = each qs pair_nodes
 
     both : IsTrue (is_distinct (q.pickup ∷ q.delivery ∷ rest))
-    both = subst (λ xs. IsTrue (is_distinct xs)) (flat_map-cons nodes_of q qs) distinct
+    both = subst (λ xs. IsTrue (is_distinct xs)) (flat_map-cons pair_nodes q qs) distinct
 
     there : IsTrue (holds rest x)
     there = held_in qs pair x more of
@@ -96,12 +96,12 @@ found_in test (q ∷ qs) pair e = by (test q) refl e (found_in test qs pair)
     by false is same later = let r = later same in (inr r.0, r.1)
 
 -- the nodes of a pair are two
-pub two_nodes : (pairs : List Pair) (pair : Pair) → IsTrue (is_distinct (each pairs nodes_of)) → In pairs pair → (pair.pickup == pair.delivery) ≡ false
+pub two_nodes : (pairs : List Pair) (pair : Pair) → IsTrue (is_distinct (each pairs pair_nodes)) → In pairs pair → (pair.pickup == pair.delivery) ≡ false
 two_nodes [] pair distinct among = absurd among
 two_nodes (q ∷ qs) pair distinct (inl e) =
-    let both = subst (λ xs. IsTrue (is_distinct xs)) (flat_map-cons nodes_of q qs) distinct in
+    let both = subst (λ xs. IsTrue (is_distinct xs)) (flat_map-cons pair_nodes q qs) distinct in
     subst (λ (p : Pair). (p.pickup == p.delivery) ≡ false) (sym e)
-    (or-false_left (q.pickup == q.delivery) (holds (each qs nodes_of) q.pickup)
-    (fails_not (holds (q.delivery ∷ each qs nodes_of) q.pickup) (and_left (not (holds (q.delivery ∷ each qs nodes_of) q.pickup)) (is_distinct (q.delivery ∷ each qs nodes_of)) both)))
+    (or-false_left (q.pickup == q.delivery) (holds (each qs pair_nodes) q.pickup)
+    (fails_not (holds (q.delivery ∷ each qs pair_nodes) q.pickup) (and_left (not (holds (q.delivery ∷ each qs pair_nodes) q.pickup)) (is_distinct (q.delivery ∷ each qs pair_nodes)) both)))
 two_nodes (q ∷ qs) pair distinct (inr more) =
-    two_nodes qs pair (is_distinct-right (nodes_of q) (each qs nodes_of) (subst (λ xs. IsTrue (is_distinct xs)) (flat_map-cons nodes_of q qs) distinct)) more
+    two_nodes qs pair (is_distinct-right (pair_nodes q) (each qs pair_nodes) (subst (λ xs. IsTrue (is_distinct xs)) (flat_map-cons pair_nodes q qs) distinct)) more

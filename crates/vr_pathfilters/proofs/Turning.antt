@@ -14,7 +14,7 @@ use Rattle.vr_model.specs.declared.records.Policy.TheVariants.{Any, Lifo, Fifo}
 use Rattle.vr_model.specs.routes.Routes.{holds, is_distinct}
 use Rattle.vr_model.specs.routes.Rules.{pairs_in, place_of, policy_allows, serves_pair}
 use Rattle.vr_model.specs.tables.Numbers.{each}
-use Rattle.vr_model.specs.tables.WellFormed.{IsWellFormed, nodes_of}
+use Rattle.vr_model.specs.tables.WellFormed.{IsWellFormed, pair_nodes}
 use Rattle.vr_model.specs.tables.Tables.{vehicle_at}
 use Rattle.vr_model.proofs.moves.Times.{held_times, times_append, times_of_distinct}
 use Rattle.vr_model.proofs.routes.Lists.{is_distinct-right}
@@ -45,30 +45,30 @@ pickup_of pair = pair.pickup
 abbrev pub delivery_of : Pair → ℕ
 delivery_of pair = pair.delivery
 
-module _ (f : Pair → ℕ) (is_node : (pair : Pair) → IsTrue (holds (nodes_of pair) (f pair))) where
-  held_among : (pairs : List Pair) (x : ℕ) → IsTrue (holds (map f pairs) x) → IsTrue (holds (each pairs nodes_of) x)
+module _ (f : Pair → ℕ) (is_node : (pair : Pair) → IsTrue (holds (pair_nodes pair) (f pair))) where
+  held_among : (pairs : List Pair) (x : ℕ) → IsTrue (holds (map f pairs) x) → IsTrue (holds (each pairs pair_nodes) x)
   held_among [] x held = held
   held_among (q ∷ qs) x held =
-      subst (λ xs. IsTrue (holds xs x)) (sym (flat_map-cons nodes_of q qs))
-      (list_any-append (λ y. x == y) (nodes_of q) (each qs nodes_of)
+      subst (λ xs. IsTrue (holds xs x)) (sym (flat_map-cons pair_nodes q qs))
+      (list_any-append (λ y. x == y) (pair_nodes q) (each qs pair_nodes)
       ∙ (elim (or_cases (x == f q) (holds (map f qs) x) held) [
-        | inl here ↦ or_left (holds (nodes_of q) x) (holds (each qs nodes_of) x) (subst (λ y. IsTrue (holds (nodes_of q) y)) (sym (eq_of_test x (f q) here)) (is_node q))
-        | inr later ↦ or_right (holds (nodes_of q) x) (holds (each qs nodes_of) x) (held_among qs x later)
+        | inl here ↦ or_left (holds (pair_nodes q) x) (holds (each qs pair_nodes) x) (subst (λ y. IsTrue (holds (pair_nodes q) y)) (sym (eq_of_test x (f q) here)) (is_node q))
+        | inr later ↦ or_right (holds (pair_nodes q) x) (holds (each qs pair_nodes) x) (held_among qs x later)
       ]))
 
   -- no pair has one that another pair has
-  pub numbers_distinct : (pairs : List Pair) → IsTrue (is_distinct (each pairs nodes_of)) → IsTrue (is_distinct (map f pairs))
+  pub numbers_distinct : (pairs : List Pair) → IsTrue (is_distinct (each pairs pair_nodes)) → IsTrue (is_distinct (map f pairs))
   numbers_distinct [] distinct = refl
   numbers_distinct (q ∷ qs) distinct =
-      let both = subst (λ xs. IsTrue (is_distinct xs)) (flat_map-cons nodes_of q qs) distinct in
+      let both = subst (λ xs. IsTrue (is_distinct xs)) (flat_map-cons pair_nodes q qs) distinct in
       and_both (not (holds (map f qs) (f q))) (is_distinct (map f qs))
       (ap not (fails (holds (map f qs) (f q)) (λ h.
-      let few = times_of_distinct (nodes_of q ++ each qs nodes_of) both (f q) in
-      let sum = times_append (f q) (nodes_of q) (each qs nodes_of) in
-      let here = held_times (f q) (nodes_of q) (is_node q) in
-      let later = held_times (f q) (each qs nodes_of) (held_among qs (f q) h) in
+      let few = times_of_distinct (pair_nodes q ++ each qs pair_nodes) both (f q) in
+      let sum = times_append (f q) (pair_nodes q) (each qs pair_nodes) in
+      let here = held_times (f q) (pair_nodes q) (is_node q) in
+      let later = held_times (f q) (each qs pair_nodes) (held_among qs (f q) h) in
       omega (arith, few, sum, here, later))))
-      (numbers_distinct qs (is_distinct-right (nodes_of q) (each qs nodes_of) both))
+      (numbers_distinct qs (is_distinct-right (pair_nodes q) (each qs pair_nodes) both))
 
 pub pickups_distinct : (model : Model) → IsWellFormed model → IsTrue (is_distinct (map pickup_of model.pairs))
 pickups_distinct model well_formed = numbers_distinct pickup_of (λ pair. or_left (pair.pickup == pair.pickup) (holds (pair.delivery ∷ []) pair.pickup) (test_of_eq pair.pickup pair.pickup refl)) model.pairs well_formed.no_node_in_pairs_twice

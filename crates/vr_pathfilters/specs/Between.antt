@@ -9,5 +9,5 @@ abbrev pub list_before : Between → List ℕ
 list_before ends = route ends.routes.now.lists ends.v
 
 -- the list that it becomes
-abbrev pub list_after : Between → List ℕ
-list_after ends = spliced (list_before ends) ends.front ends.behind ends.middle.now
+abbrev pub changed_list : Between → List ℕ
+changed_list ends = spliced (list_before ends) ends.front ends.behind ends.middle.now

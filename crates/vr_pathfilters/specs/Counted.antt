@@ -13,8 +13,8 @@ use Rattle.vr_pathfilters.specs.declared.policies.counts.Counts.{Counts}
 use Rattle.vr_pathfilters.specs.Turns.{deliveries_in, pickups_in}
 
 -- how many pickups and how many deliveries are among some nodes
-abbrev pub counts : Model → List ℕ → Counts
-counts model nodes = record { pickups = pickups_in model nodes; deliveries = deliveries_in model nodes }
+abbrev pub pair_counts : Model → List ℕ → Counts
+pair_counts model nodes = record { pickups = pickups_in model nodes; deliveries = deliveries_in model nodes }
 
 -- neither
 abbrev pub no_counts : Counts
@@ -36,7 +36,7 @@ pub record CanBeCounted (list : List ℕ) : Type 0 where
 
 -- a table has, of each node of a list, what stands in the list up to it
 pub record AreCounted (model : Model) (list : List ℕ) (table : List Counts) : Type 0 where
-  pub up_to : (k : ℕ) → k < length list → count_of table (slice_index list k) ≡ counts model (take (k + 1) list)
+  pub up_to : (k : ℕ) → k < length list → count_of table (slice_index list k) ≡ pair_counts model (take (k + 1) list)
 
 -- with one node more, of a pair if it is in one
 abbrev pub with_node_of : Option Pair → Counts → ℕ → Counts

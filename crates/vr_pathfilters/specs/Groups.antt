@@ -5,7 +5,7 @@ use Rattle.std.specs.List.{list_all}
 use Rattle.vr_model.specs.routes.Rules.{active_in, fits_group, has_required, has_enough}
 use Rattle.vr_model.specs.tables.WellFormed.{IsWellFormed}
 use Rattle.vr_model.specs.declared.records.Model.{Model}
-use Rattle.vr_lists.specs.Nodes.{group_at, number_of, AreNumbers}
+use Rattle.vr_lists.specs.Nodes.{group_at, node_number, AreNumbers}
 use Rattle.vr_routes.specs.Tours.{Tours}
 use Rattle.vr_routes.specs.Pieces.{ListAfter, nodes_of, changed}
 use Rattle.vr_routes.specs.declared.pieces.Piece.{Piece}
@@ -20,12 +20,12 @@ keeps_groups model lists = list_all (fits_group lists) model.groups
     && list_all (λ group. has_enough group.penalty group.max (active_in lists group)) model.groups)
 
 -- 1 for a node of group g, else 0
-abbrev pub one_of : List ℕ → ℕ → ℕ → ℕ
-one_of numbers g node = cond (number_of numbers node == g) 1 0
+abbrev pub one_in_group : List ℕ → ℕ → ℕ → ℕ
+one_in_group numbers g node = cond (node_number numbers node == g) 1 0
 
 -- how many nodes of pieces are of group g
 abbrev pub many_of : List ℕ → List (List ℕ) → List Piece → ℕ → ℕ
-many_of numbers lists pieces g = over_pieces (one_of numbers g) lists pieces
+many_of numbers lists pieces g = over_pieces (one_in_group numbers g) lists pieces
 
 -- a number of nodes, no more than stand in 18 pieces of 1000 nodes
 abbrev pub IsInPieces : ℕ → Type 0
@@ -41,9 +41,9 @@ allows_number model lists g come gone = (come == gone)
 
 -- the group of a node allows what comes and goes
 abbrev pub allows_node : Model → List ℕ → List (List ℕ) → Turnover → ℕ → Bool
-allows_node model numbers lists turnover node = allows_number model lists (number_of numbers node)
-    (many_of numbers lists turnover.come (number_of numbers node))
-    (many_of numbers lists turnover.gone (number_of numbers node))
+allows_node model numbers lists turnover node = allows_number model lists (node_number numbers node)
+    (many_of numbers lists turnover.come (node_number numbers node))
+    (many_of numbers lists turnover.gone (node_number numbers node))
 
 -- the groups of the nodes of some pieces do
 abbrev pub allows_pieces : Model → List ℕ → List (List ℕ) → Turnover → List Piece → Bool

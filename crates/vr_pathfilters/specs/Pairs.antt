@@ -49,17 +49,17 @@ abbrev pub serves_node : Model → List ℕ → ℕ → Bool
 serves_node model list node = serves_if_any list (pair_of model node)
 
 -- the mark of a node is a place of it in a list
-abbrev pub is_marked : List ℕ → List ℕ → ℕ → Bool
-is_marked list marks node =
+abbrev pub is_at_mark : List ℕ → List ℕ → ℕ → Bool
+is_at_mark list marks node =
     nat_lt (slice_index marks node) (length list) && (slice_index list (slice_index marks node) == node)
 
 -- the mark of each node of a list is a place of it
 abbrev pub AreMarked : List ℕ → List ℕ → Type 0
-AreMarked list marks = (node : ℕ) → IsTrue (holds list node) → IsTrue (is_marked list marks node)
+AreMarked list marks = (node : ℕ) → IsTrue (holds list node) → IsTrue (is_at_mark list marks node)
 
 -- a node is marked with a place of it in some nodes, or a list serves the pair that it is in
 abbrev pub serves_unmarked : Model → List ℕ → List ℕ → List ℕ → ℕ → Bool
-serves_unmarked model list nodes marks node = is_marked nodes marks node || serves_node model list node
+serves_unmarked model list nodes marks node = is_at_mark nodes marks node || serves_node model list node
 
 -- the list of vehicle v keeps its front and its end, with marked nodes in the place of those between, and no node
 -- stands twice in what it becomes

@@ -20,8 +20,8 @@ pub record Replaced : Type 0 where
   pub middle : List ℕ
 
 -- the list with these nodes
-abbrev pub list_of : Replaced → List ℕ
-list_of r = spliced r.old r.front r.behind r.middle
+abbrev pub replaced_list : Replaced → List ℕ
+replaced_list r = spliced r.old r.front r.behind r.middle
 
 -- a pair comes in turn, where there is one
 abbrev pub is_in_turn_if_any : Model → Policy → List ℕ → Option Pair → Bool

@@ -10,8 +10,8 @@ ghost use Rattle.vr_routes.specs.Pieces.{ListAfter, changed, nodes_of, IsWithin}
 ghost use Rattle.vr_routes.specs.Tours.{Tours};
 ghost use Rattle.vr_balance.specs.Balances.{IsBalance, IsTurnover};
 ghost use Rattle.vr_filter.specs.Filters.{IsSameRule, IsSameWeight};
-ghost use Rattle.vr_lists.specs.Nodes.{number_of};
-ghost use Rattle.vr_pathfilters.specs.Groups.{keeps_groups, many_of, one_of, IsInPieces};
+ghost use Rattle.vr_lists.specs.Nodes.{node_number};
+ghost use Rattle.vr_pathfilters.specs.Groups.{keeps_groups, many_of, one_in_group, IsInPieces};
 ghost use Rattle.vr_pathfilters.specs.Groups.{allows_number, allows_node, allows_pieces, KnowsGroups, IsGroupsReady};
 
 use std::alloc::Global;
@@ -37,7 +37,7 @@ pub struct GroupFilter<'m> {
 // The number of the group of a node.
 #[inline]
 fn number(numbers: &Seq<u32>, node: u32) -> u32
-    ensures { result ≡ number_of numbers.now node }
+    ensures { result ≡ node_number numbers.now node }
 {
     if (node as usize) < numbers.len() {
         return *numbers.get(node as usize);
@@ -47,7 +47,7 @@ fn number(numbers: &Seq<u32>, node: u32) -> u32
 
 // How many of some nodes are of group g.
 fn many_in(numbers: &Seq<u32>, nodes: &[u32], g: u32) -> usize
-    ensures value { result ≡ sum_by (one_of numbers.now g) nodes.now }
+    ensures value { result ≡ sum_by (one_in_group numbers.now g) nodes.now }
     ensures few { result ≤ length nodes.now }
 {
     let mut many = 0;
@@ -62,7 +62,7 @@ fn many_in(numbers: &Seq<u32>, nodes: &[u32], g: u32) -> usize
 // How many nodes of a piece are of group g.
 fn many_in_piece(numbers: &Seq<u32>, routes: &Routes, piece: Piece, g: u32) -> usize
     requires within { IsWithin routes.now.lists piece }
-    ensures value { result ≡ sum_by (one_of numbers.now g) (nodes_of routes.now.lists piece) }
+    ensures value { result ≡ sum_by (one_in_group numbers.now g) (nodes_of routes.now.lists piece) }
     ensures few { result ≤ 1000 }
 {
     match piece {

@@ -4,7 +4,7 @@ ghost use Rattle.std.specs.Prelude.{◌≡◌, ◌==◌, ◌&&◌, ◌<◌, ◌�
 ghost use Rattle.std.specs.List.{list_all};
 ghost use Rattle.vr_model.specs.routes.Routes.{route};
 ghost use Rattle.vr_model.specs.routes.Rules.{place_of, serves_pair};
-ghost use Rattle.vr_pathfilters.specs.Replaced.{comes_in_turn, list_of};
+ghost use Rattle.vr_pathfilters.specs.Replaced.{comes_in_turn, replaced_list};
 ghost use Rattle.std.proofs.Props.{props};
 ghost use Rattle.vr_pathfilters.specs.Pairs.{AreMarked, IsNewList, serves_node, serves_unmarked};
 
@@ -40,12 +40,12 @@ pub(crate) struct NewList<'r, 'n> {
 
 impl<'r, 'n> Model for NewList<'r, 'n> {
     ghost use Rattle.std.specs.Prelude.{ℕ, List};
-    ghost use Rattle.vr_pathfilters.specs.Between.{list_after};
+    ghost use Rattle.vr_pathfilters.specs.Between.{changed_list};
     ghost use Rattle.vr_pathfilters.specs.Pairs.{IsNewList};
 
     ghost Value = { List ℕ };
 
-    ghost view = { λ s. list_after s.ends };
+    ghost view = { λ s. changed_list s.ends };
 
     ghost invariant = { λ s. IsNewList s.ends.routes.now.lists s.ends.v s.ends.front s.ends.behind s.ends.middle.now
         s.ends.marks.now };
@@ -177,7 +177,7 @@ impl<'r, 'n> NewList<'r, 'n> {
         node: u32,
     ) -> bool
         requires same_model { counted.now.model ≡ lookups.now }
-        requires same_list { list_of counted.now ≡ self.now }
+        requires same_list { replaced_list counted.now ≡ self.now }
         ensures { result ≡ comes_in_turn lookups.now policy self.now node }
     {
         match lookups.pair_of(node) {
@@ -197,7 +197,7 @@ impl<'r, 'n> NewList<'r, 'n> {
         nodes: &[u32],
     ) -> bool
         requires same_model { counted.now.model ≡ lookups.now }
-        requires same_list { list_of counted.now ≡ self.now }
+        requires same_list { replaced_list counted.now ≡ self.now }
         ensures { result ≡ list_all (comes_in_turn lookups.now policy self.now) nodes.now }
     {
         nodes

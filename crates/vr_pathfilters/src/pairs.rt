@@ -11,7 +11,7 @@ ghost use Rattle.vr_routes.specs.Changes.{IsMadeOn, after};
 ghost use Rattle.vr_routes.specs.Pieces.{ListAfter, changed, joined, part_at};
 ghost use Rattle.vr_routes.specs.Tours.{Tours};
 ghost use Rattle.vr_reach.specs.Lists.{IsTour};
-ghost use Rattle.vr_pathfilters.specs.Between.{list_after, list_before};
+ghost use Rattle.vr_pathfilters.specs.Between.{changed_list, list_before};
 ghost use Rattle.vr_pathfilters.specs.Counted.{AreCounted};
 ghost use Rattle.vr_pathfilters.specs.Replaced.{takes_turns_between};
 ghost use Rattle.vr_pathfilters.specs.Lists.{holds_of_each};
@@ -52,7 +52,7 @@ struct PairTables {
 // these nodes, and of those that stood there and do so no more.
 fn serves_between(lookups: &NodeTables<'_>, ends: &Between) -> bool
     requires before { IsTrue (list_all (serves_pair (list_before ends.now)) lookups.now.pairs) }
-    ensures { result ≡ list_all (serves_pair (list_after ends.now)) lookups.now.pairs }
+    ensures { result ≡ list_all (serves_pair (changed_list ends.now)) lookups.now.pairs }
 {
     // what holds of the model is known
     let _model = lookups.model();

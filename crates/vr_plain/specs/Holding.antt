@@ -6,7 +6,7 @@ use Rattle.vr_model.specs.declared.records.Model.{Model}
 use Rattle.vr_routes.specs.Tours.{Tours}
 
 -- both routes are of the model, with a list for each vehicle, and the number is what the lists that are held cost
-pub record AreKept (model : Model) (held scratch : Tours) (total : ℤ) : Type 0 where
+pub record AreRoutesHeld (model : Model) (held scratch : Tours) (total : ℤ) : Type 0 where
   pub held_of_model : held.visits ≡ visits model
   pub scratch_of_model : scratch.visits ≡ visits model
   pub scratch_for_all : length scratch.lists ≡ length model.vehicles

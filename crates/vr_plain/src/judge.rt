@@ -34,14 +34,14 @@ pub struct PlainJudge<'m> {
 }
 
 impl<'m> Model for PlainJudge<'m> {
-    ghost use Rattle.vr_plain.specs.Holding.{AreKept};
+    ghost use Rattle.vr_plain.specs.Holding.{AreRoutesHeld};
     ghost use Rattle.vr_routes.specs.Judging.{Held};
 
     ghost Value = { Held };
 
     ghost view = { λ judge. record { model = judge.rules; lists = judge.held.lists } };
 
-    ghost invariant = { λ judge. AreKept judge.rules judge.held judge.scratch judge.total };
+    ghost invariant = { λ judge. AreRoutesHeld judge.rules judge.held judge.scratch judge.total };
 }
 
 impl<'m> PlainJudge<'m> {

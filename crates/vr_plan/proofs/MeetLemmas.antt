@@ -8,7 +8,7 @@ use Rattle.vr_steps.specs.declared.lines.Line.{Line}
 use Rattle.vr_steps.specs.Lines.{IsLineOf, IsSoundLine}
 use Rattle.vr_steps.proofs.LawLemmas.{lines_stand_for_theirs}
 use Rattle.vr_reach.specs.Rows.{IsBackwardRow, IsForwardRow}
-use Rattle.vr_reach.specs.Shared.{IsGreatestShared, IsLeastShared, SharedAt}
+use Rattle.vr_reach.specs.Shared.{IsGreatestShared, IsLeastSharedCumul, SharedAt}
 use Rattle.vr_plan.specs.Ends.{IsLatestOf, IsLeastEndOf}
 use Rattle.vr_plan.specs.Settled.{IsUnfeasible}
 use Rattle.vr_plan.proofs.PinLemmas.{long_of, schedule_of, shared_of}
@@ -37,7 +37,7 @@ module _ (made : Line) (sound : IsSoundLine made) where
     none_meets found h none defined of feasible = h none (cumul feasible.0 k) (shared defined of feasible.0 feasible.1)
 
   -- the least cumul that is shared at the last stop is the least end
-  pub least_end_of : (from to : List (List Run)) → IsForwardRow made (length made.hops) from → IsBackwardRow made (length made.hops) to → (x : ℤ) → IsLeastShared from to x → IsLeastEndOf made x
+  pub least_end_of : (from to : List (List Run)) → IsForwardRow made (length made.hops) from → IsBackwardRow made (length made.hops) to → (x : ℤ) → IsLeastSharedCumul from to x → IsLeastEndOf made x
   least_end_of from to ahead behind x is defined of =
       let low : length made.hops ≤ length made.hops = omega arith in
       let last = (lines_stand_for_theirs defined made of sound).arcs in

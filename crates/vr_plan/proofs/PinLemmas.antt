@@ -24,7 +24,7 @@ use Rattle.vr_steps.specs.Lines.{IsLineOf, IsSoundLine, hop_of}
 use Rattle.vr_steps.specs.Reached.{IsAllowedSet, AreReached, AreReachingEnd, hop_at, StandsFor}
 use Rattle.vr_steps.proofs.LawLemmas.{lines_stand_for_theirs, reached_behind_arc, start_is_reached}
 use Rattle.vr_reach.specs.Rows.{AreBackward, IsForwardRow, row_at}
-use Rattle.vr_reach.specs.Shared.{SharedAt, IsLeastShared}
+use Rattle.vr_reach.specs.Shared.{SharedAt, IsLeastSharedCumul}
 use Rattle.vr_plan.proofs.SlackLemmas.{number_last}
 use Rattle.vr_plan.specs.Settled.{IsOnly, IsNarrowed, IsSettled, IsUnfeasible, HaveChosenCumuls}
 
@@ -73,7 +73,7 @@ module _ (line : Defined) (sound : IsSound line) (j : ℕ) (le : j ≤ length li
   pub none_shared : ((x : ℤ) → SharedAt from to x → ⊥) → IsFeasible line → ⊥
   none_shared none feasible = none (cumul feasible.0 j) (shared_of feasible.0 feasible.1)
 
-  module _ (x : ℤ) (least : IsLeastShared from to x) where
+  module _ (x : ℤ) (least : IsLeastSharedCumul from to x) where
     least_of_all : (other : Plan) → IsSchedule line other → x ≤ℤ cumul other j
     least_of_all other s = least.least (cumul other j) (shared_of other s)
 
@@ -131,7 +131,7 @@ module _ (made : Line) (rows : List (List (List Run))) (sound_made : IsSoundLine
       none_shared defined s.sound 0 (omega arith) from to (long_of made sound_made defined of from ahead.0) (long_of made sound_made defined of to behind.0) ahead.1 behind.1 none feasible
 
   -- the start is settled
-  pub settled_at_start : (from to : List (List Run)) → IsForwardRow made 0 from → row_at rows 0 ≡ to → (x : ℤ) → IsLeastShared from to x → (set only : List Run) (here : List (List Run)) → ((d : List Run) → get_or made.allowed 0 d ≡ set) → IsOnly set x only → IsCumuls only → AreStartLevels only made.breaks here → IsIn (pos 0) horizon x → IsSettled made 0 (x ∷ []) here
+  pub settled_at_start : (from to : List (List Run)) → IsForwardRow made 0 from → row_at rows 0 ≡ to → (x : ℤ) → IsLeastSharedCumul from to x → (set only : List Run) (here : List (List Run)) → ((d : List Run) → get_or made.allowed 0 d ≡ set) → IsOnly set x only → IsCumuls only → AreStartLevels only made.breaks here → IsIn (pos 0) horizon x → IsSettled made 0 (x ∷ []) here
   settled_at_start from to first last x least set only here set_is is cumuls levels range = record {
     cumul_of_each = refl;
     in_range = All-push (IsIn (pos 0) horizon) [] x (λ i d lt. absurd (omega arith)) range;
@@ -212,7 +212,7 @@ module _ (made : Line) (rows : List (List (List Run))) (sound_made : IsSoundLine
         none_shared (narrow defined of) (m defined of).sound (suc k) (low defined of) from to (long defined of) (long_too defined of) (ahead defined of) (reaching defined of) none (m defined of).feasible
 
     -- the stop behind the arc is settled
-    pub settled_behind : (x : ℤ) → IsLeastShared from to x → (only : List Run) (new : List (List Run)) → IsOnly set x only → IsCumuls only → AreCrossed here hop only made.breaks new → IsIn (pos 0) horizon x → IsSettled made (k + 1) (cumuls ++ x ∷ []) new
+    pub settled_behind : (x : ℤ) → IsLeastSharedCumul from to x → (only : List Run) (new : List (List Run)) → IsOnly set x only → IsCumuls only → AreCrossed here hop only made.breaks new → IsIn (pos 0) horizon x → IsSettled made (k + 1) (cumuls ++ x ∷ []) new
     settled_behind x least only new is only_cumuls only_crossed range = let behind : suc k ≡ k + 1 = omega arith in subst (λ i. IsSettled made i (cumuls ++ x ∷ []) new) behind (record {
       cumul_of_each = let n = settled.cumul_of_each in let e = length-append cumuls (x ∷ []) in omega (arith, n, e);
       in_range = All-push (IsIn (pos 0) horizon) cumuls x settled.in_range range;

@@ -10,7 +10,7 @@ use Rattle.vr_model.specs.routes.Routes.{route, is_empty, used_vehicles}
 use Rattle.vr_model.specs.routes.Costs.{no_plan, plan_at, chosen_plans, assigned}
 use Rattle.vr_model.specs.schedules.Narrowed.{chosen_line}
 use Rattle.vr_model.specs.schedules.Choices.{chosen}
-use Rattle.vr_plan.specs.Timings.{plan_of}
+use Rattle.vr_plan.specs.Timings.{chosen_plan_of}
 
 -- ---- what holds of all used vehicles
 
@@ -39,13 +39,13 @@ used-all P lists h = go 0 (length lists) (omega arith)
 -- ---- the plans of an assignment
 
 module _ (model : Model) where
-  chosen-at : (d v : ℕ) (list : List ℕ) → d < length model.dimensions → is_empty list ≡ false → slice_index_or (chosen_plans model v list) d no_plan ≡ plan_of model d v list
+  chosen-at : (d v : ℕ) (list : List ℕ) → d < length model.dimensions → is_empty list ≡ false → slice_index_or (chosen_plans model v list) d no_plan ≡ chosen_plan_of model d v list
   chosen-at d v [] low some = absurd (cc)
   chosen-at d v (x ∷ xs) low some = get_or-map-range_with_len (λ d. unwrap_or (chosen (chosen_line model d v (x ∷ xs))) no_plan) 0 (length model.dimensions) d d no_plan low (omega arith)
 
   module _ (lists : List (List ℕ)) where
     -- the plan of a used vehicle
-    pub plan-at : (d v : ℕ) → d < length model.dimensions → v < length lists → is_empty (route lists v) ≡ false → plan_at (assigned model lists) d v ≡ plan_of model d v (route lists v)
+    pub plan-at : (d v : ℕ) → d < length model.dimensions → v < length lists → is_empty (route lists v) ≡ false → plan_at (assigned model lists) d v ≡ chosen_plan_of model d v (route lists v)
     plan-at d v low known some =
         ap (λ plans. slice_index_or plans d no_plan) (get_or-map-range_with_len (λ v. chosen_plans model v (route lists v)) 0 (length lists) v v [] known (omega arith))
         ∙ chosen-at d v (route lists v) low some

@@ -16,7 +16,7 @@ use Rattle.vr_steps.specs.declared.lines.Line.{Line}
 use Rattle.vr_steps.specs.Lines.{IsLineOf, IsSoundLine}
 use Rattle.vr_steps.proofs.LawLemmas.{lines_stand_for_theirs}
 use Rattle.vr_plan.specs.declared.plans.Plan.{Plan}
-use Rattle.vr_plan.specs.Plans.{AreSlacks, cumuls_of, no_hop, seen}
+use Rattle.vr_plan.specs.Plans.{AreSlacks, cumuls_of, no_hop, as_defined}
 use Rattle.vr_plan.specs.Narrow.{AreOnly, fixed}
 use Rattle.vr_plan.proofs.FixedLemmas.{fixed_line, to_fixed, of_fixed}
 use Rattle.vr_plan.specs.Settled.{Goes, HaveChosenCumuls, IsUnfeasible}
@@ -48,7 +48,7 @@ no_numbers [] e = refl
 no_numbers (z ∷ zs) e = absurd (omega (arith, e))
 
 -- the plan of the chosen cumuls is the chosen one
-pub chosen_plan : (line : Line) → IsSoundLine line → (plan : Plan) → HaveChosenCumuls line plan.cumuls → AreSlacks line.hops plan.cumuls plan.slacks → HaveChosenStarts line plan.breaks → (defined : Defined) → IsLineOf defined line → Some (seen plan) ≡ chosen defined
+pub chosen_plan : (line : Line) → IsSoundLine line → (plan : Plan) → HaveChosenCumuls line plan.cumuls → AreSlacks line.hops plan.cumuls plan.slacks → HaveChosenStarts line plan.breaks → (defined : Defined) → IsLineOf defined line → Some (as_defined plan) ≡ chosen defined
 chosen_plan line sound plan have slacks starts defined of =
     let s = lines_stand_for_theirs defined line of sound in
     let found = have.chosen defined of in
@@ -67,7 +67,7 @@ chosen_plan line sound plan have slacks starts defined of =
     let there = ap (λ cs. number_at cs (suc k)) cumuls in
     omega (arith, ints, left, hop, ours, here, there)) in
     let same_starts : wanted.breaks ≡ plan.breaks = starts defined of wanted found.1 in
-    let same : seen plan ≡ wanted = λ i. record { cumuls = sym cumuls i; slacks = sym same_slacks i; breaks = sym same_starts i } in
+    let same : as_defined plan ≡ wanted = λ i. record { cumuls = sym cumuls i; slacks = sym same_slacks i; breaks = sym same_starts i } in
     ap Some same ∙ sym ((chosen_is_least defined wanted).1 found.1)
 
 -- a line without breaks has none to start

@@ -13,7 +13,7 @@ use Rattle.vr_model.specs.schedules.Lines.{line, stop_allows}
 use Rattle.vr_model.specs.schedules.Narrowed.{chosen_under}
 use Rattle.vr_model.specs.schedules.Schedules.{Plan as Wanted}
 use Rattle.vr_plan.specs.Plans.{cumuls_of}
-use Rattle.vr_plan.specs.Timings.{plan_of}
+use Rattle.vr_plan.specs.Timings.{chosen_plan_of}
 
 -- what the cumuls from stop k + 1 on cost
 abbrev pub from_stop : (ℕ → Option StopRow) → Option StopRow → List ℕ → List ℤ → ℕ → ℤ
@@ -46,11 +46,11 @@ cumuls-seen None found e = sym (ap (λ o. unwrap_or o []) e)
 cumuls-seen (Some plan) found e = sym (ap (λ o. unwrap_or o []) e)
 
 -- those that were chosen under the rule of the vehicle are those of its plan
-pub plan-cumuls : (model : Model) (d v : ℕ) (list : List ℕ) (rule : ScheduleRule) (cumuls : List ℤ) → (vehicle_at model v).schedule ≡ rule → Some cumuls ≡ option_map cumuls_of (chosen_under rule (line model d v list)) → (plan_of model d v list).cumuls ≡ cumuls
+pub plan-cumuls : (model : Model) (d v : ℕ) (list : List ℕ) (rule : ScheduleRule) (cumuls : List ℤ) → (vehicle_at model v).schedule ≡ rule → Some cumuls ≡ option_map cumuls_of (chosen_under rule (line model d v list)) → (chosen_plan_of model d v list).cumuls ≡ cumuls
 plan-cumuls model d v list rule cumuls is found =
     ap (λ r. (unwrap_or (chosen_under r (line model d v list)) no_plan).cumuls) is ∙ cumuls-seen (chosen_under rule (line model d v list)) (Some cumuls) found
 
 -- where none were chosen, its plan has none
-pub no-cumuls : (model : Model) (d v : ℕ) (list : List ℕ) (rule : ScheduleRule) → (vehicle_at model v).schedule ≡ rule → None ≡ option_map cumuls_of (chosen_under rule (line model d v list)) → (plan_of model d v list).cumuls ≡ []
+pub no-cumuls : (model : Model) (d v : ℕ) (list : List ℕ) (rule : ScheduleRule) → (vehicle_at model v).schedule ≡ rule → None ≡ option_map cumuls_of (chosen_under rule (line model d v list)) → (chosen_plan_of model d v list).cumuls ≡ []
 no-cumuls model d v list rule is found =
     ap (λ r. (unwrap_or (chosen_under r (line model d v list)) no_plan).cumuls) is ∙ cumuls-seen (chosen_under rule (line model d v list)) None found

@@ -14,13 +14,13 @@ abbrev pub IsLeastEndOf : Line → ℤ → Type 0
 IsLeastEndOf line e = (defined : Defined) → IsLineOf defined line → IsLeastEnd defined e
 
 -- s is the greatest cumul that schedules have at the start
-pub record IsLatest (line : Defined) (s : ℤ) : Type 0 where
+pub record IsGreatestStart (line : Defined) (s : ℤ) : Type 0 where
   pub reached : (plan : Plan) × IsSchedule line plan × (cumul plan 0 ≡ s)
   pub greatest : (other : Plan) → IsSchedule line other → cumul other 0 ≤ℤ s
 
 -- s is the greatest cumul at the start of all schedules of the line
 abbrev pub IsLatestOf : Line → ℤ → Type 0
-IsLatestOf line s = (defined : Defined) → IsLineOf defined line → IsLatest defined s
+IsLatestOf line s = (defined : Defined) → IsLineOf defined line → IsGreatestStart defined s
 
 -- the other line is the line whose stop k allows x alone
 abbrev pub IsPinnedOf : Line → ℕ → ℤ → Line → Type 0

@@ -22,8 +22,8 @@ pub record AreSlacks (hops : List Hop) (cumuls slacks : List ℤ) : Type 0 where
       ≡ (number_at cumuls (suc k) -ℤ number_at cumuls k) -ℤ (slice_index_or hops k no_hop).transit
 
 -- a plan as the definitions see it
-abbrev pub seen : Plan → Wanted
-seen plan = record { cumuls = plan.cumuls; slacks = plan.slacks; breaks = plan.breaks }
+abbrev pub as_defined : Plan → Wanted
+as_defined plan = record { cumuls = plan.cumuls; slacks = plan.slacks; breaks = plan.breaks }
 
 -- the cumuls of a plan
 abbrev pub cumuls_of : Wanted → List ℤ
@@ -31,7 +31,7 @@ cumuls_of plan = plan.cumuls
 
 -- the plan is the chosen schedule of the line, and none is there where the line has no schedule
 abbrev pub IsChosenPlan : Line → Option Plan → Type 0
-IsChosenPlan line found = (defined : Defined) → IsLineOf defined line → option_map seen found ≡ chosen defined
+IsChosenPlan line found = (defined : Defined) → IsLineOf defined line → option_map as_defined found ≡ chosen defined
 
 -- the cumuls are those of the chosen schedule of the line, and none are there where the line has no schedule
 abbrev pub AreChosenCumuls : Line → Option (List ℤ) → Type 0
@@ -42,7 +42,7 @@ AreChosenCumuls line found = (defined : Defined) → IsLineOf defined line → f
 -- the plan is the schedule of the line that is chosen under the rule, and none is there where the line has no schedule
 abbrev pub IsChosenPlanUnder : ScheduleRule → Line → Option Plan → Type 0
 IsChosenPlanUnder rule line found =
-    (defined : Defined) → IsLineOf defined line → option_map seen found ≡ chosen_under rule defined
+    (defined : Defined) → IsLineOf defined line → option_map as_defined found ≡ chosen_under rule defined
 
 -- the cumuls are those of the schedule that is chosen under the rule, and none are there where the line has no schedule
 abbrev pub AreChosenCumulsUnder : ScheduleRule → Line → Option (List ℤ) → Type 0

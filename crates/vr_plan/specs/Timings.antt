@@ -15,8 +15,8 @@ use Rattle.vr_plan.specs.Bounds.{cumul_cost}
 use Rattle.vr_plan.specs.declared.timings.Timing.{Timing}
 
 -- the plan that is chosen for a list of vehicle v in dimension d
-abbrev pub plan_of : Model → ℕ → ℕ → List ℕ → Plan
-plan_of model d v list = unwrap_or (chosen (chosen_line model d v list)) no_plan
+abbrev pub chosen_plan_of : Model → ℕ → ℕ → List ℕ → Plan
+chosen_plan_of model d v list = unwrap_or (chosen (chosen_line model d v list)) no_plan
 
 -- what cumuls cost by the soft upper bounds of the stops of a list
 abbrev pub soft_of : Dimension → ℕ → List ℕ → List ℤ → ℤ
@@ -24,15 +24,15 @@ soft_of dimension v list cumuls = total_by (λ stop. row_cost stop.0 stop.1) (zi
 
 -- what the soft upper bounds cost vehicle v with a list
 abbrev pub soft_with : Model → ℕ → ℕ → List ℕ → ℤ
-soft_with model d v list = soft_of (dimension_at model d) v list (plan_of model d v list).cumuls
+soft_with model d v list = soft_of (dimension_at model d) v list (chosen_plan_of model d v list).cumuls
 
 -- the cumul of its start
 abbrev pub start_with : Model → ℕ → ℕ → List ℕ → ℤ
-start_with model d v list = cumul (plan_of model d v list) 0
+start_with model d v list = cumul (chosen_plan_of model d v list) 0
 
 -- the cumul of its end
 abbrev pub last_with : Model → ℕ → ℕ → List ℕ → ℤ
-last_with model d v list = cumul (plan_of model d v list) (suc (length list))
+last_with model d v list = cumul (chosen_plan_of model d v list) (suc (length list))
 
 -- what its span costs
 abbrev pub span_with : Model → ℕ → ℕ → List ℕ → ℤ
@@ -41,9 +41,9 @@ span_with model d v list = number_at (dimension_at model d).span_costs v
 
 -- what the soft upper bounds of a list cost at its chosen schedule, and its cumuls at the start and at the end
 pub record IsTiming (model : Model) (d v : ℕ) (list : List ℕ) (timing : Timing) : Type 0 where
-  pub soft : timing.soft ≡ soft_of (dimension_at model d) v list (plan_of model d v list).cumuls
-  pub start : timing.start ≡ cumul (plan_of model d v list) 0
-  pub last : timing.last ≡ cumul (plan_of model d v list) (suc (length list))
+  pub soft : timing.soft ≡ soft_of (dimension_at model d) v list (chosen_plan_of model d v list).cumuls
+  pub start : timing.start ≡ cumul (chosen_plan_of model d v list) 0
+  pub last : timing.last ≡ cumul (chosen_plan_of model d v list) (suc (length list))
 
 -- the cost of n stops is not negative, and both cumuls are in their range
 pub record IsTimingOf (n : ℕ) (timing : Timing) : Type 0 where

@@ -8,7 +8,7 @@ ghost use Rattle.vr_model.specs.routes.Routes.{are_lists, is_distinct, is_empty,
 ghost use Rattle.vr_model.specs.schedules.Choices.{chosen};
 ghost use Rattle.vr_model.specs.schedules.Narrowed.{chosen_line};
 ghost use Rattle.vr_model.specs.tables.Tables.{is_visit};
-ghost use Rattle.vr_plan.specs.Plans.{seen};
+ghost use Rattle.vr_plan.specs.Plans.{as_defined};
 ghost use Rattle.vr_print.specs.Solution as solution;
 
 use crate::leaves::{text, wholes};
@@ -33,7 +33,7 @@ fn chosen_plan(
     requires some { 0 < length list.now }
     requires visits { IsTrue (list_all (is_visit closed.model.now) list.now) }
     requires distinct { IsTrue (is_distinct list.now) }
-    ensures { IfOk result (λ plan. seen plan
+    ensures { IfOk result (λ plan. as_defined plan
         ≡ unwrap_or (chosen (chosen_line closed.entry.model.now d v list.now)) no_plan) }
 {
     let line = Line::build(alloc, closed.model, d, v, list)?;
@@ -51,7 +51,7 @@ fn chosen_plan(
 // The tree of a plan.
 #[tactic(auto, unfolding(crate::specs::Solution::plan_tree))]
 fn plan_tree(alloc: Global, dimension: &Dimension, plan: &Plan) -> Result<Value, NoMemory>
-    ensures { IfOk result (λ tree. view tree ≡ solution.plan_tree dimension.now (seen plan.now)) }
+    ensures { IfOk result (λ tree. view tree ≡ solution.plan_tree dimension.now (as_defined plan.now)) }
 {
     let mut tree = Tree::new(alloc);
     tree.put("breaks", wholes(alloc, plan.breaks.as_slice())?)?;

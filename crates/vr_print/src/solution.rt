@@ -5,7 +5,7 @@ ghost use Rattle.serde_json.specs.Data.{depth};
 ghost use Rattle.serde_json.specs.Read.{max_depth, read};
 ghost use Rattle.serde_json.specs.View.{view};
 ghost use Rattle.serde_json.specs.Written.{has_float};
-ghost use Rattle.vr_json.specs.Trees.{line_of, members_put};
+ghost use Rattle.vr_json.specs.Trees.{text_line, members_put};
 ghost use Rattle.vr_model.specs.routes.Costs.{assigned, parts_at};
 ghost use Rattle.vr_model.specs.routes.Rules.{is_valid};
 ghost use Rattle.vr_model.specs.tables.WellFormed.{IsWellFormed};
@@ -163,7 +163,7 @@ pub fn solution_line_over(
 ) -> Result<Seq<u8>, NoMemory>
     requires valid { IsTrue (is_valid lookups.now.closed.model.now routes.now.lists) }
     ensures text { let wanted = solution.solution_tree lookups.now.closed.model.now routes.now.lists first_cost
-        report in IfOk result (λ line. line ≡ line_of wanted) }
+        report in IfOk result (λ line. line ≡ text_line wanted) }
     ensures reads_back { let wanted = solution.solution_tree lookups.now.closed.model.now routes.now.lists first_cost
         report in IfOk result (λ line. read line ≡ Some wanted) }
 {
@@ -184,7 +184,7 @@ pub fn solution_line(
     requires well_formed { IsWellFormed model.now }
     requires valid { IsTrue (is_valid model.now routes.now.lists) }
     ensures text { let wanted = solution.solution_tree model.now routes.now.lists first_cost report in
-        IfOk result (λ line. line ≡ line_of wanted) }
+        IfOk result (λ line. line ≡ text_line wanted) }
     ensures reads_back { let wanted = solution.solution_tree model.now routes.now.lists first_cost report in
         IfOk result (λ line. read line ≡ Some wanted) }
 {

@@ -10,7 +10,7 @@ use Rattle.vr_model.specs.tables.Numbers.{horizon, within}
 use Rattle.vr_model.specs.schedules.Lines.{Line}
 use Rattle.vr_model.specs.schedules.Schedules.{arc_at}
 use Rattle.vr_steps.specs.Levels.{level_at}
-use Rattle.vr_reach.specs.Alone.{Follows, GoesAlone, IsLedTo}
+use Rattle.vr_reach.specs.Alone.{Follows, GoesAlone, IsLedToWithoutBreaks}
 use Rattle.vr_reach.specs.Singles.{is_run, IsOnlyRun}
 use Rattle.vr_reach.specs.VisitRuns.{IsAllowedRun}
 use Rattle.vr_reach.proofs.SingleLemmas.{alone_in, came, goes, in_alone, within_ends}
@@ -43,14 +43,14 @@ crossed L k run allowed new t s order rises lo_is hi_is is t_is s_is y = (ahead,
 
 module _ (L : Line) (set : ℤ → Bool) (a : ℕ) where
   -- at the first stop
-  pub led_begun : (y : ℤ) → IsTrue (set y) ↔ IsLedTo L set a (a - a) y
+  pub led_begun : (y : ℤ) → IsTrue (set y) ↔ IsLedToWithoutBreaks L set a (a - a) y
   led_begun y =
       let e : a - a ≡ 0 = omega arith in
-      (λ t. subst (λ n. IsLedTo L set a n y) (sym e) t, λ led. subst (λ n. IsLedTo L set a n y) e led)
+      (λ t. subst (λ n. IsLedToWithoutBreaks L set a n y) (sym e) t, λ led. subst (λ n. IsLedToWithoutBreaks L set a n y) e led)
 
   -- one arc more
-  pub led_more : (k : ℕ) → a ≤ k → (run new : Run) → ((x : ℤ) → IsTrue (in_run run x) ↔ IsLedTo L set a (k - a) x) → ((y : ℤ) → IsTrue (in_run new y) ↔ ((x : ℤ) × IsTrue (in_run run x) × Follows L k x y))
-      → (y : ℤ) → IsTrue (in_run new y) ↔ IsLedTo L set a (k + 1 - a) y
+  pub led_more : (k : ℕ) → a ≤ k → (run new : Run) → ((x : ℤ) → IsTrue (in_run run x) ↔ IsLedToWithoutBreaks L set a (k - a) x) → ((y : ℤ) → IsTrue (in_run new y) ↔ ((x : ℤ) × IsTrue (in_run run x) × Follows L k x y))
+      → (y : ℤ) → IsTrue (in_run new y) ↔ IsLedToWithoutBreaks L set a (k + 1 - a) y
   led_more k le run new before cross y = (ahead, back)
     where
       at : a + (k - a) ≡ k
@@ -59,33 +59,33 @@ module _ (L : Line) (set : ℤ → Bool) (a : ℕ) where
       next : suc (k - a) ≡ k + 1 - a
       next = omega (arith, le)
 
-      ahead : IsTrue (in_run new y) → IsLedTo L set a (k + 1 - a) y
+      ahead : IsTrue (in_run new y) → IsLedToWithoutBreaks L set a (k + 1 - a) y
       ahead there =
           let m = (cross y).0 there in
-          let led : IsLedTo L set a (suc (k - a)) y = (m.0, (before m.0).0 m.1, subst (λ i. Follows L i m.0 y) (sym at) m.2) in
-          subst (λ n. IsLedTo L set a n y) next led
+          let led : IsLedToWithoutBreaks L set a (suc (k - a)) y = (m.0, (before m.0).0 m.1, subst (λ i. Follows L i m.0 y) (sym at) m.2) in
+          subst (λ n. IsLedToWithoutBreaks L set a n y) next led
 
-      back : IsLedTo L set a (k + 1 - a) y → IsTrue (in_run new y)
+      back : IsLedToWithoutBreaks L set a (k + 1 - a) y → IsTrue (in_run new y)
       back led =
-          let m : IsLedTo L set a (suc (k - a)) y = subst (λ n. IsLedTo L set a n y) (sym next) led in
+          let m : IsLedToWithoutBreaks L set a (suc (k - a)) y = subst (λ n. IsLedToWithoutBreaks L set a n y) (sym next) led in
           (cross y).1 (m.0, (before m.0).1 m.1, subst (λ i. Follows L i m.0 y) at m.2)
 
   -- where nothing is led to, nothing is further on
-  none_on : (m : ℕ) → ((x : ℤ) → IsLedTo L set a m x → ⊥) → (n : ℕ) (y : ℤ) → IsLedTo L set a (m + n) y → ⊥
-  none_on m none zero y led = let e : m + 0 ≡ m = omega arith in none y (subst (λ i. IsLedTo L set a i y) e led)
+  none_on : (m : ℕ) → ((x : ℤ) → IsLedToWithoutBreaks L set a m x → ⊥) → (n : ℕ) (y : ℤ) → IsLedToWithoutBreaks L set a (m + n) y → ⊥
+  none_on m none zero y led = let e : m + 0 ≡ m = omega arith in none y (subst (λ i. IsLedToWithoutBreaks L set a i y) e led)
   none_on m none (suc n) y led =
       let e : m + suc n ≡ suc (m + n) = omega arith in
-      let there : IsLedTo L set a (suc (m + n)) y = subst (λ i. IsLedTo L set a i y) e led in
+      let there : IsLedToWithoutBreaks L set a (suc (m + n)) y = subst (λ i. IsLedToWithoutBreaks L set a i y) e led in
       none_on m none n there.0 there.1
 
-  pub none_led : (k last : ℕ) → a ≤ k → k ≤ last → (run : Run) → (run.lo ≤ℤ run.hi → ⊥) → ((x : ℤ) → IsTrue (in_run run x) ↔ IsLedTo L set a (k - a) x) → (y : ℤ) → IsTrue (in_run run y) ↔ IsLedTo L set a (last - a) y
+  pub none_led : (k last : ℕ) → a ≤ k → k ≤ last → (run : Run) → (run.lo ≤ℤ run.hi → ⊥) → ((x : ℤ) → IsTrue (in_run run x) ↔ IsLedToWithoutBreaks L set a (k - a) x) → (y : ℤ) → IsTrue (in_run run y) ↔ IsLedToWithoutBreaks L set a (last - a) y
   none_led k last le order run empty is y =
       let nothing : (x : ℤ) → IsTrue (in_run run x) → ⊥ = λ x there. empty (grind (arith, ints, there)) in
       let e : last - a ≡ (k - a) + (last - k) = omega (arith, le, order) in
-      (λ there. absurd (nothing y there), λ led. absurd (none_on (k - a) (λ x before. nothing x ((is x).1 before)) (last - k) y (subst (λ i. IsLedTo L set a i y) e led)))
+      (λ there. absurd (nothing y there), λ led. absurd (none_on (k - a) (λ x before. nothing x ((is x).1 before)) (last - k) y (subst (λ i. IsLedToWithoutBreaks L set a i y) e led)))
 
 -- a walk goes all the way exactly where its run shares a number with the set behind
-pub alone_where : (L : Line) (from to : List (List Run)) (a e b : ℕ) (begun run : Run) → IsTrue (is_run (level_at from b)) → IsOnlyRun (level_at from b) begun → ((y : ℤ) → IsTrue (in_run run y) ↔ IsLedTo L (in_run begun) a (e - a) y)
+pub alone_where : (L : Line) (from to : List (List Run)) (a e b : ℕ) (begun run : Run) → IsTrue (is_run (level_at from b)) → IsOnlyRun (level_at from b) begun → ((y : ℤ) → IsTrue (in_run run y) ↔ IsLedToWithoutBreaks L (in_run begun) a (e - a) y)
     → ShareANumber (run ∷ []) (level_at to b) ↔ GoesAlone L from to a e b
 alone_where L from to a e b begun run one only is = (ahead, back)
   where
@@ -96,9 +96,9 @@ alone_where L from to a e b begun run one only is = (ahead, back)
     ahead (x, first, second) = record {
       one = one;
       cumul = x;
-      led = subst (λ set. IsLedTo L set a (e - a) x) (sym same) ((is x).0 (alone_in run x first));
+      led = subst (λ set. IsLedToWithoutBreaks L set a (e - a) x) (sym same) ((is x).0 (alone_in run x first));
       reaches = second;
     }
 
     back : GoesAlone L from to a e b → ShareANumber (run ∷ []) (level_at to b)
-    back goes = (goes.cumul, in_alone run goes.cumul ((is goes.cumul).1 (subst (λ set. IsLedTo L set a (e - a) goes.cumul) same goes.led)), goes.reaches)
+    back goes = (goes.cumul, in_alone run goes.cumul ((is goes.cumul).1 (subst (λ set. IsLedToWithoutBreaks L set a (e - a) goes.cumul) same goes.led)), goes.reaches)

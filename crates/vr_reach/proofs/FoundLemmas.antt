@@ -13,7 +13,7 @@ use Rattle.vr_model.specs.declared.records.Model.{Model}
 use Rattle.vr_model.specs.schedules.Lines.{Line, line}
 use Rattle.vr_model.specs.schedules.Schedules.{allows, arc_at}
 use Rattle.vr_model.proofs.tables.Tests.{clash}
-use Rattle.vr_reach.specs.Early.{allows_from, has_cumul_behind, slack_left, AreFoundInTurn, IsEarliest, IsEarliestBehind}
+use Rattle.vr_reach.specs.Early.{allows_from, has_cumul_behind, slack_left, AreFoundInTurn, IsEarliestPassing, IsEarliestBehind}
 use Rattle.vr_reach.specs.Lists.{node_at_stop}
 use Rattle.vr_steps.specs.Stops.{allowed_by}
 use Rattle.vr_steps.specs.declared.stops.StopName.TheVariants.{Start}
@@ -22,7 +22,7 @@ use Rattle.vr_reach.proofs.EarlyLemmas.{allowed_in, at_new, at_old, not_below}
 use Rattle.vr_reach.proofs.LineParts.{way_of}
 
 -- two numbers are not both the earliest
-one_earliest : (test : ℤ → Bool) (x y : ℤ) → IsEarliest test x → IsEarliest test y → x ≡ y
+one_earliest : (test : ℤ → Bool) (x y : ℤ) → IsEarliestPassing test x → IsEarliestPassing test y → x ≡ y
 one_earliest test x y is is_too =
     let a = is.least y is_too.passes in
     let b = is_too.least x is.passes in
@@ -75,12 +75,12 @@ module _ (line : Line) where
     pub step_found : (next : ℤ) → IsEarliestBehind (number_at cumuls k) (arc_at line k).transit line.slack_max run next → AreFoundInTurn line (suc k) (cumuls ++ next ∷ [])
     step_found next behind = record {
       many = let n = length-append cumuls (next ∷ []) in let m = are.many in omega (arith, n, m);
-      start = subst (IsEarliest (allows line 0)) (sym (old 0 (omega arith))) are.start;
+      start = subst (IsEarliestPassing (allows line 0)) (sym (old 0 (omega arith))) are.start;
       next = λ i less. elim (sooner i less) [
-        | inl before ↦ subst (λ x. IsEarliest (allows_from line i x) (number_at (cumuls ++ next ∷ []) (suc i))) (sym (old i (omega (arith, before))))
-            (subst (IsEarliest (allows_from line i (number_at cumuls i))) (sym (old (suc i) (omega (arith, before)))) (are.next i before))
-        | inr new ↦ subst (λ j. IsEarliest (allows_from line j (number_at (cumuls ++ next ∷ []) j)) (number_at (cumuls ++ next ∷ []) (suc j))) (sym new)
-            (subst (λ x. IsEarliest (allows_from line k x) (number_at (cumuls ++ next ∷ []) (suc k))) (sym (old k (omega arith))) (subst (IsEarliest (allows_from line k (number_at cumuls k))) (sym last) here))
+        | inl before ↦ subst (λ x. IsEarliestPassing (allows_from line i x) (number_at (cumuls ++ next ∷ []) (suc i))) (sym (old i (omega (arith, before))))
+            (subst (IsEarliestPassing (allows_from line i (number_at cumuls i))) (sym (old (suc i) (omega (arith, before)))) (are.next i before))
+        | inr new ↦ subst (λ j. IsEarliestPassing (allows_from line j (number_at (cumuls ++ next ∷ []) j)) (number_at (cumuls ++ next ∷ []) (suc j))) (sym new)
+            (subst (λ x. IsEarliestPassing (allows_from line k x) (number_at (cumuls ++ next ∷ []) (suc k))) (sym (old k (omega arith))) (subst (IsEarliestPassing (allows_from line k (number_at cumuls k))) (sym last) here))
       ];
       slacks = λ i less. elim (sooner i less) [
         | inl before ↦ (let a = old i (omega (arith, before)) in let b = old (suc i) (omega (arith, before)) in let s = are.slacks i before in omega (arith, ints, a, b, s))
@@ -103,7 +103,7 @@ module _ (line : Line) where
         from : (number_at cumuls k +ℤ (arc_at line k).transit) ≤ℤ next
         from = let e = behind.least in omega (arith, ints, clamps, e)
 
-        here : IsEarliest (allows_from line k (number_at cumuls k)) next
+        here : IsEarliestPassing (allows_from line k (number_at cumuls k)) next
         here = record {
           passes = and_from (allows line (suc k) next) (int_le (number_at cumuls k +ℤ (arc_at line k).transit) next) (allowed_in line (suc k) run next is above behind.most) (let f = from in grind (arith, ints, f));
           least = λ y there.
@@ -124,14 +124,14 @@ module _ (line : Line) where
     same_found n others are_too (suc i) le le_too =
         let e = same_found n others are_too i (omega (arith, le)) (omega (arith, le_too)) in
         one_earliest (allows_from line i (number_at cumuls i)) (number_at others (suc i)) (number_at cumuls (suc i))
-        (subst (λ x. IsEarliest (allows_from line i x) (number_at others (suc i))) e (are_too.next i (omega (arith, le_too)))) (are.next i (omega (arith, le)))
+        (subst (λ x. IsEarliestPassing (allows_from line i x) (number_at others (suc i))) e (are_too.next i (omega (arith, le_too)))) (are.next i (omega (arith, le)))
 
     -- where there is no cumul behind the arc, there are no others
     pub none_found : has_cumul_behind (number_at cumuls k) (arc_at line k).transit line.slack_max run ≡ false → (n : ℕ) (others : List ℤ) → k < n → AreFoundInTurn line n others → ⊥
     none_found none n others low are_too =
         let y = number_at others (suc k) in
         let e = same_found n others are_too k (omega arith) (omega (arith, low)) in
-        let there = subst (λ x. IsEarliest (allows_from line k x) y) e (are_too.next k low) in
+        let there = subst (λ x. IsEarliestPassing (allows_from line k x) y) e (are_too.next k low) in
         let parts = and_parts (allows line (suc k) y) (int_le (number_at cumuls k +ℤ (arc_at line k).transit) y) there.passes in
         let slack = are_too.slacks k low in
         let late = parts.1 in

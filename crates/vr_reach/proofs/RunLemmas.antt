@@ -21,7 +21,7 @@ use Rattle.vr_steps.specs.declared.stops.StopName.TheVariants.{Visit}
 use Rattle.vr_reach.specs.declared.stops.Stops.{Stops}
 use Rattle.vr_reach.specs.Stops.{AreStops}
 use Rattle.vr_reach.specs.Singles.{IsOnlyRun}
-use Rattle.vr_reach.specs.VisitRuns.{have_visits_one_run, is_one_run, is_single, AreKnownRuns, IsRunFor, IsRunOf, AreRunsOf, AreVisitRuns}
+use Rattle.vr_reach.specs.VisitRuns.{have_visits_one_run, is_one_run, is_single, AreKnownRuns, IsRunFor, IsRunOf, AreRunsOfSets, AreVisitRuns}
 use Rattle.vr_reach.specs.VisitSets.{IsSetOf, IsTableOf, AreVisitSets}
 use Rattle.vr_model.proofs.tables.Tests.{all-from_list_all, clash, fails}
 use Rattle.vr_reach.proofs.Tables.{each_push, table_here}
@@ -81,7 +81,7 @@ pub table_more : (tables : List (List (List Run))) (found : List (Option (List R
 table_more tables found k new long each is = each_push (λ j r. AreKnownRuns (get_or tables j []) r) found new each (subst (λ j. AreKnownRuns (get_or tables j []) new) (sym long) is)
 
 -- the runs of what visits allow a vehicle
-pub visit_runs : (model : Model) (d v : ℕ) (sets : List (List Run)) (runs : List Run) → AreVisitSets model d v sets → AreRunsOf sets runs → AreVisitRuns model d v runs
+pub visit_runs : (model : Model) (d v : ℕ) (sets : List (List Run)) (runs : List Run) → AreVisitSets model d v sets → AreRunsOfSets sets runs → AreVisitRuns model d v runs
 visit_runs model d v sets runs are of = record {
   long = of.one_of_each ∙ are.long;
   each = λ node other low visit. finish_is _ (get_or sets node []) (get_or runs node other) ((are.each node).visit visit) (of.each node other (let n = of.one_of_each in omega (arith, n, low)));
@@ -92,7 +92,7 @@ pub runs_here : (model : Model) (d v k : ℕ) (stops : Stops) → AreStops model
 runs_here model d v k stops are is runs found =
     let sets = stops.visits in
     let low : k < length sets.tables = (let same = are.visits.tables.one_of_each in let there = is.there in omega (arith, same, there)) in
-    visit_runs model d v (get_or sets.tables k []) runs (table_here model d v k sets are.visits.tables is) (subst (λ some. IfSome some (AreRunsOf (get_or sets.tables k []))) found (are.runs.each k low).runs)
+    visit_runs model d v (get_or sets.tables k []) runs (table_here model d v k sets are.visits.tables is) (subst (λ some. IfSome some (AreRunsOfSets (get_or sets.tables k []))) found (are.runs.each k low).runs)
 
 pub none_of : {A : Type 0} (xs : List A) → is_empty xs ≡ true → xs ≡ []
 none_of [] none = refl

@@ -22,7 +22,7 @@ use Rattle.vr_model.specs.schedules.ChosenLaws.{ReachedAsTested, EndReachedAsTes
 use Rattle.vr_model.specs.schedules.Weights.{runs}
 use Rattle.vr_model.proofs.schedules.LineArcs.{arcs_of_line}
 use Rattle.vr_steps.specs.declared.hops.Hop.{Hop}
-use Rattle.vr_steps.specs.Arcs.{Leads, between}
+use Rattle.vr_steps.specs.Arcs.{Leads, breaks_between}
 use Rattle.vr_steps.specs.Lines.{hop_of}
 use Rattle.vr_steps.specs.Levels.{IsCumuls, level_at}
 use Rattle.vr_steps.specs.Reached.{ArcAlone, AreReached, AreReachingEnd, RunsAreCounted, hop_at}
@@ -96,7 +96,7 @@ module _ (crossing : ReachedByCrossing) (L : Line) (sound : IsSound L) where
         let y = m.2 in
         let same : m.0 ≡ b = (let le = m.1 in omega (arith, le, none)) in
         let way = (alone L sound k m.0 b lt y x).0 m.4 in
-        let plain = plainly (hop_at L k) y x (subst (λ rows. Leads (hop_at L k) rows y x) (ap (λ a. between L.breaks a b) same ∙ none_between L.breaks b) way.2) in
+        let plain = plainly (hop_at L k) y x (subst (λ rows. Leads (hop_at L k) rows y x) (ap (λ a. breaks_between L.breaks a b) same ∙ none_between L.breaks b) way.2) in
         let before = is.all none y (subst (λ a. IsReached L k a y) same m.3) in
         goes run allowed new (arc_at L k).transit L.slack_max cumul.in_order rises lo_is hi_is x y (allows_is.exact x ∙ (and_parts _ _ way.1).1) before plain.least plain.greatest;
   }

@@ -11,7 +11,7 @@ use Rattle.vr_model.specs.schedules.Lines.{line}
 use Rattle.vr_model.specs.declared.records.Model.{Model}
 use Rattle.vr_reach.specs.Lists.{IsTour}
 use Rattle.vr_reach.specs.declared.stretches.Stretch.{Stretch}
-use Rattle.vr_reach.specs.Stretches.{SharesFront, IsStretch}
+use Rattle.vr_reach.specs.Stretches.{SharesFront, IsStretchBetween}
 use Rattle.vr_reach.specs.Tries.{list_tries, tries_between}
 
 -- nodes are shared up to the first that differ
@@ -50,7 +50,7 @@ read_taken xs ys a j same le le_too low = sym (of xs a j low le) ∙ (ap (λ l. 
     of (x ∷ xs) (suc a) zero low le = refl
     of (x ∷ xs) (suc a) (suc j) low le = of xs a j (omega (arith, low)) (omega (arith, le))
 
-module _ (old new : List ℕ) (stretch : Stretch) (is : IsStretch old new stretch) where
+module _ (old new : List ℕ) (stretch : Stretch) (is : IsStretchBetween old new stretch) where
   pub front_is : shared_front old new ≡ stretch.front
   front_is = prefix_is old new stretch.front is.front.within_old is.front.within_new (λ j low. read_taken old new stretch.front j is.front.same is.front.within_old is.front.within_new low) is.front_most
 
@@ -143,7 +143,7 @@ goes_on old new a shares (inr other) = inl (let le = shares.within_old in less a
     less m n le other = grind arith
 
 -- what is told of a list that changed, by where it leaves the one before and meets it again, is told of its stretch
-changed_is : (told : ℕ → ℕ → ℕ) (model : Model) (old new : List ℕ) (stretch : Stretch) → IsStretch old new stretch → is_empty new ≡ false → IsTour model old → IsTour model new → stretch.front < length old ⊎ stretch.front < length new
+changed_is : (told : ℕ → ℕ → ℕ) (model : Model) (old new : List ℕ) (stretch : Stretch) → IsStretchBetween old new stretch → is_empty new ≡ false → IsTour model old → IsTour model new → stretch.front < length old ⊎ stretch.front < length new
     → cond (is_empty new || is_same old new) 0 (told (shared_front old new) (length new + 1 - shared_back old new)) ≡ told stretch.front (length new - stretch.back + 1)
 changed_is told model old new stretch is some tour tour_too changed =
     let differ : is_same old new ≡ false = fails (is_same old new) (λ t. same_lists (same_of_test old new t)) in
@@ -160,11 +160,11 @@ changed_is told model old new stretch is some tour tour_too changed =
     ]
 
 -- the weight of a list that changed is that of the walk through its stretch
-pub weight_is : (model : Model) (d v : ℕ) (old new : List ℕ) (stretch : Stretch) → IsStretch old new stretch → is_empty new ≡ false → IsTour model old → IsTour model new → stretch.front < length old ⊎ stretch.front < length new
+pub weight_is : (model : Model) (d v : ℕ) (old new : List ℕ) (stretch : Stretch) → IsStretchBetween old new stretch → is_empty new ≡ false → IsTour model old → IsTour model new → stretch.front < length old ⊎ stretch.front < length new
     → list_weight model d v old new ≡ walk_weight (line model d v new) stretch.front (length new - stretch.back + 1)
 weight_is model d v old new = changed_is (walk_weight (line model d v new)) model old new
 
 -- and walks without a break go through its stretch
-pub tries_are : (model : Model) (d v : ℕ) (old new : List ℕ) (stretch : Stretch) → IsStretch old new stretch → is_empty new ≡ false → IsTour model old → IsTour model new → stretch.front < length old ⊎ stretch.front < length new
+pub tries_are : (model : Model) (d v : ℕ) (old new : List ℕ) (stretch : Stretch) → IsStretchBetween old new stretch → is_empty new ≡ false → IsTour model old → IsTour model new → stretch.front < length old ⊎ stretch.front < length new
     → list_tries model d v old new ≡ tries_between (line model d v new) stretch.front (length new - stretch.back + 1)
 tries_are model d v old new = changed_is (tries_between (line model d v new)) model old new

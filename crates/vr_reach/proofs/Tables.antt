@@ -13,7 +13,7 @@ use Rattle.vr_reach.specs.declared.ends.Ends.{Ends}
 use Rattle.vr_reach.specs.declared.stops.Stops.{Stops}
 use Rattle.vr_reach.specs.declared.visits.VisitSets.{VisitSets}
 use Rattle.vr_reach.specs.Stops.{AreEndsOf, AreStops}
-use Rattle.vr_reach.specs.VisitSets.{capacity_of, AreSetsUnder, AreTables, AreVisitSets, IsTableOf}
+use Rattle.vr_reach.specs.VisitSets.{capacity_of, AreSetsUnder, AreTablesUnder, AreVisitSets, IsTableOf}
 
 -- what holds of each entry at its place holds with one entry more
 pub each_push : {A : Type 0} (P : ℕ → A → Type 0) (xs : List A) (x : A) → ((k : ℕ) (d : A) → k < length xs → P k (get_or xs k d)) → P (length xs) x → (k : ℕ) (d : A) → k < length (xs ++ x ∷ []) → P k (get_or (xs ++ x ∷ []) k d)
@@ -41,8 +41,8 @@ table_is_last model d v k capacities capacity is last = record {
 }
 
 -- tables with one more
-pub tables_more : (model : Model) (d v : ℕ) (capacities : List ℤ) (tables : List (List (List Run))) (capacity : ℤ) (sets : List (List Run)) → AreTables model d capacities tables → capacity ≡ capacity_of model d v → AreVisitSets model d v sets
-    → AreTables model d (capacities ++ capacity ∷ []) (tables ++ sets ∷ [])
+pub tables_more : (model : Model) (d v : ℕ) (capacities : List ℤ) (tables : List (List (List Run))) (capacity : ℤ) (sets : List (List Run)) → AreTablesUnder model d capacities tables → capacity ≡ capacity_of model d v → AreVisitSets model d v sets
+    → AreTablesUnder model d (capacities ++ capacity ∷ []) (tables ++ sets ∷ [])
 tables_more model d v capacities tables capacity sets are is new = record {
   one_of_each = let n = length-append capacities (capacity ∷ []) in let m = length-append tables (sets ∷ []) in let same = are.one_of_each in omega (arith, n, m, same);
   each = λ k low. elim (cases_lt k (length tables)) [
@@ -58,7 +58,7 @@ tables_more model d v capacities tables capacity sets are is new = record {
 }
 
 -- the table of a vehicle has what visits allow it
-pub table_here : (model : Model) (d v k : ℕ) (sets : VisitSets) → AreTables model d sets.capacities sets.tables → IsTableOf model d v sets.capacities k → AreVisitSets model d v (get_or sets.tables k [])
+pub table_here : (model : Model) (d v k : ℕ) (sets : VisitSets) → AreTablesUnder model d sets.capacities sets.tables → IsTableOf model d v sets.capacities k → AreVisitSets model d v (get_or sets.tables k [])
 table_here model d v k sets are is = subst (λ c. AreSetsUnder model d c (get_or sets.tables k [])) is.same (are.each k (let same = are.one_of_each in let low = is.there in omega (arith, same, low)))
 
 -- one entry more of the first of a whole

@@ -18,21 +18,21 @@ pub record Follows (line : Line) (k : ℕ) (x y : ℤ) : Type 0 where
   pub slack : IsIn (pos 0) line.slack_max ((y -ℤ x) -ℤ (arc_at line k).transit)
 
 -- cumul y of stop k + n is led to from a cumul of a set at stop k, with no break on the way
-abbrev pub IsLedTo : Line → (ℤ → Bool) → ℕ → ℕ → ℤ → Type 0
-IsLedTo line set k zero y = IsTrue (set y)
-IsLedTo line set k (suc n) y = (x : ℤ) × IsLedTo line set k n x × Follows line (k + n) x y
+abbrev pub IsLedToWithoutBreaks : Line → (ℤ → Bool) → ℕ → ℕ → ℤ → Type 0
+IsLedToWithoutBreaks line set k zero y = IsTrue (set y)
+IsLedToWithoutBreaks line set k (suc n) y = (x : ℤ) × IsLedToWithoutBreaks line set k n x × Follows line (k + n) x y
 
 -- with b breaks taken one run is all that there is at stop a, and it leads without a break to a cumul of stop e from
 -- which the end is reached with as many
 pub record GoesAlone (line : Line) (from to : List (List Run)) (a e b : ℕ) : Type 0 where
   pub one : IsTrue (is_run (level_at from b))
   pub cumul : ℤ
-  pub led : IsLedTo line (has (level_at from b)) a (e - a) cumul
+  pub led : IsLedToWithoutBreaks line (has (level_at from b)) a (e - a) cumul
   pub reaches : IsTrue (has (level_at to b) cumul)
 
 -- what no walk without a break tells: some cumul of stop e that is reached with no break taken is one from which the
 -- end is reached with all of them taken, and with no number of breaks does such a walk go all the way
-pub record IsUntold (line : Line) (from to : List (List Run)) (a e : ℕ) : Type 0 where
+pub record IsUndecided (line : Line) (from to : List (List Run)) (a e : ℕ) : Type 0 where
   pub cumul : ℤ
   pub reached : IsReached line e 0 cumul
   pub reaches : ReachesEnd line e (length line.breaks) cumul

@@ -35,7 +35,7 @@ has_cumul_behind cumul t s allowed = let next = int_max (cumul +ℤ t) allowed.l
     int_le next allowed.hi && int_le (next -ℤ (cumul +ℤ t)) s
 
 -- x is the earliest cumul that passes the test
-pub record IsEarliest (test : ℤ → Bool) (x : ℤ) : Type 0 where
+pub record IsEarliestPassing (test : ℤ → Bool) (x : ℤ) : Type 0 where
   pub passes : IsTrue (test x)
   pub least : (y : ℤ) → IsTrue (test y) → x ≤ℤ y
 
@@ -47,8 +47,8 @@ allows_from line k x y = allows line (suc k) y && int_le (x +ℤ (arc_at line k)
 -- its stop allows behind the one before, with no slack greater than it may be
 pub record AreFoundInTurn (line : Line) (k : ℕ) (cumuls : List ℤ) : Type 0 where
   pub many : length cumuls ≡ suc k
-  pub start : IsEarliest (allows line 0) (number_at cumuls 0)
-  pub next : (i : ℕ) → i < k → IsEarliest (allows_from line i (number_at cumuls i)) (number_at cumuls (suc i))
+  pub start : IsEarliestPassing (allows line 0) (number_at cumuls 0)
+  pub next : (i : ℕ) → i < k → IsEarliestPassing (allows_from line i (number_at cumuls i)) (number_at cumuls (suc i))
   pub slacks : (i : ℕ) → i < k → slack_left line cumuls i ≤ℤ line.slack_max
 
 -- cumuls of a list of vehicle v can be found so: it has no breaks in dimension d, no stop allows it more than one run

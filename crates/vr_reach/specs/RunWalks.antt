@@ -16,7 +16,7 @@ abbrev pub line_along : RunWalk → Line
 line_along walk = line_of walk.line.of
 
 -- stop k, with a run of cumuls that is reached there with b breaks taken
-pub record StandsAt (line : RunLine) (k b : ℕ) (here : Stand) : Type 0 where
+pub record IsStandAt (line : RunLine) (k b : ℕ) (here : Stand) : Type 0 where
   pub node : here.node ≡ node_at_stop line.of.closed.model.now line.of.v line.of.list.now k
   pub below : here.node < line.of.closed.model.now.nodes
   pub cumuls : IsCumulRun here.run

@@ -30,7 +30,7 @@ DifferAtBack old new a z = a + z < length old → a + z < length new
     → slice_index old (length old - 1 - z) ≢ slice_index new (length new - 1 - z)
 
 -- the stretch between what both lists share: as many nodes at the front as they can, and then as many at the back
-pub record IsStretch (old new : List ℕ) (stretch : Stretch) : Type 0 where
+pub record IsStretchBetween (old new : List ℕ) (stretch : Stretch) : Type 0 where
   pub front : SharesFront old new stretch.front
   pub front_most : DifferAtFront old new stretch.front
   pub back : SharesBack old new stretch.back

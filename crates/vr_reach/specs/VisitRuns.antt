@@ -28,7 +28,7 @@ pub record IsRunOf (set : List Run) (run : Run) : Type 0 where
   pub ends : IsCumuls set → HasCumulEnds run
 
 -- a run for each set
-pub record AreRunsOf (sets : List (List Run)) (runs : List Run) : Type 0 where
+pub record AreRunsOfSets (sets : List (List Run)) (runs : List Run) : Type 0 where
   pub one_of_each : length runs ≡ length sets
   pub each : (k : ℕ) (other : Run) → k < length sets
       → IsRunOf (slice_index_or sets k []) (slice_index_or runs k other)
@@ -39,7 +39,7 @@ is_single set = nat_le (length set) 1
 
 -- a run for each set, known exactly where no set is of more than one
 pub record AreKnownRuns (sets : List (List Run)) (found : Option (List Run)) : Type 0 where
-  pub runs : IfSome found (AreRunsOf sets)
+  pub runs : IfSome found (AreRunsOfSets sets)
   pub known : is_some found ≡ list_all is_single sets
 
 -- for each table of sets a run for each set, known exactly where no set is of more than one

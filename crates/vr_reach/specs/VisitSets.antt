@@ -35,14 +35,14 @@ abbrev pub AreVisitSets : Model → ℕ → ℕ → List (List Run) → Type 0
 AreVisitSets model d v sets = AreSetsUnder model d (capacity_of model d v) sets
 
 -- table k has what visits allow under its capacity
-abbrev pub IsTable : Model → ℕ → List ℤ → List (List (List Run)) → ℕ → Type 0
-IsTable model d capacities tables k =
+abbrev pub IsTableUnder : Model → ℕ → List ℤ → List (List (List Run)) → ℕ → Type 0
+IsTableUnder model d capacities tables k =
     AreSetsUnder model d (number_at capacities k) (slice_index_or tables k [])
 
 -- a table for each capacity
-pub record AreTables (model : Model) (d : ℕ) (capacities : List ℤ) (tables : List (List (List Run))) : Type 0 where
+pub record AreTablesUnder (model : Model) (d : ℕ) (capacities : List ℤ) (tables : List (List (List Run))) : Type 0 where
   pub one_of_each : length tables ≡ length capacities
-  pub each : (k : ℕ) → k < length tables → IsTable model d capacities tables k
+  pub each : (k : ℕ) → k < length tables → IsTableUnder model d capacities tables k
 
 -- table k is that of the capacity of vehicle v
 pub record IsTableOf (model : Model) (d v : ℕ) (capacities : List ℤ) (k : ℕ) : Type 0 where
@@ -51,6 +51,6 @@ pub record IsTableOf (model : Model) (d v : ℕ) (capacities : List ℤ) (k : �
 
 -- tables, and for each of the first n vehicles that of its capacity
 pub record AreSets (model : Model) (d n : ℕ) (sets : VisitSets) : Type 0 where
-  pub tables : AreTables model d sets.capacities sets.tables
+  pub tables : AreTablesUnder model d sets.capacities sets.tables
   pub one_of_each : length sets.table_of ≡ n
   pub each : (v : ℕ) → v < n → IsTableOf model d v sets.capacities (slice_index_or sets.table_of v 0)

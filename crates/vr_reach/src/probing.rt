@@ -4,7 +4,7 @@ ghost use Rattle.std.specs.Prelude.{◌≡◌, ◌↔◌, ◌+◌, ◌-◌, ◌*
 ghost use Rattle.vr_model.specs.schedules.Choices.{is_feasible};
 ghost use Rattle.vr_model.specs.schedules.Schedules.{IsFeasible};
 ghost use Rattle.vr_steps.specs.Levels.{level_at};
-ghost use Rattle.vr_reach.specs.Alone.{GoesAlone, IsUntold};
+ghost use Rattle.vr_reach.specs.Alone.{GoesAlone, IsUndecided};
 ghost use Rattle.vr_reach.specs.RunWalks.{line_along};
 ghost use Rattle.vr_reach.specs.Singles.{is_run};
 ghost use Rattle.vr_reach.specs.Tries.{tries_between};
@@ -22,9 +22,9 @@ use vr_model::Steps;
 pub(crate) fn told_without_breaks<L: Ledger>(walk: &RunWalk, tries: &mut Steps<L>) -> Option<bool>
     ensures told { IfSome result (λ passed. passed ≡ is_feasible (line_along walk.now)) }
     ensures untold { result ≡ None → IsTrue (is_run (level_at walk.now.from.now 0))
-        → IsUntold (line_along walk.now) walk.now.from.now walk.now.to.now
+        → IsUndecided (line_along walk.now) walk.now.from.now walk.now.to.now
         walk.now.begin walk.now.last }
-    ensures known { IsSome result → IsTrue (is_run (level_at walk.now.from.now 0)) × (IsUntold
+    ensures known { IsSome result → IsTrue (is_run (level_at walk.now.from.now 0)) × (IsUndecided
         (line_along walk.now) walk.now.from.now walk.now.to.now walk.now.begin walk.now.last → ⊥) }
     ensures count { tries.new ≤ tries.old
         + tries_between (line_along walk.now) walk.now.begin walk.now.last }

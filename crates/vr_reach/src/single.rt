@@ -12,11 +12,11 @@ ghost use Rattle.vr_spans.specs.Runs.{in_run};
 ghost use Rattle.vr_steps.specs.Levels.{IsCumuls, level_at};
 ghost use Rattle.vr_steps.specs.Stops.{allowed_by};
 ghost use Rattle.vr_steps.specs.declared.stops.StopName.TheVariants.{End};
-ghost use Rattle.vr_reach.specs.Alone.{Follows, IsLedTo};
+ghost use Rattle.vr_reach.specs.Alone.{Follows, IsLedToWithoutBreaks};
 ghost use Rattle.vr_reach.specs.Counts.{steps_between};
 ghost use Rattle.vr_reach.specs.Lists.{node_at_stop};
 ghost use Rattle.vr_reach.specs.Singles.{are_runs, is_run, IsOnlyRun, IsReachedRun};
-ghost use Rattle.vr_reach.specs.RunWalks.{line_along, AreRunsBetween, StandsAt};
+ghost use Rattle.vr_reach.specs.RunWalks.{line_along, AreRunsBetween, IsStandAt};
 ghost use Rattle.vr_steps.specs.Samples.{IsCumulRun};
 ghost use Rattle.vr_reach.specs.Stops.{AreEndSets};
 ghost use Rattle.vr_reach.specs.VehicleStops.{line_of};
@@ -129,7 +129,7 @@ pub(crate) fn carry_run<L: Ledger>(
     requires from { IsOnlyRun (level_at walk.now.from.now taken) from }
     ensures cumuls { result.lo ≤ℤ result.hi → IsCumulRun result }
     ensures reached { IsReachedRun (line_along walk.now) walk.now.last taken result }
-    ensures led { (y : ℤ) → IsTrue (in_run result y) ↔ IsLedTo (line_along walk.now) (in_run from)
+    ensures led { (y : ℤ) → IsTrue (in_run result y) ↔ IsLedToWithoutBreaks (line_along walk.now) (in_run from)
         walk.now.begin (walk.now.last - walk.now.begin) y }
     ensures count { taken ≡ 0 → steps.new
         ≤ steps.old + steps_between (line_along walk.now) walk.now.begin walk.now.last }
@@ -176,8 +176,8 @@ pub(crate) fn stop_ahead(line: &RunLine, k: usize) -> Ahead
 fn cross_by_run(line: &RunLine, k: usize, taken: usize, here: Stand) -> Stand
     requires arc { k ≤ length line.now.of.list.now }
     requires breaks { taken ≤ length (line_of line.now.of).breaks }
-    requires here { StandsAt line.now k taken here }
-    ensures stands { result.run.lo ≤ℤ result.run.hi → StandsAt line.now (k + 1) taken result }
+    requires here { IsStandAt line.now k taken here }
+    ensures stands { result.run.lo ≤ℤ result.run.hi → IsStandAt line.now (k + 1) taken result }
     ensures reached { IsReachedRun (line_of line.now.of) (k + 1) taken result.run }
     ensures led { (y : ℤ) → IsTrue (in_run result.run y)
         ↔ ((x : ℤ) × IsTrue (in_run here.run x) × Follows (line_of line.now.of) k x y) }

@@ -1,7 +1,7 @@
 //! What changes between two lists.
 
 ghost use Rattle.std.specs.Prelude.{◌+◌, ◌≤◌, length};
-ghost use Rattle.vr_reach.specs.Stretches.{SharesFront, SharesBack, DifferAtFront, DifferAtBack, IsStretch};
+ghost use Rattle.vr_reach.specs.Stretches.{SharesFront, SharesBack, DifferAtFront, DifferAtBack, IsStretchBetween};
 
 use crate::spliced::Spliced;
 
@@ -20,7 +20,7 @@ impl Stretch {
     pub(crate) fn of(old: &[u32], new: &Spliced, known: Stretch) -> Stretch
         requires front { SharesFront old.now new.now known.front }
         requires back { SharesBack old.now new.now known.back }
-        ensures { IsStretch old.now new.now result }
+        ensures { IsStretchBetween old.now new.now result }
     {
         let front = shared_front(old, new, known.front);
         let back = shared_back(old, new, front, known.back);

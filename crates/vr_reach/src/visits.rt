@@ -2,7 +2,7 @@
 
 ghost use Rattle.std.specs.Prelude.{◌≡◌, ◌≢◌, ◌+◌, ◌<◌, ◌≤◌, ℕ, length, IfOk, OnOk};
 ghost use Rattle.vr_model.specs.tables.Numbers.{number_at};
-ghost use Rattle.vr_reach.specs.VisitSets.{capacity_of, AreSets, AreTables, AreVisitSets, IsSetOfNode, IsTableOf};
+ghost use Rattle.vr_reach.specs.VisitSets.{capacity_of, AreSets, AreTablesUnder, AreVisitSets, IsSetOfNode, IsTableOf};
 
 use crate::driven::VehicleIn;
 use std::alloc::Global;
@@ -71,8 +71,9 @@ fn table_for(
     capacities: &mut Seq<i64>,
     tables: &mut Seq<Seq<Spans>>,
 ) -> Result<usize, NoMemory>
-    requires { AreTables vehicle.closed.model.now vehicle.d capacities.old tables.old }
-    ensures tables { OnOk result (AreTables vehicle.entry.closed.model.now vehicle.entry.d capacities.new tables.new) }
+    requires { AreTablesUnder vehicle.closed.model.now vehicle.d capacities.old tables.old }
+    ensures tables { OnOk result (AreTablesUnder vehicle.entry.closed.model.now vehicle.entry.d capacities.new
+        tables.new) }
     ensures table { IfOk result (IsTableOf vehicle.entry.closed.model.now vehicle.entry.d vehicle.entry.v
         capacities.new) }
     ensures kept { OnOk result ((w : ℕ) (k : ℕ)

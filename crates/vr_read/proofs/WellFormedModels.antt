@@ -22,7 +22,7 @@ use Rattle.vr_read.specs.declared.model.ModelParts.{ModelParts}
 use Rattle.vr_read.specs.declared.model.VisitTables.{VisitTables}
 use Rattle.vr_read.specs.ModelParts.{HasModelParts}
 use Rattle.vr_read.specs.Rules.{for_all, rules}
-use Rattle.vr_read.specs.Models.{visit_tables, parts, base, model_of, model_table, read_model}
+use Rattle.vr_read.specs.Models.{visit_tables, parts, base, model_from_parts, model_table, read_model}
 use Rattle.vr_json.proofs.Readings.{Ensures, EachEnsures, gives, after, any_value, weaker, for_every, answered, count_ensures, required_ensures, optional_ensures, refuse_if_ensures, array_ensures}
 use Rattle.vr_read.proofs.Distinct.{named_array_ensures}
 use Rattle.vr_read.proofs.WellFormedVehicles.{matrix_ensures, vehicle_ensures}
@@ -134,7 +134,7 @@ table_ensures path d =
     after (base_ensures path d) λ start start_ok.
     after (for_every λ (other : Model). parts_ensure (over start.nodes start.matrices start.vehicles other) path d) λ others others_ok.
     after any_value λ unknown _.
-    let read : Model = model_of start others in
+    let read : Model = model_from_parts start others in
     gives (record {
       has_parts = record { number_of_vehicles = start_ok.number_of_vehicles; each_matrix = start_ok.matrices.1; each_vehicle = start_ok.each_vehicle read; each_dimension = (others_ok read).dimensions.1.0 };
       is_well_formed = λ kept. record {

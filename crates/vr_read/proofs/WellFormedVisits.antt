@@ -13,7 +13,7 @@ use Rattle.vr_model.specs.tables.Numbers.{each}
 use Rattle.vr_model.specs.routes.Routes.{is_distinct, holds}
 use Rattle.vr_model.specs.tables.Tables.{is_visit}
 use Rattle.vr_model.specs.tables.Limits.{greatest_cost}
-use Rattle.vr_model.specs.tables.WellFormed.{HasLength, IsGroup, IsPair, IsAllowed, nodes_of}
+use Rattle.vr_model.specs.tables.WellFormed.{HasLength, IsGroup, IsPair, IsAllowed, pair_nodes}
 use Rattle.vr_model.specs.declared.records.Model.{Model}
 use Rattle.vr_model.specs.declared.records.Group.{Group}
 use Rattle.vr_model.specs.declared.records.Pair.{Pair}
@@ -82,10 +82,10 @@ module _ (model : Model) where
 
   pub record ArePairs (pairs : List Pair) : Type 0 where
     pub each_pair : All (IsPair model) pairs
-    pub no_node_twice : IsTrue (is_distinct (each pairs nodes_of))
+    pub no_node_twice : IsTrue (is_distinct (each pairs pair_nodes))
 
-  unpaired : (pairs : List Pair) (node : ℕ) → is_paired pairs node ≡ false → holds (each pairs nodes_of) node ≡ false
-  unpaired pairs node h = list_any-flat_map (λ y. node == y) nodes_of pairs
+  unpaired : (pairs : List Pair) (node : ℕ) → is_paired pairs node ≡ false → holds (each pairs pair_nodes) node ≡ false
+  unpaired pairs node h = list_any-flat_map (λ y. node == y) pair_nodes pairs
       ∙ list_any_same (λ pair. (node == pair.pickup) || ((node == pair.delivery) || false)) (λ pair. (pair.pickup == node) || (pair.delivery == node))
       (λ pair. ap₂ (λ a b. a || b) (eq_turned node pair.pickup) (or-false _ ∙ eq_turned node pair.delivery)) pairs
       ∙ h
@@ -93,14 +93,14 @@ module _ (model : Model) where
   pairs_push : (pairs : List Pair) (pickup delivery : ℕ) → ArePairs pairs → IsTrue (is_visit model pickup) → IsTrue (is_visit model delivery)
       → is_paired pairs pickup ≡ false → (is_paired pairs delivery || (pickup == delivery)) ≡ false → ArePairs (pairs ++ record { pickup = pickup; delivery = delivery } ∷ [])
   pairs_push pairs pickup delivery h p q first second =
-      let before : List ℕ = each pairs nodes_of in
+      let before : List ℕ = each pairs pair_nodes in
       let apart = or_parts _ _ second in
       let absent : holds (before ++ pickup ∷ []) delivery ≡ false =
       list_any-append (λ y. delivery == y) before (pickup ∷ []) ∙ ap₂ (λ a b. a || (b || false)) (unpaired pairs delivery apart.0) (eq_turned delivery pickup ∙ apart.1) in
       let distinct = is_distinct_push (before ++ pickup ∷ []) delivery (is_distinct_push before pickup h.no_node_twice (unpaired pairs pickup first)) absent in
       record {
         each_pair = All-push (IsPair model) pairs _ h.each_pair (record { pickup_is_visit = p; delivery_is_visit = q });
-        no_node_twice = rw (each_push nodes_of pairs _) (subst (λ xs. IsTrue (is_distinct xs)) (append_assoc before (pickup ∷ []) (delivery ∷ [])) distinct);
+        no_node_twice = rw (each_push pair_nodes pairs _) (subst (λ xs. IsTrue (is_distinct xs)) (append_assoc before (pickup ∷ []) (delivery ∷ [])) distinct);
       }
 
   pair_ensures : (pairs : List Pair) → ArePairs pairs → EachEnsures (λ read. ArePairs (pairs ++ read ∷ [])) (pair model.nodes model.vehicles pairs)

@@ -47,8 +47,8 @@ model_fields =
     ∷ codes "pairs" ∷ codes "allowed" ∷ codes "search" ∷ []
 
 -- a model of these fields
-abbrev pub model_of : ModelBase → ModelParts → Model
-model_of start others = record {
+abbrev pub model_from_parts : ModelBase → ModelParts → Model
+model_from_parts start others = record {
   nodes = start.nodes;
   matrices = start.matrices;
   vehicles = start.vehicles;
@@ -65,7 +65,7 @@ model_table path d = do
   start ← base path d
   others ← parts start.nodes (length start.matrices) (length start.vehicles) start.vehicles path d
   unknown ← known model_fields path d
-  Ok (model_of start others)
+  Ok (model_from_parts start others)
 
 -- a model
 unfoldable pub read_model : ReaderOf Model

@@ -4,7 +4,7 @@ use Rattle.std.specs.List.{list_any}
 use Rattle.vr_json.specs.declared.fault.Cause.TheVariants.{Repeated}
 use Rattle.vr_json.specs.Reading.{◌>>=◌, ReaderOf, optional, known, array, two_entries, refuse_if}
 use Rattle.vr_json.specs.Kinds.{whole, count, choice}
-use Rattle.vr_model.specs.tables.WellFormed.{number_of}
+use Rattle.vr_model.specs.tables.WellFormed.{neighbourhood_number}
 use Rattle.vr_model.specs.moves.Moves.{all_neighbourhoods}
 use Rattle.vr_model.specs.declared.records.SearchRow.{SearchRow}
 use Rattle.vr_read.specs.declared.searches.SearchChoices.{SearchChoices}
@@ -42,7 +42,7 @@ neighbourhood_words =
 unfoldable pub neighbourhood : List Neighbourhood → ReaderOf Neighbourhood
 neighbourhood so_far path d = do
   chosen ← choice neighbourhood_words path d
-  fresh ← refuse_if (list_any (λ other. number_of other == number_of chosen) so_far) Repeated path
+  fresh ← refuse_if (list_any (λ other. neighbourhood_number other == neighbourhood_number chosen) so_far) Repeated path
   Ok chosen
 
 -- the search where a model says nothing of it

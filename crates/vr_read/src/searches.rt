@@ -2,7 +2,7 @@
 
 ghost use Rattle.std.specs.Prelude.{◌≡◌, ◌==◌, IfOk};
 ghost use Rattle.std.specs.List.{list_any};
-ghost use Rattle.vr_model.specs.tables.WellFormed.{number_of};
+ghost use Rattle.vr_model.specs.tables.WellFormed.{neighbourhood_number};
 ghost use Rattle.serde_json.specs.View.{view};
 ghost use Rattle.vr_json.specs.Reading.{Answers};
 ghost use Rattle.vr_read.specs.Searches as search_tables;
@@ -72,14 +72,14 @@ const TENURE: u32 = 10;
 
 // Whether two neighbourhoods are the same.
 fn is_same_neighbourhood(one: Neighbourhood, other: Neighbourhood) -> bool
-    ensures { result ≡ (number_of one == number_of other) }
+    ensures { result ≡ (neighbourhood_number one == neighbourhood_number other) }
 {
     one as u8 == other as u8
 }
 
 // Whether a neighbourhood is among some.
 fn has_neighbourhood(some: &[Neighbourhood], neighbourhood: Neighbourhood) -> bool
-    ensures { result ≡ list_any (λ other. number_of other == number_of neighbourhood) some.now }
+    ensures { result ≡ list_any (λ other. neighbourhood_number other == neighbourhood_number neighbourhood) some.now }
 {
     some.iter()
         .any(|other| is_same_neighbourhood(*other, neighbourhood))

@@ -14,7 +14,7 @@ use Rattle.vr_model.specs.moves.MoveTests.{is_vehicle, may_put_pair}
 use Rattle.vr_model.specs.declared.records.Model.{Model}
 use Rattle.vr_model.specs.declared.records.Pair.{Pair}
 use Rattle.vr_routes.specs.Seats.{IsSeat, IsOnce}
-use Rattle.vr_routes.specs.Pairs.{are_together, are_in_order, ArePlaces, IsGap, without_two, is_elsewhere}
+use Rattle.vr_routes.specs.Pairs.{are_together, are_in_order, ArePairPlaces, IsGap, without_two, is_elsewhere}
 use Rattle.vr_routes.proofs.TourLemmas.{set_twice}
 use Rattle.vr_model.proofs.moves.Times.{times, times_set, at_least_one}
 use Rattle.vr_routes.proofs.OnceLemmas.{few_times}
@@ -188,7 +188,7 @@ put_back pair xs lo hi order low p d =
 
 -- ---- a pair that is put elsewhere
 
-module _ (lists : List (List ℕ)) (pair : Pair) (once : IsOnce lists) (v lo hi : ℕ) (places : ArePlaces lists pair v lo hi) (order : lo < hi) where
+module _ (lists : List (List ℕ)) (pair : Pair) (once : IsOnce lists) (v lo hi : ℕ) (places : ArePairPlaces lists pair v lo hi) (order : lo < hi) where
   gap : IsGap lists pair v lo hi
   gap = pickup_first pair lists once v lo hi places order
 

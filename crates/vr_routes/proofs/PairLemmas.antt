@@ -11,7 +11,7 @@ use Rattle.vr_model.specs.tables.Tables.{pair_at}
 use Rattle.vr_model.specs.tables.WellFormed.{IsWellFormed}
 use Rattle.vr_model.specs.declared.records.Model.{Model}
 use Rattle.vr_routes.specs.Seats.{IsSeat, IsOnce}
-use Rattle.vr_routes.specs.Pairs.{are_together, ArePlaces}
+use Rattle.vr_routes.specs.Pairs.{are_together, ArePairPlaces}
 use Rattle.vr_routes.proofs.SeatLemmas.{active_at}
 
 -- where two nodes stand that stand in one list
@@ -53,6 +53,6 @@ together_tells lists x y v k w j once a b = elim (eqb_tells v w) [
 ]
 
 -- the two nodes of a pair stand at two places
-pub places_apart : (model : Model) (p : ℕ) (lists : List (List ℕ)) (v k j : ℕ) → IsWellFormed model → p < length model.pairs → ArePlaces lists (pair_at model p) v k j → k ≢ j
+pub places_apart : (model : Model) (p : ℕ) (lists : List (List ℕ)) (v k j : ℕ) → IsWellFormed model → p < length model.pairs → ArePairPlaces lists (pair_at model p) v k j → k ≢ j
 places_apart model p lists v k j well low places same =
     pair_apart model.pairs p low well.no_node_in_pairs_twice (sym places.pickup_stands.found ∙ ap (slice_index (route lists v)) same ∙ places.delivery_stands.found)

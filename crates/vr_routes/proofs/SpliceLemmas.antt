@@ -10,7 +10,7 @@ use Rattle.vr_model.specs.routes.Routes.{route}
 use Rattle.vr_routes.specs.declared.pieces.Piece.{Piece}
 use Rattle.vr_routes.specs.declared.pieces.Piece.TheVariants.{Chain}
 use Rattle.vr_routes.specs.Pieces.{ListAfter, joined, middle_of, nodes_of, IsWithin, IsSplice, IsSpliced}
-use Rattle.vr_routes.specs.Changes.{IsAfter, IsBegun}
+use Rattle.vr_routes.specs.Changes.{IsAfter, IsPartBegun}
 use Rattle.vr_routes.proofs.PieceLemmas.{slice_to_end}
 
 -- one piece more
@@ -25,12 +25,12 @@ all_more : {A : Type 0} (P : A → Type 0) (x : A) (xs : List A) → P x → All
 all_more P x xs h all = All-append P (x ∷ []) xs (all_one P x h) all
 
 -- a list is begun
-pub begun : (lists : List (List ℕ)) (part : ListAfter) (v front : ℕ) → part.vehicle ≡ v → part.front ≡ front → part.pieces ≡ Chain v 0 front false ∷ [] → IsBegun lists part v front []
+pub begun : (lists : List (List ℕ)) (part : ListAfter) (v front : ℕ) → part.vehicle ≡ v → part.front ≡ front → part.pieces ≡ Chain v 0 front false ∷ [] → IsPartBegun lists part v front []
 begun lists part v front vehicle same pieces = record { vehicle_is = vehicle; front_is = same; middle = []; pieces_are = pieces; nodes_are = refl; each_within = All-nil (IsWithin lists) }
 
 -- a piece is added
 pub added : (lists : List (List ℕ)) (old new : ListAfter) (v front : ℕ) (nodes : List ℕ) (piece : Piece) → new.vehicle ≡ old.vehicle → new.front ≡ old.front → new.pieces ≡ old.pieces ++ piece ∷ []
-    → IsWithin lists piece → IsBegun lists old v front nodes → IsBegun lists new v front (nodes ++ nodes_of lists piece)
+    → IsWithin lists piece → IsPartBegun lists old v front nodes → IsPartBegun lists new v front (nodes ++ nodes_of lists piece)
 added lists old new v front nodes piece vehicle same pieces within before = record {
   vehicle_is = vehicle ∙ before.vehicle_is;
   front_is = same ∙ before.front_is;
@@ -42,7 +42,7 @@ added lists old new v front nodes piece vehicle same pieces within before = reco
 
 -- the end is added
 pub ended : (lists : List (List ℕ)) (old new : ListAfter) (v front behind n : ℕ) (nodes : List ℕ) → new.vehicle ≡ old.vehicle → new.front ≡ old.front → new.behind ≡ behind
-    → new.pieces ≡ old.pieces ++ Chain old.vehicle behind n false ∷ [] → v < length lists → n ≡ length (route lists v) → front ≤ behind → behind ≤ n → IsBegun lists old v front nodes
+    → new.pieces ≡ old.pieces ++ Chain old.vehicle behind n false ∷ [] → v < length lists → n ≡ length (route lists v) → front ≤ behind → behind ≤ n → IsPartBegun lists old v front nodes
     → IsAfter lists new v (take front (route lists v) ++ (nodes ++ drop behind (route lists v)))
 ended lists old new v front behind n nodes vehicle same from pieces low whole order high before = record {
   vehicle_is = is;

@@ -19,7 +19,7 @@ use Rattle.std.specs.List.{range_with_len}
 use Rattle.vr_model.specs.tables.Tables.{visits, is_visit}
 use Rattle.vr_model.specs.routes.Routes.{route, holds, is_active}
 use Rattle.vr_model.specs.declared.records.Model.{Model}
-use Rattle.vr_routes.specs.Tours.{AreTours, HaveVisits}
+use Rattle.vr_routes.specs.Tours.{AreSeatedTours, HaveVisits}
 use Rattle.vr_model.specs.tables.WellFormed.{IsWellFormed}
 use Rattle.vr_routes.proofs.SeatLemmas.{seat_of_active, active_at}
 
@@ -172,7 +172,7 @@ inactive_test model visited x e = ap (λ l. holds l x) e ∙ visit_test model x
 
 -- the visits of a model, and lists of them for its vehicles
 pub tours_of : (model : Model) → IsWellFormed model → (visited seating : Seated) → visited.lists ≡ visits model ∷ [] → visited.nodes ≡ model.nodes
-    → seating.nodes ≡ model.nodes → length seating.lists ≡ length model.vehicles → HaveVisits model seating.lists → AreTours visited seating
+    → seating.nodes ≡ model.nodes → length seating.lists ≡ length model.vehicles → HaveVisits model seating.lists → AreSeatedTours visited seating
 tours_of model well visited seating lists nodes there many entries =
     let list : route visited.lists 0 ≡ visits model = seen lists in
     let long = ap length list in
@@ -191,8 +191,8 @@ tours_of model well visited seating lists nodes there many entries =
     }
 
 -- other lists of them, as many
-pub tours_after : {visited seating : Seated} → AreTours visited seating → (other : Seated) → seating.nodes ≡ other.nodes → length other.lists ≡ length seating.lists
-    → ((node : ℕ) → IsTrue (is_active other.lists node) → IsTrue (holds (route visited.lists 0) node)) → AreTours visited other
+pub tours_after : {visited seating : Seated} → AreSeatedTours visited seating → (other : Seated) → seating.nodes ≡ other.nodes → length other.lists ≡ length seating.lists
+    → ((node : ℕ) → IsTrue (is_active other.lists node) → IsTrue (holds (route visited.lists 0) node)) → AreSeatedTours visited other
 tours_after {visited} {seating} tours other nodes many entries =
     let few = tours.few_vehicles in
     record {

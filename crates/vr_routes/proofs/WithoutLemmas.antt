@@ -9,7 +9,7 @@ use Rattle.vr_model.specs.routes.Routes.{route}
 use Rattle.vr_model.specs.moves.Moves.{without_pair}
 use Rattle.vr_model.specs.declared.records.Pair.{Pair}
 use Rattle.vr_routes.specs.Seats.{IsOnce}
-use Rattle.vr_routes.specs.Pairs.{IsGap, ArePlaces, without_two}
+use Rattle.vr_routes.specs.Pairs.{IsGap, ArePairPlaces, without_two}
 use Rattle.vr_model.proofs.moves.Kept.{pickup_out, delivery_out}
 use Rattle.vr_model.proofs.moves.Times.{times, times_in, hit, times_append, times_set, here_or_later, at_least_one}
 use Rattle.vr_routes.proofs.OnceLemmas.{few_times}
@@ -107,7 +107,7 @@ module _ (pair : Pair) where
     ])
   ]
 
-  module _ (lists : List (List ℕ)) (once : IsOnce lists) (v k j : ℕ) (places : ArePlaces lists pair v k j) where
+  module _ (lists : List (List ℕ)) (once : IsOnce lists) (v k j : ℕ) (places : ArePairPlaces lists pair v k j) where
     low : v < length lists
     low = places.pickup_stands.vehicle
 

@@ -23,7 +23,7 @@ abbrev pub NothingReady : (Tours → List ListAfter → Type 0) → Type 0
 NothingReady ready = (tours : Tours) (parts : List ListAfter) → ready tours parts → ⊥
 
 -- the part begins with the places of the list of v below `front`, and the pieces behind them are joined to the nodes
-pub record IsBegun (lists : List (List ℕ)) (part : ListAfter) (v front : ℕ) (nodes : List ℕ) : Type 0 where
+pub record IsPartBegun (lists : List (List ℕ)) (part : ListAfter) (v front : ℕ) (nodes : List ℕ) : Type 0 where
   pub vehicle_is : part.vehicle ≡ v
   pub front_is : part.front ≡ front
   pub middle : List Piece

@@ -15,18 +15,18 @@ pub record Numbering : Type 0 where
   pub ends : List ℕ
 
 -- the start and the end of a vehicle
-abbrev pub start_of : Vehicle → ℕ
-start_of vehicle = vehicle.start
+abbrev pub start_node_of : Vehicle → ℕ
+start_node_of vehicle = vehicle.start
 
-abbrev pub end_of : Vehicle → ℕ
-end_of vehicle = vehicle.end
+abbrev pub end_node_of : Vehicle → ℕ
+end_node_of vehicle = vehicle.end
 
 -- the indices of a model
 abbrev pub numbering : Model → Numbering
 numbering model = record {
   visits = visits model;
-  starts = map start_of model.vehicles;
-  ends = map end_of model.vehicles;
+  starts = map start_node_of model.vehicles;
+  ends = map end_node_of model.vehicles;
 }
 
 -- the index of the start of v, and of its end

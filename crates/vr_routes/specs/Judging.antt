@@ -27,12 +27,13 @@ abbrev pub cost_change : Model → List (List ℕ) → Move → ℤ
 cost_change model lists mv = cost model (apply model lists mv) -ℤ cost model lists
 
 -- a number that the difference of a move is never below, where the lists after it are valid
-abbrev pub IsLeast : Model → List (List ℕ) → Move → ℤ → Type 0
-IsLeast model lists mv least = IsTrue (is_valid model (apply model lists mv)) → least ≤ℤ cost_change model lists mv
+abbrev pub IsDifferenceBound : Model → List (List ℕ) → Move → ℤ → Type 0
+IsDifferenceBound model lists mv least = IsTrue (is_valid model (apply model lists mv))
+    → least ≤ℤ cost_change model lists mv
 
 -- if a move is one of the lists, and the lists after it are valid, it makes a difference of no less than a bound
 abbrev pub IsNoLess : Model → List (List ℕ) → Move → ℤ → Type 0
-IsNoLess model lists mv bound = IsTrue (is_move model lists mv) → IsLeast model lists mv bound
+IsNoLess model lists mv bound = IsTrue (is_move model lists mv) → IsDifferenceBound model lists mv bound
 
 -- a move is refused where the lists after it are not valid; else it makes this difference in cost
 abbrev pub verdict_of : Model → List (List ℕ) → Move → Verdict

@@ -16,7 +16,7 @@ abbrev pub are_in_order : List (List ℕ) → ℕ → ℕ → Bool
 are_in_order lists x y = list_any (λ list. comes_before list x y) lists
 
 -- the two nodes of a pair stand at these places of the list of v
-pub record ArePlaces (lists : List (List ℕ)) (pair : Pair) (v k j : ℕ) : Type 0 where
+pub record ArePairPlaces (lists : List (List ℕ)) (pair : Pair) (v k j : ℕ) : Type 0 where
   pub pickup_stands : IsSeat lists pair.pickup v k
   pub delivery_stands : IsSeat lists pair.delivery v j
 
@@ -37,8 +37,8 @@ abbrev pub is_past : ℕ → ℕ → ℕ
 is_past place j = 1 - (1 - (j - place))
 
 -- how many of the two places of a rest at which nodes were taken out lie before place j of it
-abbrev pub cuts : ℕ → ℕ → ℕ → ℕ
-cuts lo hi j = is_past lo j + is_past (hi - 1) j
+abbrev pub cuts_before : ℕ → ℕ → ℕ → ℕ
+cuts_before lo hi j = is_past lo j + is_past (hi - 1) j
 
 -- a pair that stands at places lo and hi of v is put elsewhere
 abbrev pub is_elsewhere : ℕ → ℕ → ℕ → ℕ → ℕ → ℕ → Bool

@@ -18,7 +18,7 @@ abbrev pub inactive_of : List ℕ → List (List ℕ) → List ℕ
 inactive_of visits lists = filter (λ node. not (is_active lists node)) visits
 
 -- one list of visits that ascend, and lists of them: few vehicles, few nodes, and each entry is a visit
-pub record AreTours (visits seating : Seated) : Type 0 where
+pub record AreSeatedTours (visits seating : Seated) : Type 0 where
   pub one_list : length visits.lists ≡ 1
   pub same_nodes : visits.nodes ≡ seating.nodes
   pub few_nodes : seating.nodes ≤ 1000
@@ -30,8 +30,8 @@ pub record AreTours (visits seating : Seated) : Type 0 where
       → IsTrue (is_active seating.lists node) → IsTrue (holds (route visits.lists 0) node)
 
 -- what holds of all routes: lists of visits, and what is kept of the inactive ones
-pub record AreKept (visits seating : Seated) (inactive : List ℕ) : Type 0 where
-  pub tours : AreTours visits seating
+pub record AreToursKept (visits seating : Seated) (inactive : List ℕ) : Type 0 where
+  pub tours : AreSeatedTours visits seating
   pub inactive_ones : inactive ≡ inactive_of (route visits.lists 0) seating.lists
 
 -- each entry of the lists is a visit

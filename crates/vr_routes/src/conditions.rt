@@ -3,7 +3,7 @@
 ghost use Rattle.std.specs.Prelude.{◌≡◌, ◌+◌, ◌-◌, ◌<◌, ◌&&◌, true, false, nat_lt, nat_le, length, IfSome, MatchOption};
 ghost use Rattle.vr_model.specs.moves.Moves.{is_other, is_pair_served};
 ghost use Rattle.vr_model.specs.tables.Tables.{pair_at, visits};
-ghost use Rattle.vr_routes.specs.Pairs.{ArePlaces};
+ghost use Rattle.vr_routes.specs.Pairs.{ArePairPlaces};
 ghost use Rattle.vr_model.specs.moves.MoveTests.{is_inactive, is_move};
 ghost use Rattle.vr_model.specs.declared.records.Model.{Model as Defined};
 ghost use Rattle.vr_model.specs.declared.neighbours.Move.TheVariants.{TwoOpt, OrOpt, Relocate, Exchange, Cross};
@@ -140,7 +140,7 @@ pub fn pair_together(model: &Model, routes: &Routes, p: u32) -> Option<PairPlace
         MatchOption result (is_one ≡ false) (λ at. is_one ≡ true) }
     ensures pair { IfSome result (λ at. p < length model.now.pairs) }
     ensures places { let pair = pair_at model.now p in
-        IfSome result (λ at. ArePlaces routes.now.lists pair at.vehicle at.pickup at.delivery) }
+        IfSome result (λ at. ArePairPlaces routes.now.lists pair at.vehicle at.pickup at.delivery) }
 {
     if p as usize >= model.pairs.len() {
         return None;
@@ -155,7 +155,7 @@ pub fn pair_served(model: &Model, routes: &Routes, p: u32) -> Option<PairPlaces>
         MatchOption result ((nat_lt p (length model.now.pairs) && served) ≡ false) (λ at. served ≡ true) }
     ensures pair { IfSome result (λ at. p < length model.now.pairs) }
     ensures places { let pair = pair_at model.now p in
-        IfSome result (λ at. ArePlaces routes.now.lists pair at.vehicle at.pickup at.delivery) }
+        IfSome result (λ at. ArePairPlaces routes.now.lists pair at.vehicle at.pickup at.delivery) }
     ensures order { IfSome result (λ at. at.pickup < at.delivery) }
 {
     routes.know_once();

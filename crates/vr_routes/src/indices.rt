@@ -3,7 +3,7 @@
 ghost use Rattle.std.specs.Prelude.{◌≡◌, ◌+◌, ◌<◌, ◌≤◌, ◌++◌, false, length, map, take, slice_index, MatchOption, IfOk};
 ghost use Rattle.vr_model.specs.routes.Routes.{holds};
 ghost use Rattle.vr_model.specs.tables.WellFormed.{IsWellFormed};
-ghost use Rattle.vr_routes.specs.Indices.{numbering, start_of, end_of};
+ghost use Rattle.vr_routes.specs.Indices.{numbering, start_node_of, end_node_of};
 
 use crate::routes::visits_of;
 use crate::seats::Seating;
@@ -111,7 +111,7 @@ impl Indices {
 
 // The starts of the vehicles.
 fn starts_of(alloc: Global, model: &RoutingModel) -> Result<Vec<u32>, NoMemory>
-    ensures { IfOk result (λ starts. starts.items ≡ map start_of model.now.vehicles) }
+    ensures { IfOk result (λ starts. starts.items ≡ map start_node_of model.now.vehicles) }
 {
     let mut starts = Vec::new(alloc);
     for vehicle in model.vehicles.as_slice() {
@@ -122,7 +122,7 @@ fn starts_of(alloc: Global, model: &RoutingModel) -> Result<Vec<u32>, NoMemory>
 
 // The ends of the vehicles.
 fn ends_of(alloc: Global, model: &RoutingModel) -> Result<Vec<u32>, NoMemory>
-    ensures { IfOk result (λ ends. ends.items ≡ map end_of model.now.vehicles) }
+    ensures { IfOk result (λ ends. ends.items ≡ map end_node_of model.now.vehicles) }
 {
     let mut ends = Vec::new(alloc);
     for vehicle in model.vehicles.as_slice() {

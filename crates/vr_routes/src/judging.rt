@@ -8,7 +8,7 @@ ghost use Rattle.vr_model.specs.tables.WellFormed.{IsWellFormed};
 ghost use Rattle.vr_model.specs.declared.neighbours.Move.{Move as Step};
 ghost use Rattle.vr_model.specs.declared.records.Model.{Model as RoutingModel};
 ghost use Rattle.vr_routes.specs.Changes.{IsChange};
-ghost use Rattle.vr_routes.specs.Judging.{HoldSame, IsLeast, IsNoLess, moved, verdict_of};
+ghost use Rattle.vr_routes.specs.Judging.{HoldSame, IsDifferenceBound, IsNoLess, moved, verdict_of};
 ghost use Rattle.vr_routes.specs.Runs.{with_last};
 
 use crate::{Change, Routes};
@@ -91,7 +91,7 @@ pub trait Judge {
         requires holds { HoldSame (model self.old) (committed self.old) routes.now }
         requires mv { IsTrue (is_move (model self.old) routes.now.lists mv) }
         requires change { IsChange (model self.old) routes.now.lists mv change.now }
-        ensures least { IsLeast (model self.old) routes.now.lists mv result }
+        ensures least { IsDifferenceBound (model self.old) routes.now.lists mv result }
         ensures model { model self.new ≡ model self.old }
         ensures committed { committed self.new ≡ committed self.old }
         ensures asked { asked self.new ≡ asked self.old }
@@ -109,7 +109,7 @@ pub trait Judge {
         requires well_formed { IsWellFormed (model self.old) }
         requires holds { HoldSame (model self.old) (committed self.old) routes.now }
         requires mv { IsTrue (is_move (model self.old) routes.now.lists mv) }
-        ensures least { IfSome result (IsLeast (model self.old) routes.now.lists mv) }
+        ensures least { IfSome result (IsDifferenceBound (model self.old) routes.now.lists mv) }
         ensures model { model self.new ≡ model self.old }
         ensures committed { committed self.new ≡ committed self.old }
         ensures asked { asked self.new ≡ asked self.old }

@@ -5,8 +5,8 @@ ghost use Rattle.std.specs.Prelude.{take, drop, slice_range, slice_set};
 ghost use Rattle.vr_model.specs.routes.Routes.{route};
 ghost use Rattle.vr_model.specs.tables.Tables.{pair_at};
 ghost use Rattle.vr_model.specs.moves.Moves.{reversed_between, chain_moved, node_at, with_pair, without_pair};
-ghost use Rattle.vr_routes.specs.Changes.{IsAfter, IsBegun};
-ghost use Rattle.vr_routes.specs.Pairs.{cuts, is_past, without_two};
+ghost use Rattle.vr_routes.specs.Changes.{IsAfter, IsPartBegun};
+ghost use Rattle.vr_routes.specs.Pairs.{cuts_before, is_past, without_two};
 ghost use Rattle.vr_routes.specs.Places.{AreNeighbours, AreTwoGaps, AreTwoPlaces, IsStretch};
 
 use crate::pairs::{PairPlaces, Standing};
@@ -171,13 +171,13 @@ impl Part {
         requires low { at.delivery ≤ 1000 }
         requires places { i ≤ j }
         requires gap { j ≤ 1000 }
-        requires room { length self.old.pieces + (is_past i j + cuts at.pickup at.delivery j)
-            ≤ 8 + cuts at.pickup at.delivery i }
-        ensures room { length self.new.pieces + cuts at.pickup at.delivery i
-            ≤ length self.old.pieces + (is_past i j + cuts at.pickup at.delivery j) }
+        requires room { length self.old.pieces + (is_past i j + cuts_before at.pickup at.delivery j)
+            ≤ 8 + cuts_before at.pickup at.delivery i }
+        ensures room { length self.new.pieces + cuts_before at.pickup at.delivery i
+            ≤ length self.old.pieces + (is_past i j + cuts_before at.pickup at.delivery j) }
         ensures after { (lists : List (List ℕ)) (w front : ℕ) (nodes : List ℕ)
             → AreTwoPlaces lists at.vehicle at.pickup at.delivery → j + 2 ≤ length (route lists at.vehicle)
-            → IsBegun lists self.old w front nodes → IsBegun lists self.new w front
+            → IsPartBegun lists self.old w front nodes → IsPartBegun lists self.new w front
             (nodes ++ slice_range (without_two (route lists at.vehicle) at.pickup at.delivery) i j) }
     {
         let v = at.vehicle;

@@ -5,7 +5,7 @@ ghost use Rattle.vr_model.specs.routes.Routes.{route};
 ghost use Rattle.vr_model.specs.tables.Tables.{pair_at};
 ghost use Rattle.vr_model.specs.moves.Moves.{is_pair_inactive, is_pair_together, without_pair};
 ghost use Rattle.vr_model.specs.declared.records.Pair.{Pair as Paired};
-ghost use Rattle.vr_routes.specs.Pairs.{are_together, ArePlaces, is_elsewhere};
+ghost use Rattle.vr_routes.specs.Pairs.{are_together, ArePairPlaces, is_elsewhere};
 
 use crate::routes::Routes;
 use vr_model::{Model, Pair};
@@ -31,7 +31,7 @@ pub struct Standing<'m, 'r> {
     /// There is the pair.
     pub ghost pair: { p < length model.now.pairs },
     /// Its nodes stand there.
-    pub ghost places: { ArePlaces routes.now.lists (pair_at model.now p) at.vehicle at.pickup at.delivery },
+    pub ghost places: { ArePairPlaces routes.now.lists (pair_at model.now p) at.vehicle at.pickup at.delivery },
 }
 
 /// Such a pair that is served: its pickup comes first.
@@ -46,7 +46,7 @@ pub struct Served<'m, 'r> {
 #[inline]
 pub fn pair_places(routes: &Routes, pair: Pair) -> Option<PairPlaces>
     ensures { MatchOption result (are_together routes.now.lists pair.pickup pair.delivery ≡ false)
-        (λ at. ArePlaces routes.now.lists pair at.vehicle at.pickup at.delivery) }
+        (λ at. ArePairPlaces routes.now.lists pair at.vehicle at.pickup at.delivery) }
 {
     routes.know_once();
     match routes.seat(pair.pickup) {
@@ -95,7 +95,7 @@ pub fn rest_len(routes: &Routes, at: PairPlaces, w: u32) -> u32
     requires vehicle { w < length routes.now.lists }
     requires order { at.pickup < at.delivery }
     requires place { at.delivery < length (route routes.now.lists at.vehicle) }
-    ensures rest { (pair : Paired) → ArePlaces routes.now.lists pair at.vehicle at.pickup at.delivery
+    ensures rest { (pair : Paired) → ArePairPlaces routes.now.lists pair at.vehicle at.pickup at.delivery
         → result ≡ length (without_pair pair (route routes.now.lists w)) }
     ensures few { result ≤ 1000 }
 {

@@ -3,7 +3,7 @@
 ghost use Rattle.std.specs.Prelude.{All, ◌≡◌, ℕ, ◌+◌, ◌<◌, ◌≤◌, List, [], ◌∷◌, ◌++◌, length, reverse};
 ghost use Rattle.std.specs.Prelude.{take, drop, slice_range};
 ghost use Rattle.vr_model.specs.routes.Routes.{route};
-ghost use Rattle.vr_routes.specs.Changes.{IsAfter, IsBegun};
+ghost use Rattle.vr_routes.specs.Changes.{IsAfter, IsPartBegun};
 ghost use Rattle.vr_routes.specs.Pairs.{is_past};
 ghost use Rattle.vr_routes.specs.Pieces.{IsWithin, joined, middle_of, no_part, nodes_of};
 
@@ -157,7 +157,7 @@ impl Part {
     #[inline]
     pub fn begin(&mut self, v: u32, front: u32)
         ensures room { length self.new.pieces ≡ 1 }
-        ensures after { (lists : List (List ℕ)) → IsBegun lists self.new v front [] }
+        ensures after { (lists : List (List ℕ)) → IsPartBegun lists self.new v front [] }
     {
         self.vehicle = v;
         self.front = front;
@@ -193,7 +193,7 @@ impl Part {
         requires room { length self.old.pieces < 8 }
         ensures room { length self.new.pieces ≤ length self.old.pieces + 1 }
         ensures after { (lists : List (List ℕ)) (w front : ℕ) (nodes : List ℕ)
-            → IsBegun lists self.old w front nodes → IsBegun lists self.new w front (nodes ++ node ∷ []) }
+            → IsPartBegun lists self.old w front nodes → IsPartBegun lists self.new w front (nodes ++ node ∷ []) }
     {
         self.add(Piece::Node { node });
     }
@@ -205,8 +205,8 @@ impl Part {
         requires room { length self.old.pieces < 8 }
         ensures room { length self.new.pieces ≤ length self.old.pieces + 1 }
         ensures after { (lists : List (List ℕ)) (w front : ℕ) (nodes : List ℕ)
-            → v < length lists → to ≤ length (route lists v) → IsBegun lists self.old w front nodes
-            → IsBegun lists self.new w front (nodes ++ slice_range (route lists v) from to) }
+            → v < length lists → to ≤ length (route lists v) → IsPartBegun lists self.old w front nodes
+            → IsPartBegun lists self.new w front (nodes ++ slice_range (route lists v) from to) }
     {
         self.add(Piece::Chain {
             vehicle: v,
@@ -222,8 +222,8 @@ impl Part {
         requires room { from < to → length self.old.pieces < 8 }
         ensures room { length self.new.pieces ≤ length self.old.pieces + is_past from to }
         ensures after { (lists : List (List ℕ)) (w front : ℕ) (nodes : List ℕ)
-            → v < length lists → to ≤ length (route lists v) → IsBegun lists self.old w front nodes
-            → IsBegun lists self.new w front (nodes ++ slice_range (route lists v) from to) }
+            → v < length lists → to ≤ length (route lists v) → IsPartBegun lists self.old w front nodes
+            → IsPartBegun lists self.new w front (nodes ++ slice_range (route lists v) from to) }
     {
         if from < to {
             self.chain(v, from, to);
@@ -237,8 +237,8 @@ impl Part {
         requires room { length self.old.pieces < 8 }
         ensures room { length self.new.pieces ≤ length self.old.pieces + 1 }
         ensures after { (lists : List (List ℕ)) (w front : ℕ) (nodes : List ℕ)
-            → v < length lists → to ≤ length (route lists v) → IsBegun lists self.old w front nodes
-            → IsBegun lists self.new w front (nodes ++ reverse (slice_range (route lists v) from to)) }
+            → v < length lists → to ≤ length (route lists v) → IsPartBegun lists self.old w front nodes
+            → IsPartBegun lists self.new w front (nodes ++ reverse (slice_range (route lists v) from to)) }
     {
         self.add(Piece::Chain {
             vehicle: v,
@@ -254,7 +254,7 @@ impl Part {
         requires order { behind ≤ n }
         requires room { length self.old.pieces < 8 }
         ensures { (lists : List (List ℕ)) (v front : ℕ) (nodes : List ℕ)
-            → v < length lists → n ≡ length (route lists v) → front ≤ behind → IsBegun lists self.old v front nodes
+            → v < length lists → n ≡ length (route lists v) → front ≤ behind → IsPartBegun lists self.old v front nodes
             → IsAfter lists self.new v (take front (route lists v) ++ (nodes ++ drop behind (route lists v))) }
     {
         let vehicle = self.vehicle;

@@ -13,7 +13,7 @@ ghost use Rattle.vr_routes.specs.Seats.{IsSeat, IsOnce};
 ghost use Rattle.vr_routes.specs.Pieces.{changed, joined, part_at, IsWithin};
 ghost use Rattle.vr_routes.specs.Indices.{end_index, HasNoNext, HasNoPrevious, IsNext, IsStop};
 ghost use Rattle.vr_routes.specs.Changes.{IsMadeOn};
-ghost use Rattle.vr_routes.specs.Tours.{inactive_of, AreTours, HaveVisits};
+ghost use Rattle.vr_routes.specs.Tours.{inactive_of, AreSeatedTours, HaveVisits};
 
 use crate::changes::Change;
 use crate::filling::fill;
@@ -39,13 +39,13 @@ pub struct Routes {
 
 impl Model for Routes {
     ghost use Rattle.vr_model.specs.routes.Routes.{route};
-    ghost use Rattle.vr_routes.specs.Tours.{Tours, AreKept};
+    ghost use Rattle.vr_routes.specs.Tours.{Tours, AreToursKept};
 
     ghost Value = { Tours };
 
     ghost view = { λ r. record { visits = route r.visits.lists 0; lists = r.seating.lists } };
 
-    ghost invariant = { λ r. AreKept r.visits r.seating r.inactive };
+    ghost invariant = { λ r. AreToursKept r.visits r.seating r.inactive };
 }
 
 impl Routes {
@@ -83,7 +83,7 @@ impl Routes {
 
     // Routes with these visits and these lists.
     fn of(visits: Seating, seating: Seating) -> Routes
-        requires { AreTours visits seating }
+        requires { AreSeatedTours visits seating }
         ensures { result ≡ record { visits = route visits.lists 0; lists = seating.lists } }
     {
         let mut inactive = Row::new();

@@ -35,7 +35,7 @@ use Rattle.vr_reach.specs.Walks.{EndsAt}
 use Rattle.vr_rules.specs.Fronts.{tail, AreFronts, AreReachedBehind, AreVisitSets, IsDriven, IsFront, IsFrontOf, IsStopSet}
 use Rattle.vr_rules.specs.declared.items.Item.{Item}
 use Rattle.vr_rules.specs.declared.items.Item.TheVariants.{Visit as Visited, PickupAndDelivery}
-use Rattle.vr_rules.specs.Placing.{nodes_of}
+use Rattle.vr_rules.specs.Placing.{item_nodes}
 use Rattle.vr_rules.proofs.OpenLemmas.{inner_tell, last_fails}
 
 -- the last of a list, or what stands before it
@@ -104,7 +104,7 @@ to_visit model list front is levels hop node set form sound read visit =
     record { each_break = is.each_break; few_breaks = is.few_breaks; form = form; arc = sound; cumuls = (visit_set_at model front.dimension front.vehicle front.visits.items is.visits node set read visit).cumuls }
 
 -- the last node of an item is that of a list with the item at its end
-pub item_last : (origin : ℕ) (list : List ℕ) (item : Item) → last_node (nodes_of item) ≡ last_of origin (list ++ nodes_of item)
+pub item_last : (origin : ℕ) (list : List ℕ) (item : Item) → last_node (item_nodes item) ≡ last_of origin (list ++ item_nodes item)
 item_last origin list (Visited n) = sym (last_behind origin list (n ∷ []))
 item_last origin list (PickupAndDelivery p d) = sym (last_behind origin list (p ∷ d ∷ []))
 

@@ -13,11 +13,11 @@ use Rattle.vr_model.specs.tables.Tables.{is_visit}
 use Rattle.vr_model.specs.routes.Routes.{is_distinct}
 use Rattle.vr_model.specs.first.Items.{items_at, pair_of}
 use Rattle.vr_model.specs.deciding.Testing.{and_both}
-use Rattle.vr_model.specs.tables.WellFormed.{IsWellFormed, IsPair, nodes_of as nodes_of_pair}
+use Rattle.vr_model.specs.tables.WellFormed.{IsWellFormed, IsPair, pair_nodes as nodes_of_pair}
 use Rattle.vr_rules.specs.declared.items.Item.{Item}
 use Rattle.vr_rules.specs.declared.items.Item.TheVariants.{Visit, PickupAndDelivery}
 use Rattle.vr_rules.specs.declared.items.Candidate.{Candidate}
-use Rattle.vr_rules.specs.Placing.{nodes_of, listed, IsItem, IsCandidate}
+use Rattle.vr_rules.specs.Placing.{item_nodes, item_lists, IsItem, IsCandidate}
 use Rattle.vr_model.proofs.tables.Ranges.{below-more}
 use Rattle.vr_model.proofs.routes.Lists.{is_distinct-left, is_distinct-right}
 
@@ -70,33 +70,33 @@ of_visit : (model : Model) (node : ℕ) → is_visit model node ≡ true → IsI
 of_visit model node h = record { visits = and_both (is_visit model node) true h refl; distinct = refl; of_pairs = tt }
 
 -- an item that a visit has
-pub IsItem-visit : (model : Model) → IsWellFormed model → (node : ℕ) → is_visit model node ≡ true → (result : Option Item) → listed result ≡ items_at (pair_of model node) node → IfSome result (IsItem model)
+pub IsItem-visit : (model : Model) → IsWellFormed model → (node : ℕ) → is_visit model node ≡ true → (result : Option Item) → item_lists result ≡ items_at (pair_of model node) node → IfSome result (IsItem model)
 IsItem-visit model well_formed node visit None e = tt
 IsItem-visit model well_formed node visit (Some item) e = by item (pair_of model node) refl e
   where
     same_pair : (p d : ℕ) (pair : Pair) → (p ∷ d ∷ []) ∷ [] ≡ (pair.pickup ∷ pair.delivery ∷ []) ∷ [] → PickupAndDelivery pair.pickup pair.delivery ≡ PickupAndDelivery p d
     same_pair p d pair e = cc
 
-    one : (item : Item) (pair : Pair) → IsItem model (PickupAndDelivery pair.pickup pair.delivery) → (b : Bool) → nodes_of item ∷ [] ≡ cond b ((pair.pickup ∷ pair.delivery ∷ []) ∷ []) [] → IsItem model item
+    one : (item : Item) (pair : Pair) → IsItem model (PickupAndDelivery pair.pickup pair.delivery) → (b : Bool) → item_nodes item ∷ [] ≡ cond b ((pair.pickup ∷ pair.delivery ∷ []) ∷ []) [] → IsItem model item
     one (Visit n) pair h true e = absurd (cc)
     one (PickupAndDelivery p d) pair h true e = subst (IsItem model) (same_pair p d pair e) h
     one item pair h false e = absurd (cc)
 
-    by : (item : Item) (pair : Option Pair) → pair_of model node ≡ pair → nodes_of item ∷ [] ≡ items_at pair node → IsItem model item
+    by : (item : Item) (pair : Option Pair) → pair_of model node ≡ pair → item_nodes item ∷ [] ≡ items_at pair node → IsItem model item
     by (Visit n) None f e = let same : node ≡ n = cc in subst (λ n. IsItem model (Visit n)) same (of_visit model node visit)
     by (PickupAndDelivery p d) None f e = absurd (cc)
     by item (Some pair) f e = one item pair (of_pair model well_formed node pair f) (pair.pickup == node) e
 
 -- the candidates of the nodes below n
 pub record AreSoFar (model : Model) (n : ℕ) (candidates : List Candidate) : Type 0 where
-  pub all : map (λ candidate. nodes_of candidate.item) candidates ≡ items_below model n
+  pub all : map (λ candidate. item_nodes candidate.item) candidates ≡ items_below model n
   pub each : All (IsCandidate model) candidates
 
 pub so_far-item : (model : Model) (n : ℕ) (candidates : List Candidate) → AreSoFar model n candidates
-    → (candidate : Candidate) → listed (Some candidate.item) ≡ (if is_visit model n then items_at (pair_of model n) n else []) → IsCandidate model candidate
+    → (candidate : Candidate) → item_lists (Some candidate.item) ≡ (if is_visit model n then items_at (pair_of model n) n else []) → IsCandidate model candidate
     → AreSoFar model (n + 1) (candidates ++ candidate ∷ [])
 so_far-item model n candidates before candidate is valid =
-    let nodes = λ (candidate : Candidate). nodes_of candidate.item in
+    let nodes = λ (candidate : Candidate). item_nodes candidate.item in
     record {
       all = map-append nodes candidates (candidate ∷ []) ∙ ap₂ (λ xs ys. xs ++ ys) before.all is ∙ sym (items_below-more model n);
       each = All-push (IsCandidate model) candidates candidate before.each valid;

@@ -21,7 +21,7 @@ use Rattle.vr_model.proofs.tables.Tests.{clash, fails}
 use Rattle.vr_model.specs.tables.WellFormed.{IsWellFormed}
 use Rattle.vr_rules.specs.declared.items.Item.{Item}
 use Rattle.vr_rules.specs.declared.items.Item.TheVariants.{Visit, PickupAndDelivery}
-use Rattle.vr_rules.specs.Placing.{nodes_of, fits_beside, has_room, is_taken, AreBuilt, AreMarks, IsItem}
+use Rattle.vr_rules.specs.Placing.{item_nodes, fits_beside, has_room, is_taken, AreBuilt, AreMarks, IsItem}
 use Rattle.vr_model.proofs.tables.Tests.{fails_not, or-false_left, or-false_right, all-from_list_all}
 use Rattle.vr_model.proofs.routes.Lists.{visit_below, is_active-concat, is_active-none, route-none, are_lists-count, is_distinct-left, is_distinct-right, list_all-route, is_distinct-route}
 use Rattle.vr_rules.proofs.LocalOpenness.{is_active-added}
@@ -42,12 +42,12 @@ count_by-within p q xs h = sym (length-filter p xs) ∙ ap length (filter-within
 -- ---- rooms of groups, by marks
 
 pub fits_beside-marks : (model : Model) → IsWellFormed model → (lists : List (List ℕ)) (marks : List Bool) (item : Item) → AreMarks model.nodes lists marks
-    → list_all (has_room marks item) model.groups ≡ fits_beside model lists (nodes_of item)
+    → list_all (has_room marks item) model.groups ≡ fits_beside model lists (item_nodes item)
 fits_beside-marks model well_formed lists marks item are =
-    list_all-within (has_room marks item) (fits_group (nodes_of item ∷ lists)) model.groups (λ g d low.
+    list_all-within (has_room marks item) (fits_group (item_nodes item ∷ lists)) model.groups (λ g d low.
     let group = get_or model.groups g d in
-    ap (λ n. nat_le n group.max) (count_by-within (is_taken marks item) (is_active (nodes_of item ∷ lists)) group.nodes (λ k node node_low.
-    ap (λ b. holds (nodes_of item) (get_or group.nodes k node) || b) (are.each (get_or group.nodes k node) false (visit_below model (get_or group.nodes k node) ((well_formed.each_group g d low).each_node_is_visit k node node_low))))))
+    ap (λ n. nat_le n group.max) (count_by-within (is_taken marks item) (is_active (item_nodes item ∷ lists)) group.nodes (λ k node node_low.
+    ap (λ b. holds (item_nodes item) (get_or group.nodes k node) || b) (are.each (get_or group.nodes k node) false (visit_below model (get_or group.nodes k node) ((well_formed.each_group g d low).each_node_is_visit k node node_low))))))
 
 -- the marks of the nodes of a list that was changed
 pub AreMarks-added : (model : Model) (lists : List (List ℕ)) (v : ℕ) (list nodes : List ℕ) (marks marked : List Bool) → AreMarks model.nodes lists marks → v < length lists
@@ -100,8 +100,8 @@ unfolding is_open
 open-route model lists v h low = list_all_range (λ v. is_route_open model v (route lists v)) 0 (length lists) (and_left _ _ h) v (omega arith) (omega (arith, low))
 
 -- where the first node of an item is inactive, all its nodes are
-pub item-inactive : (model : Model) (lists : List (List ℕ)) (item : Item) → IsItem model item → is_open model lists ≡ true → is_active lists (first_node (nodes_of item)) ≡ false
-    → (node : ℕ) → holds (nodes_of item) node ≡ true → is_active lists node ≡ false
+pub item-inactive : (model : Model) (lists : List (List ℕ)) (item : Item) → IsItem model item → is_open model lists ≡ true → is_active lists (first_node (item_nodes item)) ≡ false
+    → (node : ℕ) → holds (item_nodes item) node ≡ true → is_active lists node ≡ false
 item-inactive model lists (Visit n) valid h first node there =
     subst (λ m. is_active lists m ≡ false) (sym (eqb-true node n (either (node == n) there))) first
   where

@@ -8,7 +8,7 @@ use Rattle.std.proofs.lemmas.Grind.{get_or_default_zero}
 use Rattle.std.proofs.lemmas.List.{get_or_default}
 use Rattle.vr_model.specs.declared.records.Model.{Model}
 use Rattle.vr_model.specs.declared.records.Group.{Group}
-use Rattle.vr_model.specs.first.Items.{has_penalty, must_fill, node_class}
+use Rattle.vr_model.specs.first.Items.{is_penalty_given, must_fill, node_class}
 use Rattle.vr_model.specs.routes.Routes.{holds}
 use Rattle.vr_model.specs.routes.Rules.{is_grouped}
 use Rattle.vr_model.specs.tables.Numbers.{each}
@@ -21,7 +21,7 @@ use Rattle.vr_lists.proofs.NodeLemmas.{any_number}
 use Rattle.vr_lists.proofs.GroupLemmas.{nodes_in, number_at, needed-number}
 use Rattle.vr_rules.specs.declared.items.Item.{Item}
 use Rattle.vr_rules.specs.declared.items.Item.TheVariants.{Visit, PickupAndDelivery}
-use Rattle.vr_rules.specs.Placing.{fits_by, has_room, has_room_at, is_marked, is_taken, nodes_of, AreMarkedToo}
+use Rattle.vr_rules.specs.Placing.{fits_by, has_room, has_room_at, is_marked, is_taken, item_nodes, AreMarkedToo}
 use Rattle.vr_rules.proofs.PlacingLemmas.{count_by-within, list_all-within}
 
 beyond : (n g : ℕ) → g < n → nat_le n g ≡ false
@@ -45,18 +45,18 @@ and-true true = refl
 and-true false = refl
 
 -- a test of the nodes of an item
-pub of_visit : (p : Item → ℕ → Bool) (item : Item) (node : ℕ) (a : Bool) → item ≡ Visit node → a ≡ p (Visit node) node → a ≡ list_all (p item) (nodes_of item)
-of_visit p item node a is tells = tells ∙ sym (and-true (p (Visit node) node)) ∙ sym (ap (λ i. list_all (p i) (nodes_of i)) is)
+pub of_visit : (p : Item → ℕ → Bool) (item : Item) (node : ℕ) (a : Bool) → item ≡ Visit node → a ≡ p (Visit node) node → a ≡ list_all (p item) (item_nodes item)
+of_visit p item node a is tells = tells ∙ sym (and-true (p (Visit node) node)) ∙ sym (ap (λ i. list_all (p i) (item_nodes i)) is)
 
 pub of_pair : (p : Item → ℕ → Bool) (item : Item) (pickup delivery : ℕ) (a b : Bool) → item ≡ PickupAndDelivery pickup delivery
-    → a ≡ p (PickupAndDelivery pickup delivery) pickup → b ≡ p (PickupAndDelivery pickup delivery) delivery → (a && b) ≡ list_all (p item) (nodes_of item)
+    → a ≡ p (PickupAndDelivery pickup delivery) pickup → b ≡ p (PickupAndDelivery pickup delivery) delivery → (a && b) ≡ list_all (p item) (item_nodes item)
 of_pair p item pickup delivery a b is one other =
-    ap₂ (λ x y. x && y) one (other ∙ sym (and-true (p (PickupAndDelivery pickup delivery) delivery))) ∙ sym (ap (λ i. list_all (p i) (nodes_of i)) is)
+    ap₂ (λ x y. x && y) one (other ∙ sym (and-true (p (PickupAndDelivery pickup delivery) delivery))) ∙ sym (ap (λ i. list_all (p i) (item_nodes i)) is)
 
 pub of_pickup : (p : Item → ℕ → Bool) (item : Item) (pickup delivery : ℕ) (a : Bool) → item ≡ PickupAndDelivery pickup delivery
-    → a ≡ p (PickupAndDelivery pickup delivery) pickup → a ≡ false → a ≡ list_all (p item) (nodes_of item)
+    → a ≡ p (PickupAndDelivery pickup delivery) pickup → a ≡ false → a ≡ list_all (p item) (item_nodes item)
 of_pickup p item pickup delivery a is one none =
-    none ∙ sym (ap (λ b. b && (p (PickupAndDelivery pickup delivery) delivery && true)) (sym one ∙ none)) ∙ sym (ap (λ i. list_all (p i) (nodes_of i)) is)
+    none ∙ sym (ap (λ b. b && (p (PickupAndDelivery pickup delivery) delivery && true)) (sym one ∙ none)) ∙ sym (ap (λ i. list_all (p i) (item_nodes i)) is)
 
 -- ---- classes
 
@@ -69,13 +69,13 @@ class_free model node g is past =
 
 -- a node of a group
 pub class_in : (model : Model) → IsWellFormed model → (node g : ℕ) (group : Group) (free : Bool) → g ≡ group_number model node → g < length model.groups → group_at model g ≡ group
-    → free ≡ not (has_penalty group.penalty) → cond free 1 2 ≡ node_class model node
+    → free ≡ not (is_penalty_given group.penalty) → cond free 1 2 ≡ node_class model node
 class_in model well_formed node g group free is low at free_is =
     let within : group_number model node < length model.groups = omega (arith, is, low) in
     let grouped : is_grouped model node ≡ true = any_number (λ (group : Group). holds group.nodes node) model.groups ∙ within_test (group_number model node) (length model.groups) within in
     let needed : must_fill model node ≡ free =
     needed-number model.groups node (times_of_distinct (each model.groups nodes_in) well_formed.no_node_in_groups_twice node) within
-    ∙ ap (λ k. not (has_penalty (group_at model k).penalty)) (sym is) ∙ ap (λ (q : Group). not (has_penalty q.penalty)) at ∙ sym free_is in
+    ∙ ap (λ k. not (is_penalty_given (group_at model k).penalty)) (sym is) ∙ ap (λ (q : Group). not (is_penalty_given q.penalty)) at ∙ sym free_is in
     ap (λ b. cond b 1 2) (sym needed) ∙ sym (ap (λ b. cond b (cond (must_fill model node) 1 2) 0) grouped)
 
 -- ---- room
@@ -102,24 +102,24 @@ module _ (model : Model) (well_formed : IsWellFormed model) (marks : List Bool) 
       sym (room_in model marks item y g (group_at model g) (sym (number_at model.groups g y few low held)) low refl)
 
   -- a group has room where those of the nodes of the item have, and it has room for what is marked
-  in_each : list_all (fits_by marks) model.groups ≡ true → list_all (has_room_at model marks item) (nodes_of item) ≡ true → (g : ℕ) → g < length model.groups
+  in_each : list_all (fits_by marks) model.groups ≡ true → list_all (has_room_at model marks item) (item_nodes item) ≡ true → (g : ℕ) → g < length model.groups
       → has_room marks item (group_at model g) ≡ true
   in_each fit nodes g low = by (has_room marks item (group_at model g)) refl
     where
       group : Group
       group = group_at model g
 
-      apart : (i d : ℕ) → i < length group.nodes → holds (nodes_of item) (get_or group.nodes i d) ≡ false ⊎ has_room marks item group ≡ true
-      apart i d within = tell (holds (nodes_of item) (get_or group.nodes i d)) refl
+      apart : (i d : ℕ) → i < length group.nodes → holds (item_nodes item) (get_or group.nodes i d) ≡ false ⊎ has_room marks item group ≡ true
+      apart i d within = tell (holds (item_nodes item) (get_or group.nodes i d)) refl
         where
           node : ℕ
           node = get_or group.nodes i d
 
-          tell : (b : Bool) → holds (nodes_of item) node ≡ b → b ≡ false ⊎ has_room marks item group ≡ true
+          tell : (b : Bool) → holds (item_nodes item) node ≡ b → b ≡ false ⊎ has_room marks item group ≡ true
           tell false e = inl refl
           tell true e =
               let held : IsTrue (holds group.nodes node) = held_at group.nodes node i within (sym (get_or_default_zero group.nodes i d within)) in
-              inr (sym (at_number g low node held) ∙ all_held (has_room_at model marks item) (nodes_of item) nodes node e)
+              inr (sym (at_number g low node held) ∙ all_held (has_room_at model marks item) (item_nodes item) nodes node e)
 
       by : (b : Bool) → has_room marks item group ≡ b → b ≡ true
       by true e = refl
@@ -140,14 +140,14 @@ module _ (model : Model) (well_formed : IsWellFormed model) (marks : List Bool) 
     | inr past ↦ ap (λ b. b || has_room marks item (group_at model (group_number model y))) (reached (length model.groups) (group_number model y) past)
   ]
 
-  pub room_by_nodes : list_all (fits_by marks) model.groups ≡ true → list_all (has_room_at model marks item) (nodes_of item) ≡ list_all (has_room marks item) model.groups
-  room_by_nodes fit = same_tests (list_all (has_room_at model marks item) (nodes_of item)) (list_all (has_room marks item) model.groups)
+  pub room_by_nodes : list_all (fits_by marks) model.groups ≡ true → list_all (has_room_at model marks item) (item_nodes item) ≡ list_all (has_room marks item) model.groups
+  room_by_nodes fit = same_tests (list_all (has_room_at model marks item) (item_nodes item)) (list_all (has_room marks item) model.groups)
       (λ nodes. list_all-within (has_room marks item) (λ q. true) model.groups (λ g d low. ap (has_room marks item) (get_or_default model.groups g d no_group low) ∙ in_each fit nodes g low)
       ∙ list_all-true (λ (q : Group). true) (λ q. refl) model.groups)
-      (λ all. list_all-true (has_room_at model marks item) (at_node all) (nodes_of item))
+      (λ all. list_all-true (has_room_at model marks item) (at_node all) (item_nodes item))
 
   -- the groups that have room for an item have room for what is marked with it
-  pub fits_marked : (marked : List Bool) → length marks ≡ model.nodes → AreMarkedToo marks (nodes_of item) marked → list_all (has_room marks item) model.groups ≡ true
+  pub fits_marked : (marked : List Bool) → length marks ≡ model.nodes → AreMarkedToo marks (item_nodes item) marked → list_all (has_room marks item) model.groups ≡ true
       → list_all (fits_by marked) model.groups ≡ true
   fits_marked marked long each_is all =
       list_all-within (fits_by marked) (has_room marks item) model.groups (λ g d low.

@@ -22,7 +22,7 @@ use Rattle.vr_plan.specs.declared.timings.Timing.{Timing}
 use Rattle.vr_plan.specs.declared.extents.Extent.{Extent}
 use Rattle.vr_plan.proofs.ExtentLemmas.{used_below-same, used_below-push, times-none, extent-range, extent-wider}
 use Rattle.vr_plan.proofs.PayingLemmas.{pays_nothing_where, zero_where}
-use Rattle.vr_rules.specs.Sums.{may_pay, AreSums, PaysNothingToo}
+use Rattle.vr_rules.specs.Sums.{may_pay, AreVehicleSums, PaysNothingToo}
 use Rattle.vr_rules.specs.declared.sums.Sums.{Sums}
 use Rattle.vr_lists.proofs.VisitLists.{visits-few}
 
@@ -61,7 +61,7 @@ visits-bound model lists n are =
 module _ (model : Model) (lists : List (List ℕ)) (d n : ℕ) where
   -- ---- the sums with one vehicle more
 
-  module _ (low : n < length lists) (sums : Sums) (h : AreSums model lists d n sums) where
+  module _ (low : n < length lists) (sums : Sums) (h : AreVehicleSums model lists d n sums) where
     bound-more : sums.soft ≤ℤ pos (cumul_cost * (length (concat (take (n + 1) lists)) + 2 * (n + 1)))
     bound-more = omega (arith, ints, h.soft_bound, visits-more lists n low)
 
@@ -69,7 +69,7 @@ module _ (model : Model) (lists : List (List ℕ)) (d n : ℕ) where
     range-more = record { low = omega (arith, ints, h.span_in_range.low); high = omega (arith, ints, h.span_in_range.high) }
 
     -- it is not used
-    pub AreSums-unused : is_empty (route lists n) ≡ true → AreSums model lists d (n + 1) sums
+    pub AreSums-unused : is_empty (route lists n) ≡ true → AreVehicleSums model lists d (n + 1) sums
     AreSums-unused e =
         let same = sym (used_below-same lists n e) in
         record {
@@ -83,7 +83,7 @@ module _ (model : Model) (lists : List (List ℕ)) (d n : ℕ) where
         }
 
     -- it pays nothing
-    pub AreSums-unpaid : is_empty (route lists n) ≡ false → PaysNothingToo (dimension_at model d) n (route lists n) → AreSums model lists d (n + 1) sums
+    pub AreSums-unpaid : is_empty (route lists n) ≡ false → PaysNothingToo (dimension_at model d) n (route lists n) → AreVehicleSums model lists d (n + 1) sums
     AreSums-unpaid e nothing =
         let push = used_below-push lists n e in
         let f : ℕ → ℤ = λ v. soft_with model d v (route lists v) in
@@ -106,7 +106,7 @@ module _ (model : Model) (lists : List (List ℕ)) (d n : ℕ) where
     pub AreSums-paid : (timing : Timing) (after : Sums) → is_empty (route lists n) ≡ false → IsTiming model d n (route lists n) timing → IsTimingOf (length (route lists n) + 2) timing
         → after.soft ≡ sums.soft +ℤ timing.soft → after.span ≡ sums.span +ℤ number_at (dimension_at model d).span_costs n *ℤ (timing.last -ℤ timing.start)
         → IsAround cumul_cost (number_at (dimension_at model d).span_costs n *ℤ (timing.last -ℤ timing.start))
-        → (extent : Extent) → after.extent ≡ Some extent → IsWider sums.extent timing extent → AreSums model lists d (n + 1) after
+        → (extent : Extent) → after.extent ≡ Some extent → IsWider sums.extent timing extent → AreVehicleSums model lists d (n + 1) after
     AreSums-paid timing after e is range soft span around extent there wider =
         let push = used_below-push lists n e in
         let f : ℕ → ℤ = λ v. soft_with model d v (route lists v) in
@@ -131,9 +131,9 @@ module _ (model : Model) (lists : List (List ℕ)) (d n : ℕ) where
     pub AreSums-taken : (timing : Timing) (after : Sums) → is_empty (route lists n) ≡ false → IsTiming model d n (route lists n) timing → IsTimingOf (length (route lists n) + 2) timing
         → after.soft ≡ sums.soft +ℤ timing.soft → after.span ≡ sums.span +ℤ number_at (dimension_at model d).span_costs n *ℤ (timing.last -ℤ timing.start)
         → IsAround cumul_cost (number_at (dimension_at model d).span_costs n *ℤ (timing.last -ℤ timing.start))
-        → IsSome after.extent → IfSome after.extent (IsWider sums.extent timing) → AreSums model lists d (n + 1) after
+        → IsSome after.extent → IfSome after.extent (IsWider sums.extent timing) → AreVehicleSums model lists d (n + 1) after
     AreSums-taken timing after e is range soft span around some wider = by after.extent refl some wider
       where
-        by : (o : Option Extent) → after.extent ≡ o → IsSome o → IfSome o (IsWider sums.extent timing) → AreSums model lists d (n + 1) after
+        by : (o : Option Extent) → after.extent ≡ o → IsSome o → IfSome o (IsWider sums.extent timing) → AreVehicleSums model lists d (n + 1) after
         by None there some wider = absurd (cc)
         by (Some extent) there some wider = AreSums-paid timing after e is range soft span around extent there wider

@@ -18,14 +18,14 @@ use Rattle.vr_rules.specs.declared.items.Item.TheVariants.{Visit, PickupAndDeliv
 use Rattle.vr_rules.specs.declared.items.Candidate.{Candidate}
 
 -- the nodes of an item
-abbrev pub nodes_of : Item → List ℕ
-nodes_of (Visit node) = node ∷ []
-nodes_of (PickupAndDelivery pickup delivery) = pickup ∷ delivery ∷ []
+abbrev pub item_nodes : Item → List ℕ
+item_nodes (Visit node) = node ∷ []
+item_nodes (PickupAndDelivery pickup delivery) = pickup ∷ delivery ∷ []
 
 -- the nodes of an item that may not be there
-abbrev pub listed : Option Item → List (List ℕ)
-listed None = []
-listed (Some item) = nodes_of item ∷ []
+abbrev pub item_lists : Option Item → List (List ℕ)
+item_lists None = []
+item_lists (Some item) = item_nodes item ∷ []
 
 -- the nodes of an item are one of the pairs
 abbrev pub IsOfPairs : Model → Item → Type 0
@@ -35,18 +35,18 @@ IsOfPairs model (PickupAndDelivery pickup delivery) = (k : ℕ) × (k < length m
 
 -- an item of a model: its nodes are distinct visits, and two are a pair
 pub record IsItem (model : Model) (item : Item) : Type 0 where
-  pub visits : IsTrue (list_all (is_visit model) (nodes_of item))
-  pub distinct : IsTrue (is_distinct (nodes_of item))
+  pub visits : IsTrue (list_all (is_visit model) (item_nodes item))
+  pub distinct : IsTrue (is_distinct (item_nodes item))
   pub of_pairs : IsOfPairs model item
 
 -- an item of a model with its class
 pub record IsCandidate (model : Model) (candidate : Candidate) : Type 0 where
-  pub class : candidate.class ≡ class model (nodes_of candidate.item)
+  pub class : candidate.class ≡ class model (item_nodes candidate.item)
   pub item : IsItem model candidate.item
 
 -- all items of a model with their classes, in order
 pub record AreCandidates (model : Model) (candidates : List Candidate) : Type 0 where
-  pub all : map (λ candidate. nodes_of candidate.item) candidates ≡ items model
+  pub all : map (λ candidate. item_nodes candidate.item) candidates ≡ items model
   pub each : All (IsCandidate model) candidates
 
 -- for each node whether it is active
@@ -65,7 +65,7 @@ is_marked marks node = slice_index_or marks node false
 
 -- the node is marked, or in the item
 abbrev pub is_taken : List Bool → Item → ℕ → Bool
-is_taken marks item node = holds (nodes_of item) node || is_marked marks node
+is_taken marks item node = holds (item_nodes item) node || is_marked marks node
 
 -- the group has room for the item beside the marked nodes
 abbrev pub has_room : List Bool → Item → Group → Bool

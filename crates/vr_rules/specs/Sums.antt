@@ -14,7 +14,7 @@ use Rattle.vr_plan.specs.Timings.{soft_with, span_with}
 use Rattle.vr_rules.specs.declared.sums.Sums.{Sums}
 
 -- the sums over the used ones of the first n vehicles in dimension d; the extent is told where its coefficient is not 0
-pub record AreSums (model : Model) (lists : List (List ℕ)) (d n : ℕ) (sums : Sums) : Type 0 where
+pub record AreVehicleSums (model : Model) (lists : List (List ℕ)) (d n : ℕ) (sums : Sums) : Type 0 where
   pub soft : sums.soft ≡ total_by (λ v. soft_with model d v (route lists v)) (used_below lists n)
   pub span : sums.span ≡ total_by (λ v. span_with model d v (route lists v)) (used_below lists n)
   pub extent : ((dimension_at model d).global_span_cost ≡ pos 0 → ⊥)

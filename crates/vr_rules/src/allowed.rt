@@ -3,14 +3,14 @@
 ghost use Rattle.std.specs.Prelude.{◌≡◌};
 ghost use Rattle.std.specs.List.{list_all};
 ghost use Rattle.vr_model.specs.routes.Rules.{allows_vehicle as allows_vehicle_of};
-ghost use Rattle.vr_rules.specs.Placing.{nodes_of};
+ghost use Rattle.vr_rules.specs.Placing.{item_nodes};
 
 use crate::items::Item;
 use vr_lists::NodeTables;
 
 /// Whether vehicle `v` may visit each node of an item (`SetAllowedVehiclesForIndex` in OR-Tools). It takes no memory.
 pub fn allows_item(lookups: &NodeTables<'_>, v: u32, item: Item) -> bool
-    ensures { result ≡ list_all (allows_vehicle_of lookups.now v) (nodes_of item) }
+    ensures { result ≡ list_all (allows_vehicle_of lookups.now v) (item_nodes item) }
 {
     match item {
         Item::Visit(node) => lookups.allows_each(v, &[node]),

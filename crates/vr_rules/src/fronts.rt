@@ -12,7 +12,7 @@ ghost use Rattle.vr_rules.specs.Fronts.{tail as tail_of, AreFronts, AreReachedBe
 ghost use Rattle.vr_rules.specs.Fronts.{AreFrontsOf, IsFrontOf, IsStopSet};
 ghost use Rattle.vr_model.specs.routes.Rules.{is_route_open};
 ghost use Rattle.vr_lists.specs.Pairs.{keeps_pairs};
-ghost use Rattle.vr_rules.specs.Placing.{nodes_of};
+ghost use Rattle.vr_rules.specs.Placing.{item_nodes};
 ghost use Rattle.vr_rules.specs.RoutesOpen.{is_feasible_in_each};
 ghost use Rattle.vr_steps.specs.declared.stops.StopName.TheVariants.{Visit};
 
@@ -103,7 +103,7 @@ struct Longer<'m, 'l> {
     list: &'l [u32],
     item: Item,
     ghost visits: { IsTrue (list_all (is_visit_of closed.model.now) list.now) },
-    ghost item_visits: { IsTrue (list_all (is_visit_of closed.model.now) (nodes_of item)) },
+    ghost item_visits: { IsTrue (list_all (is_visit_of closed.model.now) (item_nodes item)) },
 }
 
 impl Front {
@@ -175,7 +175,7 @@ impl Front {
     fn walk_item(&self, walk: &mut Walk, longer: &Longer<'_, '_>) -> Result<(), NoMemory>
         requires { IsFront longer.now.closed.model.now longer.now.list.now self.now }
         ensures reached { OnOk result (AreReachedBehind longer.now.closed.model.now self.now.dimension self.now.vehicle
-            (longer.now.list.now ++ nodes_of longer.now.item) walk.new) }
+            (longer.now.list.now ++ item_nodes longer.now.item) walk.new) }
         ensures levels { OnOk result (AreLevels self.now.breaks walk.new) }
     {
         let (closed, list) = (longer.closed, longer.list);
@@ -192,13 +192,13 @@ impl Front {
     // the item.
     fn ends(&self, walk: &mut Walk, longer: &Longer<'_, '_>) -> Result<bool, NoMemory>
         requires front { IsFront longer.now.closed.model.now longer.now.list.now self.now }
-        requires driven { IsDriven longer.now.closed.model.now (longer.now.list.now ++ nodes_of longer.now.item) }
+        requires driven { IsDriven longer.now.closed.model.now (longer.now.list.now ++ item_nodes longer.now.item) }
         requires here { AreReachedBehind longer.now.closed.model.now self.now.dimension self.now.vehicle
-            (longer.now.list.now ++ nodes_of longer.now.item) walk.old }
+            (longer.now.list.now ++ item_nodes longer.now.item) walk.old }
         requires form { AreLevels self.now.breaks walk.old }
         ensures { IfOk result (λ ends. ends
             ≡ is_feasible (line longer.now.closed.model.now self.now.dimension self.now.vehicle
-            (longer.now.list.now ++ nodes_of longer.now.item))) }
+            (longer.now.list.now ++ item_nodes longer.now.item))) }
     {
         let closed = longer.closed;
         let end = closed.model.vehicles.get(self.vehicle as usize).end;
@@ -211,10 +211,10 @@ impl Front {
     // Whether the line of the list with the item at its end has a schedule.
     fn feasible_with(&self, walk: &mut Walk, longer: &Longer<'_, '_>) -> Result<bool, NoMemory>
         requires front { IsFront longer.now.closed.model.now longer.now.list.now self.now }
-        requires driven { IsDriven longer.now.closed.model.now (longer.now.list.now ++ nodes_of longer.now.item) }
+        requires driven { IsDriven longer.now.closed.model.now (longer.now.list.now ++ item_nodes longer.now.item) }
         ensures { IfOk result (λ feasible. feasible
             ≡ is_feasible (line longer.now.closed.model.now self.now.dimension self.now.vehicle
-            (longer.now.list.now ++ nodes_of longer.now.item))) }
+            (longer.now.list.now ++ item_nodes longer.now.item))) }
     {
         self.walk_item(walk, longer)?;
         self.ends(walk, longer)
@@ -224,7 +224,7 @@ impl Front {
     fn advance(&mut self, walk: &mut Walk, longer: &Longer<'_, '_>) -> Result<(), NoMemory>
         requires front { IsFront longer.now.closed.model.now longer.now.list.now self.old }
         ensures front { OnOk result (IsFront longer.now.closed.model.now
-            (longer.now.list.now ++ nodes_of longer.now.item) self.new) }
+            (longer.now.list.now ++ item_nodes longer.now.item) self.new) }
         ensures dimension { OnOk result (self.new.dimension ≡ self.old.dimension) }
         ensures vehicle { OnOk result (self.new.vehicle ≡ self.old.vehicle) }
     {
@@ -242,9 +242,9 @@ fn is_feasible_with(
     longer: &Longer<'_, '_>,
 ) -> Result<bool, NoMemory>
     requires fronts { AreFronts longer.now.closed.model.now v longer.now.list.now fronts.now.items }
-    requires driven { IsDriven longer.now.closed.model.now (longer.now.list.now ++ nodes_of longer.now.item) }
+    requires driven { IsDriven longer.now.closed.model.now (longer.now.list.now ++ item_nodes longer.now.item) }
     ensures { IfOk result (λ answer. answer ≡ is_feasible_in_each longer.now.closed.model.now v
-        (longer.now.list.now ++ nodes_of longer.now.item)) }
+        (longer.now.list.now ++ item_nodes longer.now.item)) }
 {
     for d in 0..fronts.len() {
         if !fronts[d].feasible_with(walk, longer)? {
@@ -263,7 +263,7 @@ fn advance_each(
 ) -> Result<(), NoMemory>
     requires { AreFronts longer.now.closed.model.now v longer.now.list.now fronts.old.items }
     ensures { OnOk result (AreFronts longer.now.closed.model.now v
-        (longer.now.list.now ++ nodes_of longer.now.item) fronts.new.items) }
+        (longer.now.list.now ++ item_nodes longer.now.item) fronts.new.items) }
 {
     for d in 0..fronts.len() {
         fronts[d].advance(walk, longer)?;
@@ -313,7 +313,7 @@ fn go_along(
 
 // A list with an item at its end.
 fn appended(alloc: Global, list: &[u32], item: Item) -> Result<Vec<u32>, NoMemory>
-    ensures { IfOk result (λ longer. longer.items ≡ list.now ++ nodes_of item) }
+    ensures { IfOk result (λ longer. longer.items ≡ list.now ++ item_nodes item) }
 {
     let mut longer = Vec::with_capacity(alloc, list.len() + 2)?;
     longer.extend_from_slice(list)?;
@@ -330,9 +330,9 @@ fn appended(alloc: Global, list: &[u32], item: Item) -> Result<Vec<u32>, NoMemor
 // memory where the model has no pairs.
 fn keeps_pairs_with(room: &mut Room, v: u32, of: &Longer<'_, '_>) -> Result<bool, NoMemory>
     requires vehicle { v < length of.now.closed.model.now.vehicles }
-    requires driven { IsDriven of.now.closed.model.now (of.now.list.now ++ nodes_of of.now.item) }
+    requires driven { IsDriven of.now.closed.model.now (of.now.list.now ++ item_nodes of.now.item) }
     ensures { IfOk result (λ keeps. keeps
-        ≡ keeps_pairs of.now.closed.model.now v (of.now.list.now ++ nodes_of of.now.item)) }
+        ≡ keeps_pairs of.now.closed.model.now v (of.now.list.now ++ item_nodes of.now.item)) }
 {
     let model = of.closed.model;
     if model.pairs.is_empty() {
@@ -398,9 +398,9 @@ impl Fronts {
         requires vehicle { v < length lookups.now.closed.model.now.vehicles }
         requires fronts { AreFrontsOf lookups.now.closed.model.now v list.now self.now }
         requires stands { IsTrue (is_route_open lookups.now.closed.model.now v list.now) }
-        requires driven { IsDriven lookups.now.closed.model.now (list.now ++ nodes_of item) }
+        requires driven { IsDriven lookups.now.closed.model.now (list.now ++ item_nodes item) }
         ensures { IfOk result (λ may. may
-            ≡ is_route_open lookups.now.closed.model.now v (list.now ++ nodes_of item)) }
+            ≡ is_route_open lookups.now.closed.model.now v (list.now ++ item_nodes item)) }
     {
         if !allows_item(lookups.nodes(), v, item) {
             return Ok(false);
@@ -426,8 +426,8 @@ impl Fronts {
         item: Item,
     ) -> Result<(), NoMemory>
         requires fronts { AreFrontsOf closed.model.now v list.now self.old }
-        requires driven { IsDriven closed.model.now (list.now ++ nodes_of item) }
-        ensures { OnOk result (AreFrontsOf closed.entry.model.now v (list.now ++ nodes_of item) self.new) }
+        requires driven { IsDriven closed.model.now (list.now ++ item_nodes item) }
+        ensures { OnOk result (AreFrontsOf closed.entry.model.now v (list.now ++ item_nodes item) self.new) }
     {
         let longer = Longer { closed, list, item };
         advance_each(&mut self.each, &mut room.walk, v, &longer)

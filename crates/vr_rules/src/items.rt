@@ -4,9 +4,9 @@ ghost use Rattle.std.specs.Prelude.{◌≡◌, [], not, if◌then◌else◌, IfO
 ghost use Rattle.vr_model.specs.tables.Tables.{is_visit};
 ghost use Rattle.vr_model.specs.routes.Routes.{holds};
 ghost use Rattle.vr_model.specs.first.Items.{class, empty_lists as empty_lists_of, first_node, last_node};
-ghost use Rattle.vr_model.specs.first.Items.{has_penalty, items_at, node_class as node_class_of};
+ghost use Rattle.vr_model.specs.first.Items.{is_penalty_given, items_at, node_class as node_class_of};
 ghost use Rattle.vr_model.specs.first.Items.{pair_of as pair_of_node};
-ghost use Rattle.vr_rules.specs.Placing.{listed, nodes_of, AreCandidates, IsItem};
+ghost use Rattle.vr_rules.specs.Placing.{item_lists, item_nodes, AreCandidates, IsItem};
 
 use std::alloc::Global;
 use vr_lists::NodeTables;
@@ -24,7 +24,7 @@ pub enum Item {
 impl Item {
     /// Its first node, which is the number of the item.
     pub fn number(self) -> u32
-        ensures { result ≡ first_node (nodes_of self) }
+        ensures { result ≡ first_node (item_nodes self) }
     {
         match self {
             Item::Visit(node) => node,
@@ -34,7 +34,7 @@ impl Item {
 
     /// Its last node.
     pub fn last(self) -> u32
-        ensures { result ≡ last_node (nodes_of self) }
+        ensures { result ≡ last_node (item_nodes self) }
     {
         match self {
             Item::Visit(node) => node,
@@ -44,7 +44,7 @@ impl Item {
 
     /// Whether it has this node.
     pub fn has(self, node: u32) -> bool
-        ensures { result ≡ holds (nodes_of self) node }
+        ensures { result ≡ holds (item_nodes self) node }
     {
         match self {
             Item::Visit(visit) => node == visit,
@@ -64,7 +64,7 @@ pub struct Candidate {
 
 // Whether a group has no penalty.
 fn is_free_of_penalty(group: &Group) -> bool
-    ensures { result ≡ not (has_penalty group.now.penalty) }
+    ensures { result ≡ not (is_penalty_given group.now.penalty) }
 {
     match group.penalty {
         Some(_) => false,
@@ -90,7 +90,7 @@ pub fn node_class(lookups: &NodeTables<'_>, node: u32) -> u32
 
 // The class of an item: the least of its nodes.
 fn item_class(lookups: &NodeTables<'_>, item: Item) -> u32
-    ensures { result ≡ class lookups.now (nodes_of item) }
+    ensures { result ≡ class lookups.now (item_nodes item) }
 {
     match item {
         Item::Visit(node) => 2.min(node_class(lookups, node)),
@@ -102,7 +102,7 @@ fn item_class(lookups: &NodeTables<'_>, item: Item) -> u32
 
 // The item of a node: the node alone, or the pair of which it is the pickup.
 fn item_at(lookups: &NodeTables<'_>, node: u32) -> Option<Item>
-    ensures { listed result ≡ items_at (pair_of_node lookups.now node) node }
+    ensures { item_lists result ≡ items_at (pair_of_node lookups.now node) node }
 {
     match lookups.pair_of(node) {
         None => Some(Item::Visit(node)),
@@ -115,7 +115,7 @@ fn item_at(lookups: &NodeTables<'_>, node: u32) -> Option<Item>
 
 // The item of a node that is a visit.
 fn visit_item(lookups: &NodeTables<'_>, node: u32) -> Option<Item>
-    ensures item { listed result
+    ensures item { item_lists result
         ≡ (if is_visit lookups.now node then items_at (pair_of_node lookups.now node) node else []) }
     ensures valid { IfSome result (IsItem lookups.now) }
 {

@@ -3,7 +3,7 @@
 ghost use Rattle.std.specs.Prelude.{◌≡◌, ◌<◌, ◌||◌, All, IfOk, IsTrue, OnOk, length};
 ghost use Rattle.std.specs.List.{list_all};
 ghost use Rattle.vr_model.specs.routes.Routes.{are_lists};
-ghost use Rattle.vr_rules.specs.Placing.{has_room as has_room_of, is_taken as is_taken_of, nodes_of, AreMarkedToo};
+ghost use Rattle.vr_rules.specs.Placing.{has_room as has_room_of, is_taken as is_taken_of, item_nodes, AreMarkedToo};
 ghost use Rattle.vr_rules.specs.Placing.{fits_by, has_room_at, AreMarks};
 
 use crate::items::Item;
@@ -60,7 +60,7 @@ fn group_has_room(lookups: &Lookups<'_>, marks: &[bool], item: Item, node: u32) 
 // Whether the groups of the nodes of an item have room for it.
 fn item_has_room(lookups: &Lookups<'_>, marks: &[bool], item: Item) -> bool
     requires { length marks.now ≡ lookups.now.closed.model.now.nodes }
-    ensures { result ≡ list_all (has_room_at lookups.now.closed.model.now marks.now item) (nodes_of item) }
+    ensures { result ≡ list_all (has_room_at lookups.now.closed.model.now marks.now item) (item_nodes item) }
 {
     match item {
         Item::Visit(node) => group_has_room(lookups, marks, item, node),
@@ -132,9 +132,9 @@ pub(crate) fn with_marks<'l, 'm, 'r, 'k>(
 
 /// Marks the nodes of an item.
 pub fn mark_item(marks: &mut [bool], item: Item)
-    requires { All (λ node. node < length marks.now) (nodes_of item) }
+    requires { All (λ node. node < length marks.now) (item_nodes item) }
     ensures count { length marks.new ≡ length marks.old }
-    ensures each { AreMarkedToo marks.old (nodes_of item) marks.new }
+    ensures each { AreMarkedToo marks.old (item_nodes item) marks.new }
 {
     match item {
         Item::Visit(node) => mark_list(marks, &[node]),

@@ -10,7 +10,7 @@ ghost use Rattle.vr_model.specs.routes.Routes.{are_lists};
 ghost use Rattle.vr_plan.specs.Bounds.{cumul_cost, IsAround};
 ghost use Rattle.vr_plan.specs.Extents.{IsWider};
 ghost use Rattle.vr_plan.specs.Timings.{IsTimingOf};
-ghost use Rattle.vr_rules.specs.Sums.{may_pay, AreSums};
+ghost use Rattle.vr_rules.specs.Sums.{may_pay, AreVehicleSums};
 
 use vr_model::{Dimension, NoMemory};
 use vr_plan::{Extent, Lookups, Timer, Timing, may_pay_alone, span_cost, timing_of, wider};
@@ -79,8 +79,9 @@ fn with_vehicle(
     timer: &mut Timer,
 ) -> Result<Sums, NoMemory>
     requires vehicle { v < length of.now.routes.now.lists }
-    requires sums { AreSums of.now.lookups.now.closed.model.now of.now.routes.now.lists of.now.d v sums }
-    ensures { IfOk result (AreSums of.now.lookups.now.closed.model.now of.now.routes.now.lists of.now.d (v + 1)) }
+    requires sums { AreVehicleSums of.now.lookups.now.closed.model.now of.now.routes.now.lists of.now.d v sums }
+    ensures { IfOk result (AreVehicleSums of.now.lookups.now.closed.model.now of.now.routes.now.lists of.now.d
+        (v + 1)) }
 {
     let list = of.routes.list(v);
     if list.is_empty() {
@@ -98,7 +99,7 @@ fn with_vehicle(
 
 // What the chosen schedules of routes come to in a dimension.
 pub(crate) fn sums_of(of: &RoutesIn<'_, '_, '_>, timer: &mut Timer) -> Result<Sums, NoMemory>
-    ensures { IfOk result (AreSums of.now.lookups.now.closed.model.now of.now.routes.now.lists of.now.d
+    ensures { IfOk result (AreVehicleSums of.now.lookups.now.closed.model.now of.now.routes.now.lists of.now.d
         (length of.now.routes.now.lists)) }
 {
     let mut sums = Sums {

@@ -11,7 +11,7 @@ use Rattle.vr_spans.proofs.RunsLemmas.{normal_rest}
 use Rattle.vr_spans.proofs.Numbers.{has_below, has_lo}
 use Rattle.vr_steps.specs.Levels.{IsCumuls}
 use Rattle.vr_span.specs.declared.pieces.Piece.{Piece}
-use Rattle.vr_span.specs.Pieces.{far, start_of, has_from, have_from, IsPiece, IsRisingFrom, ArePieces, within_run, kept}
+use Rattle.vr_span.specs.Pieces.{piece_limit, start_of, has_from, have_from, IsPiece, IsRisingFrom, ArePieces, within_run, piece_if_any}
 use Rattle.vr_span.proofs.PieceLemmas.{AreBefore, before_append, before_kept, before_later, cut_has, have_append, kept_has, max_left, max_right, min_left, min_right, none_before, of_has, of_max, rises_earlier, rises_kept, start_by_one, start_first, start_last, start_rises, same_tests}
 
 -- no piece of out ends, or starts, after what the first of the pieces has in the first of the runs
@@ -23,7 +23,7 @@ Precede out (p ∷ ps) (r ∷ rs) = AreBefore (int_max p.lo r.lo) (start_of p (i
 -- out has what the pieces of all have in next before left and right, which are left of them
 pub record IsCutting (all : List Piece) (next : List Run) (out left : List Piece) (right : List Run) : Type 0 where
   pub exact : (s x : ℤ) → (have_from out s x || (have_from left s x && has right x)) ≡ (have_from all s x && has next x)
-  pub left_rises : IsRisingFrom far (neg_ℤ far) (pos 0) left
+  pub left_rises : IsRisingFrom piece_limit (neg_ℤ piece_limit) (pos 0) left
   pub right_normal : IsNormal right
   pub right_cumuls : IsCumuls right
   pub rises : ArePieces out
@@ -47,9 +47,9 @@ module _ (all : List Piece) (next : List Run) (out : List Piece) (p : Piece) (ps
   cut = within_run r p
 
   abbrev new : List Piece
-  new = out ++ kept cut
+  new = out ++ piece_if_any cut
 
-  is : IsPiece far p
+  is : IsPiece piece_limit p
   is = m.left_rises.2
 
   pub run_low : pos 0 ≤ℤ r.lo
@@ -84,15 +84,15 @@ module _ (all : List Piece) (next : List Run) (out : List Piece) (p : Piece) (ps
       rises_kept horizon (pos 0) (pos 0) out cut m.rises m.before (omega (arith, ints, a, low)) (omega (arith, ints, b, c)) cut_piece
 
   new_has : (s x : ℤ) → have_from new s x ≡ (have_from out s x || has_from cut s x)
-  new_has s x = have_append out (kept cut) s x ∙ ap (λ b. have_from out s x || b) (kept_has cut s x)
+  new_has s x = have_append out (piece_if_any cut) s x ∙ ap (λ b. have_from out s x || b) (kept_has cut s x)
 
-  rest_rises : IsRisingFrom far (neg_ℤ far) (pos 0) ps
+  rest_rises : IsRisingFrom piece_limit (neg_ℤ piece_limit) (pos 0) ps
   rest_rises =
       let a = m.left_rises.0 in
       let b = is.in_order in
       let c = m.left_rises.1 in
       let d = is.rises in
-      rises_earlier far (p.hi +ℤ pos 1) (neg_ℤ far) p.last (pos 0) ps (omega (arith, ints, a, b)) (omega (arith, ints, c, d)) m.left_rises.3
+      rises_earlier piece_limit (p.hi +ℤ pos 1) (neg_ℤ piece_limit) p.last (pos 0) ps (omega (arith, ints, a, b)) (omega (arith, ints, c, d)) m.left_rises.3
 
   -- ---- the piece ends first
 
@@ -103,7 +103,7 @@ module _ (all : List Piece) (next : List Run) (out : List Piece) (p : Piece) (ps
         let e = has_below (r.hi +ℤ pos 2) rs x m.right_normal.3 (omega (arith, ints, i, first)) in
         let f : false ≡ true → ⊥ = λ e. cc in f (sym e ∙ and_right (has_from p s x) _ h))
 
-    left_before : (qs : List Piece) → IsRisingFrom far (p.hi +ℤ pos 1) p.last qs → Precede new qs (r ∷ rs)
+    left_before : (qs : List Piece) → IsRisingFrom piece_limit (p.hi +ℤ pos 1) p.last qs → Precede new qs (r ∷ rs)
     left_before [] h = tt
     left_before (q ∷ qs) h =
         let lo = int_max q.lo r.lo in
@@ -117,7 +117,7 @@ module _ (all : List Piece) (next : List Run) (out : List Piece) (p : Piece) (ps
         let g = start_last p cut.lo in
         let k = min_left p.hi r.hi in
         let l = start_last p cut.hi in
-        before_append lo (start_of q lo) out (kept cut)
+        before_append lo (start_of q lo) out (piece_if_any cut)
         (before_later cut.lo lo cut.first (start_of q lo) out later (omega (arith, ints, e, f, g)) m.before)
         (before_kept lo (start_of q lo) cut (omega (arith, ints, k, a, c)) (omega (arith, ints, l, e, f)))
 
@@ -137,7 +137,7 @@ module _ (all : List Piece) (next : List Run) (out : List Piece) (p : Piece) (ps
     over : (s x : ℤ) → (have_from ps s x && in_run r x) ≡ false
     over s x = never (have_from ps s x && in_run r x) λ h. (
         let i = le_of_test x r.hi (and_right (int_le r.lo x) _ (and_right (have_from ps s x) _ h)) in
-        none_before far (p.hi +ℤ pos 1) p.last ps s x m.left_rises.3 (omega (arith, ints, i, last)) (and_left (have_from ps s x) _ h))
+        none_before piece_limit (p.hi +ℤ pos 1) p.last ps s x m.left_rises.3 (omega (arith, ints, i, last)) (and_left (have_from ps s x) _ h))
 
     right_before : (qs : List Run) → IsNormalFrom (r.hi +ℤ pos 2) qs → Precede new (p ∷ ps) qs
     right_before [] h = tt
@@ -150,7 +150,7 @@ module _ (all : List Piece) (next : List Run) (out : List Piece) (p : Piece) (ps
         let later : cut.lo ≤ℤ lo = of_max lo p.lo r.lo c (omega (arith, ints, a, b, d)) in
         let k = min_right p.hi r.hi in
         let ends : cut.hi ≤ℤ lo = omega (arith, ints, k, a, d) in
-        before_append lo (start_of p lo) out (kept cut)
+        before_append lo (start_of p lo) out (piece_if_any cut)
         (before_later cut.lo lo cut.first (start_of p lo) out later (start_rises p cut.lo lo later) m.before)
         (before_kept lo (start_of p lo) cut (omega (arith, ints, k, a, d)) (start_rises p cut.hi lo ends))
 
@@ -165,7 +165,7 @@ module _ (all : List Piece) (next : List Run) (out : List Piece) (p : Piece) (ps
     }
 
 -- at first all are left
-pub cutting_begins : (all : List Piece) (next : List Run) → IsRisingFrom far (neg_ℤ far) (pos 0) all → IsNormal next → IsCumuls next → IsCutting all next [] all next
+pub cutting_begins : (all : List Piece) (next : List Run) → IsRisingFrom piece_limit (neg_ℤ piece_limit) (pos 0) all → IsNormal next → IsCumuls next → IsCutting all next [] all next
 cutting_begins all next rises normal cumuls = record { exact = λ s x. refl; left_rises = rises; right_normal = normal; right_cumuls = cumuls; rises = tt; before = none all next }
   where
     none : (ps : List Piece) (rs : List Run) → Precede [] ps rs

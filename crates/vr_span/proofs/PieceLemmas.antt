@@ -8,7 +8,7 @@ use Rattle.vr_model.specs.deciding.Testing.{and_left, and_right, and_both, or_ca
 use Rattle.vr_spans.specs.declared.runs.Run.{Run}
 use Rattle.vr_spans.specs.Runs.{in_run}
 use Rattle.vr_span.specs.declared.pieces.Piece.{Piece}
-use Rattle.vr_span.specs.Pieces.{start_of, has_from, have_from, IsNear, IsNearNumber, IsPiece, IsRisingFrom, within_run, kept}
+use Rattle.vr_span.specs.Pieces.{start_of, has_from, have_from, IsNear, IsNearNumber, IsPiece, IsRisingFrom, within_run, piece_if_any}
 
 pub min_left : (a b : ℤ) → int_min a b ≤ℤ a
 min_left a b = let m = int_min_is a b in omega (arith, ints, m)
@@ -128,7 +128,7 @@ pub have_append : (ps qs : List Piece) (s x : ℤ) → have_from (ps ++ qs) s x 
 have_append [] qs s x = refl
 have_append (p ∷ ps) qs s x = grind (arith, have_append ps qs s x)
 
-pub kept_has : (p : Piece) (s x : ℤ) → have_from (kept p) s x ≡ has_from p s x
+pub kept_has : (p : Piece) (s x : ℤ) → have_from (piece_if_any p) s x ≡ has_from p s x
 kept_has p s x = go (int_le p.lo p.hi) refl
   where
     none : int_le p.lo p.hi ≡ false → IsTrue (has_from p s x) → ⊥
@@ -164,7 +164,7 @@ pub before_append : (b s : ℤ) (ps qs : List Piece) → AreBefore b s ps → Ar
 before_append b s [] qs h k = k
 before_append b s (p ∷ ps) qs h k = (h.0, h.1, before_append b s ps qs h.2 k)
 
-pub before_kept : (b s : ℤ) (p : Piece) → p.hi <ℤ b → p.last ≤ℤ s → AreBefore b s (kept p)
+pub before_kept : (b s : ℤ) (p : Piece) → p.hi <ℤ b → p.last ≤ℤ s → AreBefore b s (piece_if_any p)
 before_kept b s p h k = go (int_le p.lo p.hi)
   where
     go : (t : Bool) → AreBefore b s (if t then p ∷ [] else [])
@@ -180,7 +180,7 @@ nothing_more : (ps : List Piece) → ps ++ [] ≡ ps
 nothing_more [] = refl
 nothing_more (p ∷ ps) = ap (λ qs. p ∷ qs) (nothing_more ps)
 
-pub rises_kept : (top b s : ℤ) (ps : List Piece) (p : Piece) → IsRisingFrom top b s ps → AreBefore p.lo p.first ps → b ≤ℤ p.lo → s ≤ℤ p.first → (p.lo ≤ℤ p.hi → IsPiece top p) → IsRisingFrom top b s (ps ++ kept p)
+pub rises_kept : (top b s : ℤ) (ps : List Piece) (p : Piece) → IsRisingFrom top b s ps → AreBefore p.lo p.first ps → b ≤ℤ p.lo → s ≤ℤ p.first → (p.lo ≤ℤ p.hi → IsPiece top p) → IsRisingFrom top b s (ps ++ piece_if_any p)
 rises_kept top b s ps p h before low start is = go (int_le p.lo p.hi) refl
   where
     go : (t : Bool) → int_le p.lo p.hi ≡ t → IsRisingFrom top b s (ps ++ (if t then p ∷ [] else []))

@@ -17,7 +17,7 @@ use Rattle.vr_steps.specs.Lines.{IsLineOf, IsSoundLine}
 use Rattle.vr_steps.specs.Reached.{LinesStandForTheirs}
 use Rattle.vr_plan.specs.declared.plans.Plan.{Plan}
 use Rattle.vr_plan.specs.Ends.{IsPinnedOf}
-use Rattle.vr_plan.specs.Plans.{IsChosenPlanUnder, seen}
+use Rattle.vr_plan.specs.Plans.{IsChosenPlanUnder, as_defined}
 use Rattle.vr_plan.specs.Settled.{IsUnfeasible}
 use Rattle.vr_span.specs.declared.pieces.Piece.{Piece}
 use Rattle.vr_span.specs.declared.least.Least.{Least}
@@ -77,26 +77,26 @@ module _ (stands : LinesStandForTheirs) (law : ChosenIsLeast) (feasible : Chosen
 
   -- the plan that was found between the ends is the first of the least span
   module _ (least : Least) (w : least.span ≡ (way.lo -ℤ way.first)) (found : IsChosenBetween made way.first way.lo (Some least.plan)) where
-    its : (defined : Defined) (of : IsLineOf defined made) → IsChosen (between defined way.first way.lo) (seen least.plan)
-    its defined of = (law (between defined way.first way.lo) (seen least.plan)).0 (sym (found defined of))
+    its : (defined : Defined) (of : IsLineOf defined made) → IsChosen (between defined way.first way.lo) (as_defined least.plan)
+    its defined of = (law (between defined way.first way.lo) (as_defined least.plan)).0 (sym (found defined of))
 
     pub reached_told : IsReachedSpan made least
     reached_told defined of = record {
-      schedule = its_schedule defined (stops_of defined of) (none_of_line defined of) way.first way.lo (is defined of) (seen least.plan) (its defined of);
-      span_is = its_span defined (stops_of defined of) (none_of_line defined of) way.first way.lo (is defined of) (seen least.plan) (its defined of) ∙ sym w;
+      schedule = its_schedule defined (stops_of defined of) (none_of_line defined of) way.first way.lo (is defined of) (as_defined least.plan) (its defined of);
+      span_is = its_span defined (stops_of defined of) (none_of_line defined of) way.first way.lo (is defined of) (as_defined least.plan) (its defined of) ∙ sym w;
     }
 
     pub least_told : IsLeastSpanOf made least
     least_told defined of =
         let r = reached_told defined of in
         record {
-          reached = (seen least.plan, r.schedule, r.span_is);
+          reached = (as_defined least.plan, r.schedule, r.span_is);
           least = λ other sch. subst (λ v. v ≤ℤ span defined other) (sym w) ((is defined of).least other sch);
         }
 
     pub first_told : IsFirstPlan made least
     first_told defined of other sch same =
-        first_of_span defined (stops_of defined of) (none_of_line defined of) way.first way.lo (is defined of) (seen least.plan) (its defined of) other sch (same ∙ w)
+        first_of_span defined (stops_of defined of) (none_of_line defined of) way.first way.lo (is defined of) (as_defined least.plan) (its defined of) other sch (same ∙ w)
 
   -- and one is found
   pub never_none : (none_is : Option Plan) → IsChosenBetween made way.first way.lo none_is → IsNone none_is → IsUnfeasible made

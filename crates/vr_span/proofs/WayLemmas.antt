@@ -15,12 +15,12 @@ use Rattle.vr_model.specs.schedules.Tight.{end_of}
 use Rattle.vr_model.proofs.schedules.Narrowing.{of_pinned, to_pinned}
 use Rattle.vr_spans.specs.declared.runs.Run.{Run}
 use Rattle.vr_spans.specs.Runs.{has}
-use Rattle.vr_steps.specs.Arcs.{Leads, between}
+use Rattle.vr_steps.specs.Arcs.{Leads, breaks_between}
 use Rattle.vr_steps.specs.Reached.{ArcAlone, IsAllowedSet, hop_at}
 use Rattle.vr_steps.proofs.ArcLemmas.{plainly, leads}
 use Rattle.vr_span.specs.declared.pieces.Piece.{Piece}
 use Rattle.vr_span.specs.Pieces.{have_from, Arrive, IsShortest}
-use Rattle.vr_span.specs.Starts.{TellStarts, IsFirstShortest}
+use Rattle.vr_span.specs.Starts.{AreReachedPieces, IsFirstShortest}
 
 -- all of no breaks fit anywhere
 fit_before : (rows : List BreakRow) (x : ℤ) → rows ≡ [] → FitBefore rows x
@@ -60,7 +60,7 @@ module _ (line : Defined) (sound : IsSound line) where
 
   -- ---- the start
 
-  pub start_told : ReachedAtStart → (set : List Run) → IsAllowedSet line 0 set → (pieces : List Piece) → ((s x : ℤ) → IsTrue (have_from pieces s x) ↔ (IsTrue (has set x) × (s ≤ℤ x))) → TellStarts line 0 pieces
+  pub start_told : ReachedAtStart → (set : List Run) → IsAllowedSet line 0 set → (pieces : List Piece) → ((s x : ℤ) → IsTrue (have_from pieces s x) ↔ (IsTrue (has set x) × (s ≤ℤ x))) → AreReachedPieces line 0 pieces
   start_told law set allowed pieces are s x = (
     λ h.
         let both = (are s x).0 h in
@@ -81,7 +81,7 @@ module _ (line : Defined) (sound : IsSound line) where
     abbrev Comes : (ℤ → Type 0) → ℤ → Type 0
     Comes reached x = IsTrue (has set x) × ((y : ℤ) × reached y × ((y +ℤ (hop_at line k).transit) ≤ℤ x) × (x ≤ℤ (y +ℤ ((hop_at line k).transit +ℤ (hop_at line k).slack))))
 
-    plain_way : (s x y : ℤ) (a : ℕ) → a ≤ 0 → IsReached (from s) k a y → Leads (hop_at line k) (between line.breaks a 0) y x
+    plain_way : (s x y : ℤ) (a : ℕ) → a ≤ 0 → IsReached (from s) k a y → Leads (hop_at line k) (breaks_between line.breaks a 0) y x
         → IsReached (from s) k 0 y × ((y +ℤ (hop_at line k).transit) ≤ℤ x) × (x ≤ℤ (y +ℤ ((hop_at line k).transit +ℤ (hop_at line k).slack)))
     plain_way s x y zero le reached way = let p = plainly (hop_at line k) y x way in (reached, p.least, p.greatest)
     plain_way s x y (suc a) le reached way = absurd (omega (arith, le))
@@ -104,7 +104,7 @@ module _ (line : Defined) (sound : IsSound line) where
         (crossing (from s) (from_sound s) k 0 lt (omega arith) x).1 (0, omega arith, y, reached, (alone (from s) (from_sound s) k 0 0 lt y x).1 (begin, end, way))
 
     -- what is told behind the arc
-    pub arc_told : (pieces out : List Piece) → TellStarts line k pieces → Arrive (hop_at line k) pieces set out → TellStarts line (suc k) out
+    pub arc_told : (pieces out : List Piece) → AreReachedPieces line k pieces → Arrive (hop_at line k) pieces set out → AreReachedPieces line (suc k) out
     arc_told pieces out told arrive s x = (
       λ h.
           let both = (arrive s x).0 h in
@@ -143,7 +143,7 @@ module _ (line : Defined) (sound : IsSound line) where
         let m = (meet (from s) (from_sound s) last (omega arith) (end_of line plan)).0 (plan, to_pinned line 0 s starts plan sch refl, refl) in
         none_taken s (end_of line plan) m.0 m.1 m.2
 
-    module _ (pieces : List Piece) (told : TellStarts line last pieces) where
+    module _ (pieces : List Piece) (told : AreReachedPieces line last pieces) where
       has_schedule : (plan : Plan) → IsSchedule line plan → IsTrue (have_from pieces (cumul plan 0) (end_of line plan))
       has_schedule plan sch = (told (cumul plan 0) (end_of line plan)).1 (cumul plan 0, omega (arith, ints), reached_by plan sch)
 

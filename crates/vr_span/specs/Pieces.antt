@@ -10,8 +10,8 @@ use Rattle.vr_steps.specs.declared.hops.Hop.{Hop}
 use Rattle.vr_span.specs.declared.pieces.Piece.{Piece}
 
 -- no number of a piece is above this one, and none is below its negative
-abbrev pub far : ℤ
-far = pos (2 ^ 38)
+abbrev pub piece_limit : ℤ
+piece_limit = pos (2 ^ 38)
 
 -- the greatest start from which x is reached, where x is a cumul of the piece
 abbrev pub start_of : Piece → ℤ → ℤ
@@ -46,7 +46,7 @@ ArePieces pieces = IsRisingFrom horizon (pos 0) (pos 0) pieces
 
 -- the number is near enough for sums
 abbrev pub IsNearNumber : ℤ → Type 0
-IsNearNumber x = IsIn (neg_ℤ far) far x
+IsNearNumber x = IsIn (neg_ℤ piece_limit) piece_limit x
 
 -- the numbers of the piece are near enough for sums
 pub record IsNear (piece : Piece) : Type 0 where
@@ -71,12 +71,12 @@ within_run run piece =
     record { lo = lo; hi = hi; first = start_of piece lo; last = start_of piece hi }
 
 -- the piece alone where it has a cumul, and else none
-abbrev pub kept : Piece → List Piece
-kept piece = if int_le piece.lo piece.hi then piece ∷ [] else []
+abbrev pub piece_if_any : Piece → List Piece
+piece_if_any piece = if int_le piece.lo piece.hi then piece ∷ [] else []
 
 -- what a piece leads to over an arc, where until is the last cumul before the next piece
-abbrev pub moved : Hop → ℤ → Piece → Piece
-moved hop until piece = record {
+abbrev pub moved_piece : Hop → ℤ → Piece → Piece
+moved_piece hop until piece = record {
   lo = piece.lo +ℤ hop.transit;
   hi = int_min (piece.hi +ℤ hop.slack) until +ℤ hop.transit;
   first = piece.first;
@@ -85,13 +85,13 @@ moved hop until piece = record {
 
 -- the last cumul before the first of the pieces
 abbrev pub until_of : List Piece → ℤ
-until_of [] = far
+until_of [] = piece_limit
 until_of (piece ∷ pieces) = piece.lo -ℤ pos 1
 
 -- what pieces lead to over an arc
-abbrev pub behind : Hop → List Piece → List Piece
-behind hop [] = []
-behind hop (piece ∷ pieces) = moved hop (until_of pieces) piece ∷ behind hop pieces
+abbrev pub pieces_behind : Hop → List Piece → List Piece
+pieces_behind hop [] = []
+pieces_behind hop (piece ∷ pieces) = moved_piece hop (until_of pieces) piece ∷ pieces_behind hop pieces
 
 -- the pieces are those of the cumuls of a set to which an arc leads from other pieces, reached from the same starts
 abbrev pub Arrive : Hop → List Piece → List Run → List Piece → Type 0

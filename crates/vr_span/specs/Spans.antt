@@ -9,13 +9,13 @@ use Rattle.vr_model.specs.schedules.Narrowed.{between}
 use Rattle.vr_steps.specs.declared.lines.Line.{Line}
 use Rattle.vr_steps.specs.Lines.{IsLineOf}
 use Rattle.vr_plan.specs.declared.plans.Plan.{Plan}
-use Rattle.vr_plan.specs.Plans.{seen}
+use Rattle.vr_plan.specs.Plans.{as_defined}
 use Rattle.vr_span.specs.declared.least.Least.{Least}
 
 -- the plan is a schedule of the line, and its span, the cumul of the end less that of the start, is the one beside it
 pub record HasItsSpan (line : Defined) (least : Least) : Type 0 where
-  pub schedule : IsSchedule line (seen least.plan)
-  pub span_is : span line (seen least.plan) ≡ least.span
+  pub schedule : IsSchedule line (as_defined least.plan)
+  pub span_is : span line (as_defined least.plan) ≡ least.span
 
 -- no schedule of the span has cumuls that come before those of the plan, compared from the start on
 abbrev pub IsFirstOfSpan : Defined → Least → Type 0
@@ -37,4 +37,4 @@ IsFirstPlan line least = (defined : Defined) → IsLineOf defined line → IsFir
 -- the plan is the chosen schedule of the line whose start allows s alone and whose end e
 abbrev pub IsChosenBetween : Line → ℤ → ℤ → Option Plan → Type 0
 IsChosenBetween line s e found =
-    (defined : Defined) → IsLineOf defined line → option_map seen found ≡ chosen (between defined s e)
+    (defined : Defined) → IsLineOf defined line → option_map as_defined found ≡ chosen (between defined s e)

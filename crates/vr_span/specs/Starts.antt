@@ -14,12 +14,12 @@ abbrev pub IsReachedFrom : Defined → ℕ → ℤ → ℤ → Type 0
 IsReachedFrom line k s x = (start : ℤ) × (s ≤ℤ start) × IsReached (pinned line 0 start) k 0 x
 
 -- the pieces have the cumuls that are reached at stop k, each from the starts from which it is reached
-abbrev pub TellStarts : Defined → ℕ → List Piece → Type 0
-TellStarts line k pieces = (s x : ℤ) → IsTrue (have_from pieces s x) ↔ IsReachedFrom line k s x
+abbrev pub AreReachedPieces : Defined → ℕ → List Piece → Type 0
+AreReachedPieces line k pieces = (s x : ℤ) → IsTrue (have_from pieces s x) ↔ IsReachedFrom line k s x
 
 -- the same at a stop of a line as the code holds it
-abbrev pub TellStartsAt : Line → ℕ → List Piece → Type 0
-TellStartsAt line k pieces = (defined : Defined) → IsLineOf defined line → TellStarts defined k pieces
+abbrev pub AreReachedPiecesAt : Line → ℕ → List Piece → Type 0
+AreReachedPiecesAt line k pieces = (defined : Defined) → IsLineOf defined line → AreReachedPieces defined k pieces
 
 -- some schedule goes from s to e, none has a lesser span, and none of this span starts earlier
 pub record IsFirstShortest (line : Defined) (s e : ℤ) : Type 0 where

@@ -4,8 +4,8 @@ ghost use Rattle.std.specs.Prelude.{◌≡◌, ◌++◌, [], drop, length, IfOk,
 ghost use Rattle.vr_steps.specs.Arcs.{IsSoundHop};
 ghost use Rattle.vr_steps.specs.Levels.{IsCumuls};
 ghost use Rattle.vr_steps.specs.Lines.{IsSoundLine};
-ghost use Rattle.vr_span.specs.Pieces.{ArePieces, Arrive, Begin, IsNearNumber, kept, until_of};
-ghost use Rattle.vr_span.specs.Starts.{TellStartsAt};
+ghost use Rattle.vr_span.specs.Pieces.{ArePieces, Arrive, Begin, IsNearNumber, piece_if_any, until_of};
+ghost use Rattle.vr_span.specs.Starts.{AreReachedPiecesAt};
 
 use crate::pieces::Piece;
 use std::alloc::Global;
@@ -22,7 +22,7 @@ pub(crate) fn pieces_at_end(alloc: Global, line: &Line) -> Result<Seq<Piece>, No
     requires sound { IsSoundLine line.now }
     requires no_breaks { line.now.breaks ≡ [] }
     ensures pieces { IfOk result ArePieces }
-    ensures told { IfOk result (TellStartsAt line.now (length line.now.hops)) }
+    ensures told { IfOk result (AreReachedPiecesAt line.now (length line.now.hops)) }
 {
     let mut here = Seq::new(alloc);
     let mut next = Seq::new(alloc);
@@ -90,7 +90,7 @@ fn until(pieces: &[Piece]) -> i64
 
 // Puts a piece behind others where it has a cumul.
 fn put(piece: Piece, out: &mut Seq<Piece>) -> Result<(), NoMemory>
-    ensures { OnOk result (out.new ≡ out.old ++ kept piece) }
+    ensures { OnOk result (out.new ≡ out.old ++ piece_if_any piece) }
 {
     if piece.lo <= piece.hi {
         out.push(piece)?;

@@ -2,7 +2,7 @@
 
 ghost use Rattle.std.specs.Prelude.{◌≡◌};
 ghost use Rattle.vr_steps.specs.Arcs.{IsSoundHop};
-ghost use Rattle.vr_span.specs.Pieces.{IsNear, IsNearNumber, begin_of, moved, start_of, within_run};
+ghost use Rattle.vr_span.specs.Pieces.{IsNear, IsNearNumber, begin_of, moved_piece, start_of, within_run};
 
 use vr_spans::Run;
 use vr_steps::Hop;
@@ -61,7 +61,7 @@ impl Piece {
         requires near { IsNear self }
         requires hop { IsSoundHop hop }
         requires until { IsNearNumber until }
-        ensures { result ≡ moved hop until self }
+        ensures { result ≡ moved_piece hop until self }
     {
         Piece {
             lo: self.lo + hop.transit,

@@ -10,7 +10,7 @@ use Rattle.vr_model.specs.schedules.Levels.{AreStarts}
 use Rattle.vr_model.specs.tables.WellFormed.{IsBreak}
 use Rattle.vr_model.specs.declared.records.BreakRow.{BreakRow}
 use Rattle.vr_steps.specs.declared.chains.Chain.{Chain}
-use Rattle.vr_steps.specs.Chains.{far, total, latest, first_end, CanBegin, IsChainOf, IsAfter, IsLate}
+use Rattle.vr_steps.specs.Chains.{chain_limit, total_duration, latest, first_end, CanBeginInTime, IsChainOf, HasBreakInFront, IsLate}
 
 -- the breaks are taken one after another, none before e, and all are over at x
 abbrev pub IsChain : List BreakRow → ℤ → ℤ → Type 0
@@ -28,12 +28,12 @@ durations_from_rows (r ∷ rs) h = (omega (arith, ints, (h 0 r (omega arith)).du
 
 -- what a chain of breaks takes
 pub record HasRoom (rs : List BreakRow) (e x : ℤ) : Type 0 where
-  pub can_begin : CanBegin rs
+  pub can_begin : CanBeginInTime rs
   pub in_time : e ≤ℤ latest rs
-  pub room : (e +ℤ total rs) ≤ℤ x
+  pub room : (e +ℤ total_duration rs) ≤ℤ x
   pub over : first_end rs ≤ℤ x
 
-pub room_from_chain : (rs : List BreakRow) (e x : ℤ) → HaveDurations rs → neg_ℤ far ≤ℤ x → x ≤ℤ far → IsChain rs e x → HasRoom rs e x
+pub room_from_chain : (rs : List BreakRow) (e x : ℤ) → HaveDurations rs → neg_ℤ chain_limit ≤ℤ x → x ≤ℤ chain_limit → IsChain rs e x → HasRoom rs e x
 room_from_chain [] e x h low high chain = record { can_begin = tt; in_time = omega (arith, ints); room = omega (arith, ints); over = low }
 room_from_chain (r ∷ rs) e x h low high (z, from, to, after, rest) =
     let m = room_from_chain rs (z +ℤ r.duration) x h.1 low high rest in
@@ -129,12 +129,12 @@ starts_from_chain (r ∷ rs) e x h (z, from, to, after, rest) =
 pub drop_before : (rs : List BreakRow) (k : ℕ) (d : BreakRow) → 0 < k → k ≤ length rs → drop (k - 1) rs ≡ get_or rs (k - 1) d ∷ drop k rs
 drop_before rs k d some within = drop_more rs (k - 1) d (omega arith) ∙ ap (λ n. get_or rs (k - 1) d ∷ drop n rs) (omega arith)
 
-pub CanBegin-drop : (rs : List BreakRow) (k : ℕ) → CanBegin rs → CanBegin (drop k rs)
+pub CanBegin-drop : (rs : List BreakRow) (k : ℕ) → CanBeginInTime rs → CanBeginInTime (drop k rs)
 CanBegin-drop rs zero h = h
 CanBegin-drop [] (suc k) h = tt
 CanBegin-drop (r ∷ rs) (suc k) h = CanBegin-drop rs k h.1
 
-pub IsChainOf-after : (row : BreakRow) (rest : List BreakRow) (chain new : Chain) → IsBreak row → IsChainOf rest chain → IsAfter row chain new → new.total ≤ℤ pos (2 ^ 39) → IsChainOf (row ∷ rest) new
+pub IsChainOf-after : (row : BreakRow) (rest : List BreakRow) (chain new : Chain) → IsBreak row → IsChainOf rest chain → HasBreakInFront row chain new → new.total ≤ℤ pos (2 ^ 39) → IsChainOf (row ∷ rest) new
 IsChainOf-after row rest chain new valid m a short =
     let long = valid.duration_in_range in
     record {
@@ -151,5 +151,5 @@ IsChainOf-after row rest chain new valid m a short =
       };
     }
 
-pub late_begins : (row : BreakRow) (rest : List BreakRow) (chain : Chain) → IsChainOf rest chain → IsLate row chain → CanBegin (row ∷ rest) → ⊥
+pub late_begins : (row : BreakRow) (rest : List BreakRow) (chain : Chain) → IsChainOf rest chain → IsLate row chain → CanBeginInTime (row ∷ rest) → ⊥
 late_begins row rest chain m late can = late (omega (arith, ints, clamps, can.0, m.latest_is))

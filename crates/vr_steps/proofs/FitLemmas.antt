@@ -8,7 +8,7 @@ use Rattle.vr_model.specs.schedules.Levels.{FitBefore, FitAfter}
 use Rattle.vr_model.specs.tables.WellFormed.{IsBreak}
 use Rattle.vr_model.specs.declared.records.BreakRow.{BreakRow}
 use Rattle.vr_steps.specs.declared.chains.Chain.{Chain}
-use Rattle.vr_steps.specs.Chains.{far, total, first_end, CanBegin, IsChainOf}
+use Rattle.vr_steps.specs.Chains.{chain_limit, total_duration, first_end, CanBeginInTime, IsChainOf}
 use Rattle.std.specs.Prelude.{IsTrue, ◌↔◌}
 use Rattle.vr_spans.specs.declared.runs.Run.{Run}
 use Rattle.vr_spans.specs.Runs.{has, IsLeast}
@@ -18,7 +18,7 @@ use Rattle.vr_steps.specs.Fits.{IsEarliest, IsLatest}
 use Rattle.vr_steps.proofs.ChainLemmas.{HasRoom, durations_from_rows, room_from_chain, chain_from_room, chain_from_starts, starts_from_chain}
 
 -- where all breaks are over, there was time for them from 0 on
-total_by_end : (rows : List BreakRow) → All IsBreak rows → total rows ≤ℤ int_max (first_end rows) (pos 0)
+total_by_end : (rows : List BreakRow) → All IsBreak rows → total_duration rows ≤ℤ int_max (first_end rows) (pos 0)
 total_by_end [] valid = omega (arith, ints, clamps)
 total_by_end (r ∷ rs) valid = let row = valid 0 r (omega arith) in omega (arith, ints, clamps, row.from_in_range, row.duration_in_range.at_least)
 
@@ -34,19 +34,19 @@ module _ (rows : List BreakRow) (valid : All IsBreak rows) (x : ℤ) (low : pos 
       let taken = starts_from_chain rows (pos 0) x long (chain_from_room rows (pos 0) x long room) in
       (taken.starts, taken.are, taken.over)
 
-  pub room_after : FitAfter rows x → HasRoom rows x far
+  pub room_after : FitAfter rows x → HasRoom rows x chain_limit
   room_after (starts, are, after) =
-      room_from_chain rows x far (durations_from_rows rows valid) (omega (arith, ints)) (omega (arith, ints))
-      (chain_from_starts rows starts x far are (λ some. after 0 some)
+      room_from_chain rows x chain_limit (durations_from_rows rows valid) (omega (arith, ints)) (omega (arith, ints))
+      (chain_from_starts rows starts x chain_limit are (λ some. after 0 some)
       (λ i lt. let range = are.in_range i lt in let row = valid i no_break lt in omega (arith, ints, range.1, row.to_in_range, row.duration_in_range.at_most)) (omega (arith, ints, high)))
 
-  pub fit_after : HasRoom rows x far → FitAfter rows x
+  pub fit_after : HasRoom rows x chain_limit → FitAfter rows x
   fit_after room =
       let long = durations_from_rows rows valid in
-      let taken = starts_from_chain rows x far long (chain_from_room rows x far long room) in
+      let taken = starts_from_chain rows x chain_limit long (chain_from_room rows x chain_limit long room) in
       (taken.starts, taken.are, taken.after)
 
-module _ (rows : List BreakRow) (chain : Chain) (valid : All IsBreak rows) (can : CanBegin rows) (of : IsChainOf rows chain) where
+module _ (rows : List BreakRow) (chain : Chain) (valid : All IsBreak rows) (can : CanBeginInTime rows) (of : IsChainOf rows chain) where
   pub earliest_is : (first : ℤ) → first ≡ int_max chain.first_end (pos 0) → first ≤ℤ horizon → IsEarliest rows first
   earliest_is first is within = record {
     low = omega (arith, ints, clamps, is);

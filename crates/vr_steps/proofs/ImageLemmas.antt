@@ -16,8 +16,8 @@ use Rattle.vr_steps.specs.declared.passages.Passage.{Passage}
 use Rattle.vr_steps.specs.declared.passages.Pass.{Pass}
 use Rattle.vr_steps.specs.declared.ways.Way.{Way}
 use Rattle.vr_steps.specs.declared.ways.Way.TheVariants.{On, Back}
-use Rattle.vr_steps.specs.Arcs.{IsSoundHop, Leads, between}
-use Rattle.vr_steps.specs.Chains.{CanBegin, IsChainOf}
+use Rattle.vr_steps.specs.Arcs.{IsSoundHop, Leads, breaks_between}
+use Rattle.vr_steps.specs.Chains.{CanBeginInTime, IsChainOf}
 use Rattle.vr_steps.specs.Levels.{IsCumuls, level_at}
 use Rattle.vr_steps.specs.Passages.{IsPassage, LeadsNowhere, IsOver, HasWay, ArrivesAt, DepartsAt, AreArrivals, AreDepartures, upto, onward}
 use Rattle.vr_steps.specs.Ways.{LeadsBy, IsLedTo, pass_by}
@@ -25,7 +25,7 @@ use Rattle.vr_steps.proofs.PassageLemmas.{passage, closed}
 
 -- the answer of a passage over a chain
 module _ (hop : Hop) (rows : List BreakRow) (chain : Chain) (sound : IsSoundHop hop) (valid : All IsBreak rows) (some : 0 < length rows) (of : IsChainOf rows chain) where
-  pub passage_some : CanBegin rows → (r : Option Passage) → (IsSome r ↔ HasWay hop chain) → IfSome r (IsOver hop chain) → IfSome r (IsPassage hop rows)
+  pub passage_some : CanBeginInTime rows → (r : Option Passage) → (IsSome r ↔ HasWay hop chain) → IfSome r (IsOver hop chain) → IfSome r (IsPassage hop rows)
   passage_some can None way is = tt
   passage_some can (Some p) way is = passage hop rows chain sound valid some of can (way.0 refl) p is
 
@@ -138,10 +138,10 @@ nothing_more {P} old none = (λ kept. inl kept, kept_of)
     kept_of (inr new) = absurd (none new)
 
 -- the breaks between, as a slice
-pub slice_between : (rows : List BreakRow) (a b : ℕ) → a ≤ b → take (b - a) (drop a rows) ≡ between rows a b
+pub slice_between : (rows : List BreakRow) (a b : ℕ) → a ≤ b → take (b - a) (drop a rows) ≡ breaks_between rows a b
 slice_between rows a b le = sym (drop-take a (b - a) rows) ∙ ap (λ n. drop a (take n rows)) (omega arith)
 
-pub none_between : (rows : List BreakRow) (b : ℕ) → between rows b b ≡ []
+pub none_between : (rows : List BreakRow) (b : ℕ) → breaks_between rows b b ≡ []
 none_between rows b = drop_all b (take b rows) (let n = length-take b rows in omega (arith, n))
 
 -- the levels behind an arc, level by level
@@ -150,27 +150,27 @@ module _ (from : List (List Run)) (hop : Hop) (next : List Run) (rows : List Bre
   pub first_arrivals : (set : List Run) → ((x : ℤ) → IsTrue (has set x) ↔ (IsTrue (has next x) × ((y : ℤ) × IsTrue (has (level_at from b) y) × Leads hop [] y x))) → AreArrivals from hop next rows b b set
   first_arrivals set is x = (to, back_to)
     where
-      to : IsTrue (has set x) → IsTrue (has next x) × ((a : ℕ) × (b ≤ a) × (a ≤ b) × (y : ℤ) × IsTrue (has (level_at from a) y) × Leads hop (between rows a b) y x)
+      to : IsTrue (has set x) → IsTrue (has next x) × ((a : ℕ) × (b ≤ a) × (a ≤ b) × (y : ℤ) × IsTrue (has (level_at from a) y) × Leads hop (breaks_between rows a b) y x)
       to there = let m = (is x).0 there in (m.0, (b, omega arith, omega arith, m.1.0, m.1.1, subst (λ rs. Leads hop rs m.1.0 x) (sym (none_between rows b)) m.1.2))
 
-      back_to : IsTrue (has next x) × ((a : ℕ) × (b ≤ a) × (a ≤ b) × (y : ℤ) × IsTrue (has (level_at from a) y) × Leads hop (between rows a b) y x) → IsTrue (has set x)
+      back_to : IsTrue (has next x) × ((a : ℕ) × (b ≤ a) × (a ≤ b) × (y : ℤ) × IsTrue (has (level_at from a) y) × Leads hop (breaks_between rows a b) y x) → IsTrue (has set x)
       back_to (inside, (a, low, high, y, there, way)) =
           let e : a ≡ b = omega (arith, low, high) in
-          (is x).1 (inside, (y, subst (λ n. IsTrue (has (level_at from n) y)) e there, subst (λ rs. Leads hop rs y x) (ap (λ n. between rows n b) e ∙ none_between rows b) way))
+          (is x).1 (inside, (y, subst (λ n. IsTrue (has (level_at from n) y)) e there, subst (λ rs. Leads hop rs y x) (ap (λ n. breaks_between rows n b) e ∙ none_between rows b) way))
 
   -- one number of breaks more
   pub more_arrivals : (k : ℕ) (old set : List Run) → suc k ≤ b → AreArrivals from hop next rows (suc k) b old
-      → ((x : ℤ) → IsTrue (has set x) ↔ (IsTrue (has old x) ⊎ ArrivesAt (level_at from k) hop (between rows k b) next x)) → AreArrivals from hop next rows k b set
+      → ((x : ℤ) → IsTrue (has set x) ↔ (IsTrue (has old x) ⊎ ArrivesAt (level_at from k) hop (breaks_between rows k b) next x)) → AreArrivals from hop next rows k b set
   more_arrivals k old set le are is x = (λ there. to ((is x).0 there), λ m. (is x).1 (back_to m))
     where
-      to : IsTrue (has old x) ⊎ ArrivesAt (level_at from k) hop (between rows k b) next x → IsTrue (has next x) × ((a : ℕ) × (k ≤ a) × (a ≤ b) × (y : ℤ) × IsTrue (has (level_at from a) y) × Leads hop (between rows a b) y x)
+      to : IsTrue (has old x) ⊎ ArrivesAt (level_at from k) hop (breaks_between rows k b) next x → IsTrue (has next x) × ((a : ℕ) × (k ≤ a) × (a ≤ b) × (y : ℤ) × IsTrue (has (level_at from a) y) × Leads hop (breaks_between rows a b) y x)
       to (inl kept) = let m = (are x).0 kept in (m.0, (m.1.0, let l = m.1.1 in omega (arith, l), m.1.2, m.1.3, m.1.4, m.1.5))
       to (inr (inside, (y, there, way))) = (inside, (k, omega arith, omega (arith, le), y, there, way))
 
-      back_to : IsTrue (has next x) × ((a : ℕ) × (k ≤ a) × (a ≤ b) × (y : ℤ) × IsTrue (has (level_at from a) y) × Leads hop (between rows a b) y x) → IsTrue (has old x) ⊎ ArrivesAt (level_at from k) hop (between rows k b) next x
+      back_to : IsTrue (has next x) × ((a : ℕ) × (k ≤ a) × (a ≤ b) × (y : ℤ) × IsTrue (has (level_at from a) y) × Leads hop (breaks_between rows a b) y x) → IsTrue (has old x) ⊎ ArrivesAt (level_at from k) hop (breaks_between rows k b) next x
       back_to (inside, (a, low, high, y, there, way)) = elim (cases_lt k a) [
         | inl later ↦ inl ((are x).1 (inside, (a, omega (arith, later), high, y, there, way)))
-        | inr first ↦ (let e : a ≡ k = omega (arith, low, first) in inr (inside, (y, subst (λ n. IsTrue (has (level_at from n) y)) e there, subst (λ n. Leads hop (between rows n b) y x) e way)))
+        | inr first ↦ (let e : a ≡ k = omega (arith, low, first) in inr (inside, (y, subst (λ n. IsTrue (has (level_at from n) y)) e there, subst (λ n. Leads hop (breaks_between rows n b) y x) e way)))
       ]
 
 -- the levels before an arc, level by level
@@ -178,24 +178,24 @@ module _ (behind : List (List Run)) (hop : Hop) (here : List Run) (rows : List B
   pub first_departures : (set : List Run) → ((y : ℤ) → IsTrue (has set y) ↔ (IsTrue (has here y) × ((x : ℤ) × IsTrue (has (level_at behind a) x) × Leads hop [] y x))) → AreDepartures behind hop here rows a a set
   first_departures set is y = (to, back_to)
     where
-      to : IsTrue (has set y) → IsTrue (has here y) × ((b : ℕ) × (a ≤ b) × (b ≤ a) × (x : ℤ) × IsTrue (has (level_at behind b) x) × Leads hop (between rows a b) y x)
+      to : IsTrue (has set y) → IsTrue (has here y) × ((b : ℕ) × (a ≤ b) × (b ≤ a) × (x : ℤ) × IsTrue (has (level_at behind b) x) × Leads hop (breaks_between rows a b) y x)
       to there = let m = (is y).0 there in (m.0, (a, omega arith, omega arith, m.1.0, m.1.1, subst (λ rs. Leads hop rs y m.1.0) (sym (none_between rows a)) m.1.2))
 
-      back_to : IsTrue (has here y) × ((b : ℕ) × (a ≤ b) × (b ≤ a) × (x : ℤ) × IsTrue (has (level_at behind b) x) × Leads hop (between rows a b) y x) → IsTrue (has set y)
+      back_to : IsTrue (has here y) × ((b : ℕ) × (a ≤ b) × (b ≤ a) × (x : ℤ) × IsTrue (has (level_at behind b) x) × Leads hop (breaks_between rows a b) y x) → IsTrue (has set y)
       back_to (inside, (b, low, high, x, there, way)) =
           let e : b ≡ a = omega (arith, low, high) in
-          (is y).1 (inside, (x, subst (λ n. IsTrue (has (level_at behind n) x)) e there, subst (λ rs. Leads hop rs y x) (ap (λ n. between rows a n) e ∙ none_between rows a) way))
+          (is y).1 (inside, (x, subst (λ n. IsTrue (has (level_at behind n) x)) e there, subst (λ rs. Leads hop rs y x) (ap (λ n. breaks_between rows a n) e ∙ none_between rows a) way))
 
   pub more_departures : (k : ℕ) (old set : List Run) → a ≤ k → AreDepartures behind hop here rows a k old
-      → ((y : ℤ) → IsTrue (has set y) ↔ (IsTrue (has old y) ⊎ DepartsAt (level_at behind (suc k)) hop (between rows a (suc k)) here y)) → AreDepartures behind hop here rows a (suc k) set
+      → ((y : ℤ) → IsTrue (has set y) ↔ (IsTrue (has old y) ⊎ DepartsAt (level_at behind (suc k)) hop (breaks_between rows a (suc k)) here y)) → AreDepartures behind hop here rows a (suc k) set
   more_departures k old set le are is y = (λ there. to ((is y).0 there), λ m. (is y).1 (back_to m))
     where
-      to : IsTrue (has old y) ⊎ DepartsAt (level_at behind (suc k)) hop (between rows a (suc k)) here y → IsTrue (has here y) × ((b : ℕ) × (a ≤ b) × (b ≤ suc k) × (x : ℤ) × IsTrue (has (level_at behind b) x) × Leads hop (between rows a b) y x)
+      to : IsTrue (has old y) ⊎ DepartsAt (level_at behind (suc k)) hop (breaks_between rows a (suc k)) here y → IsTrue (has here y) × ((b : ℕ) × (a ≤ b) × (b ≤ suc k) × (x : ℤ) × IsTrue (has (level_at behind b) x) × Leads hop (breaks_between rows a b) y x)
       to (inl kept) = let m = (are y).0 kept in (m.0, (m.1.0, m.1.1, let l = m.1.2 in omega (arith, l), m.1.3, m.1.4, m.1.5))
       to (inr (inside, (x, there, way))) = (inside, (suc k, omega (arith, le), omega arith, x, there, way))
 
-      back_to : IsTrue (has here y) × ((b : ℕ) × (a ≤ b) × (b ≤ suc k) × (x : ℤ) × IsTrue (has (level_at behind b) x) × Leads hop (between rows a b) y x) → IsTrue (has old y) ⊎ DepartsAt (level_at behind (suc k)) hop (between rows a (suc k)) here y
+      back_to : IsTrue (has here y) × ((b : ℕ) × (a ≤ b) × (b ≤ suc k) × (x : ℤ) × IsTrue (has (level_at behind b) x) × Leads hop (breaks_between rows a b) y x) → IsTrue (has old y) ⊎ DepartsAt (level_at behind (suc k)) hop (breaks_between rows a (suc k)) here y
       back_to (inside, (b, low, high, x, there, way)) = elim (cases_lt k b) [
-        | inl later ↦ (let e : b ≡ suc k = omega (arith, high, later) in inr (inside, (x, subst (λ n. IsTrue (has (level_at behind n) x)) e there, subst (λ n. Leads hop (between rows a n) y x) e way)))
+        | inl later ↦ (let e : b ≡ suc k = omega (arith, high, later) in inr (inside, (x, subst (λ n. IsTrue (has (level_at behind n) x)) e there, subst (λ n. Leads hop (breaks_between rows a n) y x) e way)))
         | inr first ↦ inl ((are y).1 (inside, (b, low, omega (arith, first), x, there, way)))
       ]

@@ -15,7 +15,7 @@ use Rattle.vr_spans.specs.declared.runs.Run.{Run}
 use Rattle.vr_spans.specs.Runs.{has, in_run, IsStretched}
 use Rattle.vr_steps.specs.declared.hops.Hop.{Hop}
 use Rattle.vr_steps.specs.Levels.{IsCumuls, AreLevels, AreCrossed, AreCrossedBack, level_at, forward_steps, backward_steps_from}
-use Rattle.vr_steps.specs.Arcs.{Leads, between}
+use Rattle.vr_steps.specs.Arcs.{Leads, breaks_between}
 use Rattle.vr_steps.specs.Passages.{AreArrivals, AreDepartures, ArrivesAt, DepartsAt, upto, onward}
 use Rattle.vr_steps.specs.declared.ways.Way.{Way}
 use Rattle.vr_steps.specs.declared.ways.Way.TheVariants.{On, Back}
@@ -186,13 +186,13 @@ slice_long rows a b le within = length-take-le (b - a) (drop a rows) (let n = le
 
 -- what was added, from the level that was read and the breaks of the slice
 pub read_arrivals : (levels : List (List Run)) (hop : Hop) (rows : List BreakRow) (a b : ℕ) (set next old new : List Run) → a ≤ b → slice_get levels a ≡ Some set
-    → ((x : ℤ) → IsTrue (has new x) ↔ (IsTrue (has old x) ⊎ ArrivesAt set hop (take (b - a) (drop a rows)) next x)) → (x : ℤ) → IsTrue (has new x) ↔ (IsTrue (has old x) ⊎ ArrivesAt (level_at levels a) hop (between rows a b) next x)
+    → ((x : ℤ) → IsTrue (has new x) ↔ (IsTrue (has old x) ⊎ ArrivesAt set hop (take (b - a) (drop a rows)) next x)) → (x : ℤ) → IsTrue (has new x) ↔ (IsTrue (has old x) ⊎ ArrivesAt (level_at levels a) hop (breaks_between rows a b) next x)
 read_arrivals levels hop rows a b set next old new le read is =
     subst (λ rs. (x : ℤ) → IsTrue (has new x) ↔ (IsTrue (has old x) ⊎ ArrivesAt (level_at levels a) hop rs next x)) (slice_between rows a b le)
     (subst (λ s. (x : ℤ) → IsTrue (has new x) ↔ (IsTrue (has old x) ⊎ ArrivesAt s hop (take (b - a) (drop a rows)) next x)) (sym (level_is levels a set read)) is)
 
 pub read_departures : (levels : List (List Run)) (hop : Hop) (rows : List BreakRow) (a b : ℕ) (set here old new : List Run) → a ≤ b → slice_get levels b ≡ Some set
-    → ((y : ℤ) → IsTrue (has new y) ↔ (IsTrue (has old y) ⊎ DepartsAt set hop (take (b - a) (drop a rows)) here y)) → (y : ℤ) → IsTrue (has new y) ↔ (IsTrue (has old y) ⊎ DepartsAt (level_at levels b) hop (between rows a b) here y)
+    → ((y : ℤ) → IsTrue (has new y) ↔ (IsTrue (has old y) ⊎ DepartsAt set hop (take (b - a) (drop a rows)) here y)) → (y : ℤ) → IsTrue (has new y) ↔ (IsTrue (has old y) ⊎ DepartsAt (level_at levels b) hop (breaks_between rows a b) here y)
 read_departures levels hop rows a b set here old new le read is =
     subst (λ rs. (y : ℤ) → IsTrue (has new y) ↔ (IsTrue (has old y) ⊎ DepartsAt (level_at levels b) hop rs here y)) (slice_between rows a b le)
     (subst (λ s. (y : ℤ) → IsTrue (has new y) ↔ (IsTrue (has old y) ⊎ DepartsAt s hop (take (b - a) (drop a rows)) here y)) (sym (level_is levels b set read)) is)

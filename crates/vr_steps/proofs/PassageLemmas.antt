@@ -12,8 +12,8 @@ use Rattle.vr_steps.specs.declared.hops.Hop.{Hop}
 use Rattle.vr_steps.specs.declared.chains.Chain.{Chain}
 use Rattle.vr_steps.specs.declared.passages.Passage.{Passage}
 use Rattle.vr_steps.specs.Arcs.{IsSoundHop, one_arc, Leads}
-use Rattle.vr_steps.specs.Chains.{total, CanBegin, IsChainOf}
-use Rattle.vr_steps.specs.Passages.{Passes, IsOpen, IsPassage, LeadsNowhere, IsOver, HasWay}
+use Rattle.vr_steps.specs.Chains.{total_duration, CanBeginInTime, IsChainOf}
+use Rattle.vr_steps.specs.Passages.{MeetsPassage, IsOpen, IsPassage, LeadsNowhere, IsOver, HasWay}
 use Rattle.vr_steps.proofs.ChainLemmas.{IsChain, HaveDurations, HasRoom, Starts, durations_from_rows, room_from_chain, chain_from_room, chain_from_starts, starts_from_chain}
 
 no_false : {A : Type 0} → IsTrue false → A
@@ -26,18 +26,18 @@ no_false h = absurd (clash h)
 pub record LeadsOver (hop : Hop) (rows : List BreakRow) (y x : ℤ) : Type 0 where
   pub begin : IsTrue (within (pos 0) horizon y)
   pub «end» : IsTrue (within (pos 0) horizon x)
-  pub carried : total rows ≤ℤ ((x -ℤ y) -ℤ hop.transit)
+  pub carried : total_duration rows ≤ℤ ((x -ℤ y) -ℤ hop.transit)
   pub bounded : ((x -ℤ y) -ℤ hop.transit) ≤ℤ hop.slack
   pub chain : IsChain rows (y +ℤ hop.visit) x
 
 -- the durations of breaks, added up by place
-sum_durations : (rows : List BreakRow) (f : ℕ → ℤ) (a : ℕ) → ((i : ℕ) → i < length rows → f (a + i) ≡ (get_or rows i no_break).duration) → total_by f (range_with_len a (length rows)) ≡ total rows
+sum_durations : (rows : List BreakRow) (f : ℕ → ℤ) (a : ℕ) → ((i : ℕ) → i < length rows → f (a + i) ≡ (get_or rows i no_break).duration) → total_by f (range_with_len a (length rows)) ≡ total_duration rows
 sum_durations [] f a h = refl
 sum_durations (r ∷ rs) f a h =
     ap₂ (λ m n. m +ℤ n) (ap f (omega arith) ∙ h 0 (omega arith)) (sum_durations rs f (a + 1) (λ i lt. ap f (omega arith) ∙ h (suc i) (omega arith)))
 
 -- where all breaks lie inside the arc, the slack carries them all
-all_carried : (hop : Hop) (rows : List BreakRow) (plan : Plan) → EachIndex rows (λ i. IsTrue (is_inside (one_arc hop rows) plan i 0)) → break_time (one_arc hop rows) plan 0 ≡ total rows
+all_carried : (hop : Hop) (rows : List BreakRow) (plan : Plan) → EachIndex rows (λ i. IsTrue (is_inside (one_arc hop rows) plan i 0)) → break_time (one_arc hop rows) plan 0 ≡ total_duration rows
 all_carried hop rows plan inside =
     let inner : ℕ → ℤ = λ i. cond (is_inside (one_arc hop rows) plan i 0) (break_at (one_arc hop rows) i).duration (pos 0) in
     sum_durations rows inner 0 (λ i lt. let same : 0 + i ≡ i = omega arith in ap inner same ∙ ap (λ b. cond b (get_or rows i no_break).duration (pos 0)) (inside i lt))
@@ -100,7 +100,7 @@ module _ (hop : Hop) (rows : List BreakRow) (y x : ℤ) where
       left zero lt = refl
       left (suc k) lt = absurd (omega arith)
 
-      total_low : (rows : List BreakRow) → HaveDurations rows → pos 0 ≤ℤ total rows
+      total_low : (rows : List BreakRow) → HaveDurations rows → pos 0 ≤ℤ total_duration rows
       total_low [] h = omega (arith, ints)
       total_low (r ∷ rs) h = let n = total_low rs h.1 in omega (arith, ints, h.0, n)
 
@@ -152,7 +152,7 @@ module _ (hop : Hop) (rows : List BreakRow) (chain : Chain) (sound : IsSoundHop 
         from = omega (arith, ints, last, room.over, of.first_end_is);
       })
 
-  pub passage : CanBegin rows → HasWay hop chain → (p : Passage) → IsOver hop chain p → IsPassage hop rows p
+  pub passage : CanBeginInTime rows → HasWay hop chain → (p : Passage) → IsOver hop chain p → IsPassage hop rows p
   passage can way p is = record { open_way = open_way; exact = λ y x. (there y x, back_to y x) }
     where
       open_way : IsOpen p
@@ -166,7 +166,7 @@ module _ (hop : Hop) (rows : List BreakRow) (chain : Chain) (sound : IsSoundHop 
         from_high = omega (arith, ints, clamps, is.from, way.from);
       }
 
-      there : (y x : ℤ) → Leads hop rows y x → IsTrue (within (pos 0) horizon y) × IsTrue (within (pos 0) horizon x) × Passes p y x
+      there : (y x : ℤ) → Leads hop rows y x → IsTrue (within (pos 0) horizon y) × IsTrue (within (pos 0) horizon x) × MeetsPassage p y x
       there y x leads =
           let both = asks y x leads in
           let m = both.0 in
@@ -183,7 +183,7 @@ module _ (hop : Hop) (rows : List BreakRow) (chain : Chain) (sound : IsSoundHop 
             },
           )
 
-      back_to : (y x : ℤ) → IsTrue (within (pos 0) horizon y) × IsTrue (within (pos 0) horizon x) × Passes p y x → Leads hop rows y x
+      back_to : (y x : ℤ) → IsTrue (within (pos 0) horizon y) × IsTrue (within (pos 0) horizon x) × MeetsPassage p y x → Leads hop rows y x
       back_to y x (begin, end, m) =
           let long = durations_from_rows rows valid in
           leads_from_over hop rows y x long (record {
@@ -200,7 +200,7 @@ module _ (hop : Hop) (rows : List BreakRow) (chain : Chain) (sound : IsSoundHop 
           })
 
 -- breaks that cannot be taken one after another lead nowhere
-pub no_chain : (hop : Hop) (rows : List BreakRow) → All IsBreak rows → 0 < length rows → (CanBegin rows → ⊥) → LeadsNowhere hop rows
+pub no_chain : (hop : Hop) (rows : List BreakRow) → All IsBreak rows → 0 < length rows → (CanBeginInTime rows → ⊥) → LeadsNowhere hop rows
 no_chain hop rows valid some never y x way =
     let long = durations_from_rows rows valid in
     let m = over_from_leads hop rows y x some long way in

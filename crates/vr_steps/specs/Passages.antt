@@ -8,11 +8,11 @@ use Rattle.vr_model.specs.declared.records.BreakRow.{BreakRow}
 use Rattle.vr_steps.specs.declared.hops.Hop.{Hop}
 use Rattle.vr_steps.specs.declared.chains.Chain.{Chain}
 use Rattle.vr_steps.specs.declared.passages.Passage.{Passage}
-use Rattle.vr_steps.specs.Arcs.{Leads, between}
+use Rattle.vr_steps.specs.Arcs.{Leads, breaks_between}
 use Rattle.vr_steps.specs.Levels.{level_at}
 
 -- the cumul y at the begin and the cumul x at the end are as the passage asks
-pub record Passes (passage : Passage) (y x : ℤ) : Type 0 where
+pub record MeetsPassage (passage : Passage) (y x : ℤ) : Type 0 where
   pub until : y ≤ℤ passage.until
   pub from : passage.from ≤ℤ x
   pub least : (y +ℤ passage.least) ≤ℤ x
@@ -39,7 +39,7 @@ onward first = record { lo = first; hi = horizon }
 pub record IsPassage (hop : Hop) (rows : List BreakRow) (passage : Passage) : Type 0 where
   pub open_way : IsOpen passage
   pub exact : (y x : ℤ) → Leads hop rows y x
-      ↔ (IsTrue (within (pos 0) horizon y) × IsTrue (within (pos 0) horizon x) × Passes passage y x)
+      ↔ (IsTrue (within (pos 0) horizon y) × IsTrue (within (pos 0) horizon x) × MeetsPassage passage y x)
 
 -- an arc with these breaks inside leads nowhere
 abbrev pub LeadsNowhere : Hop → List BreakRow → Type 0
@@ -71,10 +71,11 @@ abbrev pub AreArrivals : List (List Run) → Hop → List Run → List BreakRow 
 AreArrivals from hop next breaks k b set = (x : ℤ)
     → IsTrue (has set x) ↔ (IsTrue (has next x)
     × ((a : ℕ) × (k ≤ a) × (a ≤ b) × (y : ℤ) × IsTrue (has (level_at from a) y)
-    × Leads hop (between breaks a b) y x))
+    × Leads hop (breaks_between breaks a b) y x))
 
 -- the cumuls of here from which the arc leads to the levels of k breaks or fewer, with a breaks taken before it
 abbrev pub AreDepartures : List (List Run) → Hop → List Run → List BreakRow → ℕ → ℕ → List Run → Type 0
 AreDepartures to hop here breaks a k set = (y : ℤ)
     → IsTrue (has set y) ↔ (IsTrue (has here y)
-    × ((b : ℕ) × (a ≤ b) × (b ≤ k) × (x : ℤ) × IsTrue (has (level_at to b) x) × Leads hop (between breaks a b) y x))
+    × ((b : ℕ) × (a ≤ b) × (b ≤ k) × (x : ℤ) × IsTrue (has (level_at to b) x)
+    × Leads hop (breaks_between breaks a b) y x))

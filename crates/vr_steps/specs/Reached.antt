@@ -9,7 +9,7 @@ use Rattle.vr_model.specs.schedules.Levels.{Crosses, FitAfter}
 use Rattle.vr_model.specs.schedules.Weights.{runs}
 use Rattle.vr_steps.specs.declared.hops.Hop.{Hop}
 use Rattle.vr_steps.specs.declared.lines.Line.{Line as Made}
-use Rattle.vr_steps.specs.Arcs.{Leads, between}
+use Rattle.vr_steps.specs.Arcs.{Leads, breaks_between}
 use Rattle.vr_steps.specs.Levels.{HasNumbers, IsCumuls, level_at, AreStartLevels, AreEndLevels, AreCrossed}
 use Rattle.vr_steps.specs.Levels.{AreCrossedBack}
 use Rattle.vr_steps.specs.Lines.{hop_of, defined_by, IsLineOf, IsSoundLine}
@@ -53,7 +53,7 @@ LinesStandForTheirs = (defined : Line) (made : Made) → IsLineOf defined made �
 abbrev pub ArcAlone : Type 0
 ArcAlone = (line : Line) → IsSound line → (k a b : ℕ) → k < length line.arcs → (y x : ℤ)
     → Crosses line k a b y x ↔ (IsTrue (allows line k y) × IsTrue (allows line (suc k) x)
-    × Leads (hop_at line k) (between line.breaks a b) y x)
+    × Leads (hop_at line k) (breaks_between line.breaks a b) y x)
 
 -- the levels of a start are what is reached at the first stop
 abbrev pub StartIsReached : Type 0

@@ -3,7 +3,7 @@
 ghost use Rattle.std.specs.Prelude.{◌≤◌, ◌↔◌, All, IsSome, IsNone, IfSome, length};
 ghost use Rattle.vr_model.specs.schedules.Levels.{FitBefore, FitAfter};
 ghost use Rattle.vr_model.specs.tables.WellFormed.{IsBreak};
-ghost use Rattle.vr_steps.specs.Chains.{CanBegin, IsAfter, IsChainOf, IsLate, IsSmall};
+ghost use Rattle.vr_steps.specs.Chains.{CanBeginInTime, HasBreakInFront, IsChainOf, IsLate, IsSmall};
 ghost use Rattle.vr_steps.specs.Fits.{IsBoundFound, IsEarliest, IsLatest};
 
 use vr_model::BreakRow;
@@ -28,7 +28,7 @@ impl Chain {
     pub(crate) fn of(rows: &[BreakRow]) -> Option<Chain>
         requires few { length rows.now ≤ 8 }
         requires rows { All IsBreak rows.now }
-        ensures some { IsSome result ↔ CanBegin rows.now }
+        ensures some { IsSome result ↔ CanBeginInTime rows.now }
         ensures value { IfSome result (IsChainOf rows.now) }
     {
         let mut chain = Chain {
@@ -48,7 +48,7 @@ impl Chain {
     fn after(self, row: BreakRow) -> Option<Chain>
         requires row { IsBreak row }
         requires small { IsSmall self }
-        ensures some { IfSome result (IsAfter row self) }
+        ensures some { IfSome result (HasBreakInFront row self) }
         ensures none { IsNone result → IsLate row self }
     {
         let latest = row.to.min(self.latest - row.duration);

@@ -10,10 +10,10 @@ use Rattle.vr_model.specs.declared.neighbours.Move.{Move}
 use Rattle.vr_descent.specs.Searching.{after_move, behind, standing}
 use Rattle.vr_descent.specs.declared.progress.Progress.{Progress}
 use Rattle.vr_routes.specs.Judging.{cost_change}
-use Rattle.vr_tabu.specs.Rounds.{IsKnown, round_end, with_difference}
-use Rattle.vr_tabu.specs.Standing.{events_of, from_here, from_state, next_events, next_of}
-use Rattle.vr_tabu.specs.TabuSearches.{TabuList, Round, next_round}
-use Rattle.vr_tabu.specs.TabuSearches.Round.{Best, Stuck, Cut}
+use Rattle.vr_tabu.specs.Rounds.{IsDifferenceKnown, tabu_round_end, with_difference}
+use Rattle.vr_tabu.specs.Standing.{events_of, tabu_from_here, tabu_from_state, next_events, next_of}
+use Rattle.vr_tabu.specs.TabuSearches.{TabuList, TabuRound, next_round}
+use Rattle.vr_tabu.specs.TabuSearches.TabuRound.{Best, Stuck, Cut}
 use Rattle.vr_tabu.specs.Tabus.{tabus_of}
 use Rattle.vr_tabu.specs.declared.rounds.Candidate.{Candidate}
 use Rattle.vr_tabu.specs.declared.rounds.RoundEnd.TheVariants as code
@@ -24,7 +24,7 @@ use Rattle.vr_tabu.proofs.SearchLemmas.{left_after, on_round}
 -- ---- the round that an end tells
 
 module _ (model : Model) (lists : List (List ℕ)) where
-  pub of_best : (r : Round) (k : ℕ) (c : Candidate) → code.Best k c ≡ round_end model lists r → (r ≡ Best k c.mv) × IsKnown model lists c
+  pub of_best : (r : TabuRound) (k : ℕ) (c : Candidate) → code.Best k c ≡ tabu_round_end model lists r → (r ≡ Best k c.mv) × IsDifferenceKnown model lists c
   of_best (Best n mv) k c e = let same = parts k n c (with_difference model lists mv) e in
       let same_move = ap (λ (d : Candidate). d.mv) same.1 in
       (ap₂ (λ m step. Best m step) (sym same.0) (sym same_move), ap (λ (d : Candidate). d.difference) same.1 ∙ ap (cost_change model lists) (sym same_move))
@@ -40,7 +40,7 @@ module _ (model : Model) (lists : List (List ℕ)) where
       differ : code.Best k c ≡ code.Cut → ⊥
       differ e = Prim.cc
 
-  pub of_stuck : (r : Round) (k : ℕ) → code.Stuck k ≡ round_end model lists r → r ≡ Stuck k
+  pub of_stuck : (r : TabuRound) (k : ℕ) → code.Stuck k ≡ tabu_round_end model lists r → r ≡ Stuck k
   of_stuck (Best n mv) k e = absurd (differ (with_difference model lists mv) e)
     where
       differ : (c : Candidate) → code.Stuck k ≡ code.Best n c → ⊥
@@ -51,7 +51,7 @@ module _ (model : Model) (lists : List (List ℕ)) where
       differ : code.Stuck k ≡ code.Cut → ⊥
       differ e = Prim.cc
 
-  pub of_cut : (r : Round) → code.Cut ≡ round_end model lists r → r ≡ Cut
+  pub of_cut : (r : TabuRound) → code.Cut ≡ tabu_round_end model lists r → r ≡ Cut
   of_cut (Best n mv) e = absurd (differ (with_difference model lists mv) e)
     where
       differ : (c : Candidate) → code.Cut ≡ code.Best n c → ⊥
@@ -66,19 +66,19 @@ module _ (model : Model) (lists : List (List ℕ)) where
 
 module _ (model : Model) (bounds : Bounds) (lists : List (List ℕ)) (state : State) where
   abbrev here : Outcome
-  here = from_state model bounds lists state
+  here = tabu_from_state model bounds lists state
 
-  abbrev events : Round → List Event
+  abbrev events : TabuRound → List Event
   events r = events_of model (standing lists state.best.routes.lists state.at.used state.at.found) r
 
-  abbrev left : Round → Outcome
+  abbrev left : TabuRound → Outcome
   left r = left_after model bounds (tabus_of state.tabus) lists state.best.routes.lists state.at.used state.at.found r
 
   -- the events of the round in hand
-  pub events_are : (r : Round) → next_of model bounds lists state ≡ r → events r ≡ next_events model bounds lists state
+  pub events_are : (r : TabuRound) → next_of model bounds lists state ≡ r → events r ≡ next_events model bounds lists state
   events_are r h = ap events (sym h)
 
-  goes : (state.at.found == bounds.limit.solutions) ≡ false → (r : Round) → next_of model bounds lists state ≡ r → here ≡ behind (next_events model bounds lists state) (left r)
+  goes : (state.at.found == bounds.limit.solutions) ≡ false → (r : TabuRound) → next_of model bounds lists state ≡ r → here ≡ behind (next_events model bounds lists state) (left r)
   goes more r h = on_round model bounds (tabus_of state.tabus) lists state.best.routes.lists state.at.used state.at.found more r h ∙ ap (λ es. behind es (left r)) (events_are r h)
 
   -- what is left after the round in hand
@@ -93,13 +93,13 @@ module _ (model : Model) (bounds : Bounds) (lists : List (List ℕ)) (state : St
   pub after_best : (state.at.found == bounds.limit.solutions) ≡ false → (k : ℕ) (mv : Move) → next_of model bounds lists state ≡ Best k mv → (new : State) (after : List (List ℕ))
       → tabus_of new.tabus ≡ next_round model bounds.tenure lists (apply model lists mv) (tabus_of state.tabus) → after ≡ apply model lists mv
       → new.best.routes.lists ≡ cheaper model state.best.routes.lists (apply model lists mv) → new.at ≡ after_move model lists mv k state.at
-      → here ≡ behind (next_events model bounds lists state) (from_state model bounds after new)
+      → here ≡ behind (next_events model bounds lists state) (tabu_from_state model bounds after new)
   after_best more k mv h new after same_tabus same_lists same_best same_at = goes more (Best k mv) h
       ∙ ap (behind (next_events model bounds lists state))
-      (sym (ap (λ t. from_here model bounds t after new.best.routes.lists new.at.used new.at.found) same_tabus
-      ∙ (ap (λ l. from_here model bounds next l new.best.routes.lists new.at.used new.at.found) same_lists
-      ∙ (ap (λ b. from_here model bounds next (apply model lists mv) b new.at.used new.at.found) same_best
-      ∙ ap (λ (p : Progress). from_here model bounds next (apply model lists mv) (cheaper model state.best.routes.lists (apply model lists mv)) p.used p.found) same_at))))
+      (sym (ap (λ t. tabu_from_here model bounds t after new.best.routes.lists new.at.used new.at.found) same_tabus
+      ∙ (ap (λ l. tabu_from_here model bounds next l new.best.routes.lists new.at.used new.at.found) same_lists
+      ∙ (ap (λ b. tabu_from_here model bounds next (apply model lists mv) b new.at.used new.at.found) same_best
+      ∙ ap (λ (p : Progress). tabu_from_here model bounds next (apply model lists mv) (cheaper model state.best.routes.lists (apply model lists mv)) p.used p.found) same_at))))
     where
       next : TabuList
       next = next_round model bounds.tenure lists (apply model lists mv) (tabus_of state.tabus)

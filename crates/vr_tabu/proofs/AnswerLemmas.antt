@@ -8,8 +8,8 @@ use Rattle.vr_model.specs.declared.search.Limit.{Limit}
 use Rattle.vr_descent.specs.Answering.{IsSoundAnswer}
 use Rattle.vr_descent.proofs.AnswerLemmas.{IsSoundState, SoundBy, sound_accepted, sound_by_rounds, sound_end, sound_start, sound_told, sound_tried}
 use Rattle.vr_tabu.specs.Answering.{TabuIsSound}
-use Rattle.vr_tabu.specs.TabuSearches.{TabuList, Round, next_round, none_tabu, round_of, tabu_from, tabu_on, tabu_search}
-use Rattle.vr_tabu.specs.TabuSearches.Round.{Best, Stuck, Cut}
+use Rattle.vr_tabu.specs.TabuSearches.{TabuList, TabuRound, next_round, none_tabu, round_of, tabu_from, tabu_on, tabu_search}
+use Rattle.vr_tabu.specs.TabuSearches.TabuRound.{Best, Stuck, Cut}
 use Rattle.vr_tabu.proofs.SearchLemmas.{best_where, stuck_where}
 
 module _ (model : Model) (first : List (List ℕ)) (limit : Limit) (tenure : ℕ) where
@@ -18,7 +18,7 @@ module _ (model : Model) (first : List (List ℕ)) (limit : Limit) (tenure : ℕ
   IsSoundBy = SoundBy model first limit (tabu_from model limit tenure)
 
   goes_on : (rounds : ℕ) (tabus : TabuList) (state : SearchState) → IsSoundState model first limit state → (state.found == limit.solutions) ≡ false → IsSoundBy rounds
-      → (r : Round) → round_of model tabus state.best state.lists (limit.tries - state.used) ≡ r
+      → (r : TabuRound) → round_of model tabus state.best state.lists (limit.tries - state.used) ≡ r
       → IsSoundAnswer model first limit (tabu_on model limit tenure (tabu_from model limit tenure rounds) tabus state r)
   goes_on rounds tabus state sound more again (Best n mv) h =
       let known = best_where model tabus state.best state.lists (limit.tries - state.used) n mv h in

@@ -17,11 +17,11 @@ use Rattle.vr_model.specs.declared.neighbours.Move.{Move}
 use Rattle.vr_model.proofs.routes.CostFits.{costs_are_bounded}
 use Rattle.vr_model.proofs.tables.Members.{In, of_below, of_filter}
 use Rattle.vr_model.proofs.tables.Tests.{clash}
-use Rattle.vr_routes.specs.Judging.{IsLeast, IsNoLess, cost_change, verdict_of}
+use Rattle.vr_routes.specs.Judging.{IsDifferenceBound, IsNoLess, cost_change, verdict_of}
 use Rattle.vr_routes.specs.declared.judging.Verdict.TheVariants.{Refused, Difference}
 use Rattle.vr_routes.specs.Tours.{Tours}
 use Rattle.vr_tabu.specs.Changed.{changed_visits, is_changed}
-use Rattle.vr_tabu.specs.Rounds.{IsCeiling, IsKnown, IsNoBetter, IsPassed, aspiration, better_with, bound_of, is_no_less, move_of}
+use Rattle.vr_tabu.specs.Rounds.{IsCeiling, IsDifferenceKnown, IsNoBetter, IsPassedInRound, aspiration, better_with, bound_of, is_no_less, move_of}
 use Rattle.vr_tabu.specs.Standing.{IsKnownState}
 use Rattle.vr_tabu.specs.Tabus.{AreAllTabu}
 use Rattle.vr_tabu.specs.TabuSearches.{TabuList, is_candidate, is_tabu, is_tabu_visit}
@@ -47,7 +47,7 @@ at_least : (least a b : ℤ) → IsTrue (int_le a least) → least ≤ℤ b → 
 at_least least a b h low = let le = le_of_test a least h in Prim.grind (arith, ints, le, low)
 
 -- a move that makes no less of a difference than a bound
-pub no_less_passed : (model : Model) (lists : List (List ℕ)) (bound : ℤ) (mv : Move) → IsNoLess model lists mv bound → IsPassed model lists (Some bound) mv
+pub no_less_passed : (model : Model) (lists : List (List ℕ)) (bound : ℤ) (mv : Move) → IsNoLess model lists mv bound → IsPassedInRound model lists (Some bound) mv
 no_less_passed model lists bound mv h one valid = by bound (cost_change model lists mv) (h one valid)
   where
     by : (a b : ℤ) → a ≤ℤ b → IsTrue (int_le a b)
@@ -72,11 +72,11 @@ module _ (model : Model) (tabus : TabuList) (best lists : List (List ℕ)) where
   not_candidate found mv e = sym (ap (λ b. cond b (better key (move_of found) mv) (move_of found)) e)
 
   -- a move that is no better than the best candidate so far
-  pub dearer : (found : Option Candidate) (ceiling : Option ℤ) (mv : Move) → IfSome found (IsKnown model lists) → IsCeiling model tabus best lists ceiling → IsNoBetter model lists mv (bound_of found ceiling)
+  pub dearer : (found : Option Candidate) (ceiling : Option ℤ) (mv : Move) → IfSome found (IsDifferenceKnown model lists) → IsCeiling model tabus best lists ceiling → IsNoBetter model lists mv (bound_of found ceiling)
       → move_of found ≡ better_with model tabus best lists (move_of found) mv
   dearer found ceiling mv known low worse = by (is_candidate model tabus best lists mv) refl
     where
-      kept : (found : Option Candidate) → IfSome found (IsKnown model lists) → is_candidate model tabus best lists mv ≡ true → IsTrue (is_no_less (bound_of found ceiling) (cost_change model lists mv))
+      kept : (found : Option Candidate) → IfSome found (IsDifferenceKnown model lists) → is_candidate model tabus best lists mv ≡ true → IsTrue (is_no_less (bound_of found ceiling) (cost_change model lists mv))
           → move_of found ≡ better key (move_of found) mv
       kept None known one h = absurd (clash (is_candidate model tabus best lists mv) one (low mv h))
       kept (Some c) known one h =
@@ -89,12 +89,12 @@ module _ (model : Model) (tabus : TabuList) (best lists : List (List ℕ)) where
       by true e = kept found known e (worse (and_left (valid_after mv) _ e)) ∙ sym (ap (λ b. cond b (better key (move_of found) mv) (move_of found)) e)
 
   -- a least difference that is not below a bound
-  pub no_better_by : (bound : Option ℤ) (mv : Move) (least : ℤ) → IsLeast model lists mv least → IsTrue (is_no_less bound least) → IsNoBetter model lists mv bound
+  pub no_better_by : (bound : Option ℤ) (mv : Move) (least : ℤ) → IsDifferenceBound model lists mv least → IsTrue (is_no_less bound least) → IsNoBetter model lists mv bound
   no_better_by None mv least low h = absurd (clash false h refl)
   no_better_by (Some c) mv least low h = λ valid. at_least least c (cost_change model lists mv) h (low valid)
 
   -- a tabu move that leads to lists that cost no less than the best
-  forbidden : (mv : Move) (least : ℤ) → IsLeast model lists mv least → is_tabu model tabus lists (after mv) ≡ true → IsTrue (int_le (aspiration model best lists) least) → is_candidate model tabus best lists mv ≡ false
+  forbidden : (mv : Move) (least : ℤ) → IsDifferenceBound model lists mv least → is_tabu model tabus lists (after mv) ≡ true → IsTrue (int_le (aspiration model best lists) least) → is_candidate model tabus best lists mv ≡ false
   forbidden mv least low tabu h = by (valid_after mv) refl
     where
       by : (b : Bool) → valid_after mv ≡ b → (b && (not (is_tabu model tabus lists (after mv)) || int_lt (cost model (after mv)) (cost model best))) ≡ false
@@ -121,7 +121,7 @@ module _ (model : Model) (tabus : TabuList) (best lists : List (List ℕ)) where
           no e = Prim.cc
 
   -- the difference itself is a least one
-  pub least_itself : (mv : Move) (difference : ℤ) → difference ≡ cost_change model lists mv → IsLeast model lists mv difference
+  pub least_itself : (mv : Move) (difference : ℤ) → difference ≡ cost_change model lists mv → IsDifferenceBound model lists mv difference
   least_itself mv difference e valid = subst (λ d. d ≤ℤ cost_change model lists mv) (sym e) (omega (arith, ints))
 
   -- a tabu move that leads to lists that cost no less than the best before
@@ -131,7 +131,7 @@ module _ (model : Model) (tabus : TabuList) (best lists : List (List ℕ)) where
       (forbidden mv difference (least_itself mv difference (difference_known mv difference told)) (and_right (int_le (aspiration model best lists) difference) _ h) (and_left _ (is_tabu model tabus lists (after mv)) h))
 
   -- a move that is taken
-  pub taken : (found : Option Candidate) (ceiling : Option ℤ) (mv : Move) (difference : ℤ) → IfSome found (IsKnown model lists) → Difference difference ≡ verdict_of model lists mv
+  pub taken : (found : Option Candidate) (ceiling : Option ℤ) (mv : Move) (difference : ℤ) → IfSome found (IsDifferenceKnown model lists) → Difference difference ≡ verdict_of model lists mv
       → is_no_less (bound_of found ceiling) difference ≡ false → (int_le (aspiration model best lists) difference && is_tabu model tabus lists (after mv)) ≡ false
       → Some mv ≡ better_with model tabus best lists (move_of found) mv
   taken found ceiling mv difference known told better_ open_ =
@@ -157,7 +157,7 @@ module _ (model : Model) (tabus : TabuList) (best lists : List (List ℕ)) where
           by true e = ap₂ (λ a l. not a || l) e (below (cost model best) (cost model lists) (cost model (after mv)) (cost_change model lists mv) (left_false _ _ e free))
           by false e = ap (λ a. not a || int_lt (cost model (after mv)) (cost model best)) e
 
-      better_one : (found : Option Candidate) → IfSome found (IsKnown model lists) → is_no_less (bound_of found ceiling) (cost_change model lists mv) ≡ false → better key (move_of found) mv ≡ Some mv
+      better_one : (found : Option Candidate) → IfSome found (IsDifferenceKnown model lists) → is_no_less (bound_of found ceiling) (cost_change model lists mv) ≡ false → better key (move_of found) mv ≡ Some mv
       better_one None known h = refl
       better_one (Some c) known h =
           let less : int_lt (cost model (after mv)) (cost model (after c.mv)) ≡ true = below (cost model (after c.mv)) (cost model lists) (cost model (after mv)) (cost_change model lists mv)

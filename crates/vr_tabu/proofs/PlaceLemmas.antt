@@ -7,7 +7,7 @@ use Rattle.vr_model.specs.deciding.Testing.{and_both, and_right, eq_of_test, tes
 use Rattle.vr_model.specs.routes.Routes.{holds}
 use Rattle.vr_model.proofs.routes.Lists.{place_of_held}
 use Rattle.vr_model.proofs.tables.Tests.{clash, fails, test_of_lt}
-use Rattle.vr_tabu.specs.Changed.{node_before}
+use Rattle.vr_tabu.specs.Changed.{node_just_before}
 use Rattle.vr_tabu.specs.Parts.{ArePlaced, IsPlaced}
 use Rattle.vr_tabu.proofs.BeforeLemmas.{before_none}
 
@@ -44,11 +44,11 @@ all_placed list places n high placed x held =
     subst (λ z. IsPlaced list places z) p.2 (placed p.0 (omega (arith, low, high)))
 
 -- a visit that stands at the place that is kept of it
-pub at_kept : (origin : ℕ) (list : List ℕ) (visit place : ℕ) (answer : ℕ) → (nat_lt place (length list) && (slice_index list place == visit)) ≡ true → Some answer ≡ node_before origin list (slice_index list place) → Some answer ≡ node_before origin list visit
-at_kept origin list visit place answer h e = subst (λ x. Some answer ≡ node_before origin list x) (eq_of_test (slice_index list place) visit (and_right (nat_lt place (length list)) (slice_index list place == visit) h)) e
+pub at_kept : (origin : ℕ) (list : List ℕ) (visit place : ℕ) (answer : ℕ) → (nat_lt place (length list) && (slice_index list place == visit)) ≡ true → Some answer ≡ node_just_before origin list (slice_index list place) → Some answer ≡ node_just_before origin list visit
+at_kept origin list visit place answer h e = subst (λ x. Some answer ≡ node_just_before origin list x) (eq_of_test (slice_index list place) visit (and_right (nat_lt place (length list)) (slice_index list place == visit) h)) e
 
 -- a visit that does not stand at the place that is kept of it stands nowhere
-pub not_kept : (origin : ℕ) (list places : List ℕ) (visit : ℕ) → ArePlaced list places → (nat_lt (slice_index places visit) (length list) && (slice_index list (slice_index places visit) == visit)) ≡ false → None ≡ node_before origin list visit
+pub not_kept : (origin : ℕ) (list places : List ℕ) (visit : ℕ) → ArePlaced list places → (nat_lt (slice_index places visit) (length list) && (slice_index list (slice_index places visit) == visit)) ≡ false → None ≡ node_just_before origin list visit
 not_kept origin list places visit placed h = sym (before_none origin list visit (fails (holds list visit) λ held.
     let at = placed visit held in
     clash (nat_lt (slice_index places visit) (length list) && (slice_index list (slice_index places visit) == visit))

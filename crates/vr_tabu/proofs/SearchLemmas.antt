@@ -16,12 +16,12 @@ use Rattle.vr_model.proofs.first.LeastChoice.{least_first}
 use Rattle.vr_model.proofs.routes.Lists.{are-lists, are_lists-count}
 use Rattle.vr_model.proofs.tables.Members.{In, of_contains, of_filter}
 use Rattle.vr_model.specs.deciding.Testing.{and_left}
-use Rattle.vr_tabu.specs.Standing.{events_of, from_here}
+use Rattle.vr_tabu.specs.Standing.{events_of, tabu_from_here}
 use Rattle.vr_descent.proofs.ScanLemmas.{one_move}
 use Rattle.vr_descent.specs.Incumbents.{kept}
 use Rattle.vr_descent.specs.Searching.{behind, standing}
-use Rattle.vr_tabu.specs.TabuSearches.{TabuList, Round, is_candidate, least_candidate, next_round, none_tabu, round_of, round_with, tabu_from, tabu_on, tabu_search}
-use Rattle.vr_tabu.specs.TabuSearches.Round.{Best, Stuck, Cut}
+use Rattle.vr_tabu.specs.TabuSearches.{TabuList, TabuRound, is_candidate, least_candidate, next_round, none_tabu, round_of, round_with, tabu_from, tabu_on, tabu_search}
+use Rattle.vr_tabu.specs.TabuSearches.TabuRound.{Best, Stuck, Cut}
 use Rattle.vr_tabu.specs.declared.searching.Bounds.{Bounds}
 
 -- valid lists of a model are as many as others
@@ -112,7 +112,7 @@ module _ (model : Model) (tabus : TabuList) (best lists : List (List ℕ)) (rest
 -- ---- a bound on the rounds that is above the number of tries left is never met
 
 module _ (model : Model) (limit : Limit) (tenure : ℕ) where
-  abbrev round_at : TabuList → SearchState → Round
+  abbrev round_at : TabuList → SearchState → TabuRound
   round_at tabus state = round_of model tabus state.best state.lists (limit.tries - state.used)
 
   from_enough : (rounds : ℕ) (tabus : TabuList) (state : SearchState) → (state.found == limit.solutions) ≡ true → tabu_from model limit tenure (suc rounds) tabus state ≡ ended state Solutions
@@ -125,7 +125,7 @@ module _ (model : Model) (limit : Limit) (tenure : ℕ) where
   from_round rounds tabus state e = rw (e, tabu_from) refl
 
   same_on : (again other : TabuList → SearchState → Outcome) (rounds : ℕ) → ((tabus : TabuList) (next : SearchState) → limit.tries - next.used < rounds → again tabus next ≡ other tabus next)
-      → (tabus : TabuList) (state : SearchState) → limit.tries - state.used < suc rounds → (r : Round) → round_at tabus state ≡ r → tabu_on model limit tenure again tabus state r ≡ tabu_on model limit tenure other tabus state r
+      → (tabus : TabuList) (state : SearchState) → limit.tries - state.used < suc rounds → (r : TabuRound) → round_at tabus state ≡ r → tabu_on model limit tenure again tabus state r ≡ tabu_on model limit tenure other tabus state r
   same_on again other rounds same tabus state few (Best k mv) e =
       let known = best_where model tabus state.best state.lists (limit.tries - state.used) k mv e in
       ap (with_event (event_at model (accepted model state k mv) kind.Move))
@@ -149,41 +149,41 @@ module _ (model : Model) (limit : Limit) (tenure : ℕ) where
 -- ---- the search from where it stands
 
 module _ (model : Model) (bounds : Bounds) where
-  pub at_start : (lists : List (List ℕ)) → tabu_search model lists bounds.limit bounds.tenure ≡ with_event (event_at model (begun lists) kind.First) (from_here model bounds none_tabu lists lists 0 1)
+  pub at_start : (lists : List (List ℕ)) → tabu_search model lists bounds.limit bounds.tenure ≡ with_event (event_at model (begun lists) kind.First) (tabu_from_here model bounds none_tabu lists lists 0 1)
   unfolding tabu_search
   at_start lists = let all : bounds.limit.tries ≡ bounds.limit.tries - 0 = omega arith in
       ap (λ tries. with_event (event_at model (begun lists) kind.First) (tabu_from model bounds.limit bounds.tenure (suc tries) none_tabu (begun lists))) all
 
   module _ (tabus : TabuList) (lists best : List (List ℕ)) (used found : ℕ) where
     -- enough solutions were found
-    pub enough : (found == bounds.limit.solutions) ≡ true → from_here model bounds tabus lists best used found ≡ ended (standing lists best used found) Solutions
+    pub enough : (found == bounds.limit.solutions) ≡ true → tabu_from_here model bounds tabus lists best used found ≡ ended (standing lists best used found) Solutions
     enough e = from_enough model bounds.limit bounds.tenure (bounds.limit.tries - used) tabus (standing lists best used found) e
 
     -- fewer rounds do as well after some tries
     fewer : (next : TabuList) (k : ℕ) → 1 ≤ k → k ≤ bounds.limit.tries - used → (after kept : List (List ℕ)) (now : ℕ)
-        → tabu_from model bounds.limit bounds.tenure (bounds.limit.tries - used) next (standing after kept (used + k) now) ≡ from_here model bounds next after kept (used + k) now
+        → tabu_from model bounds.limit bounds.tenure (bounds.limit.tries - used) next (standing after kept (used + k) now) ≡ tabu_from_here model bounds next after kept (used + k) now
     fewer next k one low after kept now = let rounds = suc (bounds.limit.tries - (used + k)) in let more = (bounds.limit.tries - used) - suc (bounds.limit.tries - (used + k)) in
         let sum : bounds.limit.tries - used ≡ rounds + more = omega (arith, one, low) in
         ap (λ m. tabu_from model bounds.limit bounds.tenure m next (standing after kept (used + k) now)) sum
         ∙ bound_unmet model bounds.limit bounds.tenure rounds more next (standing after kept (used + k) now) (omega arith)
 
     -- what is left of the search after a round
-    abbrev pub left_after : Round → Outcome
+    abbrev pub left_after : TabuRound → Outcome
     left_after (Best k mv) =
-        from_here model bounds (next_round model bounds.tenure lists (apply model lists mv) tabus) (apply model lists mv) (cheaper model best (apply model lists mv)) (used + k) (found + 1)
+        tabu_from_here model bounds (next_round model bounds.tenure lists (apply model lists mv) tabus) (apply model lists mv) (cheaper model best (apply model lists mv)) (used + k) (found + 1)
     left_after (Stuck k) = ended (tried (standing lists best used found) k) Optimum
     left_after Cut = ended (tried (standing lists best used found) (bounds.limit.tries - used)) Tries
 
     -- the search is the events of a round, and what is left after it
-    pub on_round : (found == bounds.limit.solutions) ≡ false → (r : Round) → round_of model tabus best lists (bounds.limit.tries - used) ≡ r
-        → from_here model bounds tabus lists best used found ≡ behind (events_of model (standing lists best used found) r) (left_after r)
+    pub on_round : (found == bounds.limit.solutions) ≡ false → (r : TabuRound) → round_of model tabus best lists (bounds.limit.tries - used) ≡ r
+        → tabu_from_here model bounds tabus lists best used found ≡ behind (events_of model (standing lists best used found) r) (left_after r)
     on_round e r h = from_round model bounds.limit bounds.tenure (bounds.limit.tries - used) tabus (standing lists best used found) e
         ∙ (ap (tabu_on model bounds.limit bounds.tenure (tabu_from model bounds.limit bounds.tenure (bounds.limit.tries - used)) tabus (standing lists best used found)) h ∙ go r h)
       where
         one_more : (k : ℕ) → suc k ≡ k + 1
         one_more k = omega arith
 
-        go : (r : Round) → round_of model tabus best lists (bounds.limit.tries - used) ≡ r
+        go : (r : TabuRound) → round_of model tabus best lists (bounds.limit.tries - used) ≡ r
             → tabu_on model bounds.limit bounds.tenure (tabu_from model bounds.limit bounds.tenure (bounds.limit.tries - used)) tabus (standing lists best used found) r
             ≡ behind (events_of model (standing lists best used found) r) (left_after r)
         go (Best k mv) h = let known = best_where model tabus best lists (bounds.limit.tries - used) k mv h in

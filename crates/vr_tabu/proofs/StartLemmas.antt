@@ -5,7 +5,7 @@ use Rattle.vr_model.specs.declared.records.Model.{Model}
 use Rattle.vr_routes.specs.Judging.{HoldSame}
 use Rattle.vr_routes.specs.Tours.{Tours}
 use Rattle.vr_descent.proofs.Beginnings.{at_first, under_way}
-use Rattle.vr_tabu.specs.Standing.{IsBegun, Stands, from_here, from_state}
+use Rattle.vr_tabu.specs.Standing.{IsTabuBegun, TabuStands, tabu_from_here, tabu_from_state}
 use Rattle.vr_tabu.specs.TabuSearches.{none_tabu}
 use Rattle.vr_tabu.specs.declared.searching.Bounds.{Bounds}
 use Rattle.vr_tabu.specs.declared.searching.State.{State}
@@ -13,11 +13,11 @@ use Rattle.vr_tabu.specs.declared.searching.State.{State}
 module _ (model : Model) (bounds : Bounds) (lists : List (List ℕ)) where
   -- what is left of the search behind its first event
   abbrev pub rest : Outcome
-  rest = from_here model bounds none_tabu lists lists 0 1
+  rest = tabu_from_here model bounds none_tabu lists lists 0 1
 
 -- a state that begins stands where the search begins
-module _ (model : Model) (bounds : Bounds) (routes : Tours) (state : State) (begins : IsBegun model routes (at_first model routes.lists) state) where
-  pub begun_stands : (committed : List (List ℕ)) → HoldSame model committed routes → 1 ≤ bounds.limit.solutions → Stands model bounds committed routes state
+module _ (model : Model) (bounds : Bounds) (routes : Tours) (state : State) (begins : IsTabuBegun model routes (at_first model routes.lists) state) where
+  pub begun_stands : (committed : List (List ℕ)) → HoldSame model committed routes → 1 ≤ bounds.limit.solutions → TabuStands model bounds committed routes state
   begun_stands committed holds some =
       let found = ap (λ p. p.found) begins.at_is in
       let round = ap (λ t. t.round) begins.none in
@@ -28,8 +28,8 @@ module _ (model : Model) (bounds : Bounds) (routes : Tours) (state : State) (beg
       }
 
   -- what is left from there is what is left behind the first event
-  pub rest_is : from_state model bounds routes.lists state ≡ rest model bounds routes.lists
+  pub rest_is : tabu_from_state model bounds routes.lists state ≡ rest model bounds routes.lists
   rest_is =
-      ap (λ t. from_here model bounds t routes.lists state.best.routes.lists state.at.used state.at.found) begins.none
-      ∙ (ap (λ b. from_here model bounds none_tabu routes.lists b.routes.lists state.at.used state.at.found) begins.best_is
-      ∙ ap (λ p. from_here model bounds none_tabu routes.lists routes.lists p.used p.found) begins.at_is)
+      ap (λ t. tabu_from_here model bounds t routes.lists state.best.routes.lists state.at.used state.at.found) begins.none
+      ∙ (ap (λ b. tabu_from_here model bounds none_tabu routes.lists b.routes.lists state.at.used state.at.found) begins.best_is
+      ∙ ap (λ p. tabu_from_here model bounds none_tabu routes.lists routes.lists p.used p.found) begins.at_is)

@@ -6,9 +6,9 @@ use Rattle.vr_model.specs.routes.Routes.{route, vehicles}
 use Rattle.vr_model.specs.declared.records.Model.{Model}
 
 -- the node just before a visit in a list that begins behind a node, none where the visit does not stand there
-abbrev pub node_before : ℕ → List ℕ → ℕ → Option ℕ
-node_before origin [] visit = None
-node_before origin (next ∷ rest) visit = cond (next == visit) (Some origin) (node_before next rest visit)
+abbrev pub node_just_before : ℕ → List ℕ → ℕ → Option ℕ
+node_just_before origin [] visit = None
+node_just_before origin (next ∷ rest) visit = cond (next == visit) (Some origin) (node_just_before next rest visit)
 
 -- both are the same node, or there is neither
 abbrev pub is_same_node : Option ℕ → Option ℕ → Bool
@@ -20,7 +20,8 @@ is_same_node (Some x) (Some y) = x == y
 -- the node just before a visit in the list of a vehicle is another in the new list than in the old one, or the visit
 -- stands in one of both alone
 abbrev pub is_changed_in : ℕ → List ℕ → List ℕ → ℕ → Bool
-is_changed_in start old new visit = not (is_same_node (node_before start old visit) (node_before start new visit))
+is_changed_in start old new visit = not (is_same_node (node_just_before start old visit)
+    (node_just_before start new visit))
 
 -- a visit is changed from lists to others where its vehicle or the node just before it is another: where that holds in
 -- the list of some vehicle. An inactive visit has neither.

@@ -11,8 +11,8 @@ use Rattle.vr_model.specs.declared.records.Model.{Model}
 use Rattle.vr_model.specs.declared.neighbours.Move.{Move}
 use Rattle.vr_routes.specs.Judging.{HoldSame, cost_change}
 use Rattle.vr_routes.specs.Tours.{Tours}
-use Rattle.vr_tabu.specs.TabuSearches.{Round, TabuList, is_candidate}
-use Rattle.vr_tabu.specs.TabuSearches.Round.{Best, Stuck, Cut}
+use Rattle.vr_tabu.specs.TabuSearches.{TabuRound, TabuList, is_candidate}
+use Rattle.vr_tabu.specs.TabuSearches.TabuRound.{Best, Stuck, Cut}
 use Rattle.vr_tabu.specs.declared.rounds.Candidate.{Candidate}
 use Rattle.vr_tabu.specs.declared.rounds.RoundEnd.{RoundEnd}
 use Rattle.vr_tabu.specs.declared.rounds.RoundEnd.TheVariants as code
@@ -23,8 +23,8 @@ move_of None = None
 move_of (Some candidate) = Some candidate.mv
 
 -- what a candidate makes of the cost is known
-abbrev pub IsKnown : Model → List (List ℕ) → Candidate → Type 0
-IsKnown model lists candidate = candidate.difference ≡ cost_change model lists candidate.mv
+abbrev pub IsDifferenceKnown : Model → List (List ℕ) → Candidate → Type 0
+IsDifferenceKnown model lists candidate = candidate.difference ≡ cost_change model lists candidate.mv
 
 -- what the difference of a better candidate than the best so far is below: that of this one, else a ceiling, where it
 -- is known
@@ -47,8 +47,8 @@ IsNoBetter model lists mv bound =
     IsTrue (is_valid model (apply model lists mv)) → IsTrue (is_no_less bound (cost_change model lists mv))
 
 -- what a round passes over: where a move is one of the lists, it makes no difference below a bound
-abbrev pub IsPassed : Model → List (List ℕ) → Option ℤ → Move → Type 0
-IsPassed model lists bound mv = IsTrue (is_move model lists mv) → IsNoBetter model lists mv bound
+abbrev pub IsPassedInRound : Model → List (List ℕ) → Option ℤ → Move → Type 0
+IsPassedInRound model lists bound mv = IsTrue (is_move model lists mv) → IsNoBetter model lists mv bound
 
 -- a move that makes no difference below a ceiling is no candidate
 abbrev pub IsCeiling : Model → TabuList → List (List ℕ) → List (List ℕ) → Option ℤ → Type 0
@@ -78,10 +78,10 @@ abbrev pub with_difference : Model → List (List ℕ) → Move → Candidate
 with_difference model lists mv = record { mv = mv; difference = cost_change model lists mv }
 
 -- the end of a round, with the difference of its move
-abbrev pub round_end : Model → List (List ℕ) → Round → RoundEnd
-round_end model lists (Best n mv) = code.Best n (with_difference model lists mv)
-round_end model lists (Stuck n) = code.Stuck n
-round_end model lists Cut = code.Cut
+abbrev pub tabu_round_end : Model → List (List ℕ) → TabuRound → RoundEnd
+tabu_round_end model lists (Best n mv) = code.Best n (with_difference model lists mv)
+tabu_round_end model lists (Stuck n) = code.Stuck n
+tabu_round_end model lists Cut = code.Cut
 
 -- the end of a round of so many moves, with the best candidate in code
 abbrev pub end_with : ℕ → Option Candidate → RoundEnd

@@ -13,8 +13,8 @@ use Rattle.vr_descent.specs.Incumbents.{IsBest, IsUnderWay}
 use Rattle.vr_descent.specs.Searching.{standing}
 use Rattle.vr_descent.specs.declared.progress.Progress.{Progress}
 use Rattle.vr_routes.specs.Tours.{Tours}
-use Rattle.vr_tabu.specs.TabuSearches.{TabuList, Round, none_tabu, round_of, tabu_from}
-use Rattle.vr_tabu.specs.TabuSearches.Round.{Best, Stuck, Cut}
+use Rattle.vr_tabu.specs.TabuSearches.{TabuList, TabuRound, none_tabu, round_of, tabu_from}
+use Rattle.vr_tabu.specs.TabuSearches.TabuRound.{Best, Stuck, Cut}
 use Rattle.vr_tabu.specs.Tabus.{tabus_of}
 use Rattle.vr_tabu.specs.declared.searching.State.{State}
 use Rattle.vr_tabu.specs.declared.searching.Bounds.{Bounds}
@@ -26,7 +26,7 @@ pub record AreBounds (bounds : Bounds) : Type 0 where
   pub tenure : bounds.tenure ≤ 1000
 
 -- what tabu search begins with: these routes are the best, they cost what is known there, and no visit is tabu
-pub record IsBegun (model : Model) (routes : Tours) (at : Progress) (state : State) : Type 0 where
+pub record IsTabuBegun (model : Model) (routes : Tours) (at : Progress) (state : State) : Type 0 where
   pub at_is : state.at ≡ at
   pub best_is : state.best ≡ record { routes = routes; cost = at.cost }
   pub none : tabus_of state.tabus ≡ none_tabu
@@ -41,30 +41,30 @@ pub record IsKnownState (model : Model) (routes : Tours) (state : State) : Type 
   pub best : IsBest model routes.visits state.best
 
 -- the search is under way, the rounds are counted, and it is known of each node how long it is tabu
-pub record Stands (model : Model) (bounds : Bounds) (committed : List (List ℕ)) (routes : Tours) (state : State) :
+pub record TabuStands (model : Model) (bounds : Bounds) (committed : List (List ℕ)) (routes : Tours) (state : State) :
     Type 0 where
   pub going : IsUnderWay model bounds.limit committed routes state.at state.best
   pub round : suc state.tabus.round ≤ state.at.found
   pub covers : length state.tabus.until.items ≡ model.nodes
 
 -- tabu search from there, by one round more than there are tries left
-abbrev pub from_here : Model → Bounds → TabuList → List (List ℕ) → List (List ℕ) → ℕ → ℕ → Outcome
-from_here model bounds tabus lists best used found =
+abbrev pub tabu_from_here : Model → Bounds → TabuList → List (List ℕ) → List (List ℕ) → ℕ → ℕ → Outcome
+tabu_from_here model bounds tabus lists best used found =
     tabu_from model bounds.limit bounds.tenure (suc (bounds.limit.tries - used)) tabus
     (standing lists best used found)
 
 -- the same from where the code stands
-abbrev pub from_state : Model → Bounds → List (List ℕ) → State → Outcome
-from_state model bounds lists state =
-    from_here model bounds (tabus_of state.tabus) lists state.best.routes.lists state.at.used state.at.found
+abbrev pub tabu_from_state : Model → Bounds → List (List ℕ) → State → Outcome
+tabu_from_state model bounds lists state =
+    tabu_from_here model bounds (tabus_of state.tabus) lists state.best.routes.lists state.at.used state.at.found
 
 -- the round of the search from where the code stands
-abbrev pub next_of : Model → Bounds → List (List ℕ) → State → Round
+abbrev pub next_of : Model → Bounds → List (List ℕ) → State → TabuRound
 next_of model bounds lists state =
     round_of model (tabus_of state.tabus) state.best.routes.lists lists (bounds.limit.tries - state.at.used)
 
 -- the events of a round
-abbrev pub events_of : Model → SearchState → Round → List Event
+abbrev pub events_of : Model → SearchState → TabuRound → List Event
 events_of model state (Best n mv) = event_at model (accepted model state n mv) kind.Move ∷ []
 events_of model state (Stuck n) = []
 events_of model state Cut = []
@@ -77,6 +77,6 @@ next_events model bounds lists state =
 
 -- what is left of the search where the code stands: it goes on, or it has ended
 abbrev pub left_of : Model → Bounds → List (List ℕ) → State → Option End → Outcome
-left_of model bounds lists state None = from_state model bounds lists state
+left_of model bounds lists state None = tabu_from_state model bounds lists state
 left_of model bounds lists state (Some stop) =
     ended (standing lists state.best.routes.lists state.at.used state.at.found) stop

@@ -53,23 +53,24 @@ least_candidate model tabus best lists =
     (filter (is_candidate model tabus best lists) (moves model lists))
 
 -- how a round ends: with the least candidate of so many moves, without a candidate among so many, or for want of tries
-pub data Round : Type 0 where
-  Best : ℕ → Move → Round
-  Stuck : ℕ → Round
-  Cut : Round
+pub data TabuRound : Type 0 where
+  Best : ℕ → Move → TabuRound
+  Stuck : ℕ → TabuRound
+  Cut : TabuRound
 
 -- the round of so many moves with this least candidate
-abbrev pub round_with : ℕ → Option Move → Round
+abbrev pub round_with : ℕ → Option Move → TabuRound
 round_with n None = Stuck n
 round_with n (Some mv) = Best n mv
 
 -- a round of lists in which at most `rest` moves may be tried
-abbrev pub round_of : Model → TabuList → List (List ℕ) → List (List ℕ) → ℕ → Round
+abbrev pub round_of : Model → TabuList → List (List ℕ) → List (List ℕ) → ℕ → TabuRound
 round_of model tabus best lists rest = let n = length (moves model lists) in
     cond (nat_lt rest n) Cut (round_with n (least_candidate model tabus best lists))
 
 -- how the search goes on after a round: from the lists after its move, or it ends
-abbrev pub tabu_on : Model → Limit → ℕ → (TabuList → SearchState → Outcome) → TabuList → SearchState → Round → Outcome
+abbrev pub tabu_on : Model → Limit → ℕ → (TabuList → SearchState → Outcome) → TabuList → SearchState → TabuRound
+    → Outcome
 tabu_on model limit tenure again tabus state (Best n mv) = let next = accepted model state n mv in
     with_event (event_at model next kind.Move) (again (next_round model tenure state.lists next.lists tabus) next)
 tabu_on model limit tenure again tabus state (Stuck n) = ended (tried state n) Optimum

@@ -2,7 +2,7 @@
 
 ghost use Rattle.std.specs.Prelude.{◌≡◌, ◌<◌, IsTrue, length};
 ghost use Rattle.vr_model.specs.routes.Routes.{is_distinct, route};
-ghost use Rattle.vr_tabu.specs.Changed.{is_changed_in, node_before};
+ghost use Rattle.vr_tabu.specs.Changed.{is_changed_in, node_just_before};
 
 use crate::new_list::{NewList, node_before_place};
 use std::marker::Model;
@@ -62,7 +62,7 @@ impl<'r, 'a> ListChange<'r, 'a> {
 fn node_before(routes: &Routes, v: u32, origin: u32, visit: u32) -> Option<u32>
     requires vehicle { v < length routes.now.lists }
     requires distinct { IsTrue (is_distinct (route routes.now.lists v)) }
-    ensures { result ≡ node_before origin (route routes.now.lists v) visit }
+    ensures { result ≡ node_just_before origin (route routes.now.lists v) visit }
 {
     routes.know_once();
     match routes.seat(visit) {

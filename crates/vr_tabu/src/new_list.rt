@@ -4,7 +4,7 @@ ghost use Rattle.std.specs.Prelude.{◌≡◌, ◌==◌, ◌&&◌, ◌<◌, ◌�
 ghost use Rattle.vr_model.specs.routes.Routes.{is_distinct};
 ghost use Rattle.vr_routes.specs.Changes.{IsMadeOn};
 ghost use Rattle.vr_routes.specs.Pieces.{joined, part_at};
-ghost use Rattle.vr_tabu.specs.Changed.{node_before};
+ghost use Rattle.vr_tabu.specs.Changed.{node_just_before};
 ghost use Rattle.vr_tabu.specs.Parts.{ArePlaced};
 
 use std::marker::Model;
@@ -63,7 +63,7 @@ impl NewList {
     #[inline]
     pub fn node_before(&self, origin: u32, visit: u32) -> Option<u32>
         requires distinct { IsTrue (is_distinct self.now) }
-        ensures { result ≡ node_before origin self.now visit }
+        ensures { result ≡ node_just_before origin self.now visit }
     {
         let list = self.row.as_slice();
         let place = place_in(&self.places, visit);
@@ -109,7 +109,7 @@ fn is_at(list: &[u32], place: u32, visit: u32) -> bool
 pub fn node_before_place(list: &[u32], origin: u32, place: u32) -> u32
     requires place { place < length list.now }
     requires distinct { IsTrue (is_distinct list.now) }
-    ensures { Some result ≡ node_before origin list.now (slice_index list.now place) }
+    ensures { Some result ≡ node_just_before origin list.now (slice_index list.now place) }
 {
     if place == 0 {
         return origin;

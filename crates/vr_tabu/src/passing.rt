@@ -1,6 +1,6 @@
 //! Which moves a round passes over, run by run.
 
-ghost use Rattle.vr_tabu.specs.Rounds.{CanPass, IsPassed};
+ghost use Rattle.vr_tabu.specs.Rounds.{CanPass, IsPassedInRound};
 
 use std::marker::PhantomData;
 use vr_known::Sieve;
@@ -23,7 +23,7 @@ impl<'a, J: Judge> Sieve for NoBetter<'a, J> {
 
     ghost is_ready = { λ s. Unit {0} };
 
-    ghost covers = { λ s. IsPassed s.model.now s.routes.now.lists s.bound };
+    ghost covers = { λ s. IsPassedInRound s.model.now s.routes.now.lists s.bound };
 
     ghost tries = { λ s. s.rest };
 

@@ -6,10 +6,11 @@ ghost use Rattle.vr_model.specs.moves.MoveTests.{is_move};
 ghost use Rattle.vr_model.specs.moves.Moves.{apply, moves};
 ghost use Rattle.vr_model.specs.tables.WellFormedOnce.{IsWellFormed-prop};
 ghost use Rattle.vr_descent.specs.Asking.{AsksFor, Keeps};
-ghost use Rattle.vr_known.specs.Passing.{Takes, tried, within};
+ghost use Rattle.vr_known.specs.Passing.{Takes, tries_taken, tries_within};
 ghost use Rattle.vr_routes.specs.Changes.{IsChange};
-ghost use Rattle.vr_tabu.specs.Rounds.{IsCeiling, IsJudgeOf, IsKnown, IsNoBetter, IsPassed, aspiration, better_with};
-ghost use Rattle.vr_tabu.specs.Rounds.{bound_of, end_with, is_no_less, move_of, round_end, tries_of};
+ghost use Rattle.vr_tabu.specs.Rounds.{IsCeiling, IsJudgeOf, IsDifferenceKnown, IsNoBetter, IsPassedInRound};
+ghost use Rattle.vr_tabu.specs.Rounds.{aspiration, better_with};
+ghost use Rattle.vr_tabu.specs.Rounds.{bound_of, end_with, is_no_less, move_of, tabu_round_end, tries_of};
 ghost use Rattle.vr_tabu.specs.Standing.{IsKnownState};
 ghost use Rattle.vr_tabu.specs.Tabus.{tabus_of};
 ghost use Rattle.vr_tabu.specs.TabuSearches.{is_tabu, round_of};
@@ -91,7 +92,7 @@ impl<'a> Round<'a> {
         requires judge { IsJudgeOf self.now.model.now self.now.routes.now.lists (J.model judge.old)
             (J.committed judge.old) }
         requires rest { rest ≤ 1000000000 }
-        ensures ends { IfOk result (λ ended. ended ≡ round_end self.now.model.now self.now.routes.now.lists
+        ensures ends { IfOk result (λ ended. ended ≡ tabu_round_end self.now.model.now self.now.routes.now.lists
             (round_of self.now.model.now (tabus_of self.now.state.now.tabus) self.now.state.now.best.routes.lists
             self.now.routes.now.lists rest)) }
         ensures keeps { Keeps J.model J.committed judge.old judge.new }
@@ -115,7 +116,7 @@ impl<'a> Round<'a> {
             (J.committed judge.old) }
         requires list { list.old ≡ moves self.now.model.now self.now.routes.now.lists }
         requires rest { rest ≤ 1000000000 }
-        ensures ends { IfOk result (λ ended. ended ≡ round_end self.now.model.now self.now.routes.now.lists
+        ensures ends { IfOk result (λ ended. ended ≡ tabu_round_end self.now.model.now self.now.routes.now.lists
             (round_of self.now.model.now (tabus_of self.now.state.now.tabus) self.now.state.now.best.routes.lists
             self.now.routes.now.lists rest)) }
         ensures keeps { Keeps J.model J.committed judge.old judge.new }
@@ -152,13 +153,13 @@ impl<'a> Round<'a> {
     ) -> Option<Move>
         requires judge { IsJudgeOf self.now.model.now self.now.routes.now.lists (J.model judge.old)
             (J.committed judge.old) }
-        ensures takes { Takes (IsPassed self.now.model.now self.now.routes.now.lists
+        ensures takes { Takes (IsPassedInRound self.now.model.now self.now.routes.now.lists
             (bound_of best self.now.ceiling)) list.old length.old result list.new length.new }
         ensures model { J.model judge.new ≡ J.model judge.old }
         ensures committed { J.committed judge.new ≡ J.committed judge.old }
         ensures asked { J.asked judge.new ≡ J.asked judge.old }
-        ensures looked { J.looked judge.new + within rest length.old
-            ≤ J.looked judge.old + within rest (length.new + tried result) }
+        ensures looked { J.looked judge.new + tries_within rest length.old
+            ≤ J.looked judge.old + tries_within rest (length.new + tries_taken result) }
     {
         let passing: NoBetter<'_, J> = NoBetter {
             model: self.model,
@@ -197,11 +198,12 @@ impl<'a> Round<'a> {
         requires judge { IsJudgeOf self.now.model.now self.now.routes.now.lists (J.model judge.old)
             (J.committed judge.old) }
         requires mv { IsTrue (is_move self.now.model.now self.now.routes.now.lists mv) }
-        requires best { IfSome best (IsKnown self.now.model.now self.now.routes.now.lists) }
+        requires best { IfSome best (IsDifferenceKnown self.now.model.now self.now.routes.now.lists) }
         ensures best { IfOk result (λ found. move_of found ≡ better_with self.now.model.now
             (tabus_of self.now.state.now.tabus) self.now.state.now.best.routes.lists self.now.routes.now.lists
             (move_of best) mv) }
-        ensures known { IfOk result (λ found. IfSome found (IsKnown self.now.model.now self.now.routes.now.lists)) }
+        ensures known { IfOk result (λ found. IfSome found
+            (IsDifferenceKnown self.now.model.now self.now.routes.now.lists)) }
         ensures model { J.model judge.new ≡ J.model judge.old }
         ensures committed { J.committed judge.new ≡ J.committed judge.old }
         ensures asked { J.asked judge.new ≤ J.asked judge.old + 1 }
@@ -227,11 +229,12 @@ impl<'a> Round<'a> {
         requires judge { IsJudgeOf self.now.model.now self.now.routes.now.lists (J.model judge.old)
             (J.committed judge.old) }
         requires mv { IsTrue (is_move self.now.model.now self.now.routes.now.lists mv) }
-        requires best { IfSome best (IsKnown self.now.model.now self.now.routes.now.lists) }
+        requires best { IfSome best (IsDifferenceKnown self.now.model.now self.now.routes.now.lists) }
         ensures best { IfOk result (λ found. move_of found ≡ better_with self.now.model.now
             (tabus_of self.now.state.now.tabus) self.now.state.now.best.routes.lists self.now.routes.now.lists
             (move_of best) mv) }
-        ensures known { IfOk result (λ found. IfSome found (IsKnown self.now.model.now self.now.routes.now.lists)) }
+        ensures known { IfOk result (λ found. IfSome found
+            (IsDifferenceKnown self.now.model.now self.now.routes.now.lists)) }
         ensures model { J.model judge.new ≡ J.model judge.old }
         ensures committed { J.committed judge.new ≡ J.committed judge.old }
         ensures asked { J.asked judge.new ≤ J.asked judge.old + 1 }

@@ -12,11 +12,11 @@ ghost use Rattle.vr_descent.specs.Asking.{AsksFor, AsksOn, Keeps};
 ghost use Rattle.vr_descent.specs.Ending.{CanBegin, HasEnded, HasStopped};
 ghost use Rattle.vr_descent.specs.Searching.{after_move, move_event, behind};
 ghost use Rattle.vr_routes.specs.Judging.{HoldSame, moved};
-ghost use Rattle.vr_watch.specs.Told.{Told, ToldInPart};
-ghost use Rattle.vr_tabu.specs.Rounds.{IsJudgeOf, IsKnown, round_end, tries_of};
-ghost use Rattle.vr_tabu.specs.Standing.{AreBounds, IsBegun, IsKnownState, Stands};
+ghost use Rattle.vr_watch.specs.Told.{Reported, ReportedInPart};
+ghost use Rattle.vr_tabu.specs.Rounds.{IsJudgeOf, IsDifferenceKnown, tabu_round_end, tries_of};
+ghost use Rattle.vr_tabu.specs.Standing.{AreBounds, IsTabuBegun, IsKnownState, TabuStands};
 ghost use Rattle.vr_descent.specs.Incumbents.{IsBest, kept};
-ghost use Rattle.vr_tabu.specs.Standing.{from_state, left_of, next_events};
+ghost use Rattle.vr_tabu.specs.Standing.{tabu_from_state, left_of, next_events};
 ghost use Rattle.vr_tabu.specs.TabuSearches.{next_round, round_of, tabu_search};
 ghost use Rattle.vr_tabu.specs.Tabus.{tabus_of};
 
@@ -83,7 +83,7 @@ pub fn tabu<J: Judge, L: Ledger>(
 
     ensures judge_model { J.model judge.new ≡ model.now }
     ensures holds { HoldSame model.now (J.committed judge.new) routes.new }
-    ensures told_in_part { OnErr result (ToldInPart (λ w later. after w later) watch.old.items watch.new.items
+    ensures told_in_part { OnErr result (ReportedInPart (λ w later. after w later) watch.old.items watch.new.items
         (tabu_search model.now routes.old.lists limit tenure).events) }
     ensures asked_at_most { OnErr result (AsksFor J.asked J.looked judge.old judge.new limit.tries) }
 {
@@ -122,7 +122,7 @@ impl State {
     // At the beginning these routes are the best, and no visit is tabu. The routes are copied last, so that where
     // memory is wanting they are not to be let go.
     fn open(alloc: Global, model: &Model, routes: &Routes, at: Progress) -> Result<State, NoMemory>
-        ensures { IfOk result (IsBegun model.now routes.now at) }
+        ensures { IfOk result (IsTabuBegun model.now routes.now at) }
     {
         let tabus = TabuList::new(alloc, model.nodes)?;
         let best = Incumbent {
@@ -145,22 +145,22 @@ impl State {
     ) -> Result<Option<End>, NoMemory>
         requires judge_model { J.model judge.old ≡ closed.model.now }
         requires bounds { AreBounds bounds }
-        requires stands { Stands closed.model.now bounds (J.committed judge.old) routes.old self.old }
+        requires stands { TabuStands closed.model.now bounds (J.committed judge.old) routes.old self.old }
         requires more { self.old.at.found ≢ bounds.limit.solutions }
-        ensures outcome { IfOk result (λ stop. from_state closed.entry.model.now bounds routes.old.lists self.old
+        ensures outcome { IfOk result (λ stop. tabu_from_state closed.entry.model.now bounds routes.old.lists self.old
             ≡ behind (next_events closed.entry.model.now bounds routes.old.lists self.old)
             (left_of closed.entry.model.now bounds routes.new.lists self.new stop)) }
-        ensures told { OnOk result (Told (λ w later. after w later) watch.old.items watch.new.items
+        ensures told { OnOk result (Reported (λ w later. after w later) watch.old.items watch.new.items
             (next_events closed.entry.model.now bounds routes.old.lists self.old)) }
         ensures asked { OnOk result (AsksOn J.asked J.looked judge.old judge.new self.old.at.used self.new.at.used) }
-        ensures stands { OnOk result (Stands closed.entry.model.now bounds
+        ensures stands { OnOk result (TabuStands closed.entry.model.now bounds
             (J.committed judge.new) routes.new self.new) }
         ensures no_dearer { OnOk result (self.new.best.cost ≤ℤ self.old.best.cost) }
         ensures further { IfOk result (λ stop. stop ≡ None → self.old.at.used < self.new.at.used) }
 
         ensures judge_model { J.model judge.new ≡ closed.entry.model.now }
         ensures holds { HoldSame closed.entry.model.now (J.committed judge.new) routes.new }
-        ensures told_in_part { OnErr result (ToldInPart (λ w later. after w later) watch.old.items watch.new.items
+        ensures told_in_part { OnErr result (ReportedInPart (λ w later. after w later) watch.old.items watch.new.items
             (next_events closed.entry.model.now bounds routes.old.lists self.old)) }
         ensures asked_at_most { OnErr result (AsksOn J.asked J.looked judge.old judge.new self.old.at.used
             bounds.limit.tries) }
@@ -224,7 +224,7 @@ impl State {
         requires mv { IsTrue (is_move closed.model.now routes.old.lists candidate.mv) }
         requires valid { IsTrue (is_valid closed.model.now (apply closed.model.now routes.old.lists candidate.mv)) }
         requires cost { self.old.at.cost ≡ cost closed.model.now routes.old.lists }
-        requires known { IsKnown closed.model.now routes.old.lists candidate }
+        requires known { IsDifferenceKnown closed.model.now routes.old.lists candidate }
         requires tries { self.old.at.used + length < 2 ^ 64 }
         requires found { self.old.at.found + 1 < 2 ^ 64 }
         requires best { IsBest closed.model.now routes.old.visits self.old.best }
@@ -238,9 +238,9 @@ impl State {
         ensures judge_model { J.model judge.new ≡ closed.entry.model.now }
         ensures asked { J.asked judge.new ≡ J.asked judge.old }
         ensures looked { J.looked judge.new ≡ J.looked judge.old }
-        ensures told { OnOk result (Told (λ w later. after w later) watch.old.items watch.new.items
+        ensures told { OnOk result (Reported (λ w later. after w later) watch.old.items watch.new.items
             (move_event closed.entry.model.now routes.old.lists candidate.mv (self.old.at.used + length) ∷ [])) }
-        ensures told_in_part { OnErr result (ToldInPart (λ w later. after w later) watch.old.items watch.new.items
+        ensures told_in_part { OnErr result (ReportedInPart (λ w later. after w later) watch.old.items watch.new.items
             (move_event closed.entry.model.now routes.old.lists candidate.mv (self.old.at.used + length) ∷ [])) }
     {
         judge.commit(routes, candidate.mv)?;
@@ -283,7 +283,7 @@ fn run_round<J: Judge, L: Ledger>(
     requires known { IsKnownState model.now routes.now state.now }
     requires judge { IsJudgeOf model.now routes.now.lists (J.model judge.old) (J.committed judge.old) }
     requires rest { rest ≤ 1000000000 }
-    ensures ends { IfOk result (λ ended. ended ≡ round_end model.now routes.now.lists
+    ensures ends { IfOk result (λ ended. ended ≡ tabu_round_end model.now routes.now.lists
         (round_of model.now (tabus_of state.now.tabus) state.now.best.routes.lists routes.now.lists rest)) }
     ensures keeps { Keeps J.model J.committed judge.old judge.new }
     ensures asked { IfOk result (λ ended. AsksFor J.asked J.looked judge.old judge.new (tries_of rest ended)) }
@@ -305,18 +305,19 @@ fn search<J: Judge, L: Ledger>(
 ) -> Result<End, NoMemory>
     requires judge_model { J.model judge.old ≡ closed.model.now }
     requires bounds { AreBounds bounds }
-    requires stands { Stands closed.model.now bounds (J.committed judge.old) routes.old state.old }
+    requires stands { TabuStands closed.model.now bounds (J.committed judge.old) routes.old state.old }
     ensures stopped { IfOk result (HasStopped (λ w later. after w later)
-        (from_state closed.entry.model.now bounds routes.old.lists state.old) routes.new.lists state.new.at
+        (tabu_from_state closed.entry.model.now bounds routes.old.lists state.old) routes.new.lists state.new.at
         state.new.best watch.old.items watch.new.items) }
     ensures asked { OnOk result (AsksOn J.asked J.looked judge.old judge.new state.old.at.used state.new.at.used) }
-    ensures stands { OnOk result (Stands closed.entry.model.now bounds (J.committed judge.new) routes.new state.new) }
+    ensures stands { OnOk result (TabuStands closed.entry.model.now bounds (J.committed judge.new) routes.new
+        state.new) }
     ensures no_dearer { OnOk result (state.new.best.cost ≤ℤ state.old.best.cost) }
 
     ensures judge_model { J.model judge.new ≡ closed.entry.model.now }
     ensures holds { HoldSame closed.entry.model.now (J.committed judge.new) routes.new }
-    ensures told_in_part { OnErr result (ToldInPart (λ w later. after w later) watch.old.items watch.new.items
-        (from_state closed.entry.model.now bounds routes.old.lists state.old).events) }
+    ensures told_in_part { OnErr result (ReportedInPart (λ w later. after w later) watch.old.items watch.new.items
+        (tabu_from_state closed.entry.model.now bounds routes.old.lists state.old).events) }
     ensures asked_at_most { OnErr result (AsksOn J.asked J.looked judge.old judge.new state.old.at.used
         bounds.limit.tries) }
 {

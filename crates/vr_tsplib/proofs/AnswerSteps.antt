@@ -8,7 +8,7 @@ use Rattle.vr_json.specs.Reading.{Answers, and_then, seen}
 use Rattle.vr_tsplib.specs.declared.flaws.Flaw.{Flaw}
 use Rattle.vr_tsplib.specs.declared.flaws.LineFail.{LineFail}
 use Rattle.vr_tsplib.specs.declared.flaws.LineFail.TheVariants.{Flawed, NoMemory}
-use Rattle.vr_tsplib.specs.Flaws.{Refuses, AnswersLine, at_line, fault_at}
+use Rattle.vr_tsplib.specs.Flaws.{RefusesLine, AnswersLine, at_line, fault_in_line}
 
 -- ---- a line
 
@@ -16,12 +16,12 @@ pub at_value : {A : Type 0} {x : A} {reading : Result A Flaw} (number : ℕ) →
 unfolding at_line
 at_value number e = ap (at_line number) e
 
-at_flaw : {A : Type 0} {flaw : Flaw} {reading : Result A Flaw} (number : ℕ) → reading ≡ Err flaw → at_line number reading ≡ Err (fault_at flaw number)
+at_flaw : {A : Type 0} {flaw : Flaw} {reading : Result A Flaw} (number : ℕ) → reading ≡ Err flaw → at_line number reading ≡ Err (fault_in_line flaw number)
 unfolding at_line
 at_flaw number e = ap (at_line number) e
 
 -- a line that is not taken is refused
-pub refused : {A : Type 0} {reading : Result A Flaw} (fail : LineFail) (number : ℕ) (e : ReadFail) → AnswersLine {A = A} (Err fail) reading → Refuses fail number e → Answers {A = A} (Err e) (at_line number reading)
+pub refused : {A : Type 0} {reading : Result A Flaw} (fail : LineFail) (number : ℕ) (e : ReadFail) → AnswersLine {A = A} (Err fail) reading → RefusesLine fail number e → Answers {A = A} (Err e) (at_line number reading)
 refused (Flawed flaw) number e h k = record {
   value = tt;
   refused = λ fault is. let one : e ≡ Refused fault = cc in at_flaw number (h.flawed flaw refl) ∙ ap Err (sym (k fault one));

@@ -28,11 +28,11 @@ use Rattle.vr_tsplib.specs.Numbers.{number, whole_in, count_in}
 use Rattle.vr_tsplib.specs.Heads.{no_head, nodes_of, keep, keep_name, keep_node_coord_type, keep_display_data_type, keep_type, once_number, keep_dimension, keep_capacity, keep_weight_type, keep_weight_format, keyword_parts, begin, begin_sites, begin_weights, begin_demands, begin_depot, weights_left, heading_line, outside_line}
 use Rattle.vr_tsplib.specs.Rows.{coordinate, site_row, demand_row, weight, weights_behind, row_behind, depot_row, depot_end}
 use Rattle.vr_tsplib.specs.Files.{start, line_at, sites_line, demands_line, weights_line, head_line, read_line, read_lines, complete}
-use Rattle.vr_tsplib.specs.Ranges.{IsFew, IsInRange, IsLight, IsNear, IsProblem, IsSound, IsWithin}
+use Rattle.vr_tsplib.specs.Ranges.{IsFew, IsHeadInRange, IsLight, IsSiteInRange, IsProblem, AreLinesInRange, IsCountIn}
 
 -- ---- numbers
 
-counted : (lo hi : ℕ) (z : ℤ) → Ensures (IsWithin lo hi) (count_in lo hi z)
+counted : (lo hi : ℕ) (z : ℤ) → Ensures (IsCountIn lo hi) (count_in lo hi z)
 counted lo hi (pos n) = tested _ _ _ (λ e. let parts = and_parts (nat_le lo n) (nat_le n hi) e in (leb-true lo n parts.0, leb-true n hi parts.1))
 counted lo hi (negsuc n) = fails
 
@@ -41,7 +41,7 @@ unfolding refuse_if
 refused true flaw = fails
 refused false flaw = gives refl
 
-once_counted : (stood : Bool) (lo hi : ℕ) (value : List ℕ) → Ensures (λ n. (stood ≡ false) × IsWithin lo hi n) (once_number stood lo hi value)
+once_counted : (stood : Bool) (lo hi : ℕ) (value : List ℕ) → Ensures (λ n. (stood ≡ false) × IsCountIn lo hi n) (once_number stood lo hi value)
 unfolding once_number
 once_counted stood lo hi value = after any_value λ z _. after (refused stood _) λ _ fresh. weaker (λ n within. (fresh, within)) (counted lo hi z)
 
@@ -56,24 +56,24 @@ either false h k = k
 -- ---- the head
 
 -- another head with the same numbers
-same_numbers : (head other : Head) → IsInRange head → other.nodes ≡ head.nodes → other.capacity ≡ head.capacity → other.depot ≡ head.depot → IsInRange other
+same_numbers : (head other : Head) → IsHeadInRange head → other.nodes ≡ head.nodes → other.capacity ≡ head.capacity → other.depot ≡ head.depot → IsHeadInRange other
 same_numbers head other h n c d = record {
-  nodes = subst (WherePresent (IsWithin 1 1000)) (sym n) h.nodes;
-  capacity = subst (WherePresent (IsWithin 0 68719476736)) (sym c) h.capacity;
-  depot = subst (λ o. WherePresent (IsWithin 1 (unwrap_or o 0)) other.depot) (sym n) (subst (WherePresent (IsWithin 1 (nodes_of head))) (sym d) h.depot);
+  nodes = subst (WherePresent (IsCountIn 1 1000)) (sym n) h.nodes;
+  capacity = subst (WherePresent (IsCountIn 0 68719476736)) (sym c) h.capacity;
+  depot = subst (λ o. WherePresent (IsCountIn 1 (unwrap_or o 0)) other.depot) (sym n) (subst (WherePresent (IsCountIn 1 (nodes_of head))) (sym d) h.depot);
 }
 
 -- a head that a reading gives is in range
 abbrev pub KeepsRange : Result Head Flaw → Type 0
-KeepsRange reading = Ensures IsInRange reading
+KeepsRange reading = Ensures IsHeadInRange reading
 
 -- where no nodes are known there is no depot
-no_depot : (nodes depot : Option ℕ) (P : ℕ → Type 0) → is_some nodes ≡ false → WherePresent (IsWithin 1 (unwrap_or nodes 0)) depot → WherePresent P depot
+no_depot : (nodes depot : Option ℕ) (P : ℕ → Type 0) → is_some nodes ≡ false → WherePresent (IsCountIn 1 (unwrap_or nodes 0)) depot → WherePresent P depot
 no_depot nodes None P none h = tt
 no_depot None (Some d) P none h = absurd (omega (arith, h.0, h.1))
 no_depot (Some n) (Some d) P none h = absurd cc
 
-module _ (head : Head) (h : IsInRange head) where
+module _ (head : Head) (h : IsHeadInRange head) where
   name_keeps : KeepsRange (keep_name head)
   unfolding keep_name
   name_keeps = after any_value λ _ _. gives (same_numbers head (record head { name = true }) h refl refl refl)
@@ -98,7 +98,7 @@ module _ (head : Head) (h : IsInRange head) where
       gives (record {
         nodes = found.1;
         capacity = h.capacity;
-        depot = no_depot head.nodes head.depot (IsWithin 1 n) found.0 h.depot;
+        depot = no_depot head.nodes head.depot (IsCountIn 1 n) found.0 h.depot;
       })
 
   capacity_keeps : (value : List ℕ) → KeepsRange (keep_capacity head value)
@@ -164,7 +164,7 @@ module _ (head : Head) (h : IsInRange head) where
 
 -- ---- rows
 
-site_near : (n : ℕ) (rows : List SiteRow) (ws : List (List ℕ)) → Ensures IsNear (site_row n rows ws)
+site_near : (n : ℕ) (rows : List SiteRow) (ws : List (List ℕ)) → Ensures IsSiteInRange (site_row n rows ws)
 unfolding site_row
 site_near n rows ws =
     after any_value λ row _. after any_value λ node _. after (whole _ _ row.1) λ x x_in. after (whole _ _ row.2) λ y y_in. after any_value λ _ _.
@@ -191,36 +191,36 @@ row_few left earlier ws h = after any_value λ _ _. weights_few ws earlier h
 -- ---- the state
 
 -- a state with another head that is in range
-with_range : (state : State) (head : Head) → IsSound state → IsInRange head → IsSound (record state { head = head })
+with_range : (state : State) (head : Head) → AreLinesInRange state → IsHeadInRange head → AreLinesInRange (record state { head = head })
 with_range state head h within = record { head = within; sites = h.sites; demands = h.demands; weights = h.weights }
 
-module _ (state : State) (h : IsSound state) where
-  at_place_range : (next : LinePlace) → IsInRange (record (state.head) { place = next })
+module _ (state : State) (h : AreLinesInRange state) where
+  at_place_range : (next : LinePlace) → IsHeadInRange (record (state.head) { place = next })
   at_place_range next = same_numbers state.head (record (state.head) { place = next }) h.head refl refl refl
 
-  sites_sound : (left : ℕ) (line : List ℕ) → Ensures IsSound (sites_line left state line)
+  sites_sound : (left : ℕ) (line : List ℕ) → Ensures AreLinesInRange (sites_line left state line)
   unfolding sites_line
   sites_sound left line =
       after (site_near (nodes_of state.head) state.sites (words line)) λ row near.
-      gives (record { head = at_place_range _; sites = All-push IsNear state.sites row h.sites near; demands = h.demands; weights = h.weights })
+      gives (record { head = at_place_range _; sites = All-push IsSiteInRange state.sites row h.sites near; demands = h.demands; weights = h.weights })
 
-  demands_sound : (left : ℕ) (line : List ℕ) → Ensures IsSound (demands_line left state line)
+  demands_sound : (left : ℕ) (line : List ℕ) → Ensures AreLinesInRange (demands_line left state line)
   unfolding demands_line
   demands_sound left line =
       after (demand_few (nodes_of state.head) state.demands (words line)) λ row few.
       gives (record { head = at_place_range _; sites = h.sites; demands = All-push IsFew state.demands row h.demands few; weights = h.weights })
 
-  weights_sound : (left : ℕ) (line : List ℕ) → Ensures IsSound (weights_line left state line)
+  weights_sound : (left : ℕ) (line : List ℕ) → Ensures AreLinesInRange (weights_line left state line)
   unfolding weights_line
   weights_sound left line =
       after (row_few left state.weights (words line) h.weights) λ all light.
       gives (record { head = at_place_range _; sites = h.sites; demands = h.demands; weights = light })
 
-  head_sound : (read : Head → List ℕ → Result Head Flaw) (line : List ℕ) → KeepsRange (read state.head line) → Ensures IsSound (head_line read state line)
+  head_sound : (read : Head → List ℕ → Result Head Flaw) (line : List ℕ) → KeepsRange (read state.head line) → Ensures AreLinesInRange (head_line read state line)
   unfolding head_line
   head_sound read line keeps = after keeps λ head within. gives (with_range state head h within)
 
-  line_sound : (at : LinePlace) (line : List ℕ) → Ensures IsSound (line_at at state line)
+  line_sound : (at : LinePlace) (line : List ℕ) → Ensures AreLinesInRange (line_at at state line)
   line_sound place.Outside line = head_sound outside_line line (outside_keeps state.head h.head line)
   line_sound (place.Sites left) line = sites_sound left line
   line_sound (place.Weights left) line = weights_sound left line
@@ -229,26 +229,26 @@ module _ (state : State) (h : IsSound state) where
   line_sound place.DepotEnd line = head_sound (λ head line. depot_end head (words line)) line (depot_end_keeps state.head h.head (words line))
   line_sound place.Ended line = gives h
 
-  read_sound : (line : List ℕ) → Ensures IsSound (read_line state line)
+  read_sound : (line : List ℕ) → Ensures AreLinesInRange (read_line state line)
   unfolding read_line
   read_sound line = either (is_empty (words line)) (gives h) (line_sound state.head.place line)
 
-at_line_sound : (number : ℕ) (reading : Result State Flaw) → Ensures IsSound reading → Ensures IsSound (at_line number reading)
+at_line_sound : (number : ℕ) (reading : Result State Flaw) → Ensures AreLinesInRange reading → Ensures AreLinesInRange (at_line number reading)
 unfolding at_line
 at_line_sound number (Ok x) h = gives (h.of_value x refl)
 at_line_sound number (Err flaw) h = fails
 
 -- what lines say lies in its ranges
-pub lines_sound : (rest : List (List ℕ)) (state : State) (number : ℕ) → IsSound state → Ensures IsSound (read_lines state number rest)
+pub lines_sound : (rest : List (List ℕ)) (state : State) (number : ℕ) → AreLinesInRange state → Ensures AreLinesInRange (read_lines state number rest)
 unfolding read_lines
 lines_sound [] state number h = gives h
 lines_sound (line ∷ rest) state number h =
     after (at_line_sound number (read_line state line) (read_sound state h line)) λ next sound. lines_sound rest next (number + 1) sound
 
-pub start_sound : IsSound start
+pub start_sound : AreLinesInRange start
 start_sound = record {
   head = record { nodes = tt; capacity = tt; depot = tt };
-  sites = All-nil IsNear;
+  sites = All-nil IsSiteInRange;
   demands = All-nil IsFew;
   weights = All-nil IsLight;
 }
@@ -259,17 +259,17 @@ present : {A : Type 0} (P : A → Type 0) (o : Option A) (flaw : Flaw) → Where
 present P None flaw h = fails
 present P (Some x) flaw h = gives (h, refl)
 
-pub complete_ranges : (state : State) → IsSound state → Ensures IsProblem (complete state)
+pub complete_ranges : (state : State) → AreLinesInRange state → Ensures IsProblem (complete state)
 unfolding complete
 complete_ranges state h =
     after any_value λ _ _. after any_value λ _ _.
-    after (present (IsWithin 1 1000) state.head.nodes _ h.head.nodes) λ nodes nodes_in.
-    after (present (IsWithin 0 68719476736) state.head.capacity _ h.head.capacity) λ capacity capacity_in.
+    after (present (IsCountIn 1 1000) state.head.nodes _ h.head.nodes) λ nodes nodes_in.
+    after (present (IsCountIn 0 68719476736) state.head.capacity _ h.head.capacity) λ capacity capacity_in.
     after any_value λ _ _. after any_value λ _ _.
-    after (present (IsWithin 1 (nodes_of state.head)) state.head.depot _ h.head.depot) λ depot depot_in.
+    after (present (IsCountIn 1 (nodes_of state.head)) state.head.depot _ h.head.depot) λ depot depot_in.
     after any_value λ _ _. after any_value λ _ _.
     gives (record {
       nodes = nodes_in.0;
       capacity = capacity_in.0.1;
-      depot = subst (λ o. IsWithin 1 (unwrap_or o 0) depot) nodes_in.1 depot_in.0;
+      depot = subst (λ o. IsCountIn 1 (unwrap_or o 0) depot) nodes_in.1 depot_in.0;
     })

@@ -6,7 +6,7 @@ use Rattle.std.proofs.lemmas.Int.{ints}
 use Rattle.std.proofs.lemmas.Nat.{mul-le}
 use Rattle.std.proofs.lemmas.List.Elements.{All-head, All-tail, All-map}
 use Rattle.vr_tsplib.specs.declared.rows.SiteRow.{SiteRow}
-use Rattle.vr_tsplib.specs.Ranges.{IsNear}
+use Rattle.vr_tsplib.specs.Ranges.{IsSiteInRange}
 use Rattle.vr_tsplib.specs.Rows.{site_of}
 use Rattle.vr_tsplib.specs.Trees.{file_nodes, sites}
 
@@ -40,14 +40,14 @@ squares_low a b h k =
     omega (arith, p, q)
 
 -- a row that is found lies in range, and so does the origin
-found_near : (t : Bool) (row other : SiteRow) (rest : Option SiteRow) → IsNear row → IsNear (unwrap_or rest other) → IsNear (unwrap_or (cond t (Some row) rest) other)
+found_near : (t : Bool) (row other : SiteRow) (rest : Option SiteRow) → IsSiteInRange row → IsSiteInRange (unwrap_or rest other) → IsSiteInRange (unwrap_or (cond t (Some row) rest) other)
 found_near true row other rest h k = h
 found_near false row other rest h k = k
 
-pub row_near : (rows : List SiteRow) (node : ℕ) → All IsNear rows → IsNear (site_of rows node)
+pub row_near : (rows : List SiteRow) (node : ℕ) → All IsSiteInRange rows → IsSiteInRange (site_of rows node)
 row_near [] node h = record { x_least = omega (arith, ints); x_most = omega (arith, ints); y_least = omega (arith, ints); y_most = omega (arith, ints) }
 row_near (row ∷ rows) node h =
-    found_near (row.node == node) row (record { node = node; x = pos 0; y = pos 0 }) (find (λ row. row.node == node) rows) (All-head IsNear row rows h) (row_near rows node (All-tail IsNear row rows h))
+    found_near (row.node == node) row (record { node = node; x = pos 0; y = pos 0 }) (find (λ row. row.node == node) rows) (All-head IsSiteInRange row rows h) (row_near rows node (All-tail IsSiteInRange row rows h))
 
-pub sites_near : (n : ℕ) (rows : List SiteRow) → All IsNear rows → All IsNear (sites n rows)
-sites_near n rows h = All-map IsNear (site_of rows) (file_nodes n) (λ k d low. row_near rows _ h)
+pub sites_near : (n : ℕ) (rows : List SiteRow) → All IsSiteInRange rows → All IsSiteInRange (sites n rows)
+sites_near n rows h = All-map IsSiteInRange (site_of rows) (file_nodes n) (λ k d low. row_near rows _ h)

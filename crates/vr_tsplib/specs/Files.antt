@@ -30,25 +30,25 @@ start = record { head = no_head; sites = []; demands = []; weights = [] }
 abbrev pub with_head : State → Head → State
 with_head state head = record state { head = head }
 
-abbrev pub at_place : State → LinePlace → State
-at_place state next = with_head state (record (state.head) { place = next })
+abbrev pub with_place : State → LinePlace → State
+with_place state next = with_head state (record (state.head) { place = next })
 
 -- ---- lines
 
 unfoldable pub sites_line : ℕ → State → List ℕ → Result State Flaw
 sites_line left state line = do
   row ← site_row (nodes_of state.head) state.sites (words line)
-  Ok (record (at_place state (sites_left left)) { sites = state.sites ++ row ∷ [] })
+  Ok (record (with_place state (sites_left left)) { sites = state.sites ++ row ∷ [] })
 
 unfoldable pub demands_line : ℕ → State → List ℕ → Result State Flaw
 demands_line left state line = do
   row ← demand_row (nodes_of state.head) state.demands (words line)
-  Ok (record (at_place state (demands_left left)) { demands = state.demands ++ row ∷ [] })
+  Ok (record (with_place state (demands_left left)) { demands = state.demands ++ row ∷ [] })
 
 unfoldable pub weights_line : ℕ → State → List ℕ → Result State Flaw
 weights_line left state line = do
   all ← row_behind left state.weights (words line)
-  Ok (record (at_place state (weights_left (left - (length all - length state.weights)))) { weights = all })
+  Ok (record (with_place state (weights_left (left - (length all - length state.weights)))) { weights = all })
 
 unfoldable pub head_line : (Head → List ℕ → Result Head Flaw) → State → List ℕ → Result State Flaw
 head_line read state line = do

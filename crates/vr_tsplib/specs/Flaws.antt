@@ -11,23 +11,23 @@ use Rattle.vr_tsplib.specs.declared.flaws.LineFail.{LineFail}
 use Rattle.vr_tsplib.specs.declared.flaws.LineFail.TheVariants.{Flawed, NoMemory}
 
 -- the number of a flaw in the texts of the program
-abbrev pub code_of : Flaw → ℕ
-code_of FaultyLine = 40
-code_of Repeated = 41
-code_of UnknownWord = 42
-code_of OutOfRange = 43
-code_of NodeAgain = 44
-code_of Missing = 45
-code_of DepotDemand = 46
+abbrev pub flaw_code : Flaw → ℕ
+flaw_code FaultyLine = 40
+flaw_code Repeated = 41
+flaw_code UnknownWord = 42
+flaw_code OutOfRange = 43
+flaw_code NodeAgain = 44
+flaw_code Missing = 45
+flaw_code DepotDemand = 46
 
 -- the fault of a flaw in a line: the path is `/` and the number of the line, or 0 for the file as a whole
-abbrev pub fault_at : Flaw → ℕ → Fault
-fault_at flaw number = record { code = code_of flaw; path = item_path [] number }
+abbrev pub fault_in_line : Flaw → ℕ → Fault
+fault_in_line flaw number = record { code = flaw_code flaw; path = item_path [] number }
 
 -- what was read in a line of this number
 unfoldable pub at_line : {A : Type 0} → ℕ → Result A Flaw → Result A Fault
 at_line number (Ok x) = Ok x
-at_line number (Err flaw) = Err (fault_at flaw number)
+at_line number (Err flaw) = Err (fault_in_line flaw number)
 
 -- nothing, unless something is wrong
 unfoldable pub refuse_if : Bool → Flaw → Result ⊤ Flaw
@@ -39,6 +39,6 @@ pub record AnswersLine {A : Type 0} (answer : Result A LineFail) (reading : Resu
   pub flawed : (flaw : Flaw) → answer ≡ Err (Flawed flaw) → reading ≡ Err flaw
 
 -- the refusal of the line of this number: its flaw becomes a fault, unless memory runs out
-abbrev pub Refuses : LineFail → ℕ → ReadFail → Type 0
-Refuses (Flawed flaw) number fail = (fault : Fault) → fail ≡ Refused fault → fault ≡ fault_at flaw number
-Refuses NoMemory number fail = fail ≡ NoMemoryFail
+abbrev pub RefusesLine : LineFail → ℕ → ReadFail → Type 0
+RefusesLine (Flawed flaw) number fail = (fault : Fault) → fail ≡ Refused fault → fault ≡ fault_in_line flaw number
+RefusesLine NoMemory number fail = fail ≡ NoMemoryFail

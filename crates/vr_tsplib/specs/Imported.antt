@@ -10,8 +10,8 @@ use Rattle.vr_tsplib.specs.Files.{start, read_lines, complete}
 use Rattle.vr_tsplib.specs.Trees.{tree_of}
 
 -- the tree of the model of a whole file whose lines said this, with so many vehicles
-unfoldable pub model_of : ℕ → State → Result Data Fault
-model_of vehicles state = do
+unfoldable pub model_of_lines : ℕ → State → Result Data Fault
+model_of_lines vehicles state = do
   problem ← at_line 0 (complete state)
   Ok (tree_of vehicles state problem)
 
@@ -19,4 +19,4 @@ model_of vehicles state = do
 unfoldable pub imported : ℕ → List ℕ → Result Data Fault
 imported vehicles bytes = do
   state ← read_lines start 1 (lines bytes)
-  model_of vehicles state
+  model_of_lines vehicles state

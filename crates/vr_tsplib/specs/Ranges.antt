@@ -8,17 +8,17 @@ use Rattle.vr_tsplib.specs.declared.files.State.{State}
 use Rattle.vr_tsplib.specs.declared.summaries.Problem.{Problem}
 use Rattle.vr_tsplib.specs.Heads.{nodes_of}
 
-abbrev pub IsWithin : ℕ → ℕ → ℕ → Type 0
-IsWithin lo hi n = (lo ≤ n) × (n ≤ hi)
+abbrev pub IsCountIn : ℕ → ℕ → ℕ → Type 0
+IsCountIn lo hi n = (lo ≤ n) × (n ≤ hi)
 
 -- the numbers of a head
-pub record IsInRange (head : Head) : Type 0 where
-  pub nodes : WherePresent (IsWithin 1 1000) head.nodes
-  pub capacity : WherePresent (IsWithin 0 68719476736) head.capacity
-  pub depot : WherePresent (IsWithin 1 (nodes_of head)) head.depot
+pub record IsHeadInRange (head : Head) : Type 0 where
+  pub nodes : WherePresent (IsCountIn 1 1000) head.nodes
+  pub capacity : WherePresent (IsCountIn 0 68719476736) head.capacity
+  pub depot : WherePresent (IsCountIn 1 (nodes_of head)) head.depot
 
 -- the coordinates of a node
-pub record IsNear (row : SiteRow) : Type 0 where
+pub record IsSiteInRange (row : SiteRow) : Type 0 where
   pub x_least : negsuc 999999 ≤ℤ row.x
   pub x_most : row.x ≤ℤ pos 1000000
   pub y_least : negsuc 999999 ≤ℤ row.y
@@ -32,14 +32,14 @@ abbrev pub IsLight : ℕ → Type 0
 IsLight weight = weight ≤ 1099511627776
 
 -- all that lines said
-pub record IsSound (state : State) : Type 0 where
-  pub head : IsInRange state.head
-  pub sites : All IsNear state.sites
+pub record AreLinesInRange (state : State) : Type 0 where
+  pub head : IsHeadInRange state.head
+  pub sites : All IsSiteInRange state.sites
   pub demands : All IsFew state.demands
   pub weights : All IsLight state.weights
 
 -- the numbers of a whole file
 pub record IsProblem (problem : Problem) : Type 0 where
-  pub nodes : IsWithin 1 1000 problem.nodes
+  pub nodes : IsCountIn 1 1000 problem.nodes
   pub capacity : problem.capacity ≤ 68719476736
-  pub depot : IsWithin 1 problem.nodes problem.depot
+  pub depot : IsCountIn 1 problem.nodes problem.depot

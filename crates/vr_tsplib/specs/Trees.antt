@@ -19,12 +19,12 @@ abbrev pub file_nodes : ℕ → List ℕ
 file_nodes n = range_with_len 1 n
 
 -- how far two numbers are apart
-abbrev pub apart : ℤ → ℤ → ℕ
-apart x y = unsigned_abs (x -ℤ y)
+abbrev pub axis_gap : ℤ → ℤ → ℕ
+axis_gap x y = unsigned_abs (x -ℤ y)
 
 -- the distance of two nodes in the plane: the root of the sum of the squares of their differences
 abbrev pub distance : SiteRow → SiteRow → ℕ
-distance a b = nearest (apart a.x b.x * apart a.x b.x + apart a.y b.y * apart a.y b.y)
+distance a b = nearest (axis_gap a.x b.x * axis_gap a.x b.x + axis_gap a.y b.y * axis_gap a.y b.y)
 
 -- where each node stands
 abbrev pub sites : ℕ → List SiteRow → List SiteRow

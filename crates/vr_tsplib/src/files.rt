@@ -4,7 +4,7 @@ ghost use Rattle.std.specs.Prelude.{◌≡◌, IfOk};
 ghost use Rattle.vr_json.specs.Reading.{Answers, seen};
 ghost use Rattle.vr_tsplib.specs.Files as files;
 ghost use Rattle.vr_tsplib.specs.Flaws.{AnswersLine};
-ghost use Rattle.vr_tsplib.specs.Ranges.{IsSound};
+ghost use Rattle.vr_tsplib.specs.Ranges.{AreLinesInRange};
 ghost use Rattle.vr_tsplib.specs.Texts.{lines};
 
 use crate::flaws::{LineFail, refusal};
@@ -103,7 +103,7 @@ impl State {
 /// What the lines of a file say.
 pub(crate) fn read_lines(alloc: Global, bytes: &[u8]) -> Result<State, ReadFail>
     ensures lines { Answers result (files.read_lines files.start 1 (lines bytes.now)) }
-    ensures sound { IfOk result (λ state. IsSound state) }
+    ensures sound { IfOk result (λ state. AreLinesInRange state) }
 {
     let mut state = State::new(alloc);
     let mut number = 0;

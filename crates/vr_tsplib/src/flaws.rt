@@ -2,7 +2,7 @@
 
 ghost use Rattle.std.specs.Prelude.{◌≡◌, IfOk};
 ghost use Rattle.vr_tsplib.specs.Flaws as flaws;
-ghost use Rattle.vr_tsplib.specs.Flaws.{Refuses, code_of, fault_at};
+ghost use Rattle.vr_tsplib.specs.Flaws.{RefusesLine, flaw_code, fault_in_line};
 ghost use Rattle.vr_tsplib.specs.declared.flaws.LineFail.TheVariants.{Flawed as FlawedFail, NoMemory as NoMemoryFail};
 
 use std::alloc::Global;
@@ -32,7 +32,7 @@ pub enum Flaw {
 impl Flaw {
     /// The number of this flaw in the texts of the program, 40 to 46.
     pub fn code(self) -> u8
-        ensures { result ≡ code_of self }
+        ensures { result ≡ flaw_code self }
     {
         match self {
             Flaw::FaultyLine => 40,
@@ -81,7 +81,7 @@ pub(crate) fn refuse_if(wrong: bool, flaw: Flaw) -> Result<(), Flaw>
 
 // The fault of a flaw in the line of this number.
 fn fault_of(alloc: Global, flaw: Flaw, number: u64) -> Result<Fault, NoMemory>
-    ensures { IfOk result (λ fault. fault ≡ fault_at flaw number) }
+    ensures { IfOk result (λ fault. fault ≡ fault_in_line flaw number) }
 {
     let mut path = String::new(alloc);
     write!(path, "/{number}")?;
@@ -93,7 +93,7 @@ fn fault_of(alloc: Global, flaw: Flaw, number: u64) -> Result<Fault, NoMemory>
 
 /// The refusal of the line of this number, which is not taken; 0 is the file as a whole.
 pub(crate) fn refusal(alloc: Global, fail: LineFail, number: u64) -> ReadFail
-    ensures { Refuses fail number result }
+    ensures { RefusesLine fail number result }
 {
     match fail {
         LineFail::NoMemory => ReadFail::NoMemory,

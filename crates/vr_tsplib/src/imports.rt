@@ -4,8 +4,8 @@ ghost use Rattle.std.specs.Prelude.{◌≤◌};
 ghost use Rattle.serde_json.specs.View.{view};
 ghost use Rattle.vr_json.specs.Reading.{Answers, seen};
 ghost use Rattle.vr_model.specs.tables.Limits.{most_vehicles};
-ghost use Rattle.vr_tsplib.specs.Imported.{imported, model_of};
-ghost use Rattle.vr_tsplib.specs.Ranges.{IsSound};
+ghost use Rattle.vr_tsplib.specs.Imported.{imported, model_of_lines};
+ghost use Rattle.vr_tsplib.specs.Ranges.{AreLinesInRange};
 
 use crate::files::{State, read_lines};
 use crate::flaws::{LineFail, refusal};
@@ -17,8 +17,8 @@ use vr_json::ReadFail;
 
 // The tree of the model that the lines of a whole file say.
 fn model(alloc: Global, vehicles: u32, state: &State) -> Result<Value, ReadFail>
-    requires { IsSound state.now }
-    ensures { Answers (seen view result) (model_of vehicles state.now) }
+    requires { AreLinesInRange state.now }
+    ensures { Answers (seen view result) (model_of_lines vehicles state.now) }
 {
     match complete(state) {
         Ok(problem) => {

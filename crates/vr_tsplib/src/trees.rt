@@ -7,7 +7,7 @@ ghost use Rattle.vr_model.specs.tables.Limits.{most_nodes};
 ghost use Rattle.vr_model.specs.tables.Numbers.{below};
 ghost use Rattle.vr_tsplib.specs.Trees as trees;
 ghost use Rattle.vr_tsplib.specs.Rows as row_tables;
-ghost use Rattle.vr_tsplib.specs.Ranges.{IsNear};
+ghost use Rattle.vr_tsplib.specs.Ranges.{IsSiteInRange};
 
 use crate::files::State;
 use crate::roots::nearest_root;
@@ -20,8 +20,8 @@ use vr_model::NoMemory;
 
 // The distance of two nodes in the plane.
 fn distance(a: SiteRow, b: SiteRow) -> u64
-    requires first { IsNear a }
-    requires second { IsNear b }
+    requires first { IsSiteInRange a }
+    requires second { IsSiteInRange b }
     ensures { result ≡ trees.distance a b }
 {
     let dx = a.x.abs_diff(b.x);
@@ -54,8 +54,8 @@ fn sites(alloc: Global, n: u32, rows: &[SiteRow]) -> Result<Vec<SiteRow>, NoMemo
 
 // The distances from a node.
 fn plane_row(alloc: Global, places: &[SiteRow], from: SiteRow) -> Result<Value, NoMemory>
-    requires all { All IsNear places.now }
-    requires one { IsNear from }
+    requires all { All IsSiteInRange places.now }
+    requires one { IsSiteInRange from }
     ensures { IfOk result (λ tree. view tree ≡ trees.plane_row places.now from) }
 {
     let mut entries = Vec::new(alloc);
@@ -67,7 +67,7 @@ fn plane_row(alloc: Global, places: &[SiteRow], from: SiteRow) -> Result<Value, 
 
 // The matrix of distances.
 fn plane(alloc: Global, places: &[SiteRow]) -> Result<Value, NoMemory>
-    requires { All IsNear places.now }
+    requires { All IsSiteInRange places.now }
     ensures { IfOk result (λ tree. view tree ≡ trees.plane places.now) }
 {
     let mut rows = Vec::new(alloc);
@@ -174,7 +174,7 @@ fn weighed(alloc: Global, lower: bool, n: u32, state: &State) -> Result<Value, N
 // The matrix.
 fn matrix(alloc: Global, distances: Distances, n: u32, state: &State) -> Result<Value, NoMemory>
     requires few { n ≤ most_nodes }
-    requires near { All IsNear state.now.sites }
+    requires near { All IsSiteInRange state.now.sites }
     ensures { IfOk result (λ tree. view tree ≡ trees.matrix distances n state.now) }
 {
     match distances {
@@ -240,7 +240,7 @@ pub(crate) fn tree(
     problem: Problem,
 ) -> Result<Value, NoMemory>
     requires few { problem.nodes ≤ most_nodes }
-    requires near { All IsNear state.now.sites }
+    requires near { All IsSiteInRange state.now.sites }
     ensures { IfOk result (λ tree. view tree ≡ trees.tree_of vehicles state.now problem) }
 {
     let orders = demands(alloc, problem.nodes, state)?;

@@ -9,7 +9,7 @@ use Rattle.vr_model.specs.routes.Routes.{route, is_empty}
 use Rattle.vr_model.specs.routes.Costs.{fixed_part}
 use Rattle.vr_model.proofs.tables.Bounds.{none_at}
 use Rattle.vr_model.proofs.tables.Totals.{sum_nothing, total_by-failing}
-use Rattle.vr_parts.specs.Sums.{over_routes}
+use Rattle.vr_parts.specs.Sums.{sum_over_routes}
 use Rattle.vr_usecosts.specs.Fixed.{fixed_with, has_fixed_cost, is_some_fixed}
 
 -- a list that is not empty has some nodes
@@ -17,7 +17,7 @@ pub some-nodes : (list : List ℕ) → not (is_empty list) ≡ nat_lt 0 (length 
 some-nodes [] = refl
 some-nodes (x ∷ xs) = Prim.grind arith
 
-pub fixed-over : (model : Model) (lists : List (List ℕ)) → fixed_part model lists ≡ over_routes (fixed_with model) lists
+pub fixed-over : (model : Model) (lists : List (List ℕ)) → fixed_part model lists ≡ sum_over_routes (fixed_with model) lists
 fixed-over model lists = total_by-failing (λ v. (vehicle_at model v).fixed) (λ v. is_empty (route lists v)) (below (length lists))
 
 -- where no vehicle has a fixed cost, no lists have one

@@ -11,31 +11,32 @@ use Rattle.vr_model.specs.declared.search.Kind.TheVariants.{First, Move, Round}
 -- ---- the trace
 
 -- the word of a kind of events
-abbrev pub word : Kind → List ℕ
-word First = codes "first"
-word Move = codes "move"
-word Round = codes "round"
+abbrev pub kind_word : Kind → List ℕ
+kind_word First = codes "first"
+kind_word Move = codes "move"
+kind_word Round = codes "round"
 
 -- the line of an event: the tries so far, the word of its kind, and the cost
-abbrev pub line : Event → List ℕ
-line event =
-    decimal event.tries ++ (codes " " ++ (word event.kind ++ (codes " " ++ (signed_decimal event.cost ++ codes "\n"))))
+abbrev pub event_line : Event → List ℕ
+event_line event =
+    decimal event.tries ++ (codes " " ++ (kind_word event.kind
+    ++ (codes " " ++ (signed_decimal event.cost ++ codes "\n"))))
 
 -- the lines of events in order
 abbrev pub traced : List Event → List ℕ
-traced events = flat_map line events
+traced events = flat_map event_line events
 
 -- ---- the tally
 
 -- a counter of 64 bits, which stands still at its last value
-abbrev pub counted : ℕ → ℕ
-counted n = min n (2 ^ 64 - 1)
+abbrev pub capped_count : ℕ → ℕ
+capped_count n = min n (2 ^ 64 - 1)
 
 -- a move was accepted
-abbrev pub is_move : Kind → Bool
-is_move First = false
-is_move Move = true
-is_move Round = false
+abbrev pub is_move_event : Kind → Bool
+is_move_event First = false
+is_move_event Move = true
+is_move_event Round = false
 
 -- penalties were raised
 abbrev pub is_round : Kind → Bool
@@ -44,8 +45,8 @@ is_round Move = false
 is_round Round = true
 
 -- how many events are of such kinds
-abbrev pub number : (Kind → Bool) → List Event → ℕ
-number is_such events = length (filter (λ event. is_such event.kind) events)
+abbrev pub event_count : (Kind → Bool) → List Event → ℕ
+event_count is_such events = length (filter (λ event. is_such event.kind) events)
 
 -- the costs of events in order
 abbrev pub costs : List Event → List ℤ
@@ -60,7 +61,8 @@ tally_line moves rounds best =
 -- the line of a tally of events
 abbrev pub tallied : List Event → List ℕ
 tallied events =
-    tally_line (counted (number is_move events)) (counted (number is_round events)) (least (costs events))
+    tally_line (capped_count (event_count is_move_event events)) (capped_count (event_count is_round events))
+    (least (costs events))
 
 -- ---- a tally that has noted events
 
@@ -82,16 +84,16 @@ least_with (Some x) xs = fold int_min x xs
 -- after one event more
 abbrev pub noted : Tallied → Event → Tallied
 noted so_far event = record {
-  moves = counted (so_far.moves + number is_move (event ∷ []));
-  rounds = counted (so_far.rounds + number is_round (event ∷ []));
+  moves = capped_count (so_far.moves + event_count is_move_event (event ∷ []));
+  rounds = capped_count (so_far.rounds + event_count is_round (event ∷ []));
   best = Some (least_with so_far.best (event.cost ∷ []));
 }
 
 -- the line of a tally after more events
 abbrev pub tallied_after : Tallied → List Event → List ℕ
 tallied_after so_far events =
-    let moves = counted (so_far.moves + number is_move events) in
-    let rounds = counted (so_far.rounds + number is_round events) in
+    let moves = capped_count (so_far.moves + event_count is_move_event events) in
+    let rounds = capped_count (so_far.rounds + event_count is_round events) in
     tally_line moves rounds (least_with so_far.best (costs events))
 
 -- ---- a stopper

@@ -16,18 +16,20 @@ abbrev pub reports : {W : Type 0} → (W → List Event → List ℕ) → List W
 reports after watchers events = map (λ w. after w events) watchers
 
 -- each watcher was told these events, in order, and nothing else
-pub record Told {W : Type 0} (after : W → List Event → List ℕ) (old new : List W) (events : List Event) : Type 0 where
+pub record Reported {W : Type 0} (after : W → List Event → List ℕ) (old new : List W) (events : List Event) :
+    Type 0 where
   pub heard : (later : List Event) → reports after new later ≡ reports after old (events ++ later)
 
 -- so many watchers at the front were told this event, and the others were not
-pub record ToldSome {W : Type 0} (after : W → List Event → List ℕ) (old new : List W) (event : Event) : Type 0 where
+pub record ReportedToSome {W : Type 0} (after : W → List Event → List ℕ) (old new : List W) (event : Event) :
+    Type 0 where
   pub front : ℕ
   pub heard : (later : List Event) →
       reports after new later ≡ reports after (take front old) (event ∷ later) ++ reports after (drop front old) later
 
 -- of these events each watcher was told those in front; of the event in hand, if there was one, so many watchers at the
 -- front were told
-pub record ToldInPart {W : Type 0} (after : W → List Event → List ℕ) (old new : List W) (events : List Event) :
+pub record ReportedInPart {W : Type 0} (after : W → List Event → List ℕ) (old new : List W) (events : List Event) :
     Type 0 where
   pub told : List Event
   pub hand : List Event

@@ -1,7 +1,7 @@
 //! Each watcher in order.
 
 ghost use Rattle.std.specs.Prelude.{[], ◌∷◌, OnOk, OnErr};
-ghost use Rattle.vr_watch.specs.Told.{Hears, HearsNothing, Told, ToldInPart, ToldSome};
+ghost use Rattle.vr_watch.specs.Told.{Hears, HearsNothing, Reported, ReportedInPart, ReportedToSome};
 
 use crate::Watch;
 use vr_model::{Event, NoMemory};
@@ -19,8 +19,8 @@ fn tell(watcher: &mut Watcher, event: Event) -> Result<(), NoMemory>
 
 // Tells each watcher of an event, in order. Where memory is wanting, the first few were told, and no other.
 fn tell_each(watch: &mut [Watcher], event: Event) -> Result<(), NoMemory>
-    ensures told { OnOk result (Told (λ w later. after w later) watch.old watch.new (event ∷ [])) }
-    ensures some_told { OnErr result (ToldSome (λ w later. after w later) watch.old watch.new event) }
+    ensures told { OnOk result (Reported (λ w later. after w later) watch.old watch.new (event ∷ [])) }
+    ensures some_told { OnErr result (ReportedToSome (λ w later. after w later) watch.old watch.new event) }
 {
     for watcher in watch.iter_mut() {
         tell(watcher, event)?;
@@ -30,8 +30,8 @@ fn tell_each(watch: &mut [Watcher], event: Event) -> Result<(), NoMemory>
 
 /// Tells each watcher of an event, in order. Where memory is wanting, the first few were told, and no other.
 pub fn note_all(watch: &mut Vec<Box<dyn Watch>>, event: Event) -> Result<(), NoMemory>
-    ensures told { OnOk result (Told (λ w later. after w later) watch.old.items watch.new.items (event ∷ [])) }
-    ensures told_in_part { OnErr result (ToldInPart (λ w. after w) watch.old.items watch.new.items (event ∷ [])) }
+    ensures told { OnOk result (Reported (λ w later. after w later) watch.old.items watch.new.items (event ∷ [])) }
+    ensures told_in_part { OnErr result (ReportedInPart (λ w. after w) watch.old.items watch.new.items (event ∷ [])) }
 {
     tell_each(watch, event)
 }

@@ -23,7 +23,7 @@ use Rattle.vr_printed.specs.declared.printed.PrintedRoute.{PrintedRoute}
 use Rattle.vr_check.specs.declared.finding.Finding.{Finding}
 use Rattle.vr_check.specs.declared.finding.Finding.TheVariants.{Meets}
 use Rattle.vr_check.specs.declared.finding.Rule.TheVariants as rule
-use Rattle.vr_check.specs.Findings.{first_of, unless_broken}
+use Rattle.vr_check.specs.Findings.{first_finding, unless_broken}
 use Rattle.vr_check.specs.Lists.{ends_broken_of, ends_broken_in, ends_broken}
 use Rattle.vr_check.specs.Plans.{cumul_broken, slack_broken, break_broken}
 use Rattle.vr_check.specs.Parts.{parts_differ, is_within_limits}
@@ -61,7 +61,7 @@ module _ (model : Model) (well : IsWellFormed model) (lists : List (List ℕ)) (
     broken_in v r d = broken (line model d v (visits_of r)) d v (plan_of (plan_in r d))
 
     abbrev broken_of : ℕ → PrintedRoute → Option B
-    broken_of v r = first_of (broken_in v r) (below (length r.plans))
+    broken_of v r = first_finding (broken_in v r) (below (length r.plans))
 
     no_wrong_route : (v : ℕ) → v < length lists → broken_of v (route_printed model assignment v) ≡ None
     no_wrong_route v low = nothing (broken_in v (route_printed model assignment v)) (length (plans_printed model assignment v)) (λ d known. by d known (is_empty (route lists v)) refl)
@@ -73,7 +73,7 @@ module _ (model : Model) (well : IsWellFormed model) (lists : List (List ℕ)) (
             let here : d < length model.dimensions = omega (arith, known, all, length_below (plan_printed model assignment v) (length model.dimensions)) in
             ap₂ (λ list plan. broken (line model d v list) d v plan) (between_ends model v (route lists v)) (ap plan_of (plan_in_is model assignment v d here e)) ∙ none d v here low e
 
-    no_wrong_routes : first_of (λ v. broken_of v (slice_index_or routes v no_route)) (below (length routes)) ≡ None
+    no_wrong_routes : first_finding (λ v. broken_of v (slice_index_or routes v no_route)) (below (length routes)) ≡ None
     no_wrong_routes = nothing (λ v. broken_of v (slice_index_or routes v no_route)) (length routes) (λ v low. (let there : v < length lists = omega (arith, low, count) in
         ap (broken_of v) (route_at model assignment v there) ∙ no_wrong_route v there))
 

@@ -19,18 +19,18 @@ use Rattle.vr_model.proofs.tables.Tests.{clash, fails, fails_not, eq_turned, apa
 use Rattle.vr_model.proofs.routes.Lists.{is_active-concat, is_distinct-right, held_at, is_same-self, route-distinct}
 use Rattle.vr_rules.proofs.PlacingLemmas.{is_distinct-apart}
 use Rattle.vr_print.specs.Solution.{route_nodes}
-use Rattle.vr_check.specs.Findings.{spot, spot_of_none, spot_of_vehicle, nowhere, where_wrong, earlier, first_of}
+use Rattle.vr_check.specs.Findings.{spot, spot_of_none, spot_of_vehicle, nowhere, where_wrong, earlier, first_finding}
 use Rattle.vr_check.specs.Lists.{node_at, is_right_node, ends_broken_at, ends_broken_of, once_broken_at, once_broken_in, once_broken}
 use Rattle.vr_check.specs.Visits.{dropped_broken, required_broken_at, required_broken, has_right_number, no_group, group_broken_at, group_broken}
 use Rattle.vr_check.specs.Pairs.{is_served, pair_broken_at, pair_broken, policy_broken_in, policy_broken, allowed_broken_at, allowed_broken_in, allowed_broken}
 
 -- ---- a rule that finds nothing
 
-in_range : {B : Type 0} (f : ℕ → Option B) (a n : ℕ) → ((k : ℕ) → a ≤ k → k < a + n → f k ≡ None) → first_of f (range_with_len a n) ≡ None
+in_range : {B : Type 0} (f : ℕ → Option B) (a n : ℕ) → ((k : ℕ) → a ≤ k → k < a + n → f k ≡ None) → first_finding f (range_with_len a n) ≡ None
 in_range f a zero h = refl
-in_range f a (suc n) h = ap (λ o. earlier o (first_of f (range_with_len (a + 1) n))) (h a (omega arith) (omega arith)) ∙ in_range f (a + 1) n (λ k from low. h k (omega (arith, from)) (omega (arith, low)))
+in_range f a (suc n) h = ap (λ o. earlier o (first_finding f (range_with_len (a + 1) n))) (h a (omega arith) (omega arith)) ∙ in_range f (a + 1) n (λ k from low. h k (omega (arith, from)) (omega (arith, low)))
 
-pub nothing : {B : Type 0} (f : ℕ → Option B) (n : ℕ) → ((k : ℕ) → k < n → f k ≡ None) → first_of f (below n) ≡ None
+pub nothing : {B : Type 0} (f : ℕ → Option B) (n : ℕ) → ((k : ℕ) → k < n → f k ≡ None) → first_finding f (below n) ≡ None
 nothing f n h = in_range f 0 n (λ k from low. h k (omega (arith, low)))
 
 -- a test that passes is not wrong, wherever it would be said

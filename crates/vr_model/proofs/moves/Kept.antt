@@ -13,7 +13,7 @@ use Rattle.std.specs.List.{concat}
 use Rattle.std.proofs.lemmas.Bool.{cases_lt}
 use Rattle.vr_model.specs.moves.Moves.{apply, reversed_between, chain_moved, with_pair, without_pair, is_pair_inactive, is_pair_served}
 use Rattle.vr_model.specs.tables.Numbers.{each}
-use Rattle.vr_model.specs.tables.WellFormed.{IsWellFormed, nodes_of}
+use Rattle.vr_model.specs.tables.WellFormed.{IsWellFormed, pair_nodes}
 use Rattle.vr_model.specs.declared.records.Pair.{Pair}
 use Rattle.vr_model.specs.moves.MoveTests.{is_vehicle, is_place, is_inactive, may_put_pair, is_move}
 use Rattle.vr_model.specs.declared.records.Model.{Model}
@@ -80,13 +80,13 @@ pair_times x xs s t p d order =
     omega (arith, whole, rest, one, two)
 
 -- the two nodes of a pair are two
-pub pair_apart : (ps : List Pair) (p : ℕ) → p < length ps → IsTrue (is_distinct (each ps nodes_of)) → (slice_index_or ps p (record { pickup = 0; delivery = 0 })).pickup ≢ (slice_index_or ps p (record { pickup = 0; delivery = 0 })).delivery
+pub pair_apart : (ps : List Pair) (p : ℕ) → p < length ps → IsTrue (is_distinct (each ps pair_nodes)) → (slice_index_or ps p (record { pickup = 0; delivery = 0 })).pickup ≢ (slice_index_or ps p (record { pickup = 0; delivery = 0 })).delivery
 pair_apart [] p low h = absurd (omega (arith, low))
 pair_apart (q ∷ qs) zero low h = λ e.
-    clash (holds (q.delivery ∷ each qs nodes_of) q.pickup) (held_at (q.delivery ∷ each qs nodes_of) q.pickup 0 (omega arith) (sym e))
-    (fails_not (holds (q.delivery ∷ each qs nodes_of) q.pickup) (and_left (not (holds (q.delivery ∷ each qs nodes_of) q.pickup)) _ h))
+    clash (holds (q.delivery ∷ each qs pair_nodes) q.pickup) (held_at (q.delivery ∷ each qs pair_nodes) q.pickup 0 (omega arith) (sym e))
+    (fails_not (holds (q.delivery ∷ each qs pair_nodes) q.pickup) (and_left (not (holds (q.delivery ∷ each qs pair_nodes) q.pickup)) _ h))
 pair_apart (q ∷ qs) (suc p) low h =
-    pair_apart qs p (omega (arith, low)) (and_right (not (holds (each qs nodes_of) q.delivery)) _ (and_right (not (holds (q.delivery ∷ each qs nodes_of) q.pickup)) _ h))
+    pair_apart qs p (omega (arith, low)) (and_right (not (holds (each qs pair_nodes) q.delivery)) _ (and_right (not (holds (q.delivery ∷ each qs pair_nodes) q.pickup)) _ h))
 
 -- ---- lists without a pair
 

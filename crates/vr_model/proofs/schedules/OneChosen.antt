@@ -7,7 +7,7 @@ use Rattle.vr_model.specs.tables.Numbers.{is_lex_le}
 use Rattle.vr_model.specs.schedules.Lines.{Line}
 use Rattle.vr_model.specs.schedules.Schedules.{Plan, both_sides, IsChosen}
 use Rattle.vr_model.specs.deciding.Testing.{and_left, and_right, or_cases, le_of_test}
-use Rattle.vr_model.specs.deciding.ChosenSchedule.{plan_of, key_of, plan_of-key}
+use Rattle.vr_model.specs.deciding.ChosenSchedule.{plan_of_key, plan_key, plan_of-key}
 
 -- a list that comes no later than another of its length, and the other no later than it, is the other
 lex_both : (xs ys : List ℤ) → length xs ≡ length ys → IsTrue (is_lex_le xs ys) → IsTrue (is_lex_le ys xs) → xs ≡ ys
@@ -36,5 +36,5 @@ lex_both (x ∷ xs) (y ∷ ys) e h g =
 -- there is only one chosen schedule
 pub chosen_same : (line : Line) (p q : Plan) → IsChosen line p → IsChosen line q → p ≡ q
 chosen_same line p q cp cq =
-    let e : key_of p ≡ key_of q = lex_both (key_of p) (key_of q) (length-append p.cumuls p.breaks ∙ (ap₂ (λ m n. m + n) (cp.schedule.cumul_of_each_stop ∙ sym cq.schedule.cumul_of_each_stop) (cp.schedule.start_of_each_break ∙ sym cq.schedule.start_of_each_break) ∙ sym (length-append q.cumuls q.breaks))) (cp.least q cq.schedule) (cq.least p cp.schedule) in
-    sym (plan_of-key both_sides line p cp.schedule) ∙ (ap (plan_of line) e ∙ plan_of-key both_sides line q cq.schedule)
+    let e : plan_key p ≡ plan_key q = lex_both (plan_key p) (plan_key q) (length-append p.cumuls p.breaks ∙ (ap₂ (λ m n. m + n) (cp.schedule.cumul_of_each_stop ∙ sym cq.schedule.cumul_of_each_stop) (cp.schedule.start_of_each_break ∙ sym cq.schedule.start_of_each_break) ∙ sym (length-append q.cumuls q.breaks))) (cp.least q cq.schedule) (cq.least p cp.schedule) in
+    sym (plan_of-key both_sides line p cp.schedule) ∙ (ap (plan_of_key line) e ∙ plan_of-key both_sides line q cq.schedule)

@@ -5,7 +5,7 @@ use Rattle.vr_model.specs.moves.Moves.{moves}
 use Rattle.vr_model.specs.search.Scans.{Scan, scan}
 use Rattle.vr_model.specs.search.Scans.Scan.{Accepted, Complete, Cut}
 use Rattle.vr_model.specs.search.Outcomes.{SearchState, Outcome, accepted, tried, with_event, event_at, ended}
-use Rattle.vr_model.specs.search.Descents.{improves, descended, descent_from}
+use Rattle.vr_model.specs.search.Descents.{makes_cheaper, descended, descent_from}
 use Rattle.vr_model.specs.search.GuidedSearches.{Penalties, improves_augmented, raised, is_at_end, guided_on, guided_from}
 use Rattle.vr_model.specs.search.ChoosingLaws.{EndsAs}
 use Rattle.vr_model.specs.search.SearchLaws.{DescentBoundUnmet, GuidedBoundUnmet}
@@ -25,7 +25,7 @@ module _ (model : Model) (limit : Limit) where
   enough scans state e = rw (e, descent_from) refl
 
   scanned : (scans : ℕ) (state : SearchState) → (state.found == limit.solutions) ≡ false
-      → descent_from model limit (suc scans) state ≡ descended model limit (descent_from model limit scans) state (scan (moves model state.lists) (improves model state.lists) (limit.tries - state.used))
+      → descent_from model limit (suc scans) state ≡ descended model limit (descent_from model limit scans) state (scan (moves model state.lists) (makes_cheaper model state.lists) (limit.tries - state.used))
   unfolding descent_from
   scanned scans state e = rw (e, descent_from) refl
 
@@ -47,8 +47,8 @@ module _ (model : Model) (limit : Limit) where
           → (b : Bool) → (state.found == limit.solutions) ≡ b → descent_from model limit (suc (scans + more)) state ≡ descent_from model limit (suc scans) state
       go same true e = enough (scans + more) state e ∙ sym (enough scans state e)
       go same false e = scanned (scans + more) state e
-          ∙ (same_descended (descent_from model limit (scans + more)) (descent_from model limit scans) scans same state few (improves model state.lists)
-          (scan (moves model state.lists) (improves model state.lists) (limit.tries - state.used)) (scan_ends (moves model state.lists) (improves model state.lists) (limit.tries - state.used))
+          ∙ (same_descended (descent_from model limit (scans + more)) (descent_from model limit scans) scans same state few (makes_cheaper model state.lists)
+          (scan (moves model state.lists) (makes_cheaper model state.lists) (limit.tries - state.used)) (scan_ends (moves model state.lists) (makes_cheaper model state.lists) (limit.tries - state.used))
           ∙ sym (scanned scans state e))
 
   -- ---- guided local search

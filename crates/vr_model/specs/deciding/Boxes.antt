@@ -18,11 +18,11 @@ pub record IsLeastIn (box : List (ℤ × ℕ)) (test : List ℤ → Bool) (xs : 
   pub passes : IsTrue (test xs)
   pub least : (ys : List ℤ) → InBox box ys → IsTrue (test ys) → IsTrue (is_lex_le xs ys)
 
-abbrev pub NonePasses : List (ℤ × ℕ) → (List ℤ → Bool) → Type 0
-NonePasses box test = (ys : List ℤ) → InBox box ys → IsTrue (test ys) → ⊥
+abbrev pub NonePassesIn : List (ℤ × ℕ) → (List ℤ → Bool) → Type 0
+NonePassesIn box test = (ys : List ℤ) → InBox box ys → IsTrue (test ys) → ⊥
 
-abbrev pub Found : List (ℤ × ℕ) → (List ℤ → Bool) → Type 0
-Found box test = ((xs : List ℤ) × IsLeastIn box test xs) ⊎ NonePasses box test
+abbrev pub IsLeastOrNone : List (ℤ × ℕ) → (List ℤ → Bool) → Type 0
+IsLeastOrNone box test = ((xs : List ℤ) × IsLeastIn box test xs) ⊎ NonePassesIn box test
 
 is_lt_test : (x y : ℤ) → x <ℤ y → IsTrue (int_lt x y)
 is_lt_test x y h = Prim.grind (arith, ints)
@@ -41,13 +41,13 @@ later : (lo : ℤ) (n : ℕ) (box : List (ℤ × ℕ)) (y : ℤ) (ys : List ℤ)
     → InBox ((lo +ℤ pos 1, n) ∷ box) (y ∷ ys)
 later lo n box y ys h more = ((omega (arith, ints, more), omega (arith, ints, h.0.1)), h.1)
 
-earlier : (lo : ℤ) (n : ℕ) (box : List (ℤ × ℕ)) (xs : List ℤ) → InBox ((lo +ℤ pos 1, n) ∷ box) xs
+in_earlier_box : (lo : ℤ) (n : ℕ) (box : List (ℤ × ℕ)) (xs : List ℤ) → InBox ((lo +ℤ pos 1, n) ∷ box) xs
     → InBox ((lo, suc n) ∷ box) xs
-earlier lo n box [] h = h
-earlier lo n box (x ∷ xs) h = ((omega (arith, ints, h.0.0), omega (arith, ints, h.0.1)), h.1)
+in_earlier_box lo n box [] h = h
+in_earlier_box lo n box (x ∷ xs) h = ((omega (arith, ints, h.0.0), omega (arith, ints, h.0.1)), h.1)
 
-one_more : (box : List (ℤ × ℕ)) (lo : ℤ) (n : ℕ) (test : List ℤ → Bool) → Found box (λ xs. test (lo ∷ xs))
-    → Found ((lo +ℤ pos 1, n) ∷ box) test → Found ((lo, suc n) ∷ box) test
+one_more : (box : List (ℤ × ℕ)) (lo : ℤ) (n : ℕ) (test : List ℤ → Bool) → IsLeastOrNone box (λ xs. test (lo ∷ xs))
+    → IsLeastOrNone ((lo +ℤ pos 1, n) ∷ box) test → IsLeastOrNone ((lo, suc n) ∷ box) test
 one_more box lo n test (inl r) rest =
     inl (
       lo ∷ r.0,
@@ -66,7 +66,7 @@ one_more box lo n test (inl r) rest =
       | inr more ↦ lex_first lo y r.0 ys more
     ]
 one_more box lo n test (inr none) (inl r) =
-    inl (r.0, record { inside = earlier lo n box r.0 r.1.inside; passes = r.1.passes; least = least })
+    inl (r.0, record { inside = in_earlier_box lo n box r.0 r.1.inside; passes = r.1.passes; least = least })
   where
     least : (ys : List ℤ) → InBox ((lo, suc n) ∷ box) ys → IsTrue (test ys) → IsTrue (is_lex_le r.0 ys)
     least [] h t = absurd h
@@ -87,13 +87,14 @@ no_entry : (lo : ℤ) (box : List (ℤ × ℕ)) (ys : List ℤ) → InBox ((lo, 
 no_entry lo box [] h = h
 no_entry lo box (y ∷ ys) h = omega (arith, ints, h.0.0, h.0.1)
 
-side_found : (box : List (ℤ × ℕ)) → ((test : List ℤ → Bool) → Found box test) → (n : ℕ) (lo : ℤ) (test : List ℤ → Bool)
-    → Found ((lo, n) ∷ box) test
+side_found : (box : List (ℤ × ℕ)) → ((test : List ℤ → Bool) → IsLeastOrNone box test)
+    → (n : ℕ) (lo : ℤ) (test : List ℤ → Bool)
+    → IsLeastOrNone ((lo, n) ∷ box) test
 side_found box sub zero lo test = inr (λ ys h t. no_entry lo box ys h)
 side_found box sub (suc n) lo test =
     one_more box lo n test (sub (λ xs. test (lo ∷ xs))) (side_found box sub n (lo +ℤ pos 1) test)
 
-empty_found : (test : List ℤ → Bool) (b : Bool) → test [] ≡ b → Found [] test
+empty_found : (test : List ℤ → Bool) (b : Bool) → test [] ≡ b → IsLeastOrNone [] test
 empty_found test true e = inl ([], record { inside = tt; passes = e; least = λ ys h t. refl })
 empty_found test false e = inr none
   where
@@ -102,6 +103,6 @@ empty_found test false e = inr none
     none (y ∷ ys) h t = h
 
 -- the least list of a box that passes a test, or that none passes
-pub least_in_box : (box : List (ℤ × ℕ)) (test : List ℤ → Bool) → Found box test
+pub least_in_box : (box : List (ℤ × ℕ)) (test : List ℤ → Bool) → IsLeastOrNone box test
 least_in_box [] test = empty_found test (test []) refl
 least_in_box (side ∷ box) test = side_found box (least_in_box box) side.1 side.0 test

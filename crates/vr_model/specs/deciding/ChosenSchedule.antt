@@ -11,8 +11,8 @@ use Rattle.vr_model.specs.schedules.Schedules.{no_break, Plan, Sides, both_sides
 use Rattle.vr_model.specs.schedules.Schedules.{is_no_later, cumul, arc_at}
 use Rattle.vr_model.specs.declared.records.BreakRow.{BreakRow}
 use Rattle.vr_model.specs.deciding.Testing.{and_left, and_right, and_both, within_is}
-use Rattle.vr_model.specs.deciding.ScheduleTests.{keeps_rules, keeps_rules-sound, keeps_rules-complete}
-use Rattle.vr_model.specs.deciding.Boxes.{InBox, Found, least_in_box}
+use Rattle.vr_model.specs.deciding.ScheduleTests.{keeps_schedule_rules, keeps_rules-sound, keeps_rules-complete}
+use Rattle.vr_model.specs.deciding.Boxes.{InBox, IsLeastOrNone, least_in_box}
 
 -- the slacks that cumuls leave
 abbrev slacks_of : Line → List ℤ → List ℤ
@@ -20,14 +20,14 @@ slacks_of line cumuls =
     map (λ k. (number_at cumuls (suc k) -ℤ number_at cumuls k) -ℤ (arc_at line k).transit) (below (length line.arcs))
 
 -- the plan of a list of cumuls and break starts
-abbrev pub plan_of : Line → List ℤ → Plan
-plan_of line key =
+abbrev pub plan_of_key : Line → List ℤ → Plan
+plan_of_key line key =
     let cumuls = take (length line.allowed) key in
     record { cumuls = cumuls; slacks = slacks_of line cumuls; breaks = drop (length line.allowed) key }
 
 -- the list by which plans are compared
-abbrev pub key_of : Plan → List ℤ
-key_of plan = plan.cumuls ++ plan.breaks
+abbrev pub plan_key : Plan → List ℤ
+plan_key plan = plan.cumuls ++ plan.breaks
 
 map_range : (f : ℕ → ℤ) (a n k : ℕ) → k < n → number_at (map f (range_with_len a n)) k ≡ f (a + k)
 map_range f a zero k h = absurd (omega arith)
@@ -51,49 +51,49 @@ slacks_determined sides line plan s = ext_get_or (pos 0) _ _ (length_slacks line
     ∙ sym (s.slacks_left k lt)))
 
 pub plan_of-key : (sides : Sides) (line : Line) (plan : Plan) → KeepsRules sides line plan
-    → plan_of line (key_of plan) ≡ plan
+    → plan_of_key line (plan_key plan) ≡ plan
 plan_of-key sides line plan s =
     let c : take (length line.allowed)
-    (key_of plan) ≡ plan.cumuls = take_at plan.cumuls plan.breaks _ s.cumul_of_each_stop in
+    (plan_key plan) ≡ plan.cumuls = take_at plan.cumuls plan.breaks _ s.cumul_of_each_stop in
     let z : drop (length line.allowed)
-    (key_of plan) ≡ plan.breaks = drop_at plan.cumuls plan.breaks _ s.cumul_of_each_stop in
-    let l : slacks_of line (take (length line.allowed) (key_of plan)) ≡ plan.slacks = ap (slacks_of line) c
+    (plan_key plan) ≡ plan.breaks = drop_at plan.cumuls plan.breaks _ s.cumul_of_each_stop in
+    let l : slacks_of line (take (length line.allowed) (plan_key plan)) ≡ plan.slacks = ap (slacks_of line) c
     ∙ slacks_determined sides line plan s in
     λ i. record { cumuls = c i; slacks = l i; breaks = z i }
 
-key-plan_of : (line : Line) (key : List ℤ) → key_of (plan_of line key) ≡ key
+key-plan_of : (line : Line) (key : List ℤ) → plan_key (plan_of_key line key) ≡ key
 key-plan_of line key = take-append-drop (length line.allowed) key
 
 -- how many numbers lo..=hi are there, by hi - lo
-abbrev count : ℤ → ℕ
-count (pos n) = suc n
-count (negsuc n) = 0
+abbrev size_of_range : ℤ → ℕ
+size_of_range (pos n) = suc n
+size_of_range (negsuc n) = 0
 
-count_reaches : (lo hi x : ℤ) → lo ≤ℤ x → x ≤ℤ hi → x <ℤ (lo +ℤ pos (count (hi -ℤ lo)))
+count_reaches : (lo hi x : ℤ) → lo ≤ℤ x → x ≤ℤ hi → x <ℤ (lo +ℤ pos (size_of_range (hi -ℤ lo)))
 count_reaches lo hi x low high = go (hi -ℤ lo) refl
   where
-    go : (d : ℤ) → hi -ℤ lo ≡ d → x <ℤ (lo +ℤ pos (count d))
+    go : (d : ℤ) → hi -ℤ lo ≡ d → x <ℤ (lo +ℤ pos (size_of_range d))
     go (pos n) e = omega (arith, ints, low, high, e)
     go (negsuc n) e = omega (arith, ints, low, high, e)
 
 -- the range of a break start: its least number, and how many there are
 abbrev side : BreakRow → ℤ × ℕ
-side row = (row.from, count (row.to -ℤ row.from))
+side row = (row.from, size_of_range (row.to -ℤ row.from))
 
 -- the range of a cumul
 abbrev cumul_side : (ℤ → Bool) → ℤ × ℕ
-cumul_side test = (pos 0, count (horizon -ℤ pos 0))
+cumul_side test = (pos 0, size_of_range (horizon -ℤ pos 0))
 
 -- the box of the cumuls and break starts of a line
 abbrev box_of : Line → List (ℤ × ℕ)
 box_of line = map cumul_side line.allowed ++ map side line.breaks
 
-joined : (first second : List (ℤ × ℕ)) (xs ys : List ℤ) → InBox first xs → InBox second ys
+in_joined_box : (first second : List (ℤ × ℕ)) (xs ys : List ℤ) → InBox first xs → InBox second ys
     → InBox (first ++ second) (xs ++ ys)
-joined [] second [] ys h g = g
-joined [] second (x ∷ xs) ys h g = absurd h
-joined (s ∷ first) second [] ys h g = absurd h
-joined (s ∷ first) second (x ∷ xs) ys h g = (h.0, joined first second xs ys h.1 g)
+in_joined_box [] second [] ys h g = g
+in_joined_box [] second (x ∷ xs) ys h g = absurd h
+in_joined_box (s ∷ first) second [] ys h g = absurd h
+in_joined_box (s ∷ first) second (x ∷ xs) ys h g = (h.0, in_joined_box first second xs ys h.1 g)
 
 cumuls_in_box : (tests : List (ℤ → Bool)) (cs : List ℤ) → length cs ≡ length tests
     → ((k : ℕ) → k < length tests → IsTrue (within (pos 0) horizon (number_at cs k))) → InBox (map cumul_side tests) cs
@@ -122,21 +122,22 @@ starts_in_box (r ∷ rows) (z ∷ zs) e h =
     )
 
 key_in_box : (sides : Sides) (line : Line) (plan : Plan) → KeepsRules sides line plan
-    → InBox (box_of line) (key_of plan)
-key_in_box sides line plan s = joined (map cumul_side line.allowed) (map side line.breaks) plan.cumuls plan.breaks
+    → InBox (box_of line) (plan_key plan)
+key_in_box sides line plan s = in_joined_box (map cumul_side line.allowed) (map side line.breaks) plan.cumuls
+    plan.breaks
     (cumuls_in_box line.allowed plan.cumuls s.cumul_of_each_stop
     (λ k low. and_left (within (pos 0) horizon (cumul plan k)) _ (s.cumuls_allowed k low)))
     (starts_in_box line.breaks plan.breaks s.start_of_each_break s.breaks_in_range)
 
 -- the plan of a list keeps the rules and passes a further test
 abbrev key_test : Sides → (Plan → Bool) → Line → List ℤ → Bool
-key_test sides more line key = keeps_rules sides line (plan_of line key) && more (plan_of line key)
+key_test sides more line key = keeps_schedule_rules sides line (plan_of_key line key) && more (plan_of_key line key)
 
 key_passes : (sides : Sides) (more : Plan → Bool) (line : Line) (plan : Plan) → KeepsRules sides line plan
-    → IsTrue (more plan) → IsTrue (key_test sides more line (key_of plan))
+    → IsTrue (more plan) → IsTrue (key_test sides more line (plan_key plan))
 key_passes sides more line plan s m =
-    subst (λ p. IsTrue (keeps_rules sides line p && more p)) (sym (plan_of-key sides line plan s))
-    (and_both (keeps_rules sides line plan) (more plan) (keeps_rules-complete sides line plan s) m)
+    subst (λ p. IsTrue (keeps_schedule_rules sides line p && more p)) (sym (plan_of-key sides line plan s))
+    (and_both (keeps_schedule_rules sides line plan) (more plan) (keeps_rules-complete sides line plan s) m)
 
 -- the least plan that keeps the rules and passes a further test
 pub record IsLeastPlan (sides : Sides) (more : Plan → Bool) (line : Line) (plan : Plan) : Type 0 where
@@ -148,20 +149,20 @@ pub record IsLeastPlan (sides : Sides) (more : Plan → Bool) (line : Line) (pla
 abbrev pub NoPlan : Sides → (Plan → Bool) → Line → Type 0
 NoPlan sides more line = (other : Plan) → KeepsRules sides line other → IsTrue (more other) → ⊥
 
-plan_from : (sides : Sides) (more : Plan → Bool) (line : Line) → Found (box_of line) (key_test sides more line)
+plan_from : (sides : Sides) (more : Plan → Bool) (line : Line) → IsLeastOrNone (box_of line) (key_test sides more line)
     → ((plan : Plan) × IsLeastPlan sides more line plan) ⊎ NoPlan sides more line
 plan_from sides more line (inl r) = inl (
-  plan_of line r.0,
+  plan_of_key line r.0,
   record {
-    keeps = keeps_rules-sound sides line (plan_of line r.0)
-        (and_left (keeps_rules sides line (plan_of line r.0)) _ r.1.passes);
-    passes = and_right (keeps_rules sides line (plan_of line r.0)) _ r.1.passes;
-    least = λ other s m. subst (λ key. IsTrue (is_lex_le key (key_of other))) (sym (key-plan_of line r.0))
-        (r.1.least (key_of other) (key_in_box sides line other s) (key_passes sides more line other s m));
+    keeps = keeps_rules-sound sides line (plan_of_key line r.0)
+        (and_left (keeps_schedule_rules sides line (plan_of_key line r.0)) _ r.1.passes);
+    passes = and_right (keeps_schedule_rules sides line (plan_of_key line r.0)) _ r.1.passes;
+    least = λ other s m. subst (λ key. IsTrue (is_lex_le key (plan_key other))) (sym (key-plan_of line r.0))
+        (r.1.least (plan_key other) (key_in_box sides line other s) (key_passes sides more line other s m));
   },
 )
 plan_from sides more line (inr none) =
-    inr (λ other s m. none (key_of other) (key_in_box sides line other s) (key_passes sides more line other s m))
+    inr (λ other s m. none (plan_key other) (key_in_box sides line other s) (key_passes sides more line other s m))
 
 -- the least plan that keeps the rules and passes a further test, or that there is none: the plans that keep the rules
 -- lie in a finite box, which is searched

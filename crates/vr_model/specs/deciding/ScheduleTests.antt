@@ -38,11 +38,11 @@ rule_tests sides line plan =
     ∷ []
 
 -- all rules of a schedule hold
-abbrev pub keeps_rules : Sides → Line → Plan → Bool
-keeps_rules sides line plan = all_pass (rule_tests sides line plan)
+abbrev pub keeps_schedule_rules : Sides → Line → Plan → Bool
+keeps_schedule_rules sides line plan = all_pass (rule_tests sides line plan)
 
 -- the tests show the rules
-pub keeps_rules-sound : (sides : Sides) (line : Line) (plan : Plan) → IsTrue (keeps_rules sides line plan)
+pub keeps_rules-sound : (sides : Sides) (line : Line) (plan : Plan) → IsTrue (keeps_schedule_rules sides line plan)
     → KeepsRules sides line plan
 keeps_rules-sound sides line plan h =
     let t = each_passes (rule_tests sides line plan) h in
@@ -80,7 +80,7 @@ keeps_rules-sound sides line plan h =
 
 -- the rules show the tests
 pub keeps_rules-complete : (sides : Sides) (line : Line) (plan : Plan) → KeepsRules sides line plan
-    → IsTrue (keeps_rules sides line plan)
+    → IsTrue (keeps_schedule_rules sides line plan)
 keeps_rules-complete sides line plan r = all_passed (rule_tests sides line plan) (
   test_of_eq _ _ r.cumul_of_each_stop,
   (

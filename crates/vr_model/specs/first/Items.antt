@@ -31,13 +31,13 @@ abbrev pub last_node : List ℕ → ℕ
 last_node list = slice_index list (length list - 1)
 
 -- there is a penalty
-abbrev pub has_penalty : Option ℤ → Bool
-has_penalty None = false
-has_penalty (Some penalty) = true
+abbrev pub is_penalty_given : Option ℤ → Bool
+is_penalty_given None = false
+is_penalty_given (Some penalty) = true
 
 -- the node is in a group without a penalty
 abbrev pub must_fill : Model → ℕ → Bool
-must_fill model node = list_any (λ group. holds group.nodes node && not (has_penalty group.penalty)) model.groups
+must_fill model node = list_any (λ group. holds group.nodes node && not (is_penalty_given group.penalty)) model.groups
 
 -- the class of a node: 0 outside all groups, 1 in a group without a penalty, 2 in another
 abbrev pub node_class : Model → ℕ → ℕ

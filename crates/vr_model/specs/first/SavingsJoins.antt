@@ -58,8 +58,8 @@ abbrev pub is_part_of : Join → List ℕ → Bool
 is_part_of join list = (first_node list == first_node join.front) || (first_node list == first_node join.back)
 
 -- the routes after a join
-abbrev pub joined : List (List ℕ) → Join → List (List ℕ)
-joined routes join = joined_route join ∷ filter (λ list. not (is_part_of join list)) routes
+abbrev pub after_join : List (List ℕ) → Join → List (List ℕ)
+after_join routes join = joined_route join ∷ filter (λ list. not (is_part_of join list)) routes
 
 -- the best join saves, or there are more routes than vehicles
 abbrev pub is_wanted : Model → List (List ℕ) → Join → Bool
@@ -71,7 +71,7 @@ merged model zero routes = routes
 merged model (suc more) routes = elim (least_by (join_key model) (joins model routes)) [
   | None ↦ routes
   | Some join ↦ elim (is_wanted model routes join) [
-    | true ↦ merged model more (joined routes join)
+    | true ↦ merged model more (after_join routes join)
     | false ↦ routes
   ]
 ]

@@ -4,13 +4,13 @@ use Rattle.vr_model.specs.tables.Numbers.{is_same_number}
 use Rattle.vr_model.specs.schedules.Lines.{Line}
 use Rattle.vr_model.specs.schedules.Schedules.{Plan, Sides, KeepsRules, IsSchedule, IsFeasible, IsChosen, IsReached}
 use Rattle.vr_model.specs.schedules.Schedules.{ReachesEnd, cumul}
-use Rattle.vr_model.specs.deciding.ScheduleTests.{keeps_rules}
+use Rattle.vr_model.specs.deciding.ScheduleTests.{keeps_schedule_rules}
 use Rattle.vr_model.specs.schedules.Choices.{chosen, is_feasible, is_reached, reaches_end}
 
 -- the rules of a schedule hold exactly where their tests pass
 abbrev pub RulesAsTested : Type 0
 RulesAsTested =
-    (where_else : Sides) (line : Line) (plan : Plan) → IsTrue (keeps_rules where_else line plan)
+    (where_else : Sides) (line : Line) (plan : Plan) → IsTrue (keeps_schedule_rules where_else line plan)
     ↔ KeepsRules where_else line plan
 
 -- no two schedules of a line are chosen

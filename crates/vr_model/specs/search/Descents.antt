@@ -14,8 +14,8 @@ use Rattle.vr_model.specs.declared.search.Kind.TheVariants as kind
 use Rattle.vr_model.specs.declared.neighbours.Move.{Move}
 
 -- a move is acceptable where the lists after it are valid and cost less
-abbrev pub improves : Model → List (List ℕ) → Move → Bool
-improves model lists mv =
+abbrev pub makes_cheaper : Model → List (List ℕ) → Move → Bool
+makes_cheaper model lists mv =
     let after = apply model lists mv in is_valid model after && int_lt (cost model after) (cost model lists)
 
 -- how a descent goes on after a scan: from the accepted move again, or it ends
@@ -32,7 +32,7 @@ descent_from model limit zero state = ended state Tries
 descent_from model limit (suc scans) state = elim (state.found == limit.solutions) [
   | true ↦ ended state Solutions
   | false ↦ descended model limit (descent_from model limit scans) state
-      (scan (moves model state.lists) (improves model state.lists) (limit.tries - state.used))
+      (scan (moves model state.lists) (makes_cheaper model state.lists) (limit.tries - state.used))
 ]
 
 -- greedy descent from lists

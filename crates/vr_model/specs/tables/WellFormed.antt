@@ -148,18 +148,18 @@ pub record IsAllowed (model : Model) (row : Allowed) : Type 0 where
   pub no_vehicle_twice : IsTrue (is_distinct row.vehicles)
 
 -- the place of a neighbourhood in the order of all of them
-abbrev pub number_of : Neighbourhood → ℕ
-number_of all.TwoOpt = 0
-number_of all.OrOpt = 1
-number_of all.Relocate = 2
-number_of all.Exchange = 3
-number_of all.Cross = 4
-number_of all.RelocatePair = 5
-number_of all.PairActive = 6
-number_of all.PairInactive = 7
-number_of all.MakeActive = 8
-number_of all.MakeInactive = 9
-number_of all.SwapActive = 10
+abbrev pub neighbourhood_number : Neighbourhood → ℕ
+neighbourhood_number all.TwoOpt = 0
+neighbourhood_number all.OrOpt = 1
+neighbourhood_number all.Relocate = 2
+neighbourhood_number all.Exchange = 3
+neighbourhood_number all.Cross = 4
+neighbourhood_number all.RelocatePair = 5
+neighbourhood_number all.PairActive = 6
+neighbourhood_number all.PairInactive = 7
+neighbourhood_number all.MakeActive = 8
+neighbourhood_number all.MakeInactive = 9
+neighbourhood_number all.SwapActive = 10
 
 -- what a search may be told
 pub record IsSearch (search : SearchRow) : Type 0 where
@@ -168,13 +168,13 @@ pub record IsSearch (search : SearchRow) : Type 0 where
   pub p_in_range : IsIn (pos 1) greatest_lambda search.p
   pub q_in_range : IsIn (pos 1) greatest_lambda search.q
   pub number_of_neighbourhoods : length search.neighbourhoods ≤ most_neighbourhoods
-  pub no_neighbourhood_twice : IsTrue (is_distinct (map number_of search.neighbourhoods))
+  pub no_neighbourhood_twice : IsTrue (is_distinct (map neighbourhood_number search.neighbourhoods))
   pub cut_in_range : (1 ≤ search.cut) × (search.cut ≤ most_cut)
   pub tenure_in_range : (1 ≤ search.tenure) × (search.tenure ≤ most_tenure)
 
 -- the nodes of a pair
-abbrev pub nodes_of : Pair → List ℕ
-nodes_of pair = pair.pickup ∷ pair.delivery ∷ []
+abbrev pub pair_nodes : Pair → List ℕ
+pair_nodes pair = pair.pickup ∷ pair.delivery ∷ []
 
 -- no two names are the same
 abbrev pub are_distinct_names : List (List ℕ) → Bool
@@ -196,7 +196,7 @@ pub record IsWellFormed (model : Model) : Type 0 where
   pub no_node_in_groups_twice : IsTrue (is_distinct (each model.groups (λ group. group.nodes)))
   pub number_of_pairs : length model.pairs ≤ most_pairs
   pub each_pair : All (IsPair model) model.pairs
-  pub no_node_in_pairs_twice : IsTrue (is_distinct (each model.pairs nodes_of))
+  pub no_node_in_pairs_twice : IsTrue (is_distinct (each model.pairs pair_nodes))
   pub number_of_allowed : length model.allowed ≤ most_nodes
   pub each_allowed : All (IsAllowed model) model.allowed
   pub no_node_allowed_twice : IsTrue (is_distinct (map (λ row. row.node) model.allowed))

@@ -2,7 +2,8 @@
 
 ghost use Rattle.std.specs.Prelude.{◌≡◌, ◌<◌, ◌≤◌, ℕ, false, length, take};
 ghost use Rattle.vr_model.specs.routes.Routes.{holds};
-ghost use Rattle.vr_pathfilters.specs.Counted.{AreCounted, CanBeCounted, counts, count_of as count_of_node, no_counts};
+ghost use Rattle.vr_pathfilters.specs.Counted.{AreCounted, CanBeCounted, pair_counts, count_of as count_of_node};
+ghost use Rattle.vr_pathfilters.specs.Counted.{no_counts};
 ghost use Rattle.vr_pathfilters.specs.Counted.{with_node as with_one_node};
 
 use vr_lists::NodeTables;
@@ -89,7 +90,7 @@ pub(crate) fn counts_before(
 ) -> Counts
     requires counted { AreCounted lookups.now list.now table.now }
     requires few { length list.now ≤ 1000 }
-    ensures value { result ≡ counts lookups.now (take place list.now) }
+    ensures value { result ≡ pair_counts lookups.now (take place list.now) }
     ensures pickups { result.pickups ≤ 1000 }
     ensures deliveries { result.deliveries ≤ 1000 }
 {

@@ -2,9 +2,9 @@
 
 ghost use Rattle.std.specs.Prelude.{◌≡◌, ◌+◌, ◌<◌, ◌≤◌, ◌^◌, length, take};
 ghost use Rattle.vr_reach.specs.Spliced.{AreSeams, spliced};
-ghost use Rattle.vr_pathfilters.specs.Counted.{counts, AreCounted, IsOfThreeLists};
+ghost use Rattle.vr_pathfilters.specs.Counted.{pair_counts, AreCounted, IsOfThreeLists};
 ghost use Rattle.vr_pathfilters.specs.Turns.{are_in_turn as are_in_turn_in};
-ghost use Rattle.vr_pathfilters.specs.Replaced.{list_of};
+ghost use Rattle.vr_pathfilters.specs.Replaced.{replaced_list};
 
 use super::counts::{Counts, counts_before};
 use super::turns::Turns;
@@ -84,7 +84,7 @@ impl<'a, 'm> NewCounts<'a, 'm> {
     // What is counted before a place of the list before.
     #[inline]
     fn listed(&self, place: usize) -> Counts
-        ensures value { result ≡ counts self.now.model (take place self.now.old) }
+        ensures value { result ≡ pair_counts self.now.model (take place self.now.old) }
         ensures pickups { result.pickups ≤ 1000 }
         ensures deliveries { result.deliveries ≤ 1000 }
     {
@@ -94,7 +94,7 @@ impl<'a, 'm> NewCounts<'a, 'm> {
     // What is counted before a place of the nodes between.
     #[inline]
     fn between(&self, place: usize) -> Counts
-        ensures value { result ≡ counts self.now.model (take place self.now.middle) }
+        ensures value { result ≡ pair_counts self.now.model (take place self.now.middle) }
         ensures pickups { result.pickups ≤ 1000 }
         ensures deliveries { result.deliveries ≤ 1000 }
     {
@@ -105,7 +105,7 @@ impl<'a, 'm> NewCounts<'a, 'm> {
     #[inline]
     fn before(&self, place: usize) -> Counts
         requires place { place ≤ 2 ^ 32 }
-        ensures value { result ≡ counts self.now.model (take place (list_of self.now)) }
+        ensures value { result ≡ pair_counts self.now.model (take place (replaced_list self.now)) }
         ensures pickups { IsOfThreeLists result.pickups }
         ensures deliveries { IsOfThreeLists result.deliveries }
     {
@@ -133,7 +133,7 @@ impl<'a, 'm> NewCounts<'a, 'm> {
     /// Whether the pickup and the delivery at two places of the list come in turn.
     #[inline]
     pub fn are_in_turn(&self, policy: Policy, pickup: u32, delivery: u32) -> bool
-        ensures { result ≡ are_in_turn_in self.now.model policy (list_of self.now) pickup delivery }
+        ensures { result ≡ are_in_turn_in self.now.model policy (replaced_list self.now) pickup delivery }
     {
         match policy {
             Policy::Any => true,

@@ -1,7 +1,7 @@
 use Rattle.std.proofs.Common.{◌∙◌, ap, sym, subst}
-use Rattle.vr_json.specs.Trees.{line_of}
+use Rattle.vr_json.specs.Trees.{text_line}
 use Rattle.vr_app.specs.Reply.{reply_generated}
-use Rattle.vr_app.specs.Status.{number_of}
+use Rattle.vr_app.specs.Status.{status_number}
 use Rattle.vr_app.proofs.GeneratedLemmas.{generated-printable}
 use Rattle.vr_app.proofs.ReplyLemmas.{IsPrintable}
 use Rattle.vr_app.proofs.numbered.generated.Goals as goal
@@ -11,4 +11,4 @@ line-requires c = let p = subst IsPrintable (sym c.in_ok-tree.ensures) (generate
 
 pub returns-clause-reply : goal.returns-clause-reply
 unfolding reply_generated
-returns-clause-reply c = let is = c.in_ok-answer.ensures in record { status_is = ap number_of is.status_is; text_is = is.text_is ∙ ap line_of c.in_ok-tree.ensures }
+returns-clause-reply c = let is = c.in_ok-answer.ensures in record { status_is = ap status_number is.status_is; text_is = is.text_is ∙ ap text_line c.in_ok-tree.ensures }

@@ -1,11 +1,11 @@
 use Rattle.std.proofs.Common.{sym, subst}
 use Rattle.std.specs.Prelude.{OnOk}
-use Rattle.vr_watch.specs.Told.{Told}
+use Rattle.vr_watch.specs.Told.{Reported}
 use Rattle.vr_app.specs.Found.{searched}
 use Rattle.vr_app.specs.declared.words.Mode.{Mode}
 use Rattle.vr_app.proofs.search.search.Goals as goal
 
 pub returns-in-Log-clause-told : goal.returns-in-Log-clause-told
 returns-in-Log-clause-told g c = λ log.
-    let P : Mode → Type 0 = λ mode. OnOk c.solve.result (Told (λ w. (goal.Watch-dyn g (w.vtable, w.value)).after w.value) c.args.watch.now.items c.solve.new.watch.items (searched mode c.args.lookups.now.closed.model.now c.args.first.lists).events) in
+    let P : Mode → Type 0 = λ mode. OnOk c.solve.result (Reported (λ w. (goal.Watch-dyn g (w.vtable, w.value)).after w.value) c.args.watch.now.items c.solve.new.watch.items (searched mode c.args.lookups.now.closed.model.now c.args.first.lists).events) in
     subst P (sym c.in-Log.is) c.solve.ensures.told

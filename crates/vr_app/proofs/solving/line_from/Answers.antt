@@ -1,6 +1,6 @@
 use Rattle.std.proofs.Common.{◌≡◌, ◌∙◌, ap, arith, w64, to_z, of_z}
 use Rattle.std.proofs.lemmas.Int.{ints}
-use Rattle.vr_json.specs.Trees.{line_of}
+use Rattle.vr_json.specs.Trees.{text_line}
 use Rattle.vr_model.specs.routes.Costs.{cost}
 use Rattle.vr_model.specs.routes.Rules.{is_valid}
 use Rattle.vr_model.proofs.routes.CostFits.{costs_are_bounded}
@@ -40,6 +40,6 @@ returns-clause-line g c =
     let sum : to_z w64 (of_z w64 c.in_ok-first_cost.first_cost) ≡ cost model first =
     omega (arith, ints, c.in_ok-first_cost.ensures, bounds.least, bounds.greatest) in
     c.in_ok-line.ensures.text
-    ∙ ap (λ lists. line_of (solution_tree model lists (to_z w64 (of_z w64 c.in_ok-first_cost.first_cost)) found.report)) ends.best_is
-    ∙ ap (λ z. line_of (solution_tree model end.best z found.report)) sum
-    ∙ ap (λ report. line_of (solution_tree model end.best (cost model first) report)) ends.report_is
+    ∙ ap (λ lists. text_line (solution_tree model lists (to_z w64 (of_z w64 c.in_ok-first_cost.first_cost)) found.report)) ends.best_is
+    ∙ ap (λ z. text_line (solution_tree model end.best z found.report)) sum
+    ∙ ap (λ report. text_line (solution_tree model end.best (cost model first) report)) ends.report_is

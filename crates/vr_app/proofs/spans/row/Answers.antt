@@ -4,7 +4,7 @@ use Rattle.serde_json.specs.View.{view}
 use Rattle.vr_model.specs.schedules.Lines.{Line, line}
 use Rattle.vr_model.specs.tables.Numbers.{number_at}
 use Rattle.vr_model.specs.tables.Tables.{dimension_at, no_dimension}
-use Rattle.vr_plan.specs.Plans.{seen}
+use Rattle.vr_plan.specs.Plans.{as_defined}
 use Rattle.vr_printed.specs.Printed.{plan_of}
 use Rattle.vr_app.specs.Shortest.{span_high, span_low}
 use Rattle.vr_app.proofs.SpanLemmas.{line_stops_behind, no-breaks, row_is, span_is}
@@ -25,5 +25,5 @@ returns c =
     let low = span_low its (plan_of c.args.plan.now) c.requires.schedule in
     let high = span_high its (plan_of c.args.plan.now) c.requires.schedule in
     let same : to_z w64 (of_z w64 c.span_between-printed.result) ≡ c.span_between-printed.result = omega (arith, ints, took, low, high) in
-    row_is _ _ c.args.v its (plan_of c.args.plan.now) (seen c.in_ok-least.least.plan) _ _ (view c.in_ok-tree.tree) c.in_ok-tree.ensures
+    row_is _ _ c.args.v its (plan_of c.args.plan.now) (as_defined c.in_ok-least.least.plan) _ _ (view c.in_ok-tree.tree) c.in_ok-tree.ensures
     (sym (c.get.ensures.value no_dimension)) short.plan_is short.span_is (same ∙ took)

@@ -2,7 +2,7 @@ use Rattle.std.proofs.Common.{◌∙◌, ap, sym, subst, refl, arith}
 use Rattle.std.proofs.lemmas.Int.{ints}
 use Rattle.std.specs.Prelude.{IfOk}
 use Rattle.vr_model.specs.tables.Tables.{no_dimension}
-use Rattle.vr_costfilter.specs.GlobalCosts.{IsToldIfPaid}
+use Rattle.vr_costfilter.specs.GlobalCosts.{IsTimedIfPaid}
 use Rattle.vr_costfilter.proofs.KnownLemmas.{tour-of}
 use Rattle.vr_costfilter.proofs.PartLemmas.{list-of-part}
 use Rattle.vr_costfilter.specs.PartsAfter.{list_after}
@@ -42,5 +42,5 @@ pub returns : goal.returns
 returns c =
     let m = c.args.part.now.model.now in
     let found = c.kept_in.result in
-    subst (λ v. IfOk found (IsToldIfPaid m c.args.d v (list_after c.args.part.now))) c.vehicle.ensures.value
-    (subst (λ l. IfOk found (IsToldIfPaid m c.args.d c.vehicle.result l)) (c.as_slice.ensures.value ∙ c.write.ensures.list) c.kept_in.ensures)
+    subst (λ v. IfOk found (IsTimedIfPaid m c.args.d v (list_after c.args.part.now))) c.vehicle.ensures.value
+    (subst (λ l. IfOk found (IsTimedIfPaid m c.args.d c.vehicle.result l)) (c.as_slice.ensures.value ∙ c.write.ensures.list) c.kept_in.ensures)

@@ -4,7 +4,7 @@ use Rattle.std.proofs.lemmas.List.{get_or-set_other, get_or-set_same, length-set
 use Rattle.std.specs.Prelude.{slice_index_or, slice_set}
 use Rattle.vr_plan.specs.declared.timings.Timing.{Timing}
 use Rattle.vr_costfilter.proofs.KnownLemmas.{known-at}
-use Rattle.vr_costfilter.specs.GlobalCosts.{IsToldIfPaid}
+use Rattle.vr_costfilter.specs.GlobalCosts.{IsTimedIfPaid}
 use Rattle.vr_costfilter.proofs.reaches.row_of_list.Goals as goal
 
 pub kept_in-requires : goal.kept_in-requires
@@ -23,11 +23,11 @@ loop-d-preserved c =
     record {
       many = length-set row d new ∙ i.many;
       each = λ e under. elim (cases_lt e d) [
-        | inl before ↦ subst (IsToldIfPaid c.args.tour.now.closed.model.now e c.args.tour.now.v c.args.tour.now.list.now) (sym (get_or-set_other row d e new None (omega (arith, before)))) (i.each e before)
+        | inl before ↦ subst (IsTimedIfPaid c.args.tour.now.closed.model.now e c.args.tour.now.v c.args.tour.now.list.now) (sym (get_or-set_other row d e new None (omega (arith, before)))) (i.each e before)
         | inr past ↦ (
             let here : d ≡ e = omega (arith, under, past) in
-            subst (λ k. IsToldIfPaid c.args.tour.now.closed.model.now k c.args.tour.now.v c.args.tour.now.list.now (slice_index_or (slice_set row d new) k None)) here
-            (subst (IsToldIfPaid c.args.tour.now.closed.model.now d c.args.tour.now.v c.args.tour.now.list.now) (sym (get_or-set_same row d new None (omega (arith, n, few, low, many)))) c.in_ok-row.ensures))
+            subst (λ k. IsTimedIfPaid c.args.tour.now.closed.model.now k c.args.tour.now.v c.args.tour.now.list.now (slice_index_or (slice_set row d new) k None)) here
+            (subst (IsTimedIfPaid c.args.tour.now.closed.model.now d c.args.tour.now.v c.args.tour.now.list.now) (sym (get_or-set_same row d new None (omega (arith, n, few, low, many)))) c.in_ok-row.ensures))
       ];
     }
 

@@ -6,9 +6,9 @@ use Rattle.std.specs.Prelude.{slice_index_or}
 use Rattle.vr_model.specs.routes.Routes.{route}
 use Rattle.vr_model.specs.tables.Tables.{no_dimension}
 use Rattle.vr_costfilter.specs.declared.orders.SortedEnds.{SortedEnds}
-use Rattle.vr_costfilter.specs.SortedEnds.{AreOrders, IsTold}
+use Rattle.vr_costfilter.specs.SortedEnds.{AreOrders, IsTimedIfUsed}
 use Rattle.vr_costfilter.proofs.OrdersLemmas.{orders-room, orders-set}
-use Rattle.vr_costfilter.specs.GlobalCosts.{no_orders, orders_at, told_in, Pays}
+use Rattle.vr_costfilter.specs.GlobalCosts.{no_orders, orders_at, timing_in, Pays}
 use Rattle.vr_costfilter.proofs.AllOrdersLemmas.{left-at, route-first, route-more, used-first, written-at}
 use Rattle.vr_costfilter.proofs.reaches.set_list.Goals as goal
 use Rattle.vr_costfilter.proofs.reaches.set_list.Goals.{then-get-ne0, else-get-ne0}
@@ -47,8 +47,8 @@ loop-d-preserved c =
             let here : Pays m d → AreOrders m d (take (v + 1) all) w.set.new.self = λ pay. (
             let read : slice_index_or os d w.index-orders-d.result ≡ orders_at os d = get_or_default os d w.index-orders-d.result no_orders inside in
             let are = subst (AreOrders m d (take v all)) (sym read) (i.left d (omega arith) low pay) in
-            let told : IsTold m d v (route (take (v + 1) all) v) (told_in d c.args.row.now) = subst (λ l. IsTold m d v l (told_in d c.args.row.now)) (sym (route-first all (v + 1) v (omega arith))) ((c.requires.row.each d low).told pay) in
-            subst (AreOrders m d (take (v + 1) all)) (sym w.set.ensures) (orders-set m d (take v all) (slice_index_or os d w.index-orders-d.result) are v (take (v + 1) all) (λ u apart. route-more all v u apart) (told_in d c.args.row.now) told)) in
+            let told : IsTimedIfUsed m d v (route (take (v + 1) all) v) (timing_in d c.args.row.now) = subst (λ l. IsTimedIfUsed m d v l (timing_in d c.args.row.now)) (sym (route-first all (v + 1) v (omega arith))) ((c.requires.row.each d low).told pay) in
+            subst (AreOrders m d (take (v + 1) all)) (sym w.set.ensures) (orders-set m d (take v all) (slice_index_or os d w.index-orders-d.result) are v (take (v + 1) all) (λ u apart. route-more all v u apart) (timing_in d c.args.row.now) told)) in
             subst (λ (xs : List SortedEnds). AreOrders m e (take (v + 1) all) (orders_at xs e)) (sym w.orders-is)
             (written-at (λ k x. Pays m k → AreOrders m k (take (v + 1) all) x) os d w.set.new.self inside here e under (λ before pay. i.done e before there pay) pays))
         | else-get-ne0 w ↦ subst (λ (xs : List SortedEnds). AreOrders m e (take (v + 1) all) (orders_at xs e)) (sym w.orders-is) (elim (cases_lt e d) [

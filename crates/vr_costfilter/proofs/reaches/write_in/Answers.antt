@@ -4,11 +4,11 @@ use Rattle.vr_model.specs.moves.Moves.{with_route}
 use Rattle.vr_model.specs.routes.Routes.{route}
 use Rattle.vr_model.proofs.routes.Lists.{route_set_other, route_set_same}
 use Rattle.vr_routes.specs.Pieces.{joined, part_at}
-use Rattle.vr_costfilter.specs.SortedEnds.{AreOrders, IsTold}
+use Rattle.vr_costfilter.specs.SortedEnds.{AreOrders, IsTimedIfUsed}
 use Rattle.vr_costfilter.proofs.OrdersLemmas.{orders-room, orders-set, used-known}
 use Rattle.vr_parts.proofs.SumLemmas.{upto, upto-many}
 use Rattle.vr_earliest.proofs.WritingLemmas.{upto-put, upto-within}
-use Rattle.vr_costfilter.specs.GlobalCosts.{told_in}
+use Rattle.vr_costfilter.specs.GlobalCosts.{timing_in}
 use Rattle.vr_costfilter.proofs.reaches.write_in.Goals as goal
 
 pub set-requires-clause-room : goal.set-requires-clause-room
@@ -29,8 +29,8 @@ loop-k-preserved c =
     let vehicle = c.vehicle.ensures in
     let v = c.vehicle.result in
     let list : List ℕ = joined lists (part_at parts k).pieces in
-    let row = told_in d (slice_index_or c.args.next.now k []) in
-    let told : IsTold m d v (route (with_route base v list) v) row =
-    subst (λ l. IsTold m d v l row) (sym (route_set_same base v list (upto-within lists parts c.requires.parts_are k low vehicle))) (subst (λ w. IsTold m d w list row) (sym vehicle) (c.requires.told k low)) in
+    let row = timing_in d (slice_index_or c.args.next.now k []) in
+    let told : IsTimedIfUsed m d v (route (with_route base v list) v) row =
+    subst (λ l. IsTimedIfUsed m d v l row) (sym (route_set_same base v list (upto-within lists parts c.requires.parts_are k low vehicle))) (subst (λ w. IsTimedIfUsed m d w list row) (sym vehicle) (c.requires.told k low)) in
     let set = orders-set m d base c.loop-k.out c.loop-k.invariant v (with_route base v list) (λ u apart. route_set_other base v u list apart) row told in
     subst (λ ls. AreOrders m d ls c.set.new.self) (upto-put lists parts k low vehicle refl) (subst (AreOrders m d (with_route base v list)) (sym c.set.ensures) set)

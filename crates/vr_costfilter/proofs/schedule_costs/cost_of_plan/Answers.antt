@@ -3,7 +3,7 @@ use Rattle.std.proofs.lemmas.Int.{ints}
 use Rattle.std.specs.Prelude.{◌-ℤ◌}
 use Rattle.vr_model.specs.tables.Numbers.{number_at}
 use Rattle.vr_model.specs.tables.Tables.{dimension_at}
-use Rattle.vr_plan.specs.Timings.{last_with, plan_of, start_with}
+use Rattle.vr_plan.specs.Timings.{last_with, chosen_plan_of, start_with}
 use Rattle.vr_plan.proofs.ExtentLemmas.{times-none}
 use Rattle.vr_plan.proofs.PayingLemmas.{pays_nothing_where}
 use Rattle.vr_costfilter.proofs.ScheduleLemmas.{timed-cost, timing-more}
@@ -16,7 +16,7 @@ returns-then-not-may_pay_alone-clause-value c =
     let v = c.args.tour.now.v in
     let list = c.args.tour.now.list.now in
     let nothing = pays_nothing_where (dimension_at model d) v list (sym c.may_pay_alone.ensures ∙ c.if-not-may_pay_alone.true) in
-    let soft = nothing.soft (plan_of model d v list).cumuls in
+    let soft = nothing.soft (chosen_plan_of model d v list).cumuls in
     let span = times-none (number_at (dimension_at model d).span_costs v) (last_with model d v list -ℤ start_with model d v list) nothing.span in
     omega (arith, ints, soft, span)
 

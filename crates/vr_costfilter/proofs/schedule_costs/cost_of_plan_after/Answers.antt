@@ -4,7 +4,7 @@ use Rattle.std.specs.Prelude.{◌+ℤ◌, ◌-ℤ◌, ◌*ℤ◌, IfOk}
 use Rattle.vr_model.specs.tables.Numbers.{number_at}
 use Rattle.vr_model.specs.tables.Tables.{dimension_at}
 use Rattle.vr_routes.specs.Pieces.{joined, part_at}
-use Rattle.vr_plan.specs.Timings.{last_with, plan_of, soft_with, span_with, start_with}
+use Rattle.vr_plan.specs.Timings.{last_with, chosen_plan_of, soft_with, span_with, start_with}
 use Rattle.vr_plan.proofs.ExtentLemmas.{times-none}
 use Rattle.vr_costfilter.specs.PartsAfter.{list_after}
 use Rattle.vr_costfilter.proofs.PartLemmas.{list-of-part}
@@ -20,7 +20,7 @@ returns-then-table-clause-value c =
     let v = part.vehicle in
     let list : List ℕ = joined c.args.part.now.routes.now.lists part.pieces in
     let nothing = c.requires.known.told.free c.if-table.true v list in
-    let soft = nothing.soft (plan_of model d v list).cumuls in
+    let soft = nothing.soft (chosen_plan_of model d v list).cumuls in
     let span = times-none (number_at (dimension_at model d).span_costs v) (last_with model d v list -ℤ start_with model d v list) nothing.span in
     omega (arith, ints, soft, span)
 

@@ -2,7 +2,7 @@ use Rattle.std.proofs.Common.{[], ◌∷◌, ap, subst, arith}
 use Rattle.std.proofs.lemmas.Int.{ints}
 use Rattle.vr_model.specs.search.Descents.{descent}
 use Rattle.vr_model.specs.declared.records.End.TheVariants.{Optimum, Tries, Solutions}
-use Rattle.vr_watch.specs.Told.{Told, ToldInPart}
+use Rattle.vr_watch.specs.Told.{Reported, ReportedInPart}
 use Rattle.vr_model.proofs.tables.Refusals.{on_err}
 use Rattle.vr_descent.specs.Scanned.{takes_less}
 use Rattle.vr_descent.proofs.AskingLemmas.{asks_as, asks_none, for_then}
@@ -24,7 +24,7 @@ moved g c =
 pub returns-in_err-note_all-clause-told_in_part : goal.returns-in_err-note_all-clause-told_in_part
 returns-in_err-note_all-clause-told_in_part g c =
     on_err c.from_residual.result (first_in_part (λ w. (goal.Watch-dyn g (w.vtable, w.value)).after w.value) (descent c.args.model.now c.args.routes.now.lists c.args.limit) (from_here c.args.model.now c.args.limit c.args.routes.now.lists 0 1) (first c.args.model.now c.args.routes.now.lists) (at_start c.args.model.now c.args.limit c.args.routes.now.lists) _ _
-    (subst (λ event. ToldInPart (λ w. (goal.Watch-dyn g (w.vtable, w.value)).after w.value) c.args.watch.now.items c.note_all.new.watch.items (event ∷ [])) (first_event c.args.model.now c.requires.well_formed c.args.routes.now.lists c.requires.begins.judge.holds.valid c.args.first_cost c.requires.begins.first_cost c.event.result c.event.ensures) c.in_err-note_all.ensures.told_in_part))
+    (subst (λ event. ReportedInPart (λ w. (goal.Watch-dyn g (w.vtable, w.value)).after w.value) c.args.watch.now.items c.note_all.new.watch.items (event ∷ [])) (first_event c.args.model.now c.requires.well_formed c.args.routes.now.lists c.requires.begins.judge.holds.valid c.args.first_cost c.requires.begins.first_cost c.event.result c.event.ensures) c.in_err-note_all.ensures.told_in_part))
 
 pub scans-init : goal.scans-init
 scans-init g c =
@@ -38,7 +38,7 @@ scans-init g c =
         some = omega arith;
         found = c.requires.begins.limit.one_solution;
         goes = first_told (λ w. (goal.Watch-dyn g (w.vtable, w.value)).after w.value) (descent c.args.model.now c.args.routes.now.lists c.args.limit) (from_here c.args.model.now c.args.limit c.args.routes.now.lists 0 1) (first c.args.model.now c.args.routes.now.lists) (at_start c.args.model.now c.args.limit c.args.routes.now.lists) _ _
-            (subst (λ event. Told (λ w. (goal.Watch-dyn g (w.vtable, w.value)).after w.value) c.args.watch.now.items c.note_all.new.watch.items (event ∷ [])) (first_event c.args.model.now c.requires.well_formed c.args.routes.now.lists c.requires.begins.judge.holds.valid c.args.first_cost c.requires.begins.first_cost c.event.result c.event.ensures) c.in_ok-note_all.ensures.told);
+            (subst (λ event. Reported (λ w. (goal.Watch-dyn g (w.vtable, w.value)).after w.value) c.args.watch.now.items c.note_all.new.watch.items (event ∷ [])) (first_event c.args.model.now c.requires.well_formed c.args.routes.now.lists c.requires.begins.judge.holds.valid c.args.first_cost c.requires.begins.first_cost c.event.result c.event.ensures) c.in_ok-note_all.ensures.told);
       };
       asked = asks_none _;
       known = nothing_refused c.args.model.now takes_less c.args.routes.now.lists c.of-known.result c.of-known.ensures.none;

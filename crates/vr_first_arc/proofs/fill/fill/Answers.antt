@@ -5,7 +5,7 @@ use Rattle.vr_model.specs.routes.Routes.{route}
 use Rattle.vr_model.proofs.routes.Lists.{route_set_same}
 use Rattle.vr_rules.specs.Fronts.{AreFrontsOf}
 use Rattle.vr_model.specs.first.PathCheapestArc.{filled, next_appended, appended}
-use Rattle.vr_rules.specs.Placing.{nodes_of, AreBuilt, AreMarks}
+use Rattle.vr_rules.specs.Placing.{item_nodes, AreBuilt, AreMarks}
 use Rattle.vr_rules.proofs.PlacingLemmas.{IsAdded, AreBuilt-added, AreMarks-added}
 use Rattle.vr_first_arc.specs.Choices.{MayBeAppended}
 use Rattle.vr_first_arc.proofs.AppendLemmas.{filled-stops, filled-next, candidates-count, IsAdded-appended, IsDriven-item}
@@ -14,7 +14,7 @@ use Rattle.vr_first_arc.proofs.fill.fill.Goals as goal
 pub returns-in-None-clause-filled : goal.returns-in-None-clause-filled
 returns-in-None-clause-filled c =
     let model = c.args.filling.now.lookups.now.closed.model.now in
-    sym (filled-stops model c.args.v (length c.args.filling.now.candidates.now - c.loop-step._step) c.loop-step.lists (sym c.in_ok-item.ensures.next ∙ ap (option_map nodes_of) c.in-None.is))
+    sym (filled-stops model c.args.v (length c.args.filling.now.candidates.now - c.loop-step._step) c.loop-step.lists (sym c.in_ok-item.ensures.next ∙ ap (option_map item_nodes) c.in-None.is))
     ∙ c.loop-step.invariant.fills ∙ ap (λ n. filled model c.args.v n c.args.lists.now) (candidates-count model c.args.filling.now.candidates.now c.requires.filling)
 
 pub place-requires-clause-longer : goal.place-requires-clause-longer
@@ -30,11 +30,11 @@ loop-step-preserved c =
     let v : ℕ = c.args.v in
     let lists : List (List ℕ) = c.loop-step.lists in
     let n : ℕ = length c.args.filling.now.candidates.now in
-    let nodes : List ℕ = nodes_of c.in-Some.item in
+    let nodes : List ℕ = item_nodes c.in-Some.item in
     let low : v < length lists = omega (arith, c.requires.vehicle, c.loop-step.invariant.count) in
     let may : MayBeAppended model lists v c.in-Some.item = rw c.in-Some.is at c.in_ok-item.ensures.may in
     let added : IsAdded model lists v nodes (route lists v ++ nodes) = IsAdded-appended model lists v c.loop-step.invariant.built low c.in-Some.item may.is_item may.inactive in
-    let next : next_appended model lists v ≡ Some nodes = sym c.in_ok-item.ensures.next ∙ ap (option_map nodes_of) c.in-Some.is in
+    let next : next_appended model lists v ≡ Some nodes = sym c.in_ok-item.ensures.next ∙ ap (option_map item_nodes) c.in-Some.is in
     let is : c.place.new.lists ≡ appended lists v nodes = c.in_ok-place-in-Some.ensures.lists in
     record {
       fills = ap (filled model v (n - (c.loop-step._step + 1))) is ∙ sym (filled-next model v (n - c.loop-step._step) (n - (c.loop-step._step + 1)) lists nodes next (omega arith)) ∙ c.loop-step.invariant.fills;

@@ -6,7 +6,7 @@ use Rattle.vr_rules.specs.declared.items.Item.{Item}
 use Rattle.vr_model.specs.routes.Routes.{route}
 use Rattle.vr_rules.specs.declared.items.Candidate.{Candidate}
 use Rattle.vr_rules.specs.declared.items.Item.TheVariants.{Visit}
-use Rattle.vr_rules.specs.Placing.{nodes_of, IsCandidate}
+use Rattle.vr_rules.specs.Placing.{item_nodes, IsCandidate}
 use Rattle.vr_lists.proofs.VisitLists.{visits-below}
 use Rattle.vr_rules.proofs.PlacingLemmas.{built-count, built-visits, open-route}
 use Rattle.vr_model.specs.routes.Rules.{is_route_open}
@@ -48,7 +48,7 @@ consider_candidate-requires-clause-longer c =
     let candidate : Candidate = get_or c.args.filling.now.candidates.now c.loop-candidate.candidate-index unread in
     let valid : IsCandidate model candidate = c.requires.filling.each c.loop-candidate.candidate-index unread c.loop-candidate-test.true in
     let list : c.as_slice-list.result.now ≡ route lists c.args.v = list_at lists c.args.v c.as_slice-list.result.now c.index-lists-v.result c.as_slice-list.ensures c.index-lists-v.is c.requires.vehicle in
-    λ free. subst (λ list. IsDriven model (list ++ nodes_of candidate.item)) (sym list)
+    λ free. subst (λ list. IsDriven model (list ++ item_nodes candidate.item)) (sym list)
     (IsDriven-item model lists c.args.v c.requires.built c.requires.vehicle candidate.item valid.item (inactive_by model lists c.args.marks.now c.requires.marks candidate.item valid.item free))
 
 pub loop-candidate-preserved : goal.loop-candidate-preserved
@@ -65,7 +65,7 @@ loop-candidate-preserved c =
 
 pub returns-clause-next : goal.returns-clause-next
 returns-clause-next c =
-    ap (option_map nodes_of) c.item_of.ensures
+    ap (option_map item_nodes) c.item_of.ensures
     ∙ best-end c.args.filling.now.lookups.now.closed.model.now c.args.lists.now c.args.v c.requires.built c.requires.vehicle c.args.filling.now.lookups.now.closed.well_formed c.args.marks.now c.requires.marks c.args.filling.now.candidates.now c.loop-candidate.candidate-index
     c.loop-candidate.best c.requires.filling c.loop-candidate-test.false c.loop-candidate.invariant
 

@@ -2,7 +2,7 @@ use Rattle.std.proofs.Common.{◌≡◌, ◌∙◌, ℕ, [], ap, sym, subst}
 use Rattle.std.proofs.lemmas.List.{get_or_default, set-get_or}
 use Rattle.vr_model.specs.routes.Routes.{route}
 use Rattle.vr_model.specs.moves.Moves.{with_route}
-use Rattle.vr_first_insert.specs.Kept.{AreRows}
+use Rattle.vr_first_insert.specs.Kept.{AreKnownRows}
 use Rattle.vr_first_insert.proofs.KeptLemmas.{rows-forgotten}
 use Rattle.vr_first_insert.proofs.keeper.take_list.Goals as goal
 
@@ -18,5 +18,5 @@ forget-requires c = record { vehicle = c.requires.known }
 
 pub returns-clause-known : goal.returns-clause-known
 returns-clause-known c = λ known are.
-    subst (λ lists. AreRows c.args.new.now.lookups.now.closed.model.now lists known c.forget.new.known_items) (sym c.in_ok-change_list.ensures.lists)
+    subst (λ lists. AreKnownRows c.args.new.now.lookups.now.closed.model.now lists known c.forget.new.known_items) (sym c.in_ok-change_list.ensures.lists)
     (rows-forgotten c.args.new.now.lookups.now.closed.model.now c.args.lists.now known c.args.known_items.now c.forget.new.known_items c.args.new.now.vehicle c.args.new.now.nodes.now c.requires.there are c.forget.ensures)

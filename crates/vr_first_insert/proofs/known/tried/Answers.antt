@@ -1,7 +1,7 @@
 use Rattle.std.proofs.Common.{◌≡◌, ◌∙◌, ap, cond, rules, sym, subst, to_z, of_z, w64}
 use Rattle.std.proofs.lemmas.Result.{IfOk-weaker}
 use Rattle.vr_first_insert.specs.declared.known.KnownItem.TheVariants.{AtLeast}
-use Rattle.vr_first_insert.specs.Kept.{begun_with, best_of, IsKnown}
+use Rattle.vr_first_insert.specs.Kept.{begun_with, best_of, IsCandidateKnown}
 use Rattle.vr_first_insert.specs.Placings.{may_improve}
 use Rattle.vr_first_insert.specs.VehicleLists.{best_of_candidate, sought_in, tried_in}
 use Rattle.vr_first_insert.proofs.ToldLemmas.{begun-better, begun-known, bound-passed_over}
@@ -20,8 +20,8 @@ returns-clause-known c =
     let list = c.args.of.now.list.nodes.now in
     let v = c.args.of.now.list.vehicle in
     let fits : to_z w64 (of_z w64 c.args.bound.least) ≡ c.args.bound.least = search rules in
-    IfOk-weaker c.sought.result (λ known. known ≡ sought_in c.args.of.now c.begun_with-begin.result) (IsKnown model v list c.args.of.now.candidate)
-    (λ known is. subst (IsKnown model v list c.args.of.now.candidate) (sym (is ∙ ap (sought_in c.args.of.now) c.begun_with-begin.ensures)) (begun-known model v list c.args.of.now.candidate c.args.bound.searched c.args.best c.args.bound.least (ap (may_improve c.args.best c.args.of.now.candidate.class) (sym fits) ∙ sym c.may_improve.ensures ∙ c.if-not-may_improve.false))) c.sought.ensures
+    IfOk-weaker c.sought.result (λ known. known ≡ sought_in c.args.of.now c.begun_with-begin.result) (IsCandidateKnown model v list c.args.of.now.candidate)
+    (λ known is. subst (IsCandidateKnown model v list c.args.of.now.candidate) (sym (is ∙ ap (sought_in c.args.of.now) c.begun_with-begin.ensures)) (begun-known model v list c.args.of.now.candidate c.args.bound.searched c.args.best c.args.bound.least (ap (may_improve c.args.best c.args.of.now.candidate.class) (sym fits) ∙ sym c.may_improve.ensures ∙ c.if-not-may_improve.false))) c.sought.ensures
 
 pub returns-clause-better : goal.returns-clause-better
 returns-clause-better c =

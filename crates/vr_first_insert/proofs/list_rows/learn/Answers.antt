@@ -3,7 +3,7 @@ use Rattle.std.proofs.lemmas.List.{length-set}
 use Rattle.vr_model.specs.moves.Moves.{with_route}
 use Rattle.vr_rules.proofs.FrontLemmas.{left_behind, moved_more}
 use Rattle.vr_first_insert.specs.declared.list_rows.ListRows.{ListRows}
-use Rattle.vr_first_insert.specs.KeptRows.{IsKept}
+use Rattle.vr_first_insert.specs.KeptRows.{AreKeptRowsIn}
 use Rattle.vr_first_insert.proofs.list_rows.learn.Goals as goal
 
 pub learn-requires-clause-kept : goal.learn-requires-clause-kept
@@ -20,8 +20,8 @@ loop-d-preserved c =
     let within : d < length c.loop-d.list_rows = omega (arith, m.long, c.loop-d-test.true) in
     let list_rows = c.loop-d.list_rows in
     let new = c.learn.new.self in
-    let Done = λ (d : ℕ) (kept : ListRows). IsKept model d (with_route lists c.args.new.now.vehicle c.args.new.now.nodes.now) kept in
-    let Left = λ (d : ℕ) (kept : ListRows). IsKept model d lists kept in
+    let Done = λ (d : ℕ) (kept : ListRows). AreKeptRowsIn model d (with_route lists c.args.new.now.vehicle c.args.new.now.nodes.now) kept in
+    let Left = λ (d : ℕ) (kept : ListRows). AreKeptRowsIn model d lists kept in
     record {
       long = length-set list_rows d new ∙ m.long;
       done = λ k other low lt. moved_more Done list_rows d new within m.done c.in_ok-learn.ensures k other low lt;

@@ -11,7 +11,7 @@ use Rattle.vr_first_insert.specs.declared.choice.InsertionChoice.{InsertionChoic
 use Rattle.vr_first_insert.specs.Increases.{IsIncrease}
 use Rattle.std.proofs.lemmas.Int.{ints, to_z-of_z}
 use Rattle.vr_first_insert.proofs.BoundLemmas.{deliveries-passed_over}
-use Rattle.vr_first_insert.specs.Placings.{may_improve, pair_choice, weigh, IsLeast}
+use Rattle.vr_first_insert.specs.Placings.{may_improve, pair_choice, weigh, VisitAddsAtLeast}
 use Rattle.vr_first_insert.proofs.ReadyLemmas.{deliveries-stuck, few-held, half-goes_on, half-used}
 use Rattle.vr_first_insert.proofs.one_list.best_behind.Goals as goal
 
@@ -76,7 +76,7 @@ returns-then-not-may_improve c =
     let list = c.args.begun.now.pair.list.nodes.now in
     let f : ℕ → InsertionChoice = pair_choice model c.args.begun.now.pair.list.vehicle list c.args.begun.now.pair.class c.args.begun.now.pair.pickup c.args.begun.now.pair.delivery c.args.begun.now.s in
     let further = c.least_further.ensures in
-    let least = subst (λ x. IsLeast model c.args.begun.now.pair.list.vehicle list c.args.begun.now.pair.delivery x) (sym (to_z-of_z w64 c.args.least c.ranges.least)) c.requires.least.adds in
+    let least = subst (λ x. VisitAddsAtLeast model c.args.begun.now.pair.list.vehicle list c.args.begun.now.pair.delivery x) (sym (to_z-of_z w64 c.args.least c.ranges.least)) c.requires.least.adds in
     let fits : to_z w64 (of_z w64 c.least_further.result) ≡ c.least_further.result = omega (arith, ints, further.low, further.high) in
     deliveries-passed_over model c.args.begun.now.pair.list.vehicle list c.args.begun.now.pair.class c.args.begun.now.pair.pickup c.args.begun.now.pair.delivery c.args.begun.now.s (c.args.begun.now.s + 1) c.in_ok-near.near c.least_further.result
     (λ t from high. further.least c.args.begun.now.pair.delivery t least (omega (arith, from)) high)

@@ -1,10 +1,10 @@
 use Rattle.std.proofs.Common.{◌≡◌, ◌∙◌, ℕ, ap, sym, subst}
 use Rattle.vr_model.specs.routes.Routes.{route}
-use Rattle.vr_first_insert.specs.Kept.{candidate_at, AreKnown, IsKnown}
+use Rattle.vr_first_insert.specs.Kept.{candidate_at, AreCandidatesKnown, IsCandidateKnown}
 use Rattle.vr_first_insert.specs.Placings.{best_in, MayHold}
 use Rattle.vr_first_insert.proofs.RowLemmas.{list_at}
 use Rattle.vr_first_insert.proofs.KeptLemmas.{known-written}
-use Rattle.vr_first_insert.specs.Ready.{IsReady}
+use Rattle.vr_first_insert.specs.Ready.{IsListReady}
 use Rattle.vr_first_insert.proofs.search.ask.Goals as goal
 
 pub invariant_of-of : goal.invariant_of-of
@@ -20,15 +20,15 @@ asked-requires-clause-known c =
     let lists = c.args.on.now.lists.now in
     let v : ℕ = c.args.v in
     let list : c.as_slice-nodes.result.now ≡ route lists v = list_at lists v c.as_slice-nodes.result.now c.index-lists-v.result c.as_slice-nodes.ensures c.index-lists-v.is c.requires.there in
-    subst (λ list. IsKnown model v list (candidate_at c.args.on.now.items.candidates.now c.args.i) c.get-known.result) (sym list)
-    (subst (IsKnown model v (route lists v) (candidate_at c.args.on.now.items.candidates.now c.args.i)) (sym c.get-known.ensures) (c.requires.row.each c.args.i c.requires.candidate))
+    subst (λ list. IsCandidateKnown model v list (candidate_at c.args.on.now.items.candidates.now c.args.i) c.get-known.result) (sym list)
+    (subst (IsCandidateKnown model v (route lists v) (candidate_at c.args.on.now.items.candidates.now c.args.i)) (sym c.get-known.ensures) (c.requires.row.each c.args.i c.requires.candidate))
 
 pub asked-requires-clause-ready : goal.asked-requires-clause-ready
 asked-requires-clause-ready c =
     let lists = c.args.on.now.lists.now in
     let v : ℕ = c.args.v in
     let list : c.as_slice-nodes.result.now ≡ route lists v = list_at lists v c.as_slice-nodes.result.now c.index-lists-v.result c.as_slice-nodes.ensures c.index-lists-v.is c.requires.there in
-    subst (λ list. IsReady c.args.on.now.items.lookups.now.closed.model.now v list c.args.on.now.list_rows.now) (sym list) (c.requires.asked.ready v c.requires.there)
+    subst (λ list. IsListReady c.args.on.now.items.lookups.now.closed.model.now v list c.args.on.now.list_rows.now) (sym list) (c.requires.asked.ready v c.requires.there)
 
 pub returns-clause-best : goal.returns-clause-best
 returns-clause-best c =
@@ -45,5 +45,5 @@ returns-clause-known c =
     let candidate = candidate_at c.args.on.now.items.candidates.now c.args.i in
     let told = c.in_ok-told.told in
     let list : c.as_slice-nodes.result.now ≡ route lists v = list_at lists v c.as_slice-nodes.result.now c.index-lists-v.result c.as_slice-nodes.ensures c.index-lists-v.is c.requires.there in
-    subst (AreKnown model v (route lists v) c.args.on.now.items.candidates.now) (sym c.set.ensures)
-    (known-written model v (route lists v) c.args.on.now.items.candidates.now c.args.known_here.now c.args.i told c.requires.row (subst (λ l. IsKnown model v l candidate told) list c.in_ok-told.ensures.known))
+    subst (AreCandidatesKnown model v (route lists v) c.args.on.now.items.candidates.now) (sym c.set.ensures)
+    (known-written model v (route lists v) c.args.on.now.items.candidates.now c.args.known_here.now c.args.i told c.requires.row (subst (λ l. IsCandidateKnown model v l candidate told) list c.in_ok-told.ensures.known))

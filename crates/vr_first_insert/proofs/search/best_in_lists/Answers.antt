@@ -1,7 +1,7 @@
 use Rattle.std.proofs.Common.{◌≡◌, ◌∙◌, ℕ, [], ap, arith, length, subst, sym}
 use Rattle.std.proofs.lemmas.List.{get_or_default}
 use Rattle.vr_model.specs.routes.Routes.{route}
-use Rattle.vr_first_insert.specs.Kept.{candidate_at, AreKnown}
+use Rattle.vr_first_insert.specs.Kept.{candidate_at, AreCandidatesKnown}
 use Rattle.vr_first_insert.specs.Placings.{best_in}
 use Rattle.vr_first_insert.proofs.InsertLemmas.{best_in_lists-more}
 use Rattle.vr_first_insert.proofs.KeptLemmas.{row-written}
@@ -21,7 +21,7 @@ settle-requires c =
       candidate = c.requires.candidate;
       may_hold = c.requires.may_hold;
       there = there;
-      row = subst (AreKnown model v (route lists v) c.args.on.now.items.candidates.now) (get_or_default known_items v [] c.index-known_items-v.result (omega (arith, many, there))) (known.each v there);
+      row = subst (AreCandidatesKnown model v (route lists v) c.args.on.now.items.candidates.now) (get_or_default known_items v [] c.index-known_items-v.result (omega (arith, many, there))) (known.each v there);
     }
 
 pub loop-v-preserved : goal.loop-v-preserved

@@ -5,13 +5,13 @@ use Rattle.vr_model.specs.routes.Routes.{route, holds}
 use Rattle.vr_model.specs.moves.Moves.{with_route}
 use Rattle.vr_model.specs.routes.Rules.{is_open}
 use Rattle.vr_model.specs.first.CheapestInsertion.{rebuilt, next_inserted}
-use Rattle.vr_rules.specs.Placing.{nodes_of, AreBuilt, AreMarks}
+use Rattle.vr_rules.specs.Placing.{item_nodes, AreBuilt, AreMarks}
 use Rattle.vr_rules.proofs.PlacingLemmas.{IsAdded, AreBuilt-added, AreMarks-added}
 use Rattle.vr_first_insert.specs.declared.choice.InsertionChoice.{InsertionChoice}
 use Rattle.vr_first_insert.specs.Placings.{insertion_of, item_in, placed, MayBeInserted}
 use Rattle.vr_first_insert.proofs.PlacedLemmas.{IsAdded-placed}
 use Rattle.vr_first_insert.proofs.BestLemmas.{rebuilt-stops, rebuilt-next, candidates-count, inserted-choice}
-use Rattle.vr_first_insert.specs.Kept.{AreRows}
+use Rattle.vr_first_insert.specs.Kept.{AreKnownRows}
 use Rattle.vr_first_insert.proofs.KeptLemmas.{rows-forgotten}
 use Rattle.vr_first_insert.proofs.search.insert_all.Goals as goal
 
@@ -36,7 +36,7 @@ loop-step-preserved c =
     let n : ℕ = length c.args.items.now.candidates.now in
     let choice : InsertionChoice = c.in-Some.choice in
     let v : ℕ = choice.vehicle in
-    let nodes : List ℕ = nodes_of (item_in choice.placing) in
+    let nodes : List ℕ = item_nodes (item_in choice.placing) in
     let list : List ℕ = placed (route lists v) choice.placing in
     let may : MayBeInserted model lists choice = rw c.in-Some.is at c.in_ok-choice.ensures.may in
     let added : IsAdded model lists v nodes list = IsAdded-placed model lists v choice.placing c.loop-step.invariant.built may.vehicle may.is_item may.inactive may.within in
@@ -49,8 +49,8 @@ loop-step-preserved c =
       built = subst (AreBuilt model) (sym is) (AreBuilt-added model lists v nodes list c.loop-step.invariant.built added passes);
       marked = subst (λ lists. AreMarks model.nodes lists c.mark_item.new.marks) (sym is)
           (AreMarks-added model lists v list nodes c.loop-step.marks c.mark_item.new.marks c.loop-step.invariant.marked may.vehicle added.nodes_are c.mark_item.ensures.count
-          (λ node d low. c.mark_item.ensures.each node d low ∙ ap (λ item. holds (nodes_of item) node || slice_index_or c.loop-step.marks node d) c.item.ensures));
-      known = subst (λ lists. AreRows model lists c.args.items.now.candidates.now c.forget.new.known_items) (sym is)
+          (λ node d low. c.mark_item.ensures.each node d low ∙ ap (λ item. holds (item_nodes item) node || slice_index_or c.loop-step.marks node d) c.item.ensures));
+      known = subst (λ lists. AreKnownRows model lists c.args.items.now.candidates.now c.forget.new.known_items) (sym is)
           (rows-forgotten model lists c.args.items.now.candidates.now c.next_insertion.new.known_items c.forget.new.known_items v list may.vehicle c.in_ok-choice.ensures.known c.forget.ensures);
       kept = c.in_ok-place_in-in-Some.ensures.kept;
     }

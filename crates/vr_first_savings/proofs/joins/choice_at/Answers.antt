@@ -3,7 +3,7 @@ use Rattle.std.specs.Prelude.{slice_index_or, ◌+ℤ◌, ◌-ℤ◌}
 use Rattle.std.proofs.lemmas.Int.{ints}
 use Rattle.vr_model.specs.tables.Tables.{arc_cost}
 use Rattle.vr_model.specs.routes.Routes.{route}
-use Rattle.vr_first_savings.specs.RouteEnds.{ends_of, unread}
+use Rattle.vr_first_savings.specs.RouteEnds.{ends_of, no_ends}
 use Rattle.vr_first_savings.proofs.EndLemmas.{ends_read, read_are_ends}
 use Rattle.vr_first_savings.proofs.joins.choice_at.Goals as goal
 
@@ -17,8 +17,8 @@ pub returns : goal.returns
 returns c =
     let model = c.args.closed.model.now in
     let routes = c.args.routes.now in
-    let front : slice_index_or c.args.ends.now c.args.i unread ≡ ends_of model (route routes c.args.i) = ends_read model routes c.args.ends.now c.args.i c.requires.ends c.requires.front in
-    let back : slice_index_or c.args.ends.now c.args.j unread ≡ ends_of model (route routes c.args.j) = ends_read model routes c.args.ends.now c.args.j c.requires.ends c.requires.back in
+    let front : slice_index_or c.args.ends.now c.args.i no_ends ≡ ends_of model (route routes c.args.i) = ends_read model routes c.args.ends.now c.args.i c.requires.ends c.requires.front in
+    let back : slice_index_or c.args.ends.now c.args.j no_ends ≡ ends_of model (route routes c.args.j) = ends_read model routes c.args.ends.now c.args.j c.requires.ends c.requires.back in
     let fits : to_z w64 (of_z w64 c.saved.result) ≡ c.saved.result = omega (arith, ints, c.saved.ensures.low, c.saved.ensures.high) in
     λ t. record {
       front = c.args.i;

@@ -5,7 +5,7 @@ use Rattle.vr_model.specs.routes.Routes.{is_distinct}
 use Rattle.vr_model.specs.routes.Rules.{is_route_open}
 use Rattle.vr_model.specs.first.SavingsJoins.{may_join}
 use Rattle.vr_rules.proofs.LazyLeast.{taken}
-use Rattle.vr_first_savings.specs.Joins.{key_of, join_of}
+use Rattle.vr_first_savings.specs.Joins.{saving_key, join_of}
 use Rattle.vr_first_savings.proofs.JoinLemmas.{joined-visits, joined-distinct, where-open}
 use Rattle.vr_first_savings.proofs.joins.consider.Goals as goal
 
@@ -24,4 +24,4 @@ returns-then-branch c =
     let may : may_join model (join_of routes c.args.next) ≡ true =
     where-open model routes c.args.next c.requires.apart c.requires.front c.requires.back c.if-next.false
     ∙ ap (is_route_open model 0) (sym (c.deref.ensures.value ∙ c.in_ok-longer.ensures)) ∙ sym c.in_ok-is_route_open.ensures ∙ c.if-branch.true in
-    taken key_of c.args.best c.args.next (may_join model (join_of routes c.args.next)) (sym c.improves.ensures ∙ c.if-not-improves.false) may
+    taken saving_key c.args.best c.args.next (may_join model (join_of routes c.args.next)) (sym c.improves.ensures ∙ c.if-not-improves.false) may

@@ -1,7 +1,7 @@
 use Rattle.std.proofs.Common.{◌≡◌, ◌∙◌, ◌+◌, ◌-◌, ℕ, List, None, ap, sym, subst, arith, length}
 use Rattle.std.specs.Option.{option_map}
 use Rattle.vr_model.specs.first.Choosing.{least_by}
-use Rattle.vr_model.specs.first.SavingsJoins.{Join, join_key, joins, merged, joined}
+use Rattle.vr_model.specs.first.SavingsJoins.{Join, join_key, joins, merged, after_join}
 use Rattle.vr_first_savings.specs.declared.choice.JoinChoice.{JoinChoice}
 use Rattle.vr_first_savings.specs.Joins.{join_of, AreApart}
 use Rattle.vr_first_savings.proofs.MergeLemmas.{found-read, merged-stops, merged-unwanted, merged-next}
@@ -32,7 +32,7 @@ loop-step-preserved c =
     let join : Join = join_of routes choice in
     let found = found-read model routes c.deref.result.now choice _ c.len.result c.is_wanted.result c.deref.ensures.value c.in-Some.is c.in_ok-choice.ensures.best c.in_ok-choice.ensures.may (omega arith) c.is_wanted.ensures in
     let n : ℕ = length c.args.routes.items in
-    let after : c.in_ok-routes-in-Some.routes.items ≡ joined routes join = c.in_ok-routes-in-Some.ensures ∙ ap (λ routes. joined routes (join_of routes choice)) c.deref-in-Some.ensures.value in
+    let after : c.in_ok-routes-in-Some.routes.items ≡ after_join routes join = c.in_ok-routes-in-Some.ensures ∙ ap (λ routes. after_join routes (join_of routes choice)) c.deref-in-Some.ensures.value in
     record {
       merges = ap (merged model (n - (c.loop-step._step + 1))) after
           ∙ sym (merged-next model (n - c.loop-step._step) (n - (c.loop-step._step + 1)) routes join found.best (sym found.tells ∙ c.if-not-is_wanted.false) (omega arith)) ∙ c.loop-step.invariant.merges;

@@ -1,5 +1,5 @@
 use Rattle.std.proofs.Common.{◌≡◌, [], ◌∷◌, ap, subst}
-use Rattle.vr_watch.specs.Told.{Told, ToldInPart}
+use Rattle.vr_watch.specs.Told.{Reported, ReportedInPart}
 use Rattle.vr_model.proofs.tables.Refusals.{on_err}
 use Rattle.vr_descent.specs.Ending.{HasStopped}
 use Rattle.vr_descent.proofs.AskingLemmas.{asks_as, from_none}
@@ -7,7 +7,7 @@ use Rattle.vr_descent.proofs.Beginnings.{at_first, cost_read, first, first_event
 use Rattle.vr_descent.proofs.EndingLemmas.{has_ended}
 use Rattle.vr_descent.proofs.GoingOn.{Goes, breaks_within, goes_nowhere}
 use Rattle.vr_model.specs.search.GuidedSearches.{guided}
-use Rattle.vr_guided.specs.Standing.{IsBegun, from_state}
+use Rattle.vr_guided.specs.Standing.{IsGuidedBegun, guided_from_state}
 use Rattle.vr_guided.proofs.GuidedLemmas.{at_start}
 use Rattle.vr_guided.proofs.StartLemmas.{begun_stands, rest, rest_is}
 use Rattle.vr_guided.proofs.searching.guide.Given.{Over}
@@ -18,20 +18,20 @@ use Rattle.vr_guided.proofs.searching.guide.Goals as goal
 noted : (g : Over) (c : In_ok-note_all g) → Goes (λ w. (goal.Watch-dyn g (w.vtable, w.value)).after w.value) (guided c.args.model.now c.args.routes.now.lists c.args.limit c.args.lambda) (rest c.args.model.now c.args.limit c.args.lambda c.args.routes.now.lists) c.args.watch.now.items c.note_all.new.watch.items
 noted g c =
     first_told (λ w. (goal.Watch-dyn g (w.vtable, w.value)).after w.value) (guided c.args.model.now c.args.routes.now.lists c.args.limit c.args.lambda) (rest c.args.model.now c.args.limit c.args.lambda c.args.routes.now.lists) (first c.args.model.now c.args.routes.now.lists) (at_start c.args.model.now c.args.limit c.args.lambda c.args.routes.now.lists) _ _
-    (subst (λ event. Told (λ w. (goal.Watch-dyn g (w.vtable, w.value)).after w.value) c.args.watch.now.items c.note_all.new.watch.items (event ∷ [])) (first_event c.args.model.now c.requires.well_formed c.args.routes.now.lists c.requires.begins.judge.holds.valid c.args.first_cost c.requires.begins.first_cost c.event.result c.event.ensures) c.in_ok-note_all.ensures.told)
+    (subst (λ event. Reported (λ w. (goal.Watch-dyn g (w.vtable, w.value)).after w.value) c.args.watch.now.items c.note_all.new.watch.items (event ∷ [])) (first_event c.args.model.now c.requires.well_formed c.args.routes.now.lists c.requires.begins.judge.holds.valid c.args.first_cost c.requires.begins.first_cost c.event.result c.event.ensures) c.in_ok-note_all.ensures.told)
 
 -- the search begins where the definition does, and what is left is what is left behind the first event
-begins : (g : Over) (c : In_ok-state g) → IsBegun c.args.model.now c.args.routes.now (at_first c.args.model.now c.args.routes.now.lists) c.in_ok-state.state
+begins : (g : Over) (c : In_ok-state g) → IsGuidedBegun c.args.model.now c.args.routes.now (at_first c.args.model.now c.args.routes.now.lists) c.in_ok-state.state
 begins g c =
-    subst (λ k. IsBegun c.args.model.now c.args.routes.now (record { used = 0; found = 1; cost = k }) c.in_ok-state.state) (cost_read c.args.model.now c.requires.well_formed c.args.routes.now.lists c.requires.begins.judge.holds.valid c.args.first_cost c.requires.begins.first_cost) c.in_ok-state.ensures
+    subst (λ k. IsGuidedBegun c.args.model.now c.args.routes.now (record { used = 0; found = 1; cost = k }) c.in_ok-state.state) (cost_read c.args.model.now c.requires.well_formed c.args.routes.now.lists c.requires.begins.judge.holds.valid c.args.first_cost c.requires.begins.first_cost) c.in_ok-state.ensures
 
-same : (g : Over) (c : In_ok-state g) → from_state c.args.model.now c.args.limit c.args.lambda c.args.routes.now.lists c.in_ok-state.state ≡ (rest c.args.model.now c.args.limit c.args.lambda c.args.routes.now.lists)
+same : (g : Over) (c : In_ok-state g) → guided_from_state c.args.model.now c.args.limit c.args.lambda c.args.routes.now.lists c.in_ok-state.state ≡ (rest c.args.model.now c.args.limit c.args.lambda c.args.routes.now.lists)
 same g c = rest_is c.args.model.now c.args.limit c.args.routes.now c.in_ok-state.state (begins g c) c.args.lambda
 
 pub returns-in_err-note_all-clause-told_in_part : goal.returns-in_err-note_all-clause-told_in_part
 returns-in_err-note_all-clause-told_in_part g c =
     on_err c.from_residual.result (first_in_part (λ w. (goal.Watch-dyn g (w.vtable, w.value)).after w.value) (guided c.args.model.now c.args.routes.now.lists c.args.limit c.args.lambda) (rest c.args.model.now c.args.limit c.args.lambda c.args.routes.now.lists) (first c.args.model.now c.args.routes.now.lists) (at_start c.args.model.now c.args.limit c.args.lambda c.args.routes.now.lists) _ _
-    (subst (λ event. ToldInPart (λ w. (goal.Watch-dyn g (w.vtable, w.value)).after w.value) c.args.watch.now.items c.note_all.new.watch.items (event ∷ [])) (first_event c.args.model.now c.requires.well_formed c.args.routes.now.lists c.requires.begins.judge.holds.valid c.args.first_cost c.requires.begins.first_cost c.event.result c.event.ensures) c.in_err-note_all.ensures.told_in_part))
+    (subst (λ event. ReportedInPart (λ w. (goal.Watch-dyn g (w.vtable, w.value)).after w.value) c.args.watch.now.items c.note_all.new.watch.items (event ∷ [])) (first_event c.args.model.now c.requires.well_formed c.args.routes.now.lists c.requires.begins.judge.holds.valid c.args.first_cost c.requires.begins.first_cost c.event.result c.event.ensures) c.in_err-note_all.ensures.told_in_part))
 
 pub returns-in_err-state-clause-told_in_part : goal.returns-in_err-state-clause-told_in_part
 returns-in_err-state-clause-told_in_part g c =
@@ -56,7 +56,7 @@ pub returns-in_err-end-clause-told_in_part : goal.returns-in_err-end-clause-told
 returns-in_err-end-clause-told_in_part g c =
     let at = goal.at.returns-in_err-end-clause-told_in_part g c in
     on_err c.from_residual-in_err-end.result (breaks_within (λ w. (goal.Watch-dyn g (w.vtable, w.value)).after w.value) (guided c.args.model.now c.args.routes.now.lists c.args.limit c.args.lambda) (rest c.args.model.now c.args.limit c.args.lambda c.args.routes.now.lists) _ _ _ (noted g at.In_ok-note_all)
-    (subst (λ o. ToldInPart (λ w. (goal.Watch-dyn g (w.vtable, w.value)).after w.value) c.note_all.new.watch.items c.improve.new.watch.items o.events) (same g at.In_ok-state) c.in_err-end.ensures.told_in_part))
+    (subst (λ o. ReportedInPart (λ w. (goal.Watch-dyn g (w.vtable, w.value)).after w.value) c.note_all.new.watch.items c.improve.new.watch.items o.events) (same g at.In_ok-state) c.in_err-end.ensures.told_in_part))
 
 pub returns-in_err-end-clause-asked_at_most : goal.returns-in_err-end-clause-asked_at_most
 returns-in_err-end-clause-asked_at_most g c =

@@ -5,7 +5,7 @@ use Rattle.vr_model.specs.search.GuidedSearches.{has_costly_arc, is_at_end, rais
 use Rattle.vr_model.specs.search.Outcomes.{event_at, tried}
 use Rattle.vr_model.specs.declared.records.End.TheVariants.{Optimum, Tries, Solutions}
 use Rattle.vr_model.specs.declared.search.Kind.TheVariants as kind
-use Rattle.vr_watch.specs.Told.{Told, ToldInPart}
+use Rattle.vr_watch.specs.Told.{Reported, ReportedInPart}
 use Rattle.vr_model.proofs.tables.Refusals.{on_err}
 use Rattle.vr_model.proofs.tables.Tests.{apart}
 use Rattle.vr_watch.proofs.ToldLemmas.{told_nothing}
@@ -20,7 +20,7 @@ use Rattle.vr_descent.proofs.ScanGave.{Moved, RanOut, TriedAll, has_moved, has_r
 use Rattle.vr_guided.specs.Counts.{AtMost, counted}
 use Rattle.vr_guided.specs.Guides.{makes_less}
 use Rattle.vr_guided.specs.RouteSums.{AreAllRouteSums}
-use Rattle.vr_guided.specs.Standing.{from_here, from_state}
+use Rattle.vr_guided.specs.Standing.{guided_from_here, guided_from_state}
 use Rattle.vr_guided.proofs.GuidedLemmas.{after_scan, as_many, costly_of, enough, few_more, few_raised, left_after, scan_in_part, some_moves}
 use Rattle.vr_guided.proofs.GuidedStay.{guided_stays}
 use Rattle.vr_guided.proofs.SpareLemmas.{still_refused}
@@ -30,8 +30,8 @@ use Rattle.vr_guided.proofs.searching.improve.Goals.{After-is_stuck, In-Accepted
 use Rattle.vr_guided.proofs.searching.improve.Goals as goal
 
 -- what is left after a scan, behind what was told
-left : (g : Over) (c : In_ok-ended g) → Goes (λ w. (goal.Watch-dyn g (w.vtable, w.value)).after w.value) (from_state c.args.closed.model.now c.args.bounds.limit c.args.bounds.lambda c.args.routes.now.lists c.args.state.now) (left_after c.args.closed.model.now c.args.bounds.limit c.args.bounds.lambda (counted c.scans.state.penalties) c.scans.routes.lists c.scans.state.best.routes.lists c.scans.state.at.used c.scans.state.at.found (scan_of c.args.closed.model.now (makes_less c.args.closed.model.now c.args.bounds.lambda (counted c.scans.state.penalties)) c.args.bounds.limit c.scans.routes.lists c.scans.state.at.used)) c.args.watch.now.items c.advance.new.watch.items
-left g c = after_scan c.args.closed.model.now c.args.bounds.limit c.args.bounds.lambda (counted c.scans.state.penalties) c.scans.routes.lists c.scans.state.best.routes.lists c.scans.state.at.used c.scans.state.at.found (λ w. (goal.Watch-dyn g (w.vtable, w.value)).after w.value) (from_state c.args.closed.model.now c.args.bounds.limit c.args.bounds.lambda c.args.routes.now.lists c.args.state.now) _ _ _ (apart c.scans.state.at.found c.args.bounds.limit.solutions c.scans-test.true) c.scans.invariant.goes c.in_ok-ended.ensures.told
+left : (g : Over) (c : In_ok-ended g) → Goes (λ w. (goal.Watch-dyn g (w.vtable, w.value)).after w.value) (guided_from_state c.args.closed.model.now c.args.bounds.limit c.args.bounds.lambda c.args.routes.now.lists c.args.state.now) (left_after c.args.closed.model.now c.args.bounds.limit c.args.bounds.lambda (counted c.scans.state.penalties) c.scans.routes.lists c.scans.state.best.routes.lists c.scans.state.at.used c.scans.state.at.found (scan_of c.args.closed.model.now (makes_less c.args.closed.model.now c.args.bounds.lambda (counted c.scans.state.penalties)) c.args.bounds.limit c.scans.routes.lists c.scans.state.at.used)) c.args.watch.now.items c.advance.new.watch.items
+left g c = after_scan c.args.closed.model.now c.args.bounds.limit c.args.bounds.lambda (counted c.scans.state.penalties) c.scans.routes.lists c.scans.state.best.routes.lists c.scans.state.at.used c.scans.state.at.found (λ w. (goal.Watch-dyn g (w.vtable, w.value)).after w.value) (guided_from_state c.args.closed.model.now c.args.bounds.limit c.args.bounds.lambda c.args.routes.now.lists c.args.state.now) _ _ _ (apart c.scans.state.at.found c.args.bounds.limit.solutions c.scans-test.true) c.scans.invariant.goes c.in_ok-ended.ensures.told
 
 -- what the search has after it, by its end
 moved : (g : Over) (c : In-Accepted g) → Moved c.args.closed.model.now (makes_less c.args.closed.model.now c.args.bounds.lambda (counted c.scans.state.penalties)) c.args.bounds.limit c.scans.routes c.advance.new.routes c.scans.state.at c.advance.new.self c.in-Accepted.place c.in-Accepted.mv
@@ -105,7 +105,7 @@ advance-requires g c =
 pub returns-in_err-ended-clause-told_in_part : goal.returns-in_err-ended-clause-told_in_part
 returns-in_err-ended-clause-told_in_part g c =
     let more = apart c.scans.state.at.found c.args.bounds.limit.solutions c.scans-test.true in
-    on_err c.from_residual.result (scan_in_part c.args.closed.model.now c.args.bounds.limit c.args.bounds.lambda (counted c.scans.state.penalties) c.scans.routes.lists c.scans.state.best.routes.lists c.scans.state.at.used c.scans.state.at.found (λ w. (goal.Watch-dyn g (w.vtable, w.value)).after w.value) (from_state c.args.closed.model.now c.args.bounds.limit c.args.bounds.lambda c.args.routes.now.lists c.args.state.now) _ _ _ more c.scans.invariant.goes c.in_err-ended.ensures.told_in_part)
+    on_err c.from_residual.result (scan_in_part c.args.closed.model.now c.args.bounds.limit c.args.bounds.lambda (counted c.scans.state.penalties) c.scans.routes.lists c.scans.state.best.routes.lists c.scans.state.at.used c.scans.state.at.found (λ w. (goal.Watch-dyn g (w.vtable, w.value)).after w.value) (guided_from_state c.args.closed.model.now c.args.bounds.limit c.args.bounds.lambda c.args.routes.now.lists c.args.state.now) _ _ _ more c.scans.invariant.goes c.in_err-ended.ensures.told_in_part)
 
 pub returns-in_err-ended-clause-asked_at_most : goal.returns-in_err-ended-clause-asked_at_most
 returns-in_err-ended-clause-asked_at_most g c =
@@ -146,7 +146,7 @@ scans-preserved-in-Accepted g c =
       route_sums = followed;
       asked = on_then _ _ _ _ _ _ c.scans.invariant.asked c.in_ok-ended.ensures.asked;
       no_dearer = subst (λ b. b.cost ≤ℤ c.args.state.now.best.cost) (sym c.offer.ensures) (kept_no_dearer c.scans.state.best c.advance.new.routes c.advance.new.self.cost c.args.state.now.best.cost c.scans.invariant.no_dearer);
-      goes = goes_moved c.args.closed.model.now c.args.bounds.limit c.args.bounds.lambda (counted c.scans.state.penalties) c.scans.state.best.routes.lists c.scans.routes c.advance.new.routes c.scans.state.at c.advance.new.self (λ w. (goal.Watch-dyn g (w.vtable, w.value)).after w.value) (from_state c.args.closed.model.now c.args.bounds.limit c.args.bounds.lambda c.args.routes.now.lists c.args.state.now) _ _ (left g at.In_ok-ended) c.in-Accepted.place c.in-Accepted.mv c.offer.new.self.routes.lists made
+      goes = goes_moved c.args.closed.model.now c.args.bounds.limit c.args.bounds.lambda (counted c.scans.state.penalties) c.scans.state.best.routes.lists c.scans.routes c.advance.new.routes c.scans.state.at c.advance.new.self (λ w. (goal.Watch-dyn g (w.vtable, w.value)).after w.value) (guided_from_state c.args.closed.model.now c.args.bounds.limit c.args.bounds.lambda c.args.routes.now.lists c.args.state.now) _ _ (left g at.In_ok-ended) c.in-Accepted.place c.in-Accepted.mv c.offer.new.self.routes.lists made
           (ap (λ b. b.routes.lists) c.offer.ensures ∙ kept_lists c.args.closed.model.now c.scans.state.best c.advance.new.routes c.advance.new.self.cost c.scans.invariant.stands.going.best.costs on.costs);
       known = c.in_ok-ended.ensures.known;
       learns = λ h. c.scans.invariant.learns (c.in_ok-ended.ensures.learns h);
@@ -191,8 +191,8 @@ returns-in_err-note_all-in-Complete-clause-told_in_part g c =
     let at = goal.at.returns-in_err-note_all-in-Complete-clause-told_in_part g c in
     let done = tried_all g at.After-is_stuck in
     let ends = stuck g at.After-is_stuck false c.if-is_stuck.false in
-    on_err c.from_residual-in_err-note_all-in-Complete.result (breaks_off (λ w. (goal.Watch-dyn g (w.vtable, w.value)).after w.value) (from_state c.args.closed.model.now c.args.bounds.limit c.args.bounds.lambda c.args.routes.now.lists c.args.state.now) (from_here c.args.closed.model.now c.args.bounds.limit c.args.bounds.lambda (raised c.args.closed.model.now (counted c.scans.state.penalties) c.scans.routes.lists) c.scans.routes.lists c.scans.state.best.routes.lists (c.scans.state.at.used + c.in-Complete.length) c.scans.state.at.found) ((event_at c.args.closed.model.now (tried (standing c.scans.routes.lists c.scans.state.best.routes.lists c.scans.state.at.used c.scans.state.at.found) c.in-Complete.length) kind.Round) ∷ []) _ _ _ (goes_to_round c.args.closed.model.now c.args.bounds.limit c.args.bounds.lambda (counted c.scans.state.penalties) c.scans.state.best.routes.lists c.scans.routes c.advance.new.routes c.scans.state.at c.advance.new.self (λ w. (goal.Watch-dyn g (w.vtable, w.value)).after w.value) (from_state c.args.closed.model.now c.args.bounds.limit c.args.bounds.lambda c.args.routes.now.lists c.args.state.now) _ _ (left g at.In_ok-ended) c.in-Complete.length done ends)
-    (subst (λ event. ToldInPart (λ w. (goal.Watch-dyn g (w.vtable, w.value)).after w.value) c.advance.new.watch.items c.note_all.new.watch.items (event ∷ [])) (round_event c.args.closed.model.now c.args.bounds.limit c.args.bounds.lambda (counted c.scans.state.penalties) c.scans.state.best.routes.lists c.scans.routes c.advance.new.routes c.scans.state.at c.advance.new.self c.in-Complete.length c.event.result done c.scans.invariant.stands.going.costs c.event.ensures) c.in_err-note_all-in-Complete.ensures.told_in_part))
+    on_err c.from_residual-in_err-note_all-in-Complete.result (breaks_off (λ w. (goal.Watch-dyn g (w.vtable, w.value)).after w.value) (guided_from_state c.args.closed.model.now c.args.bounds.limit c.args.bounds.lambda c.args.routes.now.lists c.args.state.now) (guided_from_here c.args.closed.model.now c.args.bounds.limit c.args.bounds.lambda (raised c.args.closed.model.now (counted c.scans.state.penalties) c.scans.routes.lists) c.scans.routes.lists c.scans.state.best.routes.lists (c.scans.state.at.used + c.in-Complete.length) c.scans.state.at.found) ((event_at c.args.closed.model.now (tried (standing c.scans.routes.lists c.scans.state.best.routes.lists c.scans.state.at.used c.scans.state.at.found) c.in-Complete.length) kind.Round) ∷ []) _ _ _ (goes_to_round c.args.closed.model.now c.args.bounds.limit c.args.bounds.lambda (counted c.scans.state.penalties) c.scans.state.best.routes.lists c.scans.routes c.advance.new.routes c.scans.state.at c.advance.new.self (λ w. (goal.Watch-dyn g (w.vtable, w.value)).after w.value) (guided_from_state c.args.closed.model.now c.args.bounds.limit c.args.bounds.lambda c.args.routes.now.lists c.args.state.now) _ _ (left g at.In_ok-ended) c.in-Complete.length done ends)
+    (subst (λ event. ReportedInPart (λ w. (goal.Watch-dyn g (w.vtable, w.value)).after w.value) c.advance.new.watch.items c.note_all.new.watch.items (event ∷ [])) (round_event c.args.closed.model.now c.args.bounds.limit c.args.bounds.lambda (counted c.scans.state.penalties) c.scans.state.best.routes.lists c.scans.routes c.advance.new.routes c.scans.state.at c.advance.new.self c.in-Complete.length c.event.result done c.scans.invariant.stands.going.costs c.event.ensures) c.in_err-note_all-in-Complete.ensures.told_in_part))
 
 pub returns-in_err-note_all-in-Complete-clause-asked_at_most : goal.returns-in_err-note_all-in-Complete-clause-asked_at_most
 returns-in_err-note_all-in-Complete-clause-asked_at_most g c =
@@ -210,8 +210,8 @@ scans-preserved g c =
     let raised_new : counted c.raise.new.self ≡ (raised c.args.closed.model.now (counted c.scans.state.penalties) c.scans.routes.lists) = c.raise.ensures.raised ∙ ap (λ r. raised c.args.closed.model.now (counted c.scans.state.penalties) r.lists) done.routes_are in
     let used_new = ap (λ p. p.used) done.at_is in
     let still = stands_still c.args.closed.model.now c.args.bounds.limit c.scans.routes c.advance.new.routes c.scans.state c.advance.new.self (c.scans.state.at.used + c.in-Complete.length) done.routes_are done.at_is _ _ c.scans.invariant.stands c.in_ok-ended.ensures.judge.holds (omega arith) (omega (arith, low, c.scans.invariant.stands.going.used)) in
-    let there = ap (λ r. from_here c.args.closed.model.now c.args.bounds.limit c.args.bounds.lambda (raised c.args.closed.model.now (counted c.scans.state.penalties) c.scans.routes.lists) r.lists c.scans.state.best.routes.lists (c.scans.state.at.used + c.in-Complete.length) c.scans.state.at.found) (sym done.routes_are)
-    ∙ (ap (λ p. from_here c.args.closed.model.now c.args.bounds.limit c.args.bounds.lambda (raised c.args.closed.model.now (counted c.scans.state.penalties) c.scans.routes.lists) c.advance.new.routes.lists c.scans.state.best.routes.lists p.used p.found) (sym done.at_is) ∙ ap (λ q. from_here c.args.closed.model.now c.args.bounds.limit c.args.bounds.lambda q c.advance.new.routes.lists c.scans.state.best.routes.lists c.advance.new.self.used c.advance.new.self.found) (sym raised_new)) in
+    let there = ap (λ r. guided_from_here c.args.closed.model.now c.args.bounds.limit c.args.bounds.lambda (raised c.args.closed.model.now (counted c.scans.state.penalties) c.scans.routes.lists) r.lists c.scans.state.best.routes.lists (c.scans.state.at.used + c.in-Complete.length) c.scans.state.at.found) (sym done.routes_are)
+    ∙ (ap (λ p. guided_from_here c.args.closed.model.now c.args.bounds.limit c.args.bounds.lambda (raised c.args.closed.model.now (counted c.scans.state.penalties) c.scans.routes.lists) c.advance.new.routes.lists c.scans.state.best.routes.lists p.used p.found) (sym done.at_is) ∙ ap (λ q. guided_from_here c.args.closed.model.now c.args.bounds.limit c.args.bounds.lambda q c.advance.new.routes.lists c.scans.state.best.routes.lists c.advance.new.self.used c.advance.new.self.found) (sym raised_new)) in
     record {
       model = c.in_ok-ended.ensures.judge.judge_model;
       stands = record {
@@ -223,8 +223,8 @@ scans-preserved g c =
       route_sums = c.write-in-Complete.ensures;
       asked = on_then _ _ _ _ _ _ c.scans.invariant.asked c.in_ok-ended.ensures.asked;
       no_dearer = c.scans.invariant.no_dearer;
-      goes = goes_as (λ w. (goal.Watch-dyn g (w.vtable, w.value)).after w.value) (from_state c.args.closed.model.now c.args.bounds.limit c.args.bounds.lambda c.args.routes.now.lists c.args.state.now) _ _ _ _ there (goes_more (λ w. (goal.Watch-dyn g (w.vtable, w.value)).after w.value) (from_state c.args.closed.model.now c.args.bounds.limit c.args.bounds.lambda c.args.routes.now.lists c.args.state.now) (from_here c.args.closed.model.now c.args.bounds.limit c.args.bounds.lambda (raised c.args.closed.model.now (counted c.scans.state.penalties) c.scans.routes.lists) c.scans.routes.lists c.scans.state.best.routes.lists (c.scans.state.at.used + c.in-Complete.length) c.scans.state.at.found) ((event_at c.args.closed.model.now (tried (standing c.scans.routes.lists c.scans.state.best.routes.lists c.scans.state.at.used c.scans.state.at.found) c.in-Complete.length) kind.Round) ∷ []) _ _ _ (goes_to_round c.args.closed.model.now c.args.bounds.limit c.args.bounds.lambda (counted c.scans.state.penalties) c.scans.state.best.routes.lists c.scans.routes c.advance.new.routes c.scans.state.at c.advance.new.self (λ w. (goal.Watch-dyn g (w.vtable, w.value)).after w.value) (from_state c.args.closed.model.now c.args.bounds.limit c.args.bounds.lambda c.args.routes.now.lists c.args.state.now) _ _ (left g at.In_ok-ended) c.in-Complete.length done ends)
-          (subst (λ event. Told (λ w. (goal.Watch-dyn g (w.vtable, w.value)).after w.value) c.advance.new.watch.items c.note_all.new.watch.items (event ∷ [])) (round_event c.args.closed.model.now c.args.bounds.limit c.args.bounds.lambda (counted c.scans.state.penalties) c.scans.state.best.routes.lists c.scans.routes c.advance.new.routes c.scans.state.at c.advance.new.self c.in-Complete.length c.event.result done c.scans.invariant.stands.going.costs c.event.ensures) c.in_ok-note_all-in-Complete.ensures.told));
+      goes = goes_as (λ w. (goal.Watch-dyn g (w.vtable, w.value)).after w.value) (guided_from_state c.args.closed.model.now c.args.bounds.limit c.args.bounds.lambda c.args.routes.now.lists c.args.state.now) _ _ _ _ there (goes_more (λ w. (goal.Watch-dyn g (w.vtable, w.value)).after w.value) (guided_from_state c.args.closed.model.now c.args.bounds.limit c.args.bounds.lambda c.args.routes.now.lists c.args.state.now) (guided_from_here c.args.closed.model.now c.args.bounds.limit c.args.bounds.lambda (raised c.args.closed.model.now (counted c.scans.state.penalties) c.scans.routes.lists) c.scans.routes.lists c.scans.state.best.routes.lists (c.scans.state.at.used + c.in-Complete.length) c.scans.state.at.found) ((event_at c.args.closed.model.now (tried (standing c.scans.routes.lists c.scans.state.best.routes.lists c.scans.state.at.used c.scans.state.at.found) c.in-Complete.length) kind.Round) ∷ []) _ _ _ (goes_to_round c.args.closed.model.now c.args.bounds.limit c.args.bounds.lambda (counted c.scans.state.penalties) c.scans.state.best.routes.lists c.scans.routes c.advance.new.routes c.scans.state.at c.advance.new.self (λ w. (goal.Watch-dyn g (w.vtable, w.value)).after w.value) (guided_from_state c.args.closed.model.now c.args.bounds.limit c.args.bounds.lambda c.args.routes.now.lists c.args.state.now) _ _ (left g at.In_ok-ended) c.in-Complete.length done ends)
+          (subst (λ event. Reported (λ w. (goal.Watch-dyn g (w.vtable, w.value)).after w.value) c.advance.new.watch.items c.note_all.new.watch.items (event ∷ [])) (round_event c.args.closed.model.now c.args.bounds.limit c.args.bounds.lambda (counted c.scans.state.penalties) c.scans.state.best.routes.lists c.scans.routes c.advance.new.routes c.scans.state.at c.advance.new.self c.in-Complete.length c.event.result done c.scans.invariant.stands.going.costs c.event.ensures) c.in_ok-note_all-in-Complete.ensures.told));
       known = still_refused c.args.closed.model.now c.args.closed.well_formed c.args.bounds.lambda (counted c.scans.state.penalties) (counted c.raise.new.self) c.advance.new.routes.lists c.in_ok-ended.ensures.judge.holds.valid
           c.advance.new.known c.raise.new.known c.raise.ensures.fewer c.raise.ensures.spares c.raise.ensures.settled c.in_ok-ended.ensures.known;
       learns = λ h. c.scans.invariant.learns (c.in_ok-ended.ensures.learns (c.raise.ensures.learns h));
@@ -234,7 +234,7 @@ pub returns-then-is_stuck-clause-stopped : goal.returns-then-is_stuck-clause-sto
 returns-then-is_stuck-clause-stopped g c =
     let at = goal.at.returns-then-is_stuck-clause-stopped g c in
     let done = tried_all g at.After-is_stuck in
-    stops_still c.args.closed.model.now c.args.bounds.limit c.scans.routes c.advance.new.routes c.scans.state c.advance.new.self (c.scans.state.at.used + c.in-Complete.length) done.routes_are done.at_is (λ w. (goal.Watch-dyn g (w.vtable, w.value)).after w.value) (from_state c.args.closed.model.now c.args.bounds.limit c.args.bounds.lambda c.args.routes.now.lists c.args.state.now) Optimum _ _ (goes_to_optimum c.args.closed.model.now c.args.bounds.limit c.args.bounds.lambda (counted c.scans.state.penalties) c.scans.state.best.routes.lists c.scans.routes c.advance.new.routes c.scans.state.at c.advance.new.self (λ w. (goal.Watch-dyn g (w.vtable, w.value)).after w.value) (from_state c.args.closed.model.now c.args.bounds.limit c.args.bounds.lambda c.args.routes.now.lists c.args.state.now) _ _ (left g at.In_ok-ended) c.in-Complete.length (tried_all g at.After-is_stuck) (stuck g at.After-is_stuck true c.if-is_stuck.true))
+    stops_still c.args.closed.model.now c.args.bounds.limit c.scans.routes c.advance.new.routes c.scans.state c.advance.new.self (c.scans.state.at.used + c.in-Complete.length) done.routes_are done.at_is (λ w. (goal.Watch-dyn g (w.vtable, w.value)).after w.value) (guided_from_state c.args.closed.model.now c.args.bounds.limit c.args.bounds.lambda c.args.routes.now.lists c.args.state.now) Optimum _ _ (goes_to_optimum c.args.closed.model.now c.args.bounds.limit c.args.bounds.lambda (counted c.scans.state.penalties) c.scans.state.best.routes.lists c.scans.routes c.advance.new.routes c.scans.state.at c.advance.new.self (λ w. (goal.Watch-dyn g (w.vtable, w.value)).after w.value) (guided_from_state c.args.closed.model.now c.args.bounds.limit c.args.bounds.lambda c.args.routes.now.lists c.args.state.now) _ _ (left g at.In_ok-ended) c.in-Complete.length (tried_all g at.After-is_stuck) (stuck g at.After-is_stuck true c.if-is_stuck.true))
 
 pub returns-then-is_stuck-clause-asked : goal.returns-then-is_stuck-clause-asked
 returns-then-is_stuck-clause-asked g c =
@@ -250,7 +250,7 @@ pub returns-in-Cut-clause-stopped : goal.returns-in-Cut-clause-stopped
 returns-in-Cut-clause-stopped g c =
     let at = goal.at.returns-in-Cut-clause-stopped g c in
     let done = ran_out g at.In-Cut in
-    stops_still c.args.closed.model.now c.args.bounds.limit c.scans.routes c.advance.new.routes c.scans.state c.advance.new.self c.args.bounds.limit.tries done.routes_are done.at_is (λ w. (goal.Watch-dyn g (w.vtable, w.value)).after w.value) (from_state c.args.closed.model.now c.args.bounds.limit c.args.bounds.lambda c.args.routes.now.lists c.args.state.now) Tries _ _ (goes_to_cut c.args.closed.model.now c.args.bounds.limit c.args.bounds.lambda (counted c.scans.state.penalties) c.scans.state.best.routes.lists c.scans.routes c.advance.new.routes c.scans.state.at c.advance.new.self (λ w. (goal.Watch-dyn g (w.vtable, w.value)).after w.value) (from_state c.args.closed.model.now c.args.bounds.limit c.args.bounds.lambda c.args.routes.now.lists c.args.state.now) _ _ (left g at.In_ok-ended) (ran_out g at.In-Cut) c.scans.invariant.stands.going.used)
+    stops_still c.args.closed.model.now c.args.bounds.limit c.scans.routes c.advance.new.routes c.scans.state c.advance.new.self c.args.bounds.limit.tries done.routes_are done.at_is (λ w. (goal.Watch-dyn g (w.vtable, w.value)).after w.value) (guided_from_state c.args.closed.model.now c.args.bounds.limit c.args.bounds.lambda c.args.routes.now.lists c.args.state.now) Tries _ _ (goes_to_cut c.args.closed.model.now c.args.bounds.limit c.args.bounds.lambda (counted c.scans.state.penalties) c.scans.state.best.routes.lists c.scans.routes c.advance.new.routes c.scans.state.at c.advance.new.self (λ w. (goal.Watch-dyn g (w.vtable, w.value)).after w.value) (guided_from_state c.args.closed.model.now c.args.bounds.limit c.args.bounds.lambda c.args.routes.now.lists c.args.state.now) _ _ (left g at.In_ok-ended) (ran_out g at.In-Cut) c.scans.invariant.stands.going.used)
 
 pub returns-in-Cut-clause-asked : goal.returns-in-Cut-clause-asked
 returns-in-Cut-clause-asked g c =
@@ -263,7 +263,7 @@ returns-in-Cut-clause-stands g c =
 
 pub returns-clause-stopped : goal.returns-clause-stopped
 returns-clause-stopped g c =
-    stops (λ w. (goal.Watch-dyn g (w.vtable, w.value)).after w.value) (from_state c.args.closed.model.now c.args.bounds.limit c.args.bounds.lambda c.args.routes.now.lists c.args.state.now) c.scans.routes.lists c.scans.state.at c.scans.state.best _ _ Solutions (goes_as (λ w. (goal.Watch-dyn g (w.vtable, w.value)).after w.value) (from_state c.args.closed.model.now c.args.bounds.limit c.args.bounds.lambda c.args.routes.now.lists c.args.state.now) _ _ _ _ (enough c.args.closed.model.now c.args.bounds.limit c.args.bounds.lambda (counted c.scans.state.penalties) c.scans.routes.lists c.scans.state.best.routes.lists c.scans.state.at.used c.scans.state.at.found (same_count c.scans.state.at.found c.args.bounds.limit.solutions c.scans-test.false)) c.scans.invariant.goes)
+    stops (λ w. (goal.Watch-dyn g (w.vtable, w.value)).after w.value) (guided_from_state c.args.closed.model.now c.args.bounds.limit c.args.bounds.lambda c.args.routes.now.lists c.args.state.now) c.scans.routes.lists c.scans.state.at c.scans.state.best _ _ Solutions (goes_as (λ w. (goal.Watch-dyn g (w.vtable, w.value)).after w.value) (guided_from_state c.args.closed.model.now c.args.bounds.limit c.args.bounds.lambda c.args.routes.now.lists c.args.state.now) _ _ _ _ (enough c.args.closed.model.now c.args.bounds.limit c.args.bounds.lambda (counted c.scans.state.penalties) c.scans.routes.lists c.scans.state.best.routes.lists c.scans.state.at.used c.scans.state.at.found (same_count c.scans.state.at.found c.args.bounds.limit.solutions c.scans-test.false)) c.scans.invariant.goes)
 
 pub returns-clause-holds : goal.returns-clause-holds
 returns-clause-holds g c =

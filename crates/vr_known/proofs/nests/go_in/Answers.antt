@@ -1,5 +1,5 @@
 use Rattle.std.proofs.Common.{◌≡◌, ◌∙◌, ℕ, ◌+◌, ◌^◌, ◌<◌, ◌++◌, sym, ap, arith}
-use Rattle.vr_known.specs.Nests.{joined_of, rest_of}
+use Rattle.vr_known.specs.Nests.{joined_of, rest_inside}
 use Rattle.vr_known.specs.Passing.{capped}
 use Rattle.vr_known.proofs.NestLemmas.{joined_goes_on}
 use Rattle.vr_known.proofs.PassingLemmas.{passes_all, passes_from, passes_in_front, passes_more, passes_none}
@@ -16,9 +16,9 @@ returns-in-None-clause-passes g c =
     let passes = g.F.Family.passes now.family in
     let moves = g.F.Family.moves now.family in
     let others = joined_of passes moves (now.next + 1) now.end in
-    let here : rest_of g.F.Inner.Listed.rest c.open-opened.result ++ others ≡ joined_of passes moves now.next now.end = ap (λ l. l ++ others) c.open-opened.ensures ∙ sym (joined_goes_on passes moves now.next now.end c.loop-each-test.true) in
+    let here : rest_inside g.F.Inner.Listed.rest c.open-opened.result ++ others ≡ joined_of passes moves now.next now.end = ap (λ l. l ++ others) c.open-opened.ensures ∙ sym (joined_goes_on passes moves now.next now.end c.loop-each-test.true) in
     passes_more covers _ _ _ _ _ _ c.loop-each.invariant.passes
-    (passes_from covers _ _ _ _ _ here (passes_none covers (rest_of g.F.Inner.Listed.rest c.open-opened.result ++ others) c.loop-each.count (fits c.loop-each.count _ c.loop-each.invariant.passes.counts)))
+    (passes_from covers _ _ _ _ _ here (passes_none covers (rest_inside g.F.Inner.Listed.rest c.open-opened.result ++ others) c.loop-each.count (fits c.loop-each.count _ c.loop-each.invariant.passes.counts)))
 
 pub loop-each-preserved-in-Some : goal.loop-each-preserved-in-Some
 loop-each-preserved-in-Some g c =
@@ -27,7 +27,7 @@ loop-each-preserved-in-Some g c =
     let passes = g.F.Family.passes now.family in
     let moves = g.F.Family.moves now.family in
     let others = joined_of passes moves (now.next + 1) now.end in
-    let here : rest_of g.F.Inner.Listed.rest c.open-opened.result ++ others ≡ joined_of passes moves now.next now.end = ap (λ l. l ++ others) c.open-opened.ensures ∙ sym (joined_goes_on passes moves now.next now.end c.loop-each-test.true) in
+    let here : rest_inside g.F.Inner.Listed.rest c.open-opened.result ++ others ≡ joined_of passes moves now.next now.end = ap (λ l. l ++ others) c.open-opened.ensures ∙ sym (joined_goes_on passes moves now.next now.end c.loop-each-test.true) in
     let fewer = c.loop-each.invariant.fewer in
     record {
       fits = c.loop-each.invariant.fits;
@@ -35,7 +35,7 @@ loop-each-preserved-in-Some g c =
       fewer = omega (arith, fewer);
       passes = passes_more covers _ _ _ _ _ _ c.loop-each.invariant.passes
           (passes_from covers _ _ _ _ _ here
-          (passes_in_front covers _ _ others _ _ (passes_all covers (rest_of g.F.Inner.Listed.rest c.open-opened.result) c.loop-each.count c.in-Some.many c.saturating_add.result c.in-Some.ensures c.saturating_add.ensures)));
+          (passes_in_front covers _ _ others _ _ (passes_all covers (rest_inside g.F.Inner.Listed.rest c.open-opened.result) c.loop-each.count c.in-Some.many c.saturating_add.result c.in-Some.ensures c.saturating_add.ensures)));
     }
 
 pub loop-each-preserved : goal.loop-each-preserved
@@ -45,7 +45,7 @@ loop-each-preserved g c =
     let passes = g.F.Family.passes now.family in
     let moves = g.F.Family.moves now.family in
     let others = joined_of passes moves (now.next + 1) now.end in
-    let here : rest_of g.F.Inner.Listed.rest c.open-opened.result ++ others ≡ joined_of passes moves now.next now.end = ap (λ l. l ++ others) c.open-opened.ensures ∙ sym (joined_goes_on passes moves now.next now.end c.loop-each-test.true) in
+    let here : rest_inside g.F.Inner.Listed.rest c.open-opened.result ++ others ≡ joined_of passes moves now.next now.end = ap (λ l. l ++ others) c.open-opened.ensures ∙ sym (joined_goes_on passes moves now.next now.end c.loop-each-test.true) in
     let fewer = c.loop-each.invariant.fewer in
     record {
       fits = c.loop-each.invariant.fits;
@@ -53,5 +53,5 @@ loop-each-preserved g c =
       fewer = omega (arith, fewer);
       passes = passes_more covers _ _ _ _ _ _ c.loop-each.invariant.passes
           (passes_from covers _ _ _ _ _ here
-          (passes_in_front covers _ _ others _ _ (passes_all covers (rest_of g.F.Inner.Listed.rest c.open-opened.result) c.loop-each.count c.in-Some.many c.saturating_add.result c.in-Some.ensures c.saturating_add.ensures)));
+          (passes_in_front covers _ _ others _ _ (passes_all covers (rest_inside g.F.Inner.Listed.rest c.open-opened.result) c.loop-each.count c.in-Some.many c.saturating_add.result c.in-Some.ensures c.saturating_add.ensures)));
     }

@@ -1,7 +1,7 @@
 use Rattle.std.proofs.Common.{◌≡◌, ◌∙◌, ◌<◌, ◌+◌, ◌-◌, ℕ, cond, ap, arith, length}
 use Rattle.vr_model.specs.declared.records.Group.{Group}
 use Rattle.vr_model.specs.routes.Routes.{holds}
-use Rattle.vr_lists.specs.Nodes.{number_of}
+use Rattle.vr_lists.specs.Nodes.{node_number}
 use Rattle.vr_lists.proofs.NodeLemmas.{numbers_step}
 use Rattle.vr_lists.proofs.nodes.write_groups.Goals as goal
 
@@ -16,7 +16,7 @@ loop-g-preserved c =
     record {
       within = omega (arith, m.within);
       long = c.write_each.ensures.count ∙ m.long;
-      each = λ node within. numbers_step (λ (group : Group). holds group.nodes node) groups k c.loop-g.g group (number_of c.loop-g.numbers node) (number_of c.write_each.new.values node)
+      each = λ node within. numbers_step (λ (group : Group). holds group.nodes node) groups k c.loop-g.g group (node_number c.loop-g.numbers node) (node_number c.write_each.new.values node)
           more low (c.get.ensures.value group) (m.each node within)
-          (c.write_each.ensures.each node 0 (omega (arith, within, m.long)) ∙ ap (λ nodes. cond (holds nodes node) k (number_of c.loop-g.numbers node)) c.as_slice.ensures);
+          (c.write_each.ensures.each node 0 (omega (arith, within, m.long)) ∙ ap (λ nodes. cond (holds nodes node) k (node_number c.loop-g.numbers node)) c.as_slice.ensures);
     }

@@ -4,7 +4,7 @@ use Rattle.std.proofs.lemmas.List.{length-set}
 use Rattle.vr_model.specs.declared.records.Pair.{Pair}
 use Rattle.vr_model.specs.tables.WellFormed.{IsPair}
 use Rattle.vr_model.proofs.routes.Lists.{visit_below}
-use Rattle.vr_lists.specs.Nodes.{number_of}
+use Rattle.vr_lists.specs.Nodes.{node_number}
 use Rattle.vr_lists.proofs.NodeLemmas.{numbers_step, set_two}
 use Rattle.vr_lists.proofs.nodes.write_pairs.Goals as goal
 
@@ -24,7 +24,7 @@ loop-k-preserved c =
     record {
       within = omega (arith, m.within);
       long = length-set (slice_set numbers pair.pickup k) pair.delivery k ∙ length-set numbers pair.pickup k ∙ m.long;
-      each = λ node within. numbers_step (λ (pair : Pair). (pair.pickup == node) || (pair.delivery == node)) model.pairs k c.loop-k.k pair (number_of numbers node)
-          (number_of (slice_set (slice_set numbers pair.pickup k) pair.delivery k) node)
+      each = λ node within. numbers_step (λ (pair : Pair). (pair.pickup == node) || (pair.delivery == node)) model.pairs k c.loop-k.k pair (node_number numbers node)
+          (node_number (slice_set (slice_set numbers pair.pickup k) pair.delivery k) node)
           more low is (m.each node within) (set_two numbers pair.pickup pair.delivery k node (omega (arith, pickup, m.long)) (omega (arith, delivery, m.long)));
     }

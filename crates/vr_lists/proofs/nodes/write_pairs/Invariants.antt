@@ -1,7 +1,7 @@
 use Rattle.std.proofs.Common.{◌≡◌, ◌+◌, ◌<◌, ◌≤◌, ℕ, length, drop}
 use Rattle.std.specs.Prelude.{◌==◌, ◌||◌}
 use Rattle.std.specs.List.{position_or_len}
-use Rattle.vr_lists.specs.Nodes.{number_of}
+use Rattle.vr_lists.specs.Nodes.{node_number}
 use Rattle.vr_lists.proofs.nodes.write_pairs.Given as goal
 
 -- the nodes of the pairs from here on have their numbers
@@ -9,7 +9,7 @@ abbrev pub invariant-loop-k : goal.invariant-loop-k
 invariant-loop-k l = record {
   within : l.k ≤ length l.closed.model.now.pairs;
   long : length l.numbers ≡ l.closed.model.now.nodes;
-  each : (node : ℕ) → node < l.closed.model.now.nodes → number_of l.numbers node ≡ l.k + position_or_len (λ pair. (pair.pickup == node) || (pair.delivery == node)) (drop l.k l.closed.model.now.pairs);
+  each : (node : ℕ) → node < l.closed.model.now.nodes → node_number l.numbers node ≡ l.k + position_or_len (λ pair. (pair.pickup == node) || (pair.delivery == node)) (drop l.k l.closed.model.now.pairs);
 }
 
 abbrev pub decreases-loop-k : goal.decreases-loop-k

@@ -4,7 +4,7 @@ use Rattle.std.proofs.lemmas.List.{length-set}
 use Rattle.vr_model.specs.declared.records.Allowed.{Allowed}
 use Rattle.vr_model.specs.tables.Tables.{is_visit}
 use Rattle.vr_model.proofs.routes.Lists.{visit_below}
-use Rattle.vr_lists.specs.Nodes.{number_of}
+use Rattle.vr_lists.specs.Nodes.{node_number}
 use Rattle.vr_lists.proofs.NodeLemmas.{numbers_step, set_number}
 use Rattle.vr_lists.proofs.nodes.write_rows.Goals as goal
 
@@ -20,6 +20,6 @@ loop-k-preserved c =
     record {
       within = omega (arith, c.loop-k.invariant.within);
       long = length-set c.loop-k.numbers row.node k ∙ c.loop-k.invariant.long;
-      each = λ node within. numbers_step (λ (row : Allowed). row.node == node) model.allowed k c.loop-k.k row (number_of c.loop-k.numbers node) (number_of (slice_set c.loop-k.numbers row.node k) node)
+      each = λ node within. numbers_step (λ (row : Allowed). row.node == node) model.allowed k c.loop-k.k row (node_number c.loop-k.numbers node) (node_number (slice_set c.loop-k.numbers row.node k) node)
           (omega (arith, c.loop-k-test.true)) low is (c.loop-k.invariant.each node within) (set_number c.loop-k.numbers row.node k node (omega (arith, here, c.loop-k.invariant.long)));
     }

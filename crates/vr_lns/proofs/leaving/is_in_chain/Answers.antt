@@ -1,12 +1,12 @@
 use Rattle.std.proofs.Common.{◌≡◌, ◌∙◌, ◌+◌, ap}
 use Rattle.std.specs.Prelude.{min}
-use Rattle.vr_lns.specs.Chains.{end_of, is_between}
+use Rattle.vr_lns.specs.Chains.{chain_end, is_between}
 use Rattle.vr_lns.proofs.ChainLemmas.{by_seat, none_there}
 use Rattle.vr_lns.proofs.leaving.is_in_chain.Goals as goal
 
 pub returns-in-Some : goal.returns-in-Some
 returns-in-Some c =
-    let end : c.min-end.result ≡ end_of c.args.cut.now.most c.args.cut.now.routes.now.lists c.args.cut.now.at = c.min-end.ensures ∙ ap (min (c.args.cut.now.at.place + c.args.cut.now.most)) c.len-length.ensures.value in
+    let end : c.min-end.result ≡ chain_end c.args.cut.now.most c.args.cut.now.routes.now.lists c.args.cut.now.at = c.min-end.ensures ∙ ap (min (c.args.cut.now.at.place + c.args.cut.now.most)) c.len-length.ensures.value in
     c.is_between.ensures ∙ ap (λ e. is_between c.args.cut.now.at e c.in-Some.seat) end
     ∙ by_seat c.args.cut.now.most c.args.cut.now.routes.now.lists c.args.cut.now.at c.args.cut.now.vehicle c.args.node c.in-Some.seat c.know_once.ensures c.in-Some.ensures
 

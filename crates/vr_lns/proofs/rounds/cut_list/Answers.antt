@@ -3,7 +3,7 @@ use Rattle.vr_model.specs.tables.Numbers.{from_to}
 use Rattle.vr_model.specs.routes.Routes.{route}
 use Rattle.vr_lns.specs.Cuts.{accepted_by}
 use Rattle.vr_lns.specs.Rounds.{round_from}
-use Rattle.vr_lns.specs.Standing.{is_taken, lists_after, lists_after_round, round_end, HoldValid}
+use Rattle.vr_lns.specs.Standing.{is_taken_over, lists_after, lists_after_round, round_end, HoldValid}
 use Rattle.vr_lns.proofs.RoundLemmas.{cut_at, next_cut, not_taken, passed_here, short_here, taken_here}
 use Rattle.vr_lns.proofs.rounds.cut_list.Goals as goal
 
@@ -34,7 +34,7 @@ returns-then-branch g c =
     let rest = map (cut_at c.args.v) (from_to (c.loop-a.a + 1) (length (route lists c.args.v))) in
     let same = ap₂ (λ k ls. accepted_by k.model k.most ls (cut_at c.args.v c.loop-a.a)) c.loop-a.invariant.cutter c.loop-a.invariant.lists in
     let tries : c.loop-a.place < c.args.rest = omega (arith, c.loop-a.invariant.within, c.if-place-rest.false) in
-    let taken = taken_here accepted c.args.rest c.loop-a.place (cut_at c.args.v c.loop-a.a) rest _ opens tries (sym (ap is_taken same) ∙ (sym c.in_ok-try_cut.ensures.taken ∙ c.if-branch.true)) in
+    let taken = taken_here accepted c.args.rest c.loop-a.place (cut_at c.args.v c.loop-a.a) rest _ opens tries (sym (ap is_taken_over same) ∙ (sym c.in_ok-try_cut.ensures.taken ∙ c.if-branch.true)) in
     record {
       ends = ap round_end (sym taken.2);
       lists = c.in_ok-try_cut.ensures.lists ∙ ap (lists_after c.loop-a.routes.lists) (same ∙ taken.1) ∙ ap (lists_after_round lists) (sym taken.2);
@@ -53,7 +53,7 @@ loop-a-preserved g c =
     let opens = next_cut (round_from c.loop-a.place accepted c.args.rest) c.args.v (length list) c.loop-a.a _ c.loop-a.invariant.left (omega (arith, c.loop-a-test.true, c.len-a-end.ensures.value)) in
     let rest = map (cut_at c.args.v) (from_to (c.loop-a.a + 1) (length list)) in
     let same = ap₂ (λ k ls. accepted_by k.model k.most ls (cut_at c.args.v c.loop-a.a)) c.loop-a.invariant.cutter c.loop-a.invariant.lists in
-    let none = not_taken (accepted (cut_at c.args.v c.loop-a.a)) (sym (ap is_taken same) ∙ (sym c.in_ok-try_cut.ensures.taken ∙ c.if-branch.false)) in
+    let none = not_taken (accepted (cut_at c.args.v c.loop-a.a)) (sym (ap is_taken_over same) ∙ (sym c.in_ok-try_cut.ensures.taken ∙ c.if-branch.false)) in
     record {
       cutter = c.in_ok-try_cut.ensures.cutter ∙ c.loop-a.invariant.cutter;
       lists = c.in_ok-try_cut.ensures.lists ∙ ap (lists_after c.loop-a.routes.lists) (same ∙ none) ∙ c.loop-a.invariant.lists;

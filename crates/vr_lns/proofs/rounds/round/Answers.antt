@@ -5,7 +5,7 @@ use Rattle.vr_model.proofs.tables.Ranges.{walk_opens}
 use Rattle.vr_lns.specs.declared.cutting.Cut.{Cut}
 use Rattle.vr_lns.specs.Cuts.{accepted_by, cuts_of}
 use Rattle.vr_lns.specs.Rounds.{Round, round, round_from}
-use Rattle.vr_lns.specs.Standing.{lists_after_round, round_end, tries_of, HoldValid}
+use Rattle.vr_lns.specs.Standing.{lists_after_round, round_end, tries_in_round, HoldValid}
 use Rattle.vr_lns.proofs.BoundLemmas.{round_tells, Tells}
 use Rattle.vr_lns.proofs.RoundLemmas.{behind_none, completed, round_behind, round_both}
 use Rattle.vr_lns.proofs.rounds.round.Given.{Over}
@@ -62,6 +62,6 @@ loop-v-preserved g c =
       holds = subst (λ k. HoldValid k.model c.cut_list.new.routes c.cut_list.new.total) c.loop-v.invariant.cutter c.in_ok-ended.ensures.holds;
       within = within;
       knows = subst (λ k. g.R.Rebuild.knows c.cut_list.new.rebuild k.model) c.loop-v.invariant.cutter c.in_ok-ended.ensures.knows;
-      made = omega (arith, c.in_ok-ended.ensures.made, c.loop-v.invariant.made, ap (tries_of c.args.rest) c.in-Complete.is);
+      made = omega (arith, c.in_ok-ended.ensures.made, c.loop-v.invariant.made, ap (tries_in_round c.args.rest) c.in-Complete.is);
       left = ap (round_behind (accepted g at) c.args.rest (behind g at)) (sym done) ∙ whole g at;
     }

@@ -4,7 +4,7 @@ use Rattle.std.specs.Prelude.{IfOk, IsTrue, OnErr}
 use Rattle.vr_model.specs.routes.Rules.{is_valid}
 use Rattle.vr_model.specs.tables.Tables.{visits}
 use Rattle.vr_model.proofs.tables.Refusals.{on_err}
-use Rattle.vr_watch.specs.Told.{ToldInPart}
+use Rattle.vr_watch.specs.Told.{ReportedInPart}
 use Rattle.vr_watch.proofs.ToldLemmas.{none_behind, told_nothing}
 use Rattle.vr_lns.specs.PathLns.{path_lns}
 use Rattle.vr_lns.proofs.searching.lns.Goals as goal
@@ -27,4 +27,4 @@ returns-clause-valid g c = subst (λ model. IsTrue (is_valid model c.lns_over.ne
 
 pub returns-clause-told_in_part : goal.returns-clause-told_in_part
 returns-clause-told_in_part g c =
-    subst (λ model. OnErr c.lns_over.result (ToldInPart (λ w. (goal.Watch-dyn g (w.vtable, w.value)).after w.value) c.args.watch.now.items c.lns_over.new.watch.items (path_lns model c.args.routes.now.lists c.args.limit c.args.cut).events)) c.in_ok-lookups.ensures c.lns_over.ensures.told_in_part
+    subst (λ model. OnErr c.lns_over.result (ReportedInPart (λ w. (goal.Watch-dyn g (w.vtable, w.value)).after w.value) c.args.watch.now.items c.lns_over.new.watch.items (path_lns model c.args.routes.now.lists c.args.limit c.args.cut).events)) c.in_ok-lookups.ensures c.lns_over.ensures.told_in_part

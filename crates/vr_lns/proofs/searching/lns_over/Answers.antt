@@ -5,11 +5,11 @@ use Rattle.vr_model.specs.declared.records.Report.{Report}
 use Rattle.vr_model.specs.routes.Costs.{cost}
 use Rattle.vr_model.specs.routes.Rules.{is_valid}
 use Rattle.vr_model.proofs.tables.Refusals.{on_err}
-use Rattle.vr_watch.specs.Told.{ToldInPart}
+use Rattle.vr_watch.specs.Told.{ReportedInPart}
 use Rattle.vr_watch.proofs.ToldLemmas.{none_behind, told_nothing}
 use Rattle.vr_descent.specs.Ending.{HasEnded}
 use Rattle.vr_lns.specs.Answering.{IsSoundAtLast}
-use Rattle.vr_lns.specs.Ending.{EndsAs}
+use Rattle.vr_lns.specs.Ending.{SearchEndsAs}
 use Rattle.vr_lns.specs.PathLns.{path_lns}
 use Rattle.vr_lns.proofs.AnswerLemmas.{path_lns_is_sound}
 use Rattle.vr_lns.proofs.searching.lns_over.Given.{Over}
@@ -18,10 +18,10 @@ use Rattle.vr_lns.proofs.searching.lns_over.Goals as goal
 
 -- the search ends as the definition does
 abbrev Ends : (g : Over) (c : After-search g) → Report → Type 0
-Ends g c = EndsAs (λ w. (goal.Watch-dyn g (w.vtable, w.value)).after w.value) (path_lns c.args.lookups.now.closed.model.now c.args.routes.now.lists c.args.limit c.args.cut) c.search.new.routes.lists c.args.watch.now.items c.search.new.watch.items
+Ends g c = SearchEndsAs (λ w. (goal.Watch-dyn g (w.vtable, w.value)).after w.value) (path_lns c.args.lookups.now.closed.model.now c.args.routes.now.lists c.args.limit c.args.cut) c.search.new.routes.lists c.args.watch.now.items c.search.new.watch.items
 
 ends : (g : Over) (c : After-search g) → IfOk c.search.result (Ends g c)
-ends g c = subst (λ k. IfOk c.search.result (EndsAs (λ w. (goal.Watch-dyn g (w.vtable, w.value)).after w.value) (path_lns k.model c.args.routes.now.lists c.args.limit k.most) c.search.new.routes.lists c.args.watch.now.items c.search.new.watch.items)) c.in_ok-cutting.ensures c.search.ensures.ends
+ends g c = subst (λ k. IfOk c.search.result (SearchEndsAs (λ w. (goal.Watch-dyn g (w.vtable, w.value)).after w.value) (path_lns k.model c.args.routes.now.lists c.args.limit k.most) c.search.new.routes.lists c.args.watch.now.items c.search.new.watch.items)) c.in_ok-cutting.ensures c.search.ensures.ends
 
 -- what the definition gives is sound
 sound : (g : Over) (c : After-search g) → IsSoundAtLast c.args.lookups.now.closed.model.now c.args.routes.now.lists c.args.limit (path_lns c.args.lookups.now.closed.model.now c.args.routes.now.lists c.args.limit c.args.cut)
@@ -54,4 +54,4 @@ returns-clause-ended g c =
 
 pub returns-clause-told_in_part : goal.returns-clause-told_in_part
 returns-clause-told_in_part g c =
-    subst (λ k. OnErr c.search.result (ToldInPart (λ w. (goal.Watch-dyn g (w.vtable, w.value)).after w.value) c.args.watch.now.items c.search.new.watch.items (path_lns k.model c.args.routes.now.lists c.args.limit k.most).events)) c.in_ok-cutting.ensures c.search.ensures.told_in_part
+    subst (λ k. OnErr c.search.result (ReportedInPart (λ w. (goal.Watch-dyn g (w.vtable, w.value)).after w.value) c.args.watch.now.items c.search.new.watch.items (path_lns k.model c.args.routes.now.lists c.args.limit k.most).events)) c.in_ok-cutting.ensures c.search.ensures.told_in_part

@@ -2,14 +2,14 @@ use Rattle.std.proofs.Common.{◌≡◌, ◌∙◌, [], ◌∷◌, sym, ap, subs
 use Rattle.vr_model.specs.declared.records.End.TheVariants.{Solutions}
 use Rattle.vr_model.proofs.tables.Refusals.{on_err}
 use Rattle.vr_model.proofs.tables.Tests.{apart}
-use Rattle.vr_watch.specs.Told.{Told, ToldInPart}
+use Rattle.vr_watch.specs.Told.{Reported, ReportedInPart}
 use Rattle.vr_watch.proofs.ToldLemmas.{none_behind, told_nothing}
 use Rattle.vr_descent.proofs.Beginnings.{cost_read, first, first_event, first_in_part, first_told}
 use Rattle.vr_descent.proofs.DescentLemmas.{same_count}
 use Rattle.vr_descent.proofs.GoingOn.{goes_as}
-use Rattle.vr_lns.specs.Ending.{EndsAs}
+use Rattle.vr_lns.specs.Ending.{SearchEndsAs}
 use Rattle.vr_lns.specs.PathLns.{path_lns}
-use Rattle.vr_lns.specs.Standing.{events_after, lists_after_round, round_at, round_end, standing_after, HoldValid}
+use Rattle.vr_lns.specs.Standing.{round_events, lists_after_round, round_at, round_end, standing_after, HoldValid}
 use Rattle.vr_lns.proofs.RoundGave.{RoundGave, cut_made, ends_complete, ends_short}
 use Rattle.vr_lns.proofs.SearchLemmas.{at_start, breaks_off_at, ends_as, from_here, goes_on, left_after, on_enough, on_round, standing}
 use Rattle.vr_lns.proofs.searching.search.Given.{Over}
@@ -21,8 +21,8 @@ gave : (g : Over) (c : In_ok-ended g) → RoundGave (λ w. (goal.Watch-dyn g (w.
 gave g c = record {
   at_is = c.in_ok-ended.ensures.standing ∙ ap (λ q. standing_after q.model c.args.limit c.rounds.at (round_at q.model q.most c.args.limit c.rounds.routes.lists c.rounds.at.used)) c.rounds.invariant.cutter;
   lists_are = c.in_ok-ended.ensures.lists ∙ ap (λ q. lists_after_round c.rounds.routes.lists (round_at q.model q.most c.args.limit c.rounds.routes.lists c.rounds.at.used)) c.rounds.invariant.cutter;
-  goes = goes_on (λ w. (goal.Watch-dyn g (w.vtable, w.value)).after w.value) (path_lns c.args.cutting.now.model c.args.routes.now.lists c.args.limit c.args.cutting.now.most) (from_here c.args.cutting.now.model c.args.cutting.now.most c.args.limit c.rounds.routes.lists c.rounds.at.used c.rounds.at.found) (left_after c.args.cutting.now.model c.args.cutting.now.most c.args.limit c.rounds.routes.lists c.rounds.at.used c.rounds.at.found (round_at c.args.cutting.now.model c.args.cutting.now.most c.args.limit c.rounds.routes.lists c.rounds.at.used)) (events_after c.args.cutting.now.model c.rounds.at.used (round_at c.args.cutting.now.model c.args.cutting.now.most c.args.limit c.rounds.routes.lists c.rounds.at.used)) _ _ _ (on_round c.args.cutting.now.model c.args.cutting.now.most c.args.limit c.rounds.routes.lists c.rounds.at.used c.rounds.at.found (apart c.rounds.at.found c.args.limit.solutions c.rounds-test.true)) c.rounds.invariant.goes
-      (subst (λ q. Told (λ w. (goal.Watch-dyn g (w.vtable, w.value)).after w.value) c.rounds.watch.items c.advance.new.watch.items (events_after q.model c.rounds.at.used (round_at q.model q.most c.args.limit c.rounds.routes.lists c.rounds.at.used))) c.rounds.invariant.cutter c.in_ok-ended.ensures.told);
+  goes = goes_on (λ w. (goal.Watch-dyn g (w.vtable, w.value)).after w.value) (path_lns c.args.cutting.now.model c.args.routes.now.lists c.args.limit c.args.cutting.now.most) (from_here c.args.cutting.now.model c.args.cutting.now.most c.args.limit c.rounds.routes.lists c.rounds.at.used c.rounds.at.found) (left_after c.args.cutting.now.model c.args.cutting.now.most c.args.limit c.rounds.routes.lists c.rounds.at.used c.rounds.at.found (round_at c.args.cutting.now.model c.args.cutting.now.most c.args.limit c.rounds.routes.lists c.rounds.at.used)) (round_events c.args.cutting.now.model c.rounds.at.used (round_at c.args.cutting.now.model c.args.cutting.now.most c.args.limit c.rounds.routes.lists c.rounds.at.used)) _ _ _ (on_round c.args.cutting.now.model c.args.cutting.now.most c.args.limit c.rounds.routes.lists c.rounds.at.used c.rounds.at.found (apart c.rounds.at.found c.args.limit.solutions c.rounds-test.true)) c.rounds.invariant.goes
+      (subst (λ q. Reported (λ w. (goal.Watch-dyn g (w.vtable, w.value)).after w.value) c.rounds.watch.items c.advance.new.watch.items (round_events q.model c.rounds.at.used (round_at q.model q.most c.args.limit c.rounds.routes.lists c.rounds.at.used))) c.rounds.invariant.cutter c.in_ok-ended.ensures.told);
 }
 
 -- how the round ends
@@ -44,7 +44,7 @@ returns-in_err-know-clause-made_at_most g c =
 pub returns-in_err-note_all-clause-told_in_part : goal.returns-in_err-note_all-clause-told_in_part
 returns-in_err-note_all-clause-told_in_part g c =
     on_err c.from_residual-in_err-note_all.result (first_in_part (λ w. (goal.Watch-dyn g (w.vtable, w.value)).after w.value) (path_lns c.args.cutting.now.model c.args.routes.now.lists c.args.limit c.args.cutting.now.most) (from_here c.args.cutting.now.model c.args.cutting.now.most c.args.limit c.args.routes.now.lists 0 1) (first c.args.cutting.now.model c.args.routes.now.lists) (at_start c.args.cutting.now.model c.args.cutting.now.most c.args.limit c.args.routes.now.lists) _ _
-    (subst (λ event. ToldInPart (λ w. (goal.Watch-dyn g (w.vtable, w.value)).after w.value) c.args.watch.now.items c.note_all.new.watch.items (event ∷ [])) (first_event c.args.cutting.now.model c.requires.well_formed c.args.routes.now.lists c.requires.valid c.in_ok-cost.cost c.in_ok-cost.ensures.value c.event.result c.event.ensures) c.in_err-note_all.ensures.told_in_part))
+    (subst (λ event. ReportedInPart (λ w. (goal.Watch-dyn g (w.vtable, w.value)).after w.value) c.args.watch.now.items c.note_all.new.watch.items (event ∷ [])) (first_event c.args.cutting.now.model c.requires.well_formed c.args.routes.now.lists c.requires.valid c.in_ok-cost.cost c.in_ok-cost.ensures.value c.event.result c.event.ensures) c.in_err-note_all.ensures.told_in_part))
 
 pub rounds-init : goal.rounds-init
 rounds-init g c =
@@ -56,14 +56,14 @@ rounds-init g c =
       knows = subst (λ k. g.R.Rebuild.knows c.know.new.rebuild k.model) c.in_ok-cost.ensures.cutter c.in_ok-know.ensures.knows;
       made = omega (arith, c.in_ok-know.ensures.made);
       goes = first_told (λ w. (goal.Watch-dyn g (w.vtable, w.value)).after w.value) (path_lns c.args.cutting.now.model c.args.routes.now.lists c.args.limit c.args.cutting.now.most) (from_here c.args.cutting.now.model c.args.cutting.now.most c.args.limit c.args.routes.now.lists 0 1) (first c.args.cutting.now.model c.args.routes.now.lists) (at_start c.args.cutting.now.model c.args.cutting.now.most c.args.limit c.args.routes.now.lists) _ _
-          (subst (λ event. Told (λ w. (goal.Watch-dyn g (w.vtable, w.value)).after w.value) c.args.watch.now.items c.note_all.new.watch.items (event ∷ [])) (first_event c.args.cutting.now.model c.requires.well_formed c.args.routes.now.lists c.requires.valid c.in_ok-cost.cost c.in_ok-cost.ensures.value c.event.result c.event.ensures) c.in_ok-note_all.ensures.told);
+          (subst (λ event. Reported (λ w. (goal.Watch-dyn g (w.vtable, w.value)).after w.value) c.args.watch.now.items c.note_all.new.watch.items (event ∷ [])) (first_event c.args.cutting.now.model c.requires.well_formed c.args.routes.now.lists c.requires.valid c.in_ok-cost.cost c.in_ok-cost.ensures.value c.event.result c.event.ensures) c.in_ok-note_all.ensures.told);
     }
 
 pub returns-in_err-ended-clause-told_in_part : goal.returns-in_err-ended-clause-told_in_part
 returns-in_err-ended-clause-told_in_part g c =
     on_err c.from_residual-in_err-ended.result
-    (breaks_off_at (λ w. (goal.Watch-dyn g (w.vtable, w.value)).after w.value) (path_lns c.args.cutting.now.model c.args.routes.now.lists c.args.limit c.args.cutting.now.most) (from_here c.args.cutting.now.model c.args.cutting.now.most c.args.limit c.rounds.routes.lists c.rounds.at.used c.rounds.at.found) (left_after c.args.cutting.now.model c.args.cutting.now.most c.args.limit c.rounds.routes.lists c.rounds.at.used c.rounds.at.found (round_at c.args.cutting.now.model c.args.cutting.now.most c.args.limit c.rounds.routes.lists c.rounds.at.used)) (events_after c.args.cutting.now.model c.rounds.at.used (round_at c.args.cutting.now.model c.args.cutting.now.most c.args.limit c.rounds.routes.lists c.rounds.at.used)) _ _ _ (on_round c.args.cutting.now.model c.args.cutting.now.most c.args.limit c.rounds.routes.lists c.rounds.at.used c.rounds.at.found (apart c.rounds.at.found c.args.limit.solutions c.rounds-test.true)) c.rounds.invariant.goes
-    (subst (λ q. ToldInPart (λ w. (goal.Watch-dyn g (w.vtable, w.value)).after w.value) c.rounds.watch.items c.advance.new.watch.items (events_after q.model c.rounds.at.used (round_at q.model q.most c.args.limit c.rounds.routes.lists c.rounds.at.used))) c.rounds.invariant.cutter c.in_err-ended.ensures.told_in_part))
+    (breaks_off_at (λ w. (goal.Watch-dyn g (w.vtable, w.value)).after w.value) (path_lns c.args.cutting.now.model c.args.routes.now.lists c.args.limit c.args.cutting.now.most) (from_here c.args.cutting.now.model c.args.cutting.now.most c.args.limit c.rounds.routes.lists c.rounds.at.used c.rounds.at.found) (left_after c.args.cutting.now.model c.args.cutting.now.most c.args.limit c.rounds.routes.lists c.rounds.at.used c.rounds.at.found (round_at c.args.cutting.now.model c.args.cutting.now.most c.args.limit c.rounds.routes.lists c.rounds.at.used)) (round_events c.args.cutting.now.model c.rounds.at.used (round_at c.args.cutting.now.model c.args.cutting.now.most c.args.limit c.rounds.routes.lists c.rounds.at.used)) _ _ _ (on_round c.args.cutting.now.model c.args.cutting.now.most c.args.limit c.rounds.routes.lists c.rounds.at.used c.rounds.at.found (apart c.rounds.at.found c.args.limit.solutions c.rounds-test.true)) c.rounds.invariant.goes
+    (subst (λ q. ReportedInPart (λ w. (goal.Watch-dyn g (w.vtable, w.value)).after w.value) c.rounds.watch.items c.advance.new.watch.items (round_events q.model c.rounds.at.used (round_at q.model q.most c.args.limit c.rounds.routes.lists c.rounds.at.used))) c.rounds.invariant.cutter c.in_err-ended.ensures.told_in_part))
 
 pub rounds-smaller : goal.rounds-smaller
 rounds-smaller g c =
@@ -95,6 +95,6 @@ returns-in-Short-clause-ends g c =
 
 pub returns-clause-ends : goal.returns-clause-ends
 returns-clause-ends g c =
-    subst (EndsAs (λ w. (goal.Watch-dyn g (w.vtable, w.value)).after w.value) (path_lns c.args.cutting.now.model c.args.routes.now.lists c.args.limit c.args.cutting.now.most) c.rounds.routes.lists c.args.watch.now.items c.rounds.watch.items) (sym c.report-2.ensures)
+    subst (SearchEndsAs (λ w. (goal.Watch-dyn g (w.vtable, w.value)).after w.value) (path_lns c.args.cutting.now.model c.args.routes.now.lists c.args.limit c.args.cutting.now.most) c.rounds.routes.lists c.args.watch.now.items c.rounds.watch.items) (sym c.report-2.ensures)
     (ends_as (λ w. (goal.Watch-dyn g (w.vtable, w.value)).after w.value) (path_lns c.args.cutting.now.model c.args.routes.now.lists c.args.limit c.args.cutting.now.most) (standing c.args.cutting.now.model c.args.cutting.now.most c.args.limit c.rounds.routes.lists c.rounds.at.used c.rounds.at.found) Solutions _ _
     (goes_as (λ w. (goal.Watch-dyn g (w.vtable, w.value)).after w.value) (path_lns c.args.cutting.now.model c.args.routes.now.lists c.args.limit c.args.cutting.now.most) _ _ _ _ (on_enough c.args.cutting.now.model c.args.cutting.now.most c.args.limit c.rounds.routes.lists c.rounds.at.used c.rounds.at.found (same_count c.rounds.at.found c.args.limit.solutions c.rounds-test.false)) c.rounds.invariant.goes))

@@ -1,6 +1,6 @@
 use Rattle.std.proofs.Common.{◌≡◌, ◌∷◌, ◌++◌, [], pos, to_z, of_z, w64, ap, ◌∙◌, subst, sym, rules, arith}
 use Rattle.std.proofs.lemmas.Int.{ints}
-use Rattle.vr_reach.specs.Shared.{IsLeastShared}
+use Rattle.vr_reach.specs.Shared.{IsLeastSharedCumul}
 use Rattle.vr_reach.proofs.SweepLemmas.{begun}
 use Rattle.vr_model.specs.tables.Numbers.{horizon}
 use Rattle.vr_model.specs.tables.WellFormed.{IsIn}
@@ -24,4 +24,4 @@ returns-clause-settled c = λ goes.
     let same : x ≡ c.in-Some.first = omega (arith, ints, range) in
     let pushed = c.in_ok-push.ensures.ok ∙ ap (λ cs. cs ++ x ∷ []) c.requires.none in
     subst (λ cs. IsSettled c.args.sound.line.now 0 cs c.start_levels_into-2.new.out) (sym pushed)
-    (settled_at_start c.args.sound.line.now c.args.behind.now c.args.sound.sound c.requires.behind c.start_levels_into.new.out c.levels.result.now ahead c.levels.ensures x (subst (IsLeastShared c.start_levels_into.new.out c.levels.result.now) (sym same) least) c.get-allowed.result.now c.keep.new.only c.start_levels_into-2.new.out c.get-allowed.ensures.value c.in_ok-keep.ensures.exact c.in_ok-keep.ensures.cumuls c.in_ok-start_levels_into-2.ensures.exact (subst (IsIn (pos 0) horizon) (sym same) range))
+    (settled_at_start c.args.sound.line.now c.args.behind.now c.args.sound.sound c.requires.behind c.start_levels_into.new.out c.levels.result.now ahead c.levels.ensures x (subst (IsLeastSharedCumul c.start_levels_into.new.out c.levels.result.now) (sym same) least) c.get-allowed.result.now c.keep.new.only c.start_levels_into-2.new.out c.get-allowed.ensures.value c.in_ok-keep.ensures.exact c.in_ok-keep.ensures.cumuls c.in_ok-start_levels_into-2.ensures.exact (subst (IsIn (pos 0) horizon) (sym same) range))

@@ -1,6 +1,6 @@
 use Rattle.std.proofs.Common.{◌≡◌, ◌+◌, pos, to_z, of_z, w64, subst, sym, rules, arith}
 use Rattle.std.proofs.lemmas.Int.{ints}
-use Rattle.vr_reach.specs.Shared.{IsLeastShared}
+use Rattle.vr_reach.specs.Shared.{IsLeastSharedCumul}
 use Rattle.vr_steps.specs.Arcs.{IsSoundHop}
 use Rattle.vr_steps.specs.Levels.{IsCumuls}
 use Rattle.vr_steps.proofs.LineLemmas.{crossing_of}
@@ -38,7 +38,7 @@ loop-k-preserved c =
     rw (c.swap.ensures.x_after, c.in_ok-push.ensures.ok) (record {
       settled = settled_behind c.args.sound.line.now c.args.behind.now c.args.sound.sound c.requires.behind c.loop-k.k (omega arith) c.loop-k.cumuls c.loop-k.here c.loop-k.invariant.settled
           c.get-allowed.result.now c.get-hop.result.now c.cross_uncounted.new.out c.levels.result.now c.get-allowed.ensures.value c.get-hop.ensures.value c.in_ok-cross_uncounted.ensures.exact c.in_ok-cross_uncounted.ensures.levels c.levels.ensures
-          x (subst (IsLeastShared c.cross_uncounted.new.out c.levels.result.now) (sym same) least) c.keep.new.only c.cross_uncounted-in-loop-k.new.out c.in_ok-keep.ensures.exact c.in_ok-keep.ensures.cumuls c.in_ok-cross_uncounted-2.ensures.exact (subst (IsIn (pos 0) horizon) (sym same) range);
+          x (subst (IsLeastSharedCumul c.cross_uncounted.new.out c.levels.result.now) (sym same) least) c.keep.new.only c.cross_uncounted-in-loop-k.new.out c.in_ok-keep.ensures.exact c.in_ok-keep.ensures.cumuls c.in_ok-cross_uncounted-2.ensures.exact (subst (IsIn (pos 0) horizon) (sym same) range);
       levels = c.in_ok-cross_uncounted-2.ensures.levels;
     })
 

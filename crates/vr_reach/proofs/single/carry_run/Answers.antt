@@ -9,7 +9,7 @@ use Rattle.vr_reach.specs.Counts.{steps_between}
 use Rattle.vr_reach.specs.RunWalks.{line_along}
 use Rattle.vr_reach.specs.Singles.{IsReachedRun}
 use Rattle.vr_spans.specs.Runs.{in_run}
-use Rattle.vr_reach.specs.Alone.{IsLedTo}
+use Rattle.vr_reach.specs.Alone.{IsLedToWithoutBreaks}
 use Rattle.vr_reach.proofs.AloneLemmas.{led_begun, led_more, none_led}
 use Rattle.vr_reach.proofs.DrivenLemmas.{walk_from}
 use Rattle.vr_reach.proofs.SingleLemmas.{arc_counted, none_at, run_reached}
@@ -98,7 +98,7 @@ pub returns-clause-led : goal.returns-clause-led
 returns-clause-led g c =
     let walk = c.args.walk.now in
     let at : c.loop-k.k ≡ walk.last = (let within = c.loop-k.invariant.within in let done = c.loop-k-test.false in omega (arith, within, done)) in
-    subst (λ k. (y : ℤ) → IsTrue (in_run c.loop-k.here.run y) ↔ IsLedTo (line_along walk) (in_run c.args.from) walk.begin (k - walk.begin) y) at c.loop-k.invariant.led
+    subst (λ k. (y : ℤ) → IsTrue (in_run c.loop-k.here.run y) ↔ IsLedToWithoutBreaks (line_along walk) (in_run c.args.from) walk.begin (k - walk.begin) y) at c.loop-k.invariant.led
 
 pub returns-then-here-clause-cumuls : goal.returns-then-here-clause-cumuls
 returns-then-here-clause-cumuls g c = λ some. (c.cross_by_run-here.ensures.stands some).cumuls

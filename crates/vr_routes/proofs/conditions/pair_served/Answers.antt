@@ -3,7 +3,7 @@ use Rattle.std.specs.Prelude.{nat_lt}
 use Rattle.vr_model.proofs.tables.Tests.{test_of_lt}
 use Rattle.vr_model.specs.tables.Tables.{pair_at}
 use Rattle.vr_model.specs.declared.records.Pair.{Pair}
-use Rattle.vr_routes.specs.Pairs.{are_in_order, ArePlaces}
+use Rattle.vr_routes.specs.Pairs.{are_in_order, ArePairPlaces}
 use Rattle.vr_routes.specs.Seats.{IsOnce}
 use Rattle.vr_routes.specs.declared.pairs.PairPlaces.{PairPlaces}
 use Rattle.vr_routes.proofs.ElsewhereLemmas.{served_tells, is_behind, not_served, second_fails}
@@ -15,7 +15,7 @@ returns-in-None-clause-answer c =
     not_served (nat_lt c.args.p (length c.args.model.now.pairs)) c.args.routes.now.lists pair.pickup pair.delivery c.in-None.ensures.answer
 
 -- whether its nodes are in order
-in_order : (lists : List (List ℕ)) (pair : Pair) (at : PairPlaces) → IsOnce lists → ArePlaces lists pair at.vehicle at.pickup at.delivery → are_in_order lists pair.pickup pair.delivery ≡ nat_lt at.pickup at.delivery
+in_order : (lists : List (List ℕ)) (pair : Pair) (at : PairPlaces) → IsOnce lists → ArePairPlaces lists pair at.vehicle at.pickup at.delivery → are_in_order lists pair.pickup pair.delivery ≡ nat_lt at.pickup at.delivery
 in_order lists pair at once places = served_tells lists pair.pickup pair.delivery at.vehicle at.pickup at.delivery once places.pickup_stands places.delivery_stands
 
 pub returns-then-at-clause-answer : goal.returns-then-at-clause-answer

@@ -2,7 +2,7 @@ use Rattle.std.proofs.Common.{◌∙◌, ◌++◌, ℕ, sym, subst, arith}
 use Rattle.std.proofs.lemmas.List.{length-set}
 use Rattle.vr_rules.specs.declared.fronts.Front.{Front}
 use Rattle.vr_rules.specs.Fronts.{IsFrontOf}
-use Rattle.vr_rules.specs.Placing.{nodes_of}
+use Rattle.vr_rules.specs.Placing.{item_nodes}
 use Rattle.vr_rules.proofs.FrontLemmas.{moved_more, left_behind}
 use Rattle.vr_rules.proofs.fronts.advance_each.Goals as goal
 
@@ -20,7 +20,7 @@ loop-d-preserved c =
     let fronts = c.loop-d.fronts.items in
     let new = c.advance.new.self in
     let here = subst (λ front. IsFrontOf model c.loop-d.d v list front) (sym c.index_mut.ensures.value) (m.left c.loop-d.d c.index_mut.result.now (omega arith) (omega (arith, m.long))) in
-    let Moved = λ (d : ℕ) (front : Front). IsFrontOf model d v (list ++ nodes_of c.args.longer.now.item) front in
+    let Moved = λ (d : ℕ) (front : Front). IsFrontOf model d v (list ++ item_nodes c.args.longer.now.item) front in
     let Left = λ (d : ℕ) (front : Front). IsFrontOf model d v list front in
     record {
       long = length-set fronts c.loop-d.d new ∙ m.long;

@@ -1,7 +1,7 @@
 use Rattle.std.proofs.Common.{◌++◌}
-use Rattle.vr_rules.specs.Placing.{nodes_of}
+use Rattle.vr_rules.specs.Placing.{item_nodes}
 use Rattle.vr_rules.proofs.OpenLemmas.{IsFeasibleBelow}
 use Rattle.vr_rules.proofs.fronts.is_feasible_with.Given as goal
 
 abbrev pub invariant-loop-d : goal.invariant-loop-d
-invariant-loop-d l = IsFeasibleBelow l.longer.closed.model.now l.v (l.longer.list.now ++ nodes_of l.longer.item) l.d
+invariant-loop-d l = IsFeasibleBelow l.longer.closed.model.now l.v (l.longer.list.now ++ item_nodes l.longer.item) l.d

@@ -4,7 +4,7 @@ use Rattle.vr_spans.proofs.RunsLemmas.{some_from_test, none_from_test}
 use Rattle.vr_model.specs.tables.Numbers.{horizon}
 use Rattle.vr_model.specs.tables.WellFormed.{IsIn}
 use Rattle.vr_span.specs.declared.pieces.Piece.{Piece}
-use Rattle.vr_span.specs.Pieces.{IsNear, kept, moved, within_run}
+use Rattle.vr_span.specs.Pieces.{IsNear, piece_if_any, moved_piece, within_run}
 use Rattle.vr_span.proofs.PassLemmas.{IsPassing, first_moved, near_first, near_moved, no_piece, pass_begins, pass_ends, run_range, take_left, take_right}
 use Rattle.vr_span.proofs.crossing.cross.Goals.{After-over-reached, After-run-bound, In_ok-put}
 use Rattle.vr_span.proofs.crossing.cross.Goals as goal
@@ -25,7 +25,7 @@ is_left c = some_from_test _ _ c.pass-test.true c.is_empty.ensures
 reached : (c : After-over-reached) → c.over-reached.result ≡ first_moved c.args.hop c.pass.left.now
 reached c =
     let as_it_is : to_z w64 (of_z w64 c.until.result) ≡ c.until.result = omega (arith, ints, c.until.ensures.near) in
-    c.over-reached.ensures ∙ ap (λ u. moved c.args.hop u (get_or c.pass.left.now 0 no_piece)) (as_it_is ∙ c.until.ensures.value)
+    c.over-reached.ensures ∙ ap (λ u. moved_piece c.args.hop u (get_or c.pass.left.now 0 no_piece)) (as_it_is ∙ c.until.ensures.value)
 
 near : (c : After-over-reached) → IsNear (first_moved c.args.hop c.pass.left.now)
 near c = near_moved c.args.hop c.requires.hop c.args.from.now c.args.next.now c.pass.out c.pass.left.now c.pass.k c.pass.invariant (is_left c)
@@ -35,8 +35,8 @@ run : (c : After-run-bound) → IsIn (pos 0) horizon c.run-bound.result.lo × Is
 run c = run_range c.args.hop c.requires.hop c.args.from.now c.args.next.now c.pass.out c.pass.left.now c.pass.k c.pass.invariant (is_left (goal.at.After-run-bound c).After-over-reached) c.run-bound.result c.run-bound.ensures
 
 -- what is put behind the others
-new : (c : In_ok-put) → c.put.new.out ≡ c.pass.out ++ kept (within_run c.run-bound.result (first_moved c.args.hop c.pass.left.now))
-new c = c.in_ok-put.ensures ∙ ap (λ p. c.pass.out ++ kept p) (c.within.ensures ∙ ap (within_run c.run-bound.result) (reached (goal.at.In_ok-put c).After-over-reached))
+new : (c : In_ok-put) → c.put.new.out ≡ c.pass.out ++ piece_if_any (within_run c.run-bound.result (first_moved c.args.hop c.pass.left.now))
+new c = c.in_ok-put.ensures ∙ ap (λ p. c.pass.out ++ piece_if_any p) (c.within.ensures ∙ ap (within_run c.run-bound.result) (reached (goal.at.In_ok-put c).After-over-reached))
 
 pub within-requires-clause-near : goal.within-requires-clause-near
 within-requires-clause-near c = let at = (goal.at.within-requires-clause-near c).After-over-reached in subst IsNear (sym (reached at)) (near at)

@@ -5,7 +5,7 @@ use Rattle.vr_model.proofs.schedules.Crossing.{reached_by_crossing}
 use Rattle.vr_model.proofs.schedules.LevelEnds.{reached_at_start}
 use Rattle.vr_steps.proofs.LawLemmas.{arc_alone, lines_stand_for_theirs}
 use Rattle.vr_span.specs.Pieces.{ArePieces, Arrive}
-use Rattle.vr_span.specs.Starts.{TellStartsAt}
+use Rattle.vr_span.specs.Starts.{AreReachedPiecesAt}
 use Rattle.vr_span.proofs.LineLemmas.{begin_at, behind_at}
 use Rattle.vr_span.proofs.crossing.pieces_at_end.Goals as goal
 
@@ -30,11 +30,11 @@ loop-k-preserved c =
     let arrive = subst (λ from. Arrive hop from set out) c.as_slice.ensures c.in_ok-cross.ensures.exact in
     record {
       pieces = subst ArePieces (sym c.swap.ensures.x_after) c.in_ok-cross.ensures.pieces;
-      told = subst (TellStartsAt line (c.loop-k.k + 1)) (sym c.swap.ensures.x_after)
+      told = subst (AreReachedPiecesAt line (c.loop-k.k + 1)) (sym c.swap.ensures.x_after)
           (behind_at lines_stand_for_theirs line c.requires.sound reached_by_crossing arc_alone c.loop-k.k (omega arith) hop c.get-hop.ensures.value set (c.get-allowed.ensures.value []) c.loop-k.here out c.loop-k.invariant.told arrive);
     }
 
 pub returns-clause-told : goal.returns-clause-told
 returns-clause-told c =
     let all : c.loop-k.k ≡ length c.args.line.now.hops = omega arith in
-    subst (λ n. TellStartsAt c.args.line.now n c.loop-k.here) all c.loop-k.invariant.told
+    subst (λ n. AreReachedPiecesAt c.args.line.now n c.loop-k.here) all c.loop-k.invariant.told

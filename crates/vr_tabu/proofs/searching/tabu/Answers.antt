@@ -1,5 +1,5 @@
 use Rattle.std.proofs.Common.{◌≡◌, ℕ, [], ◌∷◌, ap, subst}
-use Rattle.vr_watch.specs.Told.{Told, ToldInPart}
+use Rattle.vr_watch.specs.Told.{Reported, ReportedInPart}
 use Rattle.vr_model.proofs.tables.Refusals.{on_err}
 use Rattle.vr_descent.specs.Ending.{HasStopped}
 use Rattle.vr_descent.proofs.AskingLemmas.{asks_as, from_none}
@@ -7,7 +7,7 @@ use Rattle.vr_descent.proofs.Beginnings.{at_first, cost_read, first, first_event
 use Rattle.vr_descent.proofs.EndingLemmas.{has_ended}
 use Rattle.vr_descent.proofs.GoingOn.{Goes, breaks_within, goes_nowhere}
 use Rattle.vr_model.specs.declared.search.Limit.{Limit}
-use Rattle.vr_tabu.specs.Standing.{IsBegun, from_state}
+use Rattle.vr_tabu.specs.Standing.{IsTabuBegun, tabu_from_state}
 use Rattle.vr_tabu.specs.TabuSearches.{tabu_search}
 use Rattle.vr_tabu.specs.declared.searching.Bounds.{Bounds}
 use Rattle.vr_tabu.proofs.SearchLemmas.{at_start}
@@ -23,20 +23,20 @@ within limit tenure = record { limit = limit; tenure = tenure }
 noted : (g : Over) (c : In_ok-note_all g) → Goes (λ w. (goal.Watch-dyn g (w.vtable, w.value)).after w.value) (tabu_search c.args.model.now c.args.routes.now.lists c.args.limit c.args.tenure) (rest c.args.model.now (within c.args.limit c.args.tenure) c.args.routes.now.lists) c.args.watch.now.items c.note_all.new.watch.items
 noted g c =
     first_told (λ w. (goal.Watch-dyn g (w.vtable, w.value)).after w.value) (tabu_search c.args.model.now c.args.routes.now.lists c.args.limit c.args.tenure) (rest c.args.model.now (within c.args.limit c.args.tenure) c.args.routes.now.lists) (first c.args.model.now c.args.routes.now.lists) (at_start c.args.model.now (within c.args.limit c.args.tenure) c.args.routes.now.lists) _ _
-    (subst (λ event. Told (λ w. (goal.Watch-dyn g (w.vtable, w.value)).after w.value) c.args.watch.now.items c.note_all.new.watch.items (event ∷ [])) (first_event c.args.model.now c.requires.well_formed c.args.routes.now.lists c.requires.begins.judge.holds.valid c.args.first_cost c.requires.begins.first_cost c.event.result c.event.ensures) c.in_ok-note_all.ensures.told)
+    (subst (λ event. Reported (λ w. (goal.Watch-dyn g (w.vtable, w.value)).after w.value) c.args.watch.now.items c.note_all.new.watch.items (event ∷ [])) (first_event c.args.model.now c.requires.well_formed c.args.routes.now.lists c.requires.begins.judge.holds.valid c.args.first_cost c.requires.begins.first_cost c.event.result c.event.ensures) c.in_ok-note_all.ensures.told)
 
 -- the search begins where the definition does, and what is left is what is left behind the first event
-begins : (g : Over) (c : In_ok-state g) → IsBegun c.args.model.now c.args.routes.now (at_first c.args.model.now c.args.routes.now.lists) c.in_ok-state.state
+begins : (g : Over) (c : In_ok-state g) → IsTabuBegun c.args.model.now c.args.routes.now (at_first c.args.model.now c.args.routes.now.lists) c.in_ok-state.state
 begins g c =
-    subst (λ k. IsBegun c.args.model.now c.args.routes.now (record { used = 0; found = 1; cost = k }) c.in_ok-state.state) (cost_read c.args.model.now c.requires.well_formed c.args.routes.now.lists c.requires.begins.judge.holds.valid c.args.first_cost c.requires.begins.first_cost) c.in_ok-state.ensures
+    subst (λ k. IsTabuBegun c.args.model.now c.args.routes.now (record { used = 0; found = 1; cost = k }) c.in_ok-state.state) (cost_read c.args.model.now c.requires.well_formed c.args.routes.now.lists c.requires.begins.judge.holds.valid c.args.first_cost c.requires.begins.first_cost) c.in_ok-state.ensures
 
-same : (g : Over) (c : In_ok-state g) → from_state c.args.model.now (within c.args.limit c.args.tenure) c.args.routes.now.lists c.in_ok-state.state ≡ (rest c.args.model.now (within c.args.limit c.args.tenure) c.args.routes.now.lists)
+same : (g : Over) (c : In_ok-state g) → tabu_from_state c.args.model.now (within c.args.limit c.args.tenure) c.args.routes.now.lists c.in_ok-state.state ≡ (rest c.args.model.now (within c.args.limit c.args.tenure) c.args.routes.now.lists)
 same g c = rest_is c.args.model.now (within c.args.limit c.args.tenure) c.args.routes.now c.in_ok-state.state (begins g c)
 
 pub returns-in_err-note_all-clause-told_in_part : goal.returns-in_err-note_all-clause-told_in_part
 returns-in_err-note_all-clause-told_in_part g c =
     on_err c.from_residual.result (first_in_part (λ w. (goal.Watch-dyn g (w.vtable, w.value)).after w.value) (tabu_search c.args.model.now c.args.routes.now.lists c.args.limit c.args.tenure) (rest c.args.model.now (within c.args.limit c.args.tenure) c.args.routes.now.lists) (first c.args.model.now c.args.routes.now.lists) (at_start c.args.model.now (within c.args.limit c.args.tenure) c.args.routes.now.lists) _ _
-    (subst (λ event. ToldInPart (λ w. (goal.Watch-dyn g (w.vtable, w.value)).after w.value) c.args.watch.now.items c.note_all.new.watch.items (event ∷ [])) (first_event c.args.model.now c.requires.well_formed c.args.routes.now.lists c.requires.begins.judge.holds.valid c.args.first_cost c.requires.begins.first_cost c.event.result c.event.ensures) c.in_err-note_all.ensures.told_in_part))
+    (subst (λ event. ReportedInPart (λ w. (goal.Watch-dyn g (w.vtable, w.value)).after w.value) c.args.watch.now.items c.note_all.new.watch.items (event ∷ [])) (first_event c.args.model.now c.requires.well_formed c.args.routes.now.lists c.requires.begins.judge.holds.valid c.args.first_cost c.requires.begins.first_cost c.event.result c.event.ensures) c.in_err-note_all.ensures.told_in_part))
 
 pub returns-in_err-state-clause-told_in_part : goal.returns-in_err-state-clause-told_in_part
 returns-in_err-state-clause-told_in_part g c =
@@ -54,7 +54,7 @@ pub returns-in_err-end-clause-told_in_part : goal.returns-in_err-end-clause-told
 returns-in_err-end-clause-told_in_part g c =
     let at = goal.at.returns-in_err-end-clause-told_in_part g c in
     on_err c.from_residual-in_err-end.result (breaks_within (λ w. (goal.Watch-dyn g (w.vtable, w.value)).after w.value) (tabu_search c.args.model.now c.args.routes.now.lists c.args.limit c.args.tenure) (rest c.args.model.now (within c.args.limit c.args.tenure) c.args.routes.now.lists) _ _ _ (noted g at.In_ok-note_all)
-    (subst (λ o. ToldInPart (λ w. (goal.Watch-dyn g (w.vtable, w.value)).after w.value) c.note_all.new.watch.items c.search.new.watch.items o.events) (same g at.In_ok-state) c.in_err-end.ensures.told_in_part))
+    (subst (λ o. ReportedInPart (λ w. (goal.Watch-dyn g (w.vtable, w.value)).after w.value) c.note_all.new.watch.items c.search.new.watch.items o.events) (same g at.In_ok-state) c.in_err-end.ensures.told_in_part))
 
 pub returns-clause-ended : goal.returns-clause-ended
 returns-clause-ended g c =

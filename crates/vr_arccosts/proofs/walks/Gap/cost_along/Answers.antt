@@ -5,7 +5,7 @@ use Rattle.vr_model.specs.tables.Tables.{arc_cost, vehicle_at}
 use Rattle.vr_model.specs.routes.Routes.{route}
 use Rattle.vr_routes.specs.Pieces.{joined}
 use Rattle.vr_balance.specs.Sums.{last_of, path_sum}
-use Rattle.vr_arccosts.specs.Chains.{first_of}
+use Rattle.vr_arccosts.specs.Chains.{first_node_or}
 use Rattle.vr_arccosts.proofs.walks.Gap.cost_along.Goals as goal
 
 pub is_left_empty-requires : goal.is_left_empty-requires
@@ -26,7 +26,7 @@ returns-then-is_left_empty-clause-value c =
     let list : List ℕ = route c.args.self.now.of.routes.now.lists c.args.self.now.of.costs.now.vehicle in
     let nodes : List ℕ = joined c.args.self.now.of.routes.now.lists c.args.pieces.now in
     let from = last_of (vehicle_at c.args.self.now.of.costs.now.model.now c.args.self.now.of.costs.now.vehicle).start (take c.args.self.now.front list) in
-    let to = first_of (drop c.args.self.now.behind list) (vehicle_at c.args.self.now.of.costs.now.model.now c.args.self.now.of.costs.now.vehicle).end in
+    let to = first_node_or (drop c.args.self.now.behind list) (vehicle_at c.args.self.now.of.costs.now.model.now c.args.self.now.of.costs.now.vehicle).end in
     let cost = arc_cost c.args.self.now.of.costs.now.model.now c.args.self.now.of.costs.now.vehicle in
     sym (ap (λ b. cond b (pos 0) (path_sum cost from nodes +ℤ cost (last_of from nodes) to)) (sym c.is_left_empty.ensures ∙ c.if-is_left_empty.true))
 
@@ -35,7 +35,7 @@ returns-clause-value c =
     let list : List ℕ = route c.args.self.now.of.routes.now.lists c.args.self.now.of.costs.now.vehicle in
     let nodes : List ℕ = joined c.args.self.now.of.routes.now.lists c.args.pieces.now in
     let from = last_of (vehicle_at c.args.self.now.of.costs.now.model.now c.args.self.now.of.costs.now.vehicle).start (take c.args.self.now.front list) in
-    let to = first_of (drop c.args.self.now.behind list) (vehicle_at c.args.self.now.of.costs.now.model.now c.args.self.now.of.costs.now.vehicle).end in
+    let to = first_node_or (drop c.args.self.now.behind list) (vehicle_at c.args.self.now.of.costs.now.model.now c.args.self.now.of.costs.now.vehicle).end in
     let cost = arc_cost c.args.self.now.of.costs.now.model.now c.args.self.now.of.costs.now.vehicle in
     let whole = ap (λ b. cond b (pos 0) (path_sum cost from nodes +ℤ cost (last_of from nodes) to)) (sym c.is_left_empty.ensures ∙ c.if-is_left_empty.false) in
     let p = c.path_along-path.ensures in

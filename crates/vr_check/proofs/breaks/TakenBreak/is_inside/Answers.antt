@@ -3,7 +3,7 @@ use Rattle.std.specs.Prelude.{int_le}
 use Rattle.std.proofs.lemmas.Int.{ints}
 use Rattle.vr_model.specs.schedules.Schedules.{cumul, arc_at, break_start, break_end}
 use Rattle.vr_model.specs.deciding.Testing.{test_of_le}
-use Rattle.vr_check.specs.Asked.{line_of}
+use Rattle.vr_check.specs.Asked.{asked_line}
 use Rattle.vr_check.specs.Breaks.{plan_of_taken}
 use Rattle.vr_check.proofs.Widths.{narrow, wide}
 use Rattle.vr_check.proofs.breaks.TakenBreak.is_inside.Goals as goal
@@ -16,7 +16,7 @@ overflow_add-k c = omega (arith, c.requires.arc, c.args.self.now.taken.fits.slac
 
 pub returns-then-free-from : goal.returns-then-free-from
 returns-then-free-from c =
-    let line = line_of c.args.self.now.taken.asked in
+    let line = asked_line c.args.self.now.taken.asked in
     let plan = plan_of_taken c.args.self.now.taken in
     let next : c.args.k + 1 ≡ suc c.args.k = omega arith in
     let first : int_le (cumul plan c.args.k +ℤ (arc_at line c.args.k).visit) (break_start plan c.args.self.now.i) ≡ true

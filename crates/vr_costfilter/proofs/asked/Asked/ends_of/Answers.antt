@@ -7,7 +7,7 @@ use Rattle.vr_routes.specs.Pieces.{joined}
 use Rattle.vr_costfilter.specs.Asked.{new_list, old_list}
 use Rattle.vr_costfilter.specs.GuideRuns.{runs_of}
 use Rattle.vr_costfilter.specs.declared.asked.Asked.{Asked}
-use Rattle.vr_costfilter.specs.KeptWays.{KeptWays}
+use Rattle.vr_costfilter.specs.KeptWays.{KeptTightWays}
 use Rattle.vr_costfilter.proofs.EndsLemmas.{middle-few, middle-visits, rest-small, way-small, whole-known, whole-small, IsKeptAt}
 use Rattle.vr_costfilter.proofs.RunLemmas.{line-allows}
 use Rattle.vr_costfilter.proofs.WayLemmas.{latest-start, least-end}
@@ -20,7 +20,7 @@ pub rest-left-requires : goal.rest-left-requires
 rest-left-requires c = omega (arith, c.requires.kept.has.keeps.rests.many, c.args.self.now.sound.spliced.high)
 
 -- what the list that is asked of keeps of the old one
-abbrev Around : Asked → KeptWays → Type 0
+abbrev Around : Asked → KeptTightWays → Type 0
 Around asked kept = IsKeptAt asked.guide.now (old_list asked) (new_list asked) asked.splice.front asked.splice.behind (joined asked.routes.now.lists asked.splice.middle.now) kept
 
 pub along_pieces-way-requires-clause-few : goal.along_pieces-way-requires-clause-few

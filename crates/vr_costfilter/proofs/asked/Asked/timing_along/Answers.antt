@@ -9,7 +9,7 @@ use Rattle.vr_routes.specs.Pieces.{joined}
 use Rattle.vr_plan.proofs.BoundLemmas.{read-cumul}
 use Rattle.vr_costfilter.specs.Floors.{first_step}
 use Rattle.vr_costfilter.specs.GuideRuns.{runs_of}
-use Rattle.vr_costfilter.specs.Stages.{standing, to_end}
+use Rattle.vr_costfilter.specs.Stages.{stage_at_start, to_end}
 use Rattle.vr_costfilter.specs.declared.guides.Guide.{Guide}
 use Rattle.vr_costfilter.specs.declared.guides.Stage.{Stage}
 use Rattle.vr_costfilter.proofs.AfterLemmas.{back-anew}
@@ -30,8 +30,8 @@ pub back_along-requires : goal.back_along-requires
 back_along-requires c = record { step = c.end_step-next.ensures.range; room = omega (arith, ap length c.clear.ensures, c.args.self.now.sound.few) }
 
 -- the vehicle stands at the floor that was found
-standing-read : (guide : Guide) (floor : ℤ) {stage : Stage} → IsIn (pos 0) horizon floor → stage ≡ standing guide.model.now guide.d guide.v (to_z w64 (of_z w64 floor)) → stage ≡ standing guide.model.now guide.d guide.v floor
-standing-read guide floor range is = is ∙ ap (standing guide.model.now guide.d guide.v) (read-cumul floor range)
+standing-read : (guide : Guide) (floor : ℤ) {stage : Stage} → IsIn (pos 0) horizon floor → stage ≡ stage_at_start guide.model.now guide.d guide.v (to_z w64 (of_z w64 floor)) → stage ≡ stage_at_start guide.model.now guide.d guide.v floor
+standing-read guide floor range is = is ∙ ap (stage_at_start guide.model.now guide.d guide.v) (read-cumul floor range)
 
 pub along_trail-requires-clause-steps : goal.along_trail-requires-clause-steps
 along_trail-requires-clause-steps c = along-known (back-anew c.clear.ensures c.in_ok-first.ensures.back) c.end_step-next.ensures.value

@@ -11,7 +11,7 @@ use Rattle.vr_plan.proofs.BoundLemmas.{read-cumul}
 use Rattle.vr_spans.proofs.RunsLemmas.{none_from_test, some_from_test}
 use Rattle.vr_costfilter.specs.KeptWays.{AreKeptWays}
 use Rattle.vr_costfilter.specs.GuideRuns.{runs_of}
-use Rattle.vr_costfilter.specs.KeptWays.{KeptWays}
+use Rattle.vr_costfilter.specs.KeptWays.{KeptTightWays}
 use Rattle.vr_costfilter.specs.Runs.{AllowsRuns, between_runs}
 use Rattle.vr_costfilter.proofs.BetweenLemmas.{between-allows, end-in, start-in}
 use Rattle.vr_costfilter.proofs.RunLemmas.{line-allows}
@@ -19,8 +19,8 @@ use Rattle.vr_costfilter.proofs.TightLemmas.{chosen-feasible, ends-timed}
 use Rattle.vr_costfilter.proofs.kept.KeptList.tight_after.Goals as goal
 
 -- what is kept first, by any other name
-told-ways : (ends : List KeptWays) (first : KeptWays) (n : ℕ) → 0 < length ends → first ≡ slice_index_or ends 0 first → length first.ways.items ≡ n + 1 → (other : KeptWays) → length (slice_index_or ends 0 other).ways.items ≡ n + 1
-told-ways ends first n some is many other = subst (λ (k : KeptWays). length k.ways.items ≡ n + 1) (is ∙ get_or_default ends 0 first other some) many
+told-ways : (ends : List KeptTightWays) (first : KeptTightWays) (n : ℕ) → 0 < length ends → first ≡ slice_index_or ends 0 first → length first.ways.items ≡ n + 1 → (other : KeptTightWays) → length (slice_index_or ends 0 other).ways.items ≡ n + 1
+told-ways ends first n some is many other = subst (λ (k : KeptTightWays). length k.ways.items ≡ n + 1) (is ∙ get_or_default ends 0 first other some) many
 
 pub ends_of-ends-requires-clause-kept : goal.ends_of-ends-requires-clause-kept
 ends_of-ends-requires-clause-kept c =
@@ -101,7 +101,7 @@ returns-then-not-has_ways-clause-known c =
     let length_is = ap length c.list-list.ensures.value in (
       λ e. absurd (false≢true e),
       λ told. (let many : length c.index-kept.result.now.ways.items ≡ length (route c.args.asked.now.routes.now.lists c.args.asked.now.guide.now.v) + 1 =
-          subst (λ (k : KeptWays). length k.ways.items ≡ length (route c.args.asked.now.routes.now.lists c.args.asked.now.guide.now.v) + 1) (sym c.index-kept.ensures) (told.ways c.index-kept.result.now) in
+          subst (λ (k : KeptTightWays). length k.ways.items ≡ length (route c.args.asked.now.routes.now.lists c.args.asked.now.guide.now.v) + 1) (sym c.index-kept.ensures) (told.ways c.index-kept.result.now) in
           absurd (false≢true (sym c.if-not-has_ways.true ∙ c.has_ways.ensures.1 (omega (arith, many, length_is))))),
     )
 

@@ -8,7 +8,7 @@ use Rattle.vr_spans.proofs.RunsLemmas.{none_from_test, some_from_test}
 use Rattle.vr_costfilter.specs.KeptWays.{AreKeptWays, HasWaysBy, HaveKeptWays}
 use Rattle.vr_costfilter.specs.GuideRuns.{runs_of}
 use Rattle.vr_costfilter.specs.Kept.{is_tight, HasAllAsked, HasAllWays}
-use Rattle.vr_costfilter.specs.KeptWays.{KeptWays}
+use Rattle.vr_costfilter.specs.KeptWays.{KeptTightWays}
 use Rattle.vr_costfilter.specs.declared.kept.KeptList.{KeptList}
 use Rattle.vr_costfilter.proofs.KeptCumulLemmas.{ends-set, other-rule, stages-between, stages-none}
 use Rattle.vr_costfilter.proofs.kept.KeptList.write_tight.Goals as goal
@@ -19,7 +19,7 @@ write_ways-requires c = (omega arith, (c.args.led.now.sound.few, c.args.led.now.
 pub write_between-requires : goal.write_between-requires
 write_between-requires c =
     let g = c.args.led.now.guide.now in
-    let items : List KeptWays = c.forget.new.self.ends.items in
+    let items : List KeptTightWays = c.forget.new.self.ends.items in
     let many = length-set items 0 c.write_ways.new.kept in
     let some = some_from_test _ _ c.if-is_empty.false c.is_empty.ensures in
     record {
@@ -47,8 +47,8 @@ pub returns-clause-kept : goal.returns-clause-kept
 returns-clause-kept c =
     let g = c.args.led.now.guide.now in
     let list = c.args.led.now.list.now in
-    let items : List KeptWays = c.forget.new.self.ends.items in
-    let new : KeptWays = c.write_ways.new.kept in
+    let items : List KeptTightWays = c.forget.new.self.ends.items in
+    let new : KeptTightWays = c.write_ways.new.kept in
     let is : AreKeptWays g.model.now g.d g.v list new = record { ways = λ _. record { runs = runs_of g; has = record { runs_are = c.requires.runs; keeps = c.write_ways.ensures } } } in
     record {
       earliest = λ rule runs are. absurd (other-rule (sym rule ∙ c.requires.rule_is));
@@ -57,8 +57,8 @@ returns-clause-kept c =
       ends = subst (HaveKeptWays g.model.now g.d g.v list) (sym c.write_between.ensures.ends) (ends-set g.model.now g.d g.v list items new is);
       whole = λ tour one feasible room. told-by (vehicle_at g.model.now g.v).schedule list _ c.requires.rule_is (record {
         room = (let many = length-set items 0 new in let same = ap length c.write_between.ensures.ends in let some = some_from_test _ _ c.if-is_empty.false c.is_empty.ensures in omega (arith, many, same, some));
-        ways = λ other. subst (λ (l : List KeptWays). length (slice_index_or l 0 other).ways.items ≡ length list + 1) (sym c.write_between.ensures.ends)
-            (subst (λ (k : KeptWays). length k.ways.items ≡ length list + 1) (sym (get_or-set_same items 0 new other (let some = some_from_test _ _ c.if-is_empty.false c.is_empty.ensures in omega (arith, some))))
+        ways = λ other. subst (λ (l : List KeptTightWays). length (slice_index_or l 0 other).ways.items ≡ length list + 1) (sym c.write_between.ensures.ends)
+            (subst (λ (k : KeptTightWays). length k.ways.items ≡ length list + 1) (sym (get_or-set_same items 0 new other (let some = some_from_test _ _ c.if-is_empty.false c.is_empty.ensures in omega (arith, some))))
             (omega (arith, c.write_ways.ensures.ways.many)));
       });
     }

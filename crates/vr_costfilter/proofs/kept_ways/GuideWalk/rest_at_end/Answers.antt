@@ -1,7 +1,7 @@
 use Rattle.std.proofs.Common.{refl, sym, subst, arith}
 use Rattle.vr_plan.proofs.BoundLemmas.{read-cumul}
 use Rattle.vr_costfilter.specs.GuideRuns.{runs_of}
-use Rattle.vr_costfilter.specs.Rests.{IsRestOf}
+use Rattle.vr_costfilter.specs.Rests.{IsTightRestOf}
 use Rattle.vr_costfilter.specs.Ways.{tight-more}
 use Rattle.vr_costfilter.proofs.RestLemmas.{end-rest, rest-is}
 use Rattle.vr_costfilter.proofs.kept_ways.GuideWalk.rest_at_end.Goals as goal
@@ -15,4 +15,4 @@ pub returns-clause-range : goal.returns-clause-range
 returns-clause-range c n =
     let g = c.args.self.now in
     let h = c.args.self.now.sound in
-    tight-more 0 n (omega arith) (subst (IsRestOf g.model.now 0) (sym (returns-clause-value c)) (end-rest g.model.now h.well_formed g.d g.v h.dimension h.vehicle (runs_of g) h.finish))
+    tight-more 0 n (omega arith) (subst (IsTightRestOf g.model.now 0) (sym (returns-clause-value c)) (end-rest g.model.now h.well_formed g.d g.v h.dimension h.vehicle (runs_of g) h.finish))

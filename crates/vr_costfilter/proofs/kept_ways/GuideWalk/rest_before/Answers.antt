@@ -5,7 +5,7 @@ use Rattle.vr_spans.specs.declared.runs.Run.{Run}
 use Rattle.vr_model.specs.tables.Tables.{transit}
 use Rattle.vr_model.proofs.routes.Lists.{visit_below}
 use Rattle.vr_costfilter.specs.GuideRuns.{runs_of}
-use Rattle.vr_costfilter.specs.Rests.{rest_by, IsRestOf}
+use Rattle.vr_costfilter.specs.Rests.{rest_by, IsTightRestOf}
 use Rattle.vr_costfilter.specs.Runs.{no_run}
 use Rattle.vr_costfilter.specs.Ways.{tight-more}
 use Rattle.vr_costfilter.proofs.RestLemmas.{before-rest}
@@ -22,5 +22,5 @@ returns-clause-range c n m less is =
     let same = get_or_default g.visits.now c.args.node first_run no_run (omega (arith, h.visits.long, low)) in
     let value = c.rest_on.ensures ∙ ap (λ (r : Run). rest_by (transit g.model.now g.d g.v c.args.node c.args.rest.at) c.args.node r c.args.rest) same in
     tight-more (n + 1) m (omega (arith, less))
-    (subst (IsRestOf g.model.now (n + 1)) (sym value)
+    (subst (IsTightRestOf g.model.now (n + 1)) (sym value)
     (before-rest g.model.now h.well_formed g.d g.v h.dimension h.vehicle (runs_of g) h.visits n c.args.rest c.args.node is c.requires.node))

@@ -3,7 +3,7 @@ use Rattle.vr_model.specs.tables.Tables.{no_vehicle}
 use Rattle.vr_model.specs.declared.records.Vehicle.{Vehicle}
 use Rattle.vr_plan.proofs.BoundLemmas.{read-cumul}
 use Rattle.vr_costfilter.specs.GuideRuns.{runs_of}
-use Rattle.vr_costfilter.specs.Ways.{tight-more, IsWayOf}
+use Rattle.vr_costfilter.specs.Ways.{tight-more, IsTightWayOf}
 use Rattle.vr_costfilter.proofs.WayLemmas.{out-way, way-is}
 use Rattle.vr_costfilter.proofs.kept_ways.GuideWalk.way_out.Goals as goal
 
@@ -16,4 +16,4 @@ pub returns-clause-range : goal.returns-clause-range
 returns-clause-range c n =
     let g = c.args.self.now in
     let h = c.args.self.now.sound in
-    tight-more 0 n (omega arith) (subst (IsWayOf g.model.now 0) (sym (returns-clause-value c)) (out-way g.model.now h.well_formed g.d g.v h.dimension h.vehicle (runs_of g) h.start))
+    tight-more 0 n (omega arith) (subst (IsTightWayOf g.model.now 0) (sym (returns-clause-value c)) (out-way g.model.now h.well_formed g.d g.v h.dimension h.vehicle (runs_of g) h.start))

@@ -11,7 +11,7 @@ use Rattle.vr_costfilter.specs.Floors.{first_step}
 use Rattle.vr_costfilter.specs.GuideRuns.{runs_of}
 use Rattle.vr_costfilter.specs.Runs.{start_run}
 use Rattle.vr_costfilter.specs.Steps.{steps_of, AreKnownSteps}
-use Rattle.vr_costfilter.specs.Stages.{whole}
+use Rattle.vr_costfilter.specs.Stages.{along_to_end}
 use Rattle.vr_costfilter.specs.declared.asked.Asked.{Asked}
 use Rattle.vr_costfilter.specs.declared.steps.KeptSteps.{KeptSteps}
 use Rattle.vr_costfilter.specs.declared.trails.Step.{Step}
@@ -129,7 +129,7 @@ returns-in_err-gone c =
     let around : Around c.args.asked.now c.args.self.now c.step_behind-next.result = record { steps_are = c.requires.known.stages.steps_are; joins = c.args.asked.now.sound.spliced.joins; next_is = c.step_behind-next.ensures.value } in
     let led = led-along c.args.asked.now.splice.front c.list-list.ensures.value c.in_ok-lead.ensures.led in
     untold c.from_residual-in_err-gone.ensures (rest-unmet around (start_run (runs_of c.args.asked.now.guide.now) c.args.start) (back-anew c.clear.ensures c.in_ok-first.ensures.back) led c.in_ok-met.ensures.met c.requires.allows
-    (ap (λ o. whole g.model.now g.d g.v (runs_of g) o left) (sym c.in_err-gone.ensures.value) ∙ whole-none g.model.now g.d g.v (runs_of g) left))
+    (ap (λ o. along_to_end g.model.now g.d g.v (runs_of g) o left) (sym c.in_err-gone.ensures.value) ∙ whole-none g.model.now g.d g.v (runs_of g) left))
 
 pub returns-in_err-end : goal.returns-in_err-end
 returns-in_err-end c =
@@ -137,4 +137,4 @@ returns-in_err-end c =
     let around : Around c.args.asked.now c.args.self.now c.step_behind-next.result = record { steps_are = c.requires.known.stages.steps_are; joins = c.args.asked.now.sound.spliced.joins; next_is = c.step_behind-next.ensures.value } in
     let led = led-along c.args.asked.now.splice.front c.list-list.ensures.value c.in_ok-lead.ensures.led in
     untold c.from_residual-in_err-end.ensures (rest-unmet around (start_run (runs_of c.args.asked.now.guide.now) c.args.start) (back-anew c.clear.ensures c.in_ok-first.ensures.back) led c.in_ok-met.ensures.met c.requires.allows
-    (ap (λ o. whole g.model.now g.d g.v (runs_of g) o (drop c.args.asked.now.splice.behind (steps_of c.args.self.now))) (sym c.in_ok-gone.ensures.value) ∙ sym c.in_err-end.ensures))
+    (ap (λ o. along_to_end g.model.now g.d g.v (runs_of g) o (drop c.args.asked.now.splice.behind (steps_of c.args.self.now))) (sym c.in_ok-gone.ensures.value) ∙ sym c.in_err-end.ensures))

@@ -1,7 +1,7 @@
 use Rattle.std.proofs.Common.{◌∙◌, ◌++◌, List, length, ap, sym, subst, arith}
 use Rattle.std.specs.Prelude.{reverse}
 use Rattle.std.proofs.lemmas.List.{reverse-reverse}
-use Rattle.vr_costfilter.specs.Floors.{first_of, first_step, AreAimed}
+use Rattle.vr_costfilter.specs.Floors.{first_step_or, first_step, AreAimed}
 use Rattle.vr_costfilter.specs.GuideRuns.{runs_of}
 use Rattle.vr_costfilter.specs.Steps.{AreStepsFrom}
 use Rattle.vr_costfilter.specs.declared.trails.Step.{Step}
@@ -19,7 +19,7 @@ write_stages-requires-clause-steps c =
     subst (λ steps. AreStepsFrom g.model.now g.d g.v (runs_of g) c.args.led.now.list.now steps c.in-Some.first) (sym same) (record {
       steps_are = record { nodes_are = w.nodes_are; aimed = subst (AreAimed g.model.now g.d g.v (runs_of g) w.steps) c.end_step-end.ensures.value w.aimed };
       known = w.known;
-      first_is = w.first_is ∙ ap (first_of w.steps) c.end_step-end.ensures.value;
+      first_is = w.first_is ∙ ap (first_step_or w.steps) c.end_step-end.ensures.value;
       range = c.in-Some.ensures.range;
     })
 

@@ -3,10 +3,10 @@ use Rattle.std.specs.Prelude.{option_map, pos, slice_index_or}
 use Rattle.std.specs.Option.{option_and_then}
 use Rattle.std.proofs.lemmas.List.{get_or_push, length-reverse, take_all}
 use Rattle.vr_plan.proofs.BoundLemmas.{read-cumul}
-use Rattle.vr_costfilter.specs.Floors.{end_step, first_of, IsVisitStep}
+use Rattle.vr_costfilter.specs.Floors.{end_step, first_step_or, IsVisitStep}
 use Rattle.vr_costfilter.specs.GuideRuns.{runs_of}
 use Rattle.vr_costfilter.specs.Steps.{steps_of, AreAllStages, AreStages}
-use Rattle.vr_costfilter.specs.Stages.{along, setting_out, standing, to_end, to_visit, whole}
+use Rattle.vr_costfilter.specs.Stages.{along, setting_out, stage_at_start, to_end, to_visit, along_to_end}
 use Rattle.vr_costfilter.specs.declared.guides.Stage.{Stage}
 use Rattle.vr_costfilter.specs.declared.trails.Step.{Step}
 use Rattle.vr_costfilter.specs.declared.trails.Trail.{Trail}
@@ -49,9 +49,9 @@ loop-k-init c =
     let old : List Stage = c.args.self.now.stages.items in
     let stage : Stage = c.standing-stage.result in
     let items : c.push.new.self.items ≡ stage ∷ [] = c.push.ensures.items ∙ ap (λ l. l ++ stage ∷ []) (nothing old c.requires.none) in
-    let first : Step = first_of (steps_of c.args.self.now) (end_step g.model.now g.v (runs_of g)) in
+    let first : Step = first_step_or (steps_of c.args.self.now) (end_step g.model.now g.v (runs_of g)) in
     let out : setting_out g.model.now g.d g.v (runs_of g) first ≡ Some stage =
-    ap (λ s. setting_out g.model.now g.d g.v (runs_of g) s) (sym c.requires.steps.first_is) ∙ ap (option_map (standing g.model.now g.d g.v)) (sym c.in-Some.ensures.value) ∙ ap (λ (s : Stage). Some s) (sym (c.standing-stage.ensures.value ∙ ap (standing g.model.now g.d g.v) (read-cumul c.in-Some.floor c.in-Some.ensures.range))) in
+    ap (λ s. setting_out g.model.now g.d g.v (runs_of g) s) (sym c.requires.steps.first_is) ∙ ap (option_map (stage_at_start g.model.now g.d g.v)) (sym c.in-Some.ensures.value) ∙ ap (λ (s : Stage). Some s) (sym (c.standing-stage.ensures.value ∙ ap (stage_at_start g.model.now g.d g.v) (read-cumul c.in-Some.floor c.in-Some.ensures.range))) in
     record {
       many = ap length items;
       stages = first-stage g.model.now g.d g.v (runs_of g) c.args.led.now.list.now (steps_of c.args.self.now) c.push.new.self.items stage items out c.standing-stage.ensures.range;
@@ -106,7 +106,7 @@ returns-in-None-clause-all c L by feasible =
     let steps : List Step = steps_of c.args.self.now in
     let low = c.loop-k-test.true in
     let end : Step = end_step g.model.now g.v (runs_of g) in
-    let out : Option Stage = setting_out g.model.now g.d g.v (runs_of g) (first_of steps end) in
+    let out : Option Stage = setting_out g.model.now g.d g.v (runs_of g) (first_step_or steps end) in
     let known = items-many g.model.now g.d g.v (runs_of g) list c.args.self.now.trail.steps.items c.requires.steps.steps_are in
     let long = many-steps g.model.now g.d g.v (runs_of g) list steps c.requires.steps.steps_are in
     let read = read-is c.loop-k.self.trail c.args.self.now.trail c.deref.result.now (length list) k end i.trail c.deref.ensures.0 known low in
@@ -120,9 +120,9 @@ pub returns-in_default-clause-all : goal.returns-in_default-clause-all
 returns-in_default-clause-all c L by feasible =
     let g = c.args.led.now.guide.now in
     let steps : List Step = steps_of c.args.self.now in
-    let none = ap (λ s. setting_out g.model.now g.d g.v (runs_of g) s) (sym c.requires.steps.first_is) ∙ ap (option_map (standing g.model.now g.d g.v)) (sym c.in_default.ensures.value) in
+    let none = ap (λ s. setting_out g.model.now g.d g.v (runs_of g) s) (sym c.requires.steps.first_is) ∙ ap (option_map (stage_at_start g.model.now g.d g.v)) (sym c.in_default.ensures.value) in
     absurd (whole-had g.model.now g.d g.v (runs_of g) c.args.led.now.list.now L by feasible.0 feasible.1 steps c.requires.steps.steps_are
-    (ap (λ o. whole g.model.now g.d g.v (runs_of g) o steps) none ∙ whole-none g.model.now g.d g.v (runs_of g) steps))
+    (ap (λ o. along_to_end g.model.now g.d g.v (runs_of g) o steps) none ∙ whole-none g.model.now g.d g.v (runs_of g) steps))
 
 pub returns-in_default-to_end-clause-all : goal.returns-in_default-to_end-clause-all
 returns-in_default-to_end-clause-all c L by feasible =
@@ -132,7 +132,7 @@ returns-in_default-to_end-clause-all c L by feasible =
     let steps : List Step = steps_of c.args.self.now in
     let all : c.loop-k.k ≡ length list = omega (arith, c.loop-k.auto.k-end, c.loop-k-test.false) in
     let long = many-steps g.model.now g.d g.v (runs_of g) list steps c.requires.steps.steps_are in
-    let out : Option Stage = setting_out g.model.now g.d g.v (runs_of g) (first_of steps (end_step g.model.now g.v (runs_of g))) in
+    let out : Option Stage = setting_out g.model.now g.d g.v (runs_of g) (first_step_or steps (end_step g.model.now g.v (runs_of g))) in
     let there = i.stages.each c.loop-k.k c.loop-k.stage (omega arith) ∙ ap (λ (s : Stage). Some s) (i.last c.loop-k.stage) in
     absurd (whole-had g.model.now g.d g.v (runs_of g) list L by feasible.0 feasible.1 steps c.requires.steps.steps_are
     (ap (option_and_then (to_end g.model.now g.d g.v (runs_of g))) (ap (along g.model.now g.d g.v (runs_of g) out) (sym (take_all c.loop-k.k steps (omega (arith, all, long)))) ∙ there) ∙ sym c.in_default-to_end.ensures.value))

@@ -7,7 +7,7 @@ use Rattle.vr_costfilter.specs.Floors.{end_step}
 use Rattle.vr_costfilter.specs.GuideRuns.{runs_of}
 use Rattle.vr_costfilter.specs.Runs.{Runs}
 use Rattle.vr_costfilter.specs.Steps.{steps_of, AreKnownSteps}
-use Rattle.vr_costfilter.specs.Stages.{paid_more, to_visit, whole}
+use Rattle.vr_costfilter.specs.Stages.{paid_more, to_visit, along_to_end}
 use Rattle.vr_costfilter.specs.declared.guides.Stage.{Stage}
 use Rattle.vr_costfilter.specs.declared.steps.KeptSteps.{KeptSteps}
 use Rattle.vr_costfilter.specs.declared.trails.Step.{Step}
@@ -59,7 +59,7 @@ to_visit-requires-clause-step c = step-known c.args.self.now.sound c.deref.ensur
 -- the stage at one visit more
 gone-next : {model : Model} {d v : ℕ} {runs : Runs} {list : List ℕ} {kept : KeptSteps} {read : List Step} → AreKnownSteps model d v runs list kept → read ≡ kept.trail.steps.items → (k : ℕ) → k < length list → (gone next : Stage)
     → to_visit model d v runs (slice_index_or read (length list - 1 - k) no_step) gone ≡ Some next
-    → whole model d v runs (Some next) (drop (k + 1) (steps_of kept)) ≡ whole model d v runs (Some gone) (drop k (steps_of kept))
+    → along_to_end model d v runs (Some next) (drop (k + 1) (steps_of kept)) ≡ along_to_end model d v runs (Some gone) (drop k (steps_of kept))
 gone-next {model} {d} {v} {runs} {list} {kept} {read} sound is k low gone next e =
     let long = steps-long sound in
     whole-next model d v runs (steps_of kept) k no_step (omega (arith, low, long)) gone next
@@ -113,5 +113,5 @@ returns c =
     let steps : List Step = steps_of c.args.self.now.kept.now in
     let long = steps-long c.args.self.now.sound in
     let none : drop c.loop-k.k steps ≡ [] = drop_all c.loop-k.k steps (omega (arith, long, c.loop-k-test.false)) in
-    let value = sym (ap (whole g.model.now g.d g.v (runs_of g) (Some c.loop-k.gone)) none) ∙ c.loop-k.invariant.value in
+    let value = sym (ap (along_to_end g.model.now g.d g.v (runs_of g) (Some c.loop-k.gone)) none) ∙ c.loop-k.invariant.value in
     c.to_end.ensures.value ∙ value

@@ -3,7 +3,7 @@ use Rattle.std.specs.Prelude.{ℤ, pos, ◌+ℤ◌, ◌-ℤ◌, slice_index_or}
 use Rattle.std.proofs.lemmas.Int.{ints}
 use Rattle.std.proofs.lemmas.List.Sums.{fold_more}
 use Rattle.vr_plan.proofs.BoundLemmas.{read-cumul}
-use Rattle.vr_costfilter.specs.Floors.{end_step, first_of}
+use Rattle.vr_costfilter.specs.Floors.{end_step, first_step_or}
 use Rattle.vr_costfilter.specs.GuideRuns.{runs_of}
 use Rattle.vr_costfilter.specs.Steps.{steps_of}
 use Rattle.vr_costfilter.specs.Stages.{along, paid_more, to_visit, visit_more}
@@ -27,7 +27,7 @@ loop-k-init c =
     let told = c.args.self.now.sound.stages in
     let steps : List Step = steps_of c.args.self.now.kept.now in
     let stages : List Stage = c.args.self.now.kept.now.stages.items in
-    let first : Step = first_of steps (end_step g.model.now g.v (runs_of g)) in
+    let first : Step = first_step_or steps (end_step g.model.now g.v (runs_of g)) in
     record {
       value = refl;
       at = λ other. ap (λ (s : Stage). s.at) c.requires.out.stands ∙ sym (ap (λ (s : Stage). s.at) (out-standing g.model.now g.d g.v (runs_of g) first (slice_index_or stages 0 other) (kept-out g.model.now g.d g.v (runs_of g) c.args.self.now.list.now steps stages told other)));

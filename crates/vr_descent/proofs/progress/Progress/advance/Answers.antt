@@ -9,13 +9,13 @@ use Rattle.vr_model.specs.routes.Rules.{is_valid}
 use Rattle.vr_model.specs.tables.WellFormed.{IsWellFormed}
 use Rattle.vr_routes.specs.Judging.{HoldSame}
 use Rattle.vr_routes.specs.Judging.{cost_change, moved}
-use Rattle.vr_watch.specs.Told.{Told, ToldInPart}
+use Rattle.vr_watch.specs.Told.{Reported, ReportedInPart}
 use Rattle.vr_model.proofs.routes.CostFits.{costs_are_bounded}
 use Rattle.vr_model.proofs.tables.Refusals.{on_err}
 use Rattle.vr_watch.proofs.ToldLemmas.{none_behind, told_nothing}
 use Rattle.vr_model.specs.routes.CostLaws.{HasBoundedCost}
 use Rattle.vr_descent.specs.Asking.{AsksOn}
-use Rattle.vr_descent.specs.Scanned.{tries_of}
+use Rattle.vr_descent.specs.Scanned.{tries_in_scan}
 use Rattle.vr_descent.proofs.AskingLemmas.{on_by, on_same}
 use Rattle.vr_descent.specs.Searching.{after_move, events_after, move_event, progress_after, routes_after, scan_of}
 use Rattle.vr_descent.proofs.EndLemmas.{AcceptedAt, accepted_at, completed, was_cut}
@@ -58,7 +58,7 @@ event g c =
 asks : (g : Over) (c : In-Accepted g) (later : g.row.J.Denot) → g.J.Judge.asked later ≡ g.J.Judge.asked c.scan.new.judge → g.J.Judge.looked later ≡ g.J.Judge.looked c.scan.new.judge → (to : ℕ) → c.args.self.now.used + c.in-Accepted.place ≤ to
     → AsksOn g.J.Judge.asked g.J.Judge.looked c.args.judge.now later c.args.self.now.used to
 asks g c later asked looked to low =
-    let tries = ap (tries_of (c.args.limit.tries - c.args.self.now.used)) c.in-Accepted.is in
+    let tries = ap (tries_in_scan (c.args.limit.tries - c.args.self.now.used)) c.in-Accepted.is in
     on_same _ _ _ _ _ (on_by _ _ c.args.self.now.used to _ c.in_ok-ended.ensures.asked (omega (arith, tries, low))) asked looked
 
 pub returns-in_err-ended-clause-told_in_part : goal.returns-in_err-ended-clause-told_in_part
@@ -128,7 +128,7 @@ returns-in_err-take-in-Accepted-clause-judge g c = taken g (goal.at.returns-in_e
 
 pub returns-in_err-take-in-Accepted-clause-told_in_part : goal.returns-in_err-take-in-Accepted-clause-told_in_part
 returns-in_err-take-in-Accepted-clause-told_in_part g c =
-    on_err c.from_residual-in_err-take-in-Accepted.result (subst (λ es. ToldInPart (λ w. (goal.Watch-dyn g (w.vtable, w.value)).after w.value) c.args.watch.now.items c.take.new.watch.items es)
+    on_err c.from_residual-in_err-take-in-Accepted.result (subst (λ es. ReportedInPart (λ w. (goal.Watch-dyn g (w.vtable, w.value)).after w.value) c.args.watch.now.items c.take.new.watch.items es)
     (event g (goal.at.returns-in_err-take-in-Accepted-clause-told_in_part g c).In-Accepted) c.in_err-take-in-Accepted.ensures.told_in_part)
 
 pub returns-in_err-take-in-Accepted-clause-asked_at_most : goal.returns-in_err-take-in-Accepted-clause-asked_at_most
@@ -142,7 +142,7 @@ returns-in_ok-take-in-Accepted-clause-judge g c = taken g (goal.at.returns-in_ok
 
 pub returns-in_ok-take-in-Accepted-clause-told : goal.returns-in_ok-take-in-Accepted-clause-told
 returns-in_ok-take-in-Accepted-clause-told g c =
-    subst (λ es. Told (λ w. (goal.Watch-dyn g (w.vtable, w.value)).after w.value) c.args.watch.now.items c.take.new.watch.items es)
+    subst (λ es. Reported (λ w. (goal.Watch-dyn g (w.vtable, w.value)).after w.value) c.args.watch.now.items c.take.new.watch.items es)
     (event g (goal.at.returns-in_ok-take-in-Accepted-clause-told g c).In-Accepted) c.in_ok-take-in-Accepted.ensures.told
 
 pub returns-in_ok-take-in-Accepted-clause-progress : goal.returns-in_ok-take-in-Accepted-clause-progress
@@ -179,11 +179,11 @@ returns-in-Complete-clause-routes g c =
 pub returns-in-Complete-clause-told : goal.returns-in-Complete-clause-told
 returns-in-Complete-clause-told g c =
     let done = tried_all g (goal.at.returns-in-Complete-clause-told g c).In-Complete in
-    subst (λ es. Told (λ w. (goal.Watch-dyn g (w.vtable, w.value)).after w.value) c.args.watch.now.items c.args.watch.now.items es) (ap (events_after c.args.model.now c.args.routes.now.lists c.args.self.now.used) (sym done.0)) (told_nothing _ _)
+    subst (λ es. Reported (λ w. (goal.Watch-dyn g (w.vtable, w.value)).after w.value) c.args.watch.now.items c.args.watch.now.items es) (ap (events_after c.args.model.now c.args.routes.now.lists c.args.self.now.used) (sym done.0)) (told_nothing _ _)
 
 pub returns-in-Complete-clause-asked : goal.returns-in-Complete-clause-asked
 returns-in-Complete-clause-asked g c =
-    on_by _ _ _ _ _ c.in_ok-ended.ensures.asked (omega (arith, ap (tries_of (c.args.limit.tries - c.args.self.now.used)) c.in-Complete.is))
+    on_by _ _ _ _ _ c.in_ok-ended.ensures.asked (omega (arith, ap (tries_in_scan (c.args.limit.tries - c.args.self.now.used)) c.in-Complete.is))
 
 pub returns-in-Complete-clause-judge : goal.returns-in-Complete-clause-judge
 returns-in-Complete-clause-judge g c = let here = (goal.at.returns-in-Complete-clause-judge g c).In_ok-ended in record { judge_model = same g here; holds = held g here }
@@ -201,11 +201,11 @@ returns-in-Cut-clause-routes g c =
 pub returns-in-Cut-clause-told : goal.returns-in-Cut-clause-told
 returns-in-Cut-clause-told g c =
     let none = ran_out g (goal.at.returns-in-Cut-clause-told g c).In-Cut in
-    subst (λ es. Told (λ w. (goal.Watch-dyn g (w.vtable, w.value)).after w.value) c.args.watch.now.items c.args.watch.now.items es) (ap (events_after c.args.model.now c.args.routes.now.lists c.args.self.now.used) (sym none)) (told_nothing _ _)
+    subst (λ es. Reported (λ w. (goal.Watch-dyn g (w.vtable, w.value)).after w.value) c.args.watch.now.items c.args.watch.now.items es) (ap (events_after c.args.model.now c.args.routes.now.lists c.args.self.now.used) (sym none)) (told_nothing _ _)
 
 pub returns-in-Cut-clause-asked : goal.returns-in-Cut-clause-asked
 returns-in-Cut-clause-asked g c =
-    on_by _ _ _ _ _ c.in_ok-ended.ensures.asked (omega (arith, c.requires.used, ap (tries_of (c.args.limit.tries - c.args.self.now.used)) c.in-Cut.is))
+    on_by _ _ _ _ _ c.in_ok-ended.ensures.asked (omega (arith, c.requires.used, ap (tries_in_scan (c.args.limit.tries - c.args.self.now.used)) c.in-Cut.is))
 
 pub returns-in-Cut-clause-judge : goal.returns-in-Cut-clause-judge
 returns-in-Cut-clause-judge g c = let here = (goal.at.returns-in-Cut-clause-judge g c).In_ok-ended in record { judge_model = same g here; holds = held g here }

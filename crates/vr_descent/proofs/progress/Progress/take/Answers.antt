@@ -4,7 +4,7 @@ use Rattle.vr_descent.specs.Searching.{move_event}
 use Rattle.vr_model.specs.routes.Costs.{cost}
 use Rattle.vr_model.specs.moves.Moves.{apply}
 use Rattle.vr_model.specs.declared.search.Kind.TheVariants as kind
-use Rattle.vr_watch.specs.Told.{Told, ToldInPart}
+use Rattle.vr_watch.specs.Told.{Reported, ReportedInPart}
 use Rattle.vr_model.proofs.tables.Refusals.{on_err}
 use Rattle.vr_watch.proofs.ToldLemmas.{none_behind, told_nothing}
 use Rattle.vr_descent.specs.declared.progress.Progress.{Progress}
@@ -21,7 +21,7 @@ returns-in_err-note_all-clause-told_in_part g c =
     let same : c.event.result ≡ move_event (g.J.Judge.model c.args.judge.now) c.args.routes.now.lists c.args.mv (c.args.self.now.used + c.args.place)
     = c.event.ensures ∙ ap (λ k. record { tries = c.args.self.now.used + c.args.place; kind = kind.Move; cost = k }) sum in
     on_err c.from_residual-in_err-note_all.result
-    (subst (λ event. ToldInPart (λ w. (goal.Watch-dyn g (w.vtable, w.value)).after w.value) c.args.watch.now.items c.note_all.new.watch.items (event ∷ [])) same c.in_err-note_all.ensures.told_in_part)
+    (subst (λ event. ReportedInPart (λ w. (goal.Watch-dyn g (w.vtable, w.value)).after w.value) c.args.watch.now.items c.note_all.new.watch.items (event ∷ [])) same c.in_err-note_all.ensures.told_in_part)
 
 pub returns-clause-progress : goal.returns-clause-progress
 returns-clause-progress g c =
@@ -35,4 +35,4 @@ returns-clause-told g c =
     let sum : to_z w64 (of_z w64 (to_z w64 (of_z w64 c.args.self.now.cost) +ℤ to_z w64 (of_z w64 c.args.difference))) ≡ cost (g.J.Judge.model c.args.judge.now) after = omega (arith, ints, c.requires.cost, c.requires.difference, c.requires.fits.least, c.requires.fits.greatest) in
     let same : c.event.result ≡ move_event (g.J.Judge.model c.args.judge.now) c.args.routes.now.lists c.args.mv (c.args.self.now.used + c.args.place)
     = c.event.ensures ∙ ap (λ k. record { tries = c.args.self.now.used + c.args.place; kind = kind.Move; cost = k }) sum in
-    subst (λ event. Told (λ w. (goal.Watch-dyn g (w.vtable, w.value)).after w.value) c.args.watch.now.items c.note_all.new.watch.items (event ∷ [])) same c.in_ok-note_all.ensures.told
+    subst (λ event. Reported (λ w. (goal.Watch-dyn g (w.vtable, w.value)).after w.value) c.args.watch.now.items c.note_all.new.watch.items (event ∷ [])) same c.in_ok-note_all.ensures.told

@@ -3,7 +3,7 @@ use Rattle.std.specs.List.{range_with_len}
 use Rattle.vr_model.specs.tables.Numbers.{each}
 use Rattle.vr_model.specs.routes.Routes.{UsedArc, arcs_of, route, used_arcs}
 use Rattle.vr_guided.specs.Counts.{counted}
-use Rattle.vr_guided.specs.Worths.{greatest, raised_in_turn, worth_of, worthless}
+use Rattle.vr_guided.specs.Worths.{greatest_worth, raised_in_turn, worth_of, worthless}
 use Rattle.vr_guided.proofs.ArcLemmas.{each_onward}
 use Rattle.vr_guided.proofs.ListLemmas.{few_nodes, has_list, vehicles_left}
 use Rattle.vr_guided.proofs.RaiseLemmas.{raised_all, in_turn_more, at_most_more}
@@ -16,7 +16,7 @@ loop-vehicle-init c =
     let old = counted c.args.self.now in
     record {
       goes = ap (λ best. raised_in_turn model best old (each (range_with_len 0 (length model.vehicles - 0)) (λ v. arcs_of model v (route lists v)))) c.greatest-greatest.ensures
-          ∙ (ap (λ k. raised_in_turn model (greatest (worth_of model old) worthless (used_arcs model lists)) old (each (range_with_len 0 k) (λ v. arcs_of model v (route lists v)))) (vehicles_left c.args.closed.model.now c.args.routes.now.lists c.requires.valid)
+          ∙ (ap (λ k. raised_in_turn model (greatest_worth (worth_of model old) worthless (used_arcs model lists)) old (each (range_with_len 0 k) (λ v. arcs_of model v (route lists v)))) (vehicles_left c.args.closed.model.now c.args.routes.now.lists c.requires.valid)
           ∙ raised_all model old lists c.requires.costly);
       nodes = c.requires.counts.covers;
       few = at_most_more old 1000000000 _ (omega arith) c.requires.counts.few;

@@ -3,13 +3,13 @@ use Rattle.std.specs.Int.{w128}
 use Rattle.std.proofs.lemmas.Int.{ints}
 use Rattle.vr_routes.specs.Pieces.{joined}
 use Rattle.vr_guided.specs.Counts.{counted}
-use Rattle.vr_guided.specs.Walks.{begun, walked}
+use Rattle.vr_guided.specs.Walks.{walk_begun, walked}
 use Rattle.vr_guided.proofs.WalkLemmas.{stretch_arcs, stretch_total, stretch_high}
 use Rattle.vr_guided.proofs.stretches.Stretches.new_stretch.Goals.{After-along_pieces}
 use Rattle.vr_guided.proofs.stretches.Stretches.new_stretch.Goals as goal
 
 -- the walk goes through the nodes of the pieces
-goes : (c : After-along_pieces) → c.along_pieces.new.walk ≡ walked c.args.self.now.arcs.on.closed.model.now (counted c.args.self.now.arcs.on.penalties.now) c.args.self.now.arcs.vehicle (begun c.args.start) (joined c.args.self.now.routes.now.lists c.args.pieces.now)
+goes : (c : After-along_pieces) → c.along_pieces.new.walk ≡ walked c.args.self.now.arcs.on.closed.model.now (counted c.args.self.now.arcs.on.penalties.now) c.args.self.now.arcs.vehicle (walk_begun c.args.start) (joined c.args.self.now.routes.now.lists c.args.pieces.now)
 goes c =
     c.along_pieces.ensures.value ∙ ap (λ w. walked c.args.self.now.arcs.on.closed.model.now (counted c.args.self.now.arcs.on.penalties.now) c.args.self.now.arcs.vehicle w (joined c.args.self.now.routes.now.lists c.args.pieces.now)) c.begin-walk.ensures
 

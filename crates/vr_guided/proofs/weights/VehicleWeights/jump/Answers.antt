@@ -3,7 +3,7 @@ use Rattle.std.specs.Int.{w128}
 use Rattle.std.specs.Prelude.{◌+ℤ◌}
 use Rattle.std.proofs.lemmas.Int.{ints}
 use Rattle.vr_guided.specs.Counts.{counted}
-use Rattle.vr_guided.specs.Walks.{stepped, weight}
+use Rattle.vr_guided.specs.Walks.{stepped, arc_weight}
 use Rattle.vr_balance.specs.Sums.{last_of}
 use Rattle.vr_guided.proofs.ChainLemmas.{same_walk, sum-read, walk_of, walked-jump}
 use Rattle.vr_guided.proofs.LocalChanges.{along}
@@ -24,7 +24,7 @@ returns-clause-value c nodes many ends sum =
     = sum-read s.total c.args.total s.arcs c.args.arcs sound.low sound.high c.requires.total (omega (arith, more, room)) in
     let total = same ∙ ap (λ z. s.total +ℤ z) sum in
     same_walk _ _ _ _ _ _ ends (ap (λ k. s.arcs + k) many) total
-    ∙ (ap (λ w. walk_of (last_of first nodes) (w.arcs + length nodes) (w.total +ℤ along (weight m p) v first nodes)) stepped_is
+    ∙ (ap (λ w. walk_of (last_of first nodes) (w.arcs + length nodes) (w.total +ℤ along (arc_weight m p) v first nodes)) stepped_is
     ∙ sym (walked-jump m p v (stepped m p v c.args.walk.now first) nodes))
 
 pub returns-clause-sound : goal.returns-clause-sound

@@ -3,13 +3,13 @@ use Rattle.vr_model.specs.routes.Costs.{arcs_part, fixed_part, penalty_part}
 use Rattle.vr_routes.specs.Pieces.{changed}
 use Rattle.vr_costfilter.specs.GlobalCosts.{global_cost_of}
 use Rattle.vr_costfilter.specs.PlanCosts.{soft_and_span}
-use Rattle.vr_judge.specs.Costs.{AreBounded, KeptCosts, StandsCosts}
+use Rattle.vr_judge.specs.Costs.{AreChangesInRange, KeptCosts, StandsCosts}
 use Rattle.vr_judge.proofs.StandLemmas.{stands-like}
 use Rattle.vr_judge.proofs.SumLemmas.{adds_as, adds_whole, read_bounded, read_sum}
 use Rattle.vr_judge.proofs.costs.Costs.difference.Goals as goal
 use Rattle.vr_judge.proofs.costs.Costs.difference.Goals.{In_ok-spans}
 
-bounded : (c : In_ok-spans) → AreBounded c.added-arcs.result c.added-fixed.result c.added-groups.result c.in_ok-plans.plans c.in_ok-spans.spans
+bounded : (c : In_ok-spans) → AreChangesInRange c.added-arcs.result c.added-fixed.result c.added-groups.result c.in_ok-plans.plans c.in_ok-spans.spans
 bounded c = record {
   arcs_are = c.added-arcs.ensures.range;
   fixed_are = c.added-fixed.ensures.range;

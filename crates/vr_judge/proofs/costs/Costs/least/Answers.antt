@@ -8,7 +8,7 @@ use Rattle.vr_routes.specs.Pieces.{changed, joined, part_at}
 use Rattle.vr_costfilter.specs.GlobalCosts.{global_cost_of}
 use Rattle.vr_costfilter.specs.PlanCosts.{soft_and_span}
 use Rattle.vr_parts.proofs.PartLemmas.{below-after}
-use Rattle.vr_judge.specs.Costs.{AreBounded}
+use Rattle.vr_judge.specs.Costs.{AreChangesInRange}
 use Rattle.vr_judge.proofs.SumLemmas.{adds_as, adds_least, adds_least_as, read_bounded, read_sum}
 use Rattle.vr_judge.proofs.costs.Costs.least.Goals as goal
 use Rattle.vr_judge.proofs.costs.Costs.least.Goals.{After-least-spans}
@@ -32,7 +32,7 @@ write_after-requires-clause-nodes c k low =
     subst (λ (m : Model). All (λ node. node < m.nodes) (joined lists (part_at parts k).pieces)) same
     (below-after c.args.self.now.plans.model c.args.routes.now h.plans.of_model h.plans.valid parts c.requires.made k low)
 
-bounded : (c : After-least-spans) → AreBounded c.added_by_move-arcs.result c.added-fixed.result c.least-groups.result c.least-plans.result c.least-spans.result
+bounded : (c : After-least-spans) → AreChangesInRange c.added_by_move-arcs.result c.added-fixed.result c.least-groups.result c.least-plans.result c.least-spans.result
 bounded c = record {
   arcs_are = c.added_by_move-arcs.ensures.range;
   fixed_are = c.added-fixed.ensures.range;

@@ -5,7 +5,7 @@ use Rattle.vr_rules.specs.Placing.{AreBuilt}
 use Rattle.vr_rules.proofs.PenaltyLemmas.{valid-open}
 use Rattle.vr_lns.specs.Cuts.{accepted_by, where_better}
 use Rattle.vr_lns.specs.Cutters.{result_in, Cutter}
-use Rattle.vr_lns.specs.Standing.{is_taken, lists_after}
+use Rattle.vr_lns.specs.Standing.{is_taken_over, lists_after}
 use Rattle.vr_lns.proofs.CutLemmas.{accepted_is}
 use Rattle.vr_lns.proofs.cutting.Cutting.try_cut.Given.{Over}
 use Rattle.vr_lns.proofs.cutting.Cutting.try_cut.Goals.{After-take, In_ok-there}
@@ -31,7 +31,7 @@ write_result-requires-clause-built g c =
 
 pub returns-then-not-there-clause-taken : goal.returns-then-not-there-clause-taken
 returns-then-not-there-clause-taken g c =
-    subst (λ (k : Cutter). false ≡ is_taken (accepted_by k.model k.most c.args.routes.now.lists c.args.at)) c.self.view_is (ap is_taken (without g (goal.at.returns-then-not-there-clause-taken g c).In_ok-there c.if-not-there.true))
+    subst (λ (k : Cutter). false ≡ is_taken_over (accepted_by k.model k.most c.args.routes.now.lists c.args.at)) c.self.view_is (ap is_taken_over (without g (goal.at.returns-then-not-there-clause-taken g c).In_ok-there c.if-not-there.true))
 
 pub returns-then-not-there-clause-lists : goal.returns-then-not-there-clause-lists
 returns-then-not-there-clause-lists g c =
@@ -39,7 +39,7 @@ returns-then-not-there-clause-lists g c =
 
 pub returns-clause-taken : goal.returns-clause-taken
 returns-clause-taken g c =
-    subst (λ r. IfOk c.take.result (λ taken. taken ≡ is_taken r)) (with_one g (goal.at.returns-clause-taken g c).After-take c.if-not-there.false) c.take.ensures.taken
+    subst (λ r. IfOk c.take.result (λ taken. taken ≡ is_taken_over r)) (with_one g (goal.at.returns-clause-taken g c).After-take c.if-not-there.false) c.take.ensures.taken
 
 pub returns-clause-lists : goal.returns-clause-lists
 returns-clause-lists g c =

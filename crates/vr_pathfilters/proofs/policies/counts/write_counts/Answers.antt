@@ -1,7 +1,7 @@
 use Rattle.std.proofs.Common.{◌≡◌, ◌∙◌, ◌+◌, ◌<◌, length, take, ap, arith}
 use Rattle.std.proofs.lemmas.List.{length-set}
 use Rattle.std.specs.Prelude.{slice_index}
-use Rattle.vr_pathfilters.specs.Counted.{counts, with_node}
+use Rattle.vr_pathfilters.specs.Counted.{pair_counts, with_node}
 use Rattle.vr_pathfilters.proofs.CountLemmas.{counted_more, counts_more, others_stay}
 use Rattle.vr_pathfilters.proofs.policies.counts.write_counts.Goals as goal
 
@@ -15,7 +15,7 @@ loop-k-preserved c =
     let long = c.loop-k.invariant.long in
     let node_low = c.requires.nodes k 0 low in
     let within : slice_index list k < length table = omega (arith, node_low, long) in
-    let is : c.with_node-counts.result ≡ counts model (take (k + 1) list) =
+    let is : c.with_node-counts.result ≡ pair_counts model (take (k + 1) list) =
     c.with_node-counts.ensures ∙ (ap (λ before. with_node model before (slice_index list k)) c.loop-k.invariant.so_far
     ∙ counts_more model c.model-model.ensures.well_formed list k low) in
     record {

@@ -1,7 +1,7 @@
 use Rattle.std.proofs.Common.{◌∙◌, ◌+◌, ◌-◌, ◌++◌, ℕ, List, subst, ap, sym, arith, append_assoc}
 use Rattle.std.specs.Prelude.{slice_range}
 use Rattle.vr_model.specs.routes.Routes.{route}
-use Rattle.vr_routes.specs.Changes.{IsBegun}
+use Rattle.vr_routes.specs.Changes.{IsPartBegun}
 use Rattle.vr_routes.specs.Pairs.{is_past}
 use Rattle.vr_routes.proofs.RestLemmas.{rest_slices, few_pieces}
 use Rattle.vr_routes.proofs.pieces.Part.add_rest.Goals as goal
@@ -30,7 +30,7 @@ returns-clause-after c lists w front list two gap before =
     let s1 = c.some_chain.ensures.after lists w front list low (omega (arith, r1, gap)) before in
     let s2 = c.some_chain-2.ensures.after lists w front (list ++ slice_range row a.i c.least.result) low (omega (arith, r2, gap)) s1 in
     let s3 = c.some_chain-3.ensures.after lists w front ((list ++ slice_range row a.i c.least.result) ++ slice_range row (c.greatest.result + 1) (c.least-2.result + 1)) low gap s2 in
-    subst (IsBegun lists c.some_chain-3.new.self w front) (
+    subst (IsPartBegun lists c.some_chain-3.new.self w front) (
     append_assoc (list ++ slice_range row a.i c.least.result) (slice_range row (c.greatest.result + 1) (c.least-2.result + 1)) (slice_range row (c.greatest-2.result + 2) (a.j + 2))
     ∙ append_assoc list (slice_range row a.i c.least.result) (slice_range row (c.greatest.result + 1) (c.least-2.result + 1) ++ slice_range row (c.greatest-2.result + 2) (a.j + 2))
     ∙ ap (λ l. list ++ l) (

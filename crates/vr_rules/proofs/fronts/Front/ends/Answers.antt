@@ -4,7 +4,7 @@ use Rattle.vr_model.specs.tables.Tables.{no_vehicle, vehicle_at}
 use Rattle.vr_model.specs.schedules.Lines.{line}
 use Rattle.vr_model.proofs.schedules.ChoiceLaws.{chosen_where_feasible}
 use Rattle.vr_steps.specs.Lines.{hop_between}
-use Rattle.vr_rules.specs.Placing.{nodes_of}
+use Rattle.vr_rules.specs.Placing.{item_nodes}
 use Rattle.vr_rules.proofs.OpenLemmas.{same_test}
 use Rattle.vr_rules.proofs.FrontLemmas.{at_end, item_last}
 use Rattle.vr_rules.proofs.fronts.Front.ends.Goals as goal
@@ -14,7 +14,7 @@ returns c =
     let model = c.args.longer.now.closed.model.now in
     let d = c.args.self.now.dimension in
     let v = c.args.self.now.vehicle in
-    let whole = c.args.longer.now.list.now ++ nodes_of c.args.longer.now.item in
+    let whole = c.args.longer.now.list.now ++ item_nodes c.args.longer.now.item in
     let front = c.requires.front in
     let last = c.last-last.ensures ∙ item_last (vehicle_at model v).start c.args.longer.now.list.now c.args.longer.now.item in
     let end = ap (λ (vehicle : Vehicle). vehicle.end) (sym (c.get.ensures.value no_vehicle)) in

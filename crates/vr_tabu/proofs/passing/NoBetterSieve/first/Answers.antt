@@ -5,7 +5,7 @@ use Rattle.vr_model.specs.tables.WellFormed.{IsWellFormed}
 use Rattle.vr_routes.specs.Judging.{HoldSame, IsNoLess}
 use Rattle.vr_routes.specs.Runs.{with_last}
 use Rattle.vr_known.proofs.PassingLemmas.{told_of_each}
-use Rattle.vr_tabu.specs.Rounds.{IsPassed}
+use Rattle.vr_tabu.specs.Rounds.{IsPassedInRound}
 use Rattle.vr_tabu.proofs.CandidateLemmas.{no_less_passed}
 use Rattle.vr_tabu.proofs.passing.NoBetterSieve.first.Goals as goal
 
@@ -15,8 +15,8 @@ returns-in-Some-clause-passed g c =
     let lists = c.args.self.now.routes.now.lists in
     let bound = to_z w64 (of_z w64 c.in-Some.bound) in
     let same : bound ≡ c.in-Some.bound = omega (arith, ints) in
-    told_of_each (λ k. IsNoLess (g.J.Judge.model c.args.judge.now) lists (with_last c.args.mv k) bound) (λ k. IsPassed model lists c.args.self.now.bound (with_last c.args.mv k))
-    (λ k told. subst (λ b. IsPassed model lists b (with_last c.args.mv k)) (sym c.in-Some.is)
+    told_of_each (λ k. IsNoLess (g.J.Judge.model c.args.judge.now) lists (with_last c.args.mv k) bound) (λ k. IsPassedInRound model lists c.args.self.now.bound (with_last c.args.mv k))
+    (λ k told. subst (λ b. IsPassedInRound model lists b (with_last c.args.mv k)) (sym c.in-Some.is)
     (no_less_passed model lists c.in-Some.bound (with_last c.args.mv k)
     (subst (λ d. IsNoLess model lists (with_last c.args.mv k) d) same (subst (λ (m : Model). IsNoLess m lists (with_last c.args.mv k) bound) c.requires.can_ask.judge_model told))))
     c.args.from c.first_below.result c.first_below.ensures.no_less

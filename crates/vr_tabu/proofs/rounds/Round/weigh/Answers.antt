@@ -3,7 +3,7 @@ use Rattle.std.proofs.lemmas.Int.{ints}
 use Rattle.std.specs.Prelude.{int_le, ◌&&◌}
 use Rattle.vr_model.specs.declared.records.Model.{Model}
 use Rattle.vr_model.specs.moves.Moves.{apply}
-use Rattle.vr_routes.specs.Judging.{IsLeast, verdict_of}
+use Rattle.vr_routes.specs.Judging.{IsDifferenceBound, verdict_of}
 use Rattle.vr_routes.specs.declared.judging.Verdict.TheVariants.{Difference}
 use Rattle.vr_tabu.specs.Rounds.{aspiration, bound_of, is_no_less}
 use Rattle.vr_tabu.specs.TabuSearches.{is_tabu}
@@ -31,7 +31,7 @@ forbidden g c as_is b is = ap (λ d. int_le (aspiration c.args.self.now.model.no
 pub returns-then-is_no_less-clause-best : goal.returns-then-is_no_less-clause-best
 returns-then-is_no_less-clause-best g c =
     let least = c.least_difference-least.result in
-    let low = subst (λ (m : Model). IsLeast m c.args.self.now.routes.now.lists c.args.mv least) c.requires.judge.model_is c.least_difference-least.ensures.least in
+    let low = subst (λ (m : Model). IsDifferenceBound m c.args.self.now.routes.now.lists c.args.mv least) c.requires.judge.model_is c.least_difference-least.ensures.least in
     let as_is : to_z w64 (of_z w64 least) ≡ least = omega (arith, ints, c.least_difference-least.type_inv) in
     let above = ap (is_no_less (bound_of c.args.best c.args.self.now.ceiling)) (sym as_is) ∙ (ap (λ b. is_no_less b (to_z w64 (of_z w64 least))) (sym c.bound.ensures) ∙ (sym c.is_no_less.ensures ∙ c.if-is_no_less.true)) in
     dearer c.args.self.now.model.now (tabus_of c.args.self.now.state.now.tabus) c.args.self.now.state.now.best.routes.lists c.args.self.now.routes.now.lists c.args.best c.args.self.now.ceiling c.args.mv c.requires.best c.args.self.now.bounded (no_better_by c.args.self.now.model.now (tabus_of c.args.self.now.state.now.tabus) c.args.self.now.state.now.best.routes.lists c.args.self.now.routes.now.lists (bound_of c.args.best c.args.self.now.ceiling) c.args.mv least low above)

@@ -8,12 +8,12 @@ use Rattle.vr_descent.specs.Incumbents.{kept}
 use Rattle.vr_descent.specs.Searching.{after_move, move_event}
 use Rattle.vr_descent.proofs.AskingLemmas.{on_by, on_same}
 use Rattle.vr_descent.proofs.IncumbentLemmas.{kept_lists}
-use Rattle.vr_watch.specs.Told.{Told, ToldInPart}
+use Rattle.vr_watch.specs.Told.{Reported, ReportedInPart}
 use Rattle.vr_watch.proofs.ToldLemmas.{none_behind, told_nothing}
 use Rattle.vr_tabu.specs.Rounds.{tries_of}
 use Rattle.vr_tabu.specs.Standing.{next_of}
 use Rattle.vr_tabu.specs.Tabus.{tabus_of}
-use Rattle.vr_tabu.specs.TabuSearches.Round.{Best}
+use Rattle.vr_tabu.specs.TabuSearches.TabuRound.{Best}
 use Rattle.vr_tabu.proofs.AdvanceLemmas.{after_best, after_cut, after_stuck, events_are, of_best, of_cut, of_stuck}
 use Rattle.vr_tabu.proofs.SearchLemmas.{IsLeastCandidate, best_where}
 use Rattle.vr_tabu.proofs.searching.State.advance.Given.{Over}
@@ -46,11 +46,11 @@ take-requires-clause-valid g c =
 pub returns-in_err-take-in-Best-clause-told_in_part : goal.returns-in_err-take-in-Best-clause-told_in_part
 returns-in_err-take-in-Best-clause-told_in_part g c =
     on_err c.from_residual-in_err-take-in-Best.result
-    (subst (λ es. ToldInPart (λ w. (goal.Watch-dyn g (w.vtable, w.value)).after w.value) c.args.watch.now.items c.take.new.watch.items es) (ap (λ p. move_event c.args.closed.model.now c.args.routes.now.lists c.in-Best.candidate.mv (p.used + c.in-Best.length) ∷ []) c.forbid.ensures.at ∙ events_are c.args.closed.model.now c.args.bounds c.args.routes.now.lists c.args.self.now _ (best g (goal.at.returns-in_err-take-in-Best-clause-told_in_part g c).In-Best)) c.in_err-take-in-Best.ensures.told_in_part)
+    (subst (λ es. ReportedInPart (λ w. (goal.Watch-dyn g (w.vtable, w.value)).after w.value) c.args.watch.now.items c.take.new.watch.items es) (ap (λ p. move_event c.args.closed.model.now c.args.routes.now.lists c.in-Best.candidate.mv (p.used + c.in-Best.length) ∷ []) c.forbid.ensures.at ∙ events_are c.args.closed.model.now c.args.bounds c.args.routes.now.lists c.args.self.now _ (best g (goal.at.returns-in_err-take-in-Best-clause-told_in_part g c).In-Best)) c.in_err-take-in-Best.ensures.told_in_part)
 
 pub returns-in_ok-take-in-Best-clause-told : goal.returns-in_ok-take-in-Best-clause-told
 returns-in_ok-take-in-Best-clause-told g c =
-    subst (λ es. Told (λ w. (goal.Watch-dyn g (w.vtable, w.value)).after w.value) c.args.watch.now.items c.take.new.watch.items es) (ap (λ p. move_event c.args.closed.model.now c.args.routes.now.lists c.in-Best.candidate.mv (p.used + c.in-Best.length) ∷ []) c.forbid.ensures.at ∙ events_are c.args.closed.model.now c.args.bounds c.args.routes.now.lists c.args.self.now _ (best g (goal.at.returns-in_ok-take-in-Best-clause-told g c).In-Best)) c.in_ok-take-in-Best.ensures.told
+    subst (λ es. Reported (λ w. (goal.Watch-dyn g (w.vtable, w.value)).after w.value) c.args.watch.now.items c.take.new.watch.items es) (ap (λ p. move_event c.args.closed.model.now c.args.routes.now.lists c.in-Best.candidate.mv (p.used + c.in-Best.length) ∷ []) c.forbid.ensures.at ∙ events_are c.args.closed.model.now c.args.bounds c.args.routes.now.lists c.args.self.now _ (best g (goal.at.returns-in_ok-take-in-Best-clause-told g c).In-Best)) c.in_ok-take-in-Best.ensures.told
 
 pub returns-in_ok-take-in-Best-clause-outcome : goal.returns-in_ok-take-in-Best-clause-outcome
 returns-in_ok-take-in-Best-clause-outcome g c =

@@ -11,7 +11,7 @@ use Rattle.vr_model.specs.declared.search.Kind.TheVariants as kind
 use Rattle.vr_model.proofs.routes.CostFits.{costs_are_bounded}
 use Rattle.vr_model.proofs.tables.Refusals.{on_err}
 use Rattle.vr_routes.specs.Judging.{moved}
-use Rattle.vr_watch.specs.Told.{Told, ToldInPart}
+use Rattle.vr_watch.specs.Told.{Reported, ReportedInPart}
 use Rattle.vr_watch.proofs.ToldLemmas.{none_behind, told_nothing}
 use Rattle.vr_descent.specs.Incumbents.{kept}
 use Rattle.vr_tabu.proofs.SearchLemmas.{as_many}
@@ -58,7 +58,7 @@ follow-requires-clause-many g c =
 pub returns-in_err-note_all-clause-told_in_part : goal.returns-in_err-note_all-clause-told_in_part
 returns-in_err-note_all-clause-told_in_part g c =
     on_err c.from_residual-in_err-note_all.result
-    (subst (λ e. ToldInPart (λ w. (goal.Watch-dyn g (w.vtable, w.value)).after w.value) c.args.watch.now.items c.note_all.new.watch.items (e ∷ [])) (tells g (goal.at.returns-in_err-note_all-clause-told_in_part g c).After-event (made g (goal.at.returns-in_err-note_all-clause-told_in_part g c).After-follow)) c.in_err-note_all.ensures.told_in_part)
+    (subst (λ e. ReportedInPart (λ w. (goal.Watch-dyn g (w.vtable, w.value)).after w.value) c.args.watch.now.items c.note_all.new.watch.items (e ∷ [])) (tells g (goal.at.returns-in_err-note_all-clause-told_in_part g c).After-event (made g (goal.at.returns-in_err-note_all-clause-told_in_part g c).After-follow)) c.in_err-note_all.ensures.told_in_part)
 
 pub returns-clause-at : goal.returns-clause-at
 returns-clause-at g c =
@@ -71,4 +71,4 @@ returns-clause-best g c =
 
 pub returns-clause-told : goal.returns-clause-told
 returns-clause-told g c =
-    subst (λ e. Told (λ w. (goal.Watch-dyn g (w.vtable, w.value)).after w.value) c.args.watch.now.items c.note_all.new.watch.items (e ∷ [])) (tells g (goal.at.returns-clause-told g c).After-event (made g (goal.at.returns-clause-told g c).After-follow)) c.in_ok-note_all.ensures.told
+    subst (λ e. Reported (λ w. (goal.Watch-dyn g (w.vtable, w.value)).after w.value) c.args.watch.now.items c.note_all.new.watch.items (e ∷ [])) (tells g (goal.at.returns-clause-told g c).After-event (made g (goal.at.returns-clause-told g c).After-follow)) c.in_ok-note_all.ensures.told

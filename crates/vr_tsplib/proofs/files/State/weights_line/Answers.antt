@@ -1,5 +1,5 @@
 use Rattle.std.proofs.Common.{◌-◌, length, ap, ap₂, ◌∙◌, arith}
-use Rattle.vr_tsplib.specs.Files.{at_place, weights_line}
+use Rattle.vr_tsplib.specs.Files.{with_place, weights_line}
 use Rattle.vr_tsplib.specs.Heads.{weights_left}
 use Rattle.vr_tsplib.specs.Texts.{words}
 use Rattle.vr_tsplib.proofs.RowLemmas.{row_longer}
@@ -18,4 +18,4 @@ pub returns : goal.returns
 unfolding weights_line
 returns c =
     let place = c.weights_left-self.ensures ∙ ap weights_left (c.saturating_sub.ensures ∙ ap₂ (λ all before. c.args.left - (all - before)) c.len.ensures c.len-before.ensures) in
-    then _ c.in_ok-push_row.ensures (gives (ap (λ next. record (at_place c.args.self.now next) { weights = c.push_row.new.weights }) place))
+    then _ c.in_ok-push_row.ensures (gives (ap (λ next. record (with_place c.args.self.now next) { weights = c.push_row.new.weights }) place))
