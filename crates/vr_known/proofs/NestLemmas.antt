@@ -59,6 +59,10 @@ module _ {A : Type 0} (passes : ℕ → Bool) where
       by true = refl
       by false = refl
 
+  -- what the first number gives stands in front of the others
+  pub joined_opens : (f : ℕ → List A) (a b : ℕ) (opened : List A) → a < b → opened ≡ cond (passes a) (f a) [] → opened ++ joined_of passes f (a + 1) b ≡ joined_of passes f a b
+  joined_opens f a b opened low is = ap (λ l. l ++ joined_of passes f (a + 1) b) is ∙ sym (joined_goes_on f a b low)
+
   pub joined_ends : (f : ℕ → List A) (a b : ℕ) → b ≤ a → joined_of passes f a b ≡ []
   joined_ends f a b past = ap (λ l. each (filter passes l) f) (none_left a b past)
 

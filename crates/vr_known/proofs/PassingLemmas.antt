@@ -8,9 +8,9 @@ use Rattle.vr_model.proofs.tables.Tests.{clash}
 use Rattle.vr_model.specs.tables.Numbers.{from_to}
 use Rattle.vr_model.specs.tables.WellFormed.{neighbourhood_number as kind_at}
 use Rattle.vr_model.specs.declared.neighbours.Move.{Move}
-use Rattle.vr_known.proofs.NestLemmas.{range_split}
+use Rattle.vr_known.proofs.NestLemmas.{joined_opens, range_split}
 use Rattle.vr_known.specs.Blocks.{Memory, covers, is_known, kind_of, first_of, second_of}
-use Rattle.vr_known.specs.Nests.{run_of}
+use Rattle.vr_known.specs.Nests.{joined_of, run_of}
 use Rattle.vr_known.specs.declared.blocks.Block.{Block}
 use Rattle.vr_known.specs.Passing.{capped, ArePassed, CoversBlock, IsBlockOf, Passes, IsFirst, Takes}
 
@@ -100,6 +100,26 @@ module _ (covers : Move → Type 0) where
     covered = run_covered p f a (b - a) (λ k low high. known (f k) (stands.kind k) (stands.first k) (stands.second k));
     long = length-map (filter p (from_to a b)) f ∙ sym number;
   }
+
+-- a count that stops at the greatest number fits
+capped_fits : (count n : ℕ) → count ≡ capped n → count < 2 ^ 64
+capped_fits count n e = Prim.grind (arith, e)
+
+-- ---- joined lists that are opened one after the other
+
+module _ (covers : Move → Type 0) (passes : ℕ → Bool) (moves : ℕ → List Move) (a b : ℕ) (low : a < b) (opened : List Move) (is : opened ≡ cond (passes a) (moves a) []) {old : List Move} {start count : ℕ} (before : Passes covers old start (joined_of passes moves a b) count) where
+  -- the first of them is in hand
+  pub passes_opened : Passes covers old start (opened ++ joined_of passes moves (a + 1) b) count
+  passes_opened =
+      passes_more covers old _ _ start count count before
+      (passes_from covers _ _ _ count count (joined_opens passes moves a b opened low is) (passes_none covers (opened ++ joined_of passes moves (a + 1) b) count (capped_fits count _ before.counts)))
+
+  -- all of its moves were passed
+  pub passes_beyond : (many counted : ℕ) → ArePassed covers opened many → counted ≡ min (count + many) (2 ^ 64 - 1) → Passes covers old start (joined_of passes moves (a + 1) b) counted
+  passes_beyond many counted passed counts =
+      passes_more covers old _ _ start count counted before
+      (passes_from covers _ _ _ count counted (joined_opens passes moves a b opened low is)
+      (passes_in_front covers opened [] (joined_of passes moves (a + 1) b) count counted (passes_all covers opened count many counted passed counts)))
 
 -- what is told of the moves in front of a number, where one is told
 pub told_of_each : (P Q : ℕ → Type 0) → ((k : ℕ) → P k → Q k) → (from : ℕ) (told : Option ℕ)
