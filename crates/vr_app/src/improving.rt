@@ -1,17 +1,17 @@
 //! The improvement of a first solution.
 
-ghost use Rattle.std.specs.Prelude.{◌≡◌, ◌≤◌, ◌≤ℤ◌, pos, IfOk, IsTrue, OnOk};
 ghost use Rattle.vr_model.specs.routes.Costs.{cost};
 ghost use Rattle.vr_model.specs.routes.Rules.{is_valid};
 ghost use Rattle.vr_model.specs.search.Descents.{descent};
 ghost use Rattle.vr_model.specs.search.GuidedSearches.{guided};
+ghost use Rattle.std.specs.Prelude.{◌≡◌, ◌≤◌, ◌≤ℤ◌, pos, IfOk, IsTrue, OnOk};
+ghost use Rattle.vr_lns.specs.PathLns.{path_lns};
+ghost use Rattle.vr_tabu.specs.TabuSearches.{tabu_search};
+ghost use Rattle.vr_app.specs.Improved as improved;
 ghost use Rattle.vr_model.specs.tables.Tables.{visits};
 ghost use Rattle.vr_routes.specs.Judging.{HoldSame};
 ghost use Rattle.vr_watch.specs.Told.{Reported};
-ghost use Rattle.vr_lns.specs.PathLns.{path_lns};
-ghost use Rattle.vr_tabu.specs.TabuSearches.{tabu_search};
 ghost use Rattle.vr_app.specs.Endings.{IsBestOfOutcome};
-ghost use Rattle.vr_app.specs.Improved as improved;
 
 use crate::best::{Best, untried};
 use std::alloc::Global;
