@@ -7,13 +7,10 @@ use Rattle.std.proofs.lemmas.Slice.{between_from_start}
 use Rattle.std.proofs.lemmas.List.{reverse-reverse, set_split}
 use Rattle.vr_model.specs.moves.Moves.{apply, chain_moved, reversed_between, with_route}
 use Rattle.vr_model.specs.routes.Costs.{arcs_part}
-use Rattle.vr_model.specs.deciding.Testing.{and_left}
-use Rattle.vr_model.specs.tables.Tables.{is_visit}
-use Rattle.vr_model.specs.moves.MoveTests.{is_inactive}
 use Rattle.vr_model.specs.routes.Routes.{route, route_cost}
 use Rattle.vr_model.specs.declared.records.Model.{Model}
 use Rattle.vr_model.specs.declared.neighbours.Move.{Move}
-use Rattle.vr_model.proofs.routes.Lists.{route_set_other, visit_below}
+use Rattle.vr_model.proofs.routes.Lists.{route_set_other}
 use Rattle.vr_routes.specs.Pieces.{joined, nodes_of, IsWithin}
 use Rattle.vr_routes.specs.declared.pieces.Piece.{Piece}
 use Rattle.vr_routes.specs.declared.pieces.Piece.TheVariants.{Chain, Node}
@@ -63,10 +60,6 @@ one-known model lists (Node node) within nodes = nodes 0 0 (omega arith)
 pub pieces-known : (model : Model) (lists : List (List ℕ)) (pieces : List Piece) → All (IsWithin lists) pieces → All (λ node. node < model.nodes) (joined lists pieces) → All (IsKnownPiece model lists) pieces
 pieces-known model lists pieces within nodes k d low =
     one-known model lists (slice_index_or pieces k d) (within k d low) (all_at (λ node. node < model.nodes) lists pieces k d low nodes)
-
--- a visit that is not in any list is a node
-pub newcomer-below : (model : Model) (lists : List (List ℕ)) (u : ℕ) → is_inactive model lists u ≡ true → u < model.nodes
-newcomer-below model lists u idle = visit_below model u (and_left (is_visit model u) _ idle)
 
 -- ---- the list after a move, by the nodes that stand between what it keeps at its ends
 

@@ -1,13 +1,10 @@
 -- What moves add to arc costs.
-use Rattle.std.specs.Prelude.{ℕ, ◌<◌, Bool, true, false, List, ℤ, ◌-ℤ◌, drop, take, ◌++◌}
+use Rattle.std.specs.Prelude.{ℕ, ◌<◌, List, ℤ, ◌-ℤ◌, drop, take, ◌++◌}
 use Rattle.vr_model.specs.moves.Moves.{apply}
 use Rattle.vr_model.specs.routes.Costs.{arcs_part}
 use Rattle.vr_model.specs.routes.Routes.{route, route_cost}
 use Rattle.vr_model.specs.declared.records.Model.{Model}
 use Rattle.vr_model.specs.declared.neighbours.Move.{Move}
-use Rattle.vr_model.specs.declared.neighbours.Move.TheVariants.{TwoOpt, OrOpt, Relocate, Exchange, Cross, RelocatePair}
-use Rattle.vr_model.specs.declared.neighbours.Move.TheVariants.{PairActive, PairInactive, MakeActive, MakeInactive}
-use Rattle.vr_model.specs.declared.neighbours.Move.TheVariants.{SwapActive}
 use Rattle.vr_routes.specs.Pieces.{IsWithin}
 use Rattle.vr_routes.specs.declared.pieces.Piece.{Piece}
 use Rattle.vr_routes.specs.declared.pieces.Piece.TheVariants.{Chain, Node}
@@ -28,17 +25,3 @@ arcs_added model lists mv = arcs_part model (apply model lists mv) -ℤ arcs_par
 abbrev pub IsKnownPiece : Model → List (List ℕ) → Piece → Type 0
 IsKnownPiece model lists (Chain v from to reversed) = IsWithin lists (Chain v from to reversed)
 IsKnownPiece model lists (Node node) = node < model.nodes
-
--- a move is one of a pickup with its delivery
-abbrev pub is_of_pair : Move → Bool
-is_of_pair (TwoOpt v a b) = false
-is_of_pair (OrOpt v a k t) = false
-is_of_pair (Relocate v a w t) = false
-is_of_pair (Exchange v a w b) = false
-is_of_pair (Cross v a w b) = false
-is_of_pair (MakeActive u w t) = false
-is_of_pair (MakeInactive v a) = false
-is_of_pair (SwapActive v a u) = false
-is_of_pair (RelocatePair p w s t) = true
-is_of_pair (PairActive p w s t) = true
-is_of_pair (PairInactive p) = true

@@ -168,7 +168,7 @@ impl<'a, 'm> Committed<'a, 'm> {
             return asked.from;
         }
         // the visit next to it
-        if self.exchanged(v, a, w, a + 1) < asked.bound {
+        if self.neighbours_exchanged(v, a) < asked.bound {
             return asked.from;
         }
         self.first_apart(v, a, w, asked.starting(a + 2))

@@ -1,5 +1,5 @@
 -- How often a judge was asked adds up.
-use Rattle.std.proofs.Common.{◌≡◌, ◌∙◌, ℕ, suc, ◌+◌, ◌*◌, ◌<◌, ◌≤◌, ◌^◌, List, arith}
+use Rattle.std.proofs.Common.{◌≡◌, ◌∙◌, ℕ, suc, ◌+◌, ◌<◌, ◌≤◌, ◌^◌, List, arith}
 use Rattle.vr_known.specs.Passing.{tries_within}
 use Rattle.vr_model.specs.declared.records.Model.{Model}
 use Rattle.vr_descent.specs.Asking.{AsksFor, AsksOn, Keeps}
@@ -59,6 +59,6 @@ module _ {J : Type 0} {judged seen : J → ℕ} where
         let most = few.0 in record { asked = omega (arith, before.asked, same, behind); looked = omega (arith, before.looked, most, there, behind) }
 
     -- and so where a move was tried then
-    pub asks_tried : (d : J) (to : ℕ) → judged d ≤ judged c + 1 → seen d ≤ seen c + 2 → reached + more ≤ to → suc place ≤ to → AsksFor judged seen a d to
+    pub asks_tried : (d : J) (to : ℕ) → judged d ≤ judged c + 1 → seen d ≤ seen c + 1 → reached + more ≤ to → suc place ≤ to → AsksFor judged seen a d to
     asks_tried d to asked looked there behind =
         let most = few.0 in record { asked = omega (arith, before.asked, same, asked, behind); looked = omega (arith, before.looked, most, looked, there, behind) }

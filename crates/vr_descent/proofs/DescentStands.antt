@@ -1,6 +1,6 @@
 -- Where a descent stands, and how it ends.
-use Rattle.std.proofs.Common.{◌≡◌, ◌∙◌, ℕ, ◌+◌, ◌-◌, ◌≤◌, false, List, refl, sym, ap, subst, arith}
-use Rattle.std.specs.Prelude.{◌==◌, ◌≤ℤ◌}
+use Rattle.std.proofs.Common.{◌≡◌, ◌∙◌, ℕ, ◌+◌, ◌-◌, ◌≤◌, List, refl, sym, ap, subst, arith}
+use Rattle.std.specs.Prelude.{◌≤ℤ◌}
 use Rattle.vr_model.specs.routes.Costs.{cost}
 use Rattle.vr_model.specs.search.Descents.{descent}
 use Rattle.vr_model.specs.search.Outcomes.{Outcome, ended}

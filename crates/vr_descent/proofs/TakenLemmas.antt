@@ -19,7 +19,7 @@ module _ (model : Model) (takes : List (List ℕ) → Move → ℤ → Bool) (li
   change = cost_change model lists mv
 
   -- a move that is not acceptable
-  pub not_taken : is_acceptable model takes lists mv ≡ false → None ≡ taken_difference model takes lists mv
+  not_taken : is_acceptable model takes lists mv ≡ false → None ≡ taken_difference model takes lists mv
   not_taken e = sym (ap (λ b. cond b (Some change) None) e)
 
   -- a move that is refused
@@ -31,7 +31,7 @@ module _ (model : Model) (takes : List (List ℕ) → Move → ℤ → Bool) (li
       by false h = refl
 
   -- a move that makes no less than the least, and is not taken with that or more, is not acceptable
-  pub refused_at_least : (least : ℤ) → IsDifferenceBound model lists mv least → IsPassedOver model takes lists mv least → is_acceptable model takes lists mv ≡ false
+  refused_at_least : (least : ℤ) → IsDifferenceBound model lists mv least → IsPassedOver model takes lists mv least → is_acceptable model takes lists mv ≡ false
   refused_at_least least is passed = by after (λ valid. passed valid (is valid))
     where
       by : (b : Bool) → (IsTrue b → takes lists mv change ≡ false) → (b && takes lists mv change) ≡ false

@@ -2,16 +2,16 @@
 use Rattle.std.specs.Prelude.{◌≡◌, ℕ, ◌+◌, ◌*◌, ◌≤◌, List}
 use Rattle.vr_model.specs.declared.records.Model.{Model}
 
--- for so many tries a judge was asked about no more moves, and at most three times as often what a move, or a run of
--- moves, makes at least
+-- for so many tries a judge was asked about no more moves, and at most twice as often what a move, or a run of moves,
+-- makes at least
 pub record AsksFor {J : Type 0} (judged seen : J → ℕ) (old new : J) (tries : ℕ) : Type 0 where
   pub asked : judged new ≤ judged old + tries
-  pub looked : seen new ≤ seen old + 3 * tries
+  pub looked : seen new ≤ seen old + 2 * tries
 
 -- the same of a search on its way from so many tries to so many
 pub record AsksOn {J : Type 0} (judged seen : J → ℕ) (old new : J) (before after : ℕ) : Type 0 where
   pub asked : judged new + before ≤ judged old + after
-  pub looked : seen new + 3 * before ≤ seen old + 3 * after
+  pub looked : seen new + 2 * before ≤ seen old + 2 * after
 
 -- a judge has its model still, and the lists that it has committed
 pub record Keeps {J : Type 0} (model_of : J → Model) (lists_of : J → List (List ℕ)) (old new : J) : Type 0 where

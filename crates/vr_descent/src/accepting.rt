@@ -4,7 +4,6 @@ ghost use Rattle.std.specs.Prelude.{◌≡◌, ℕ, ℤ, Bool, false, List, IfSo
 ghost use Rattle.vr_descent.specs.Refused.{CanAsk};
 ghost use Rattle.vr_descent.specs.Scanned.{IsEnough, IsPassedOver};
 ghost use Rattle.vr_model.specs.moves.Moves.{apply};
-ghost use Rattle.vr_model.specs.moves.MoveTests.{is_move};
 ghost use Rattle.vr_model.specs.routes.Rules.{is_valid};
 ghost use Rattle.vr_model.specs.tables.WellFormed.{IsWellFormed};
 ghost use Rattle.vr_model.specs.declared.neighbours.Move.{Move as Step};
@@ -47,23 +46,9 @@ pub trait Accept {
         self.accepts(routes, mv, difference)
     }
 
-    /// Whether the move may be taken where it makes a difference of `least` or more, as far as its numbers tell
-    /// (vehicles, places, nodes): false only where it is not. A search asks this after it has asked about the run of
-    /// the move, and before it makes the change of the move. Takes no memory.
-    #[inline]
-    fn may_accept_by_numbers(&self, routes: &Routes, mv: Move, least: i64) -> bool
-        requires well_formed { IsWellFormed (model self.now) }
-        requires stands { stands_at self.now routes.now.lists }
-        requires valid { IsTrue (is_valid (model self.now) routes.now.lists) }
-        requires mv { IsTrue (is_move (model self.now) routes.now.lists mv) }
-        ensures passed { result ≡ false → IsPassedOver (model self.now) (takes self.now) routes.now.lists mv least }
-    {
-        true
-    }
-
-    /// A difference with which, or with more, no move of a run is taken, which are those that differ from this one in
-    /// their last number. The numbers of `mv`, of which the last is any, need not be those of a move. `None` where none
-    /// is known, whichever the last number is. Takes no memory.
+    /// A difference with which, or with more, no move is taken that differs from this one in its last number alone. The
+    /// numbers of `mv`, of which the last is any, need not be those of a move. `None` where none is known, whichever
+    /// the last number is. Takes no memory.
     #[inline]
     fn open_below(&self, routes: &Routes, mv: Move) -> Option<i64>
         requires well_formed { IsWellFormed (model self.now) }

@@ -35,14 +35,6 @@ impl<'m> Accept for Cheaper<'m> {
     }
 
     #[inline(always)]
-    fn may_accept_by_numbers(&self, _routes: &Routes, _mv: Move, least: i64) -> bool
-        ensures passed { result ≡ false → IsPassedOver self.now.model.now takes_less _routes.now.lists _mv least }
-        ensures exact { result ≡ int_lt least (pos 0) }
-    {
-        least < 0
-    }
-
-    #[inline(always)]
     fn open_below(&self, _routes: &Routes, _mv: Move) -> Option<i64>
         ensures enough { IfSome result (IsEnough self.now.model.now takes_less _routes.now.lists _mv) }
         ensures exact { result ≡ Some (pos 0) }
@@ -67,8 +59,8 @@ impl<'m> Accept for Cheaper<'m> {
 /// `Optimum` where no move of the last lists makes the cost less, and `Tries` where the tries ran out before that was
 /// known.
 ///
-/// The judge is asked about no more moves than are tried, and at most three times as often what a move, or a run of
-/// moves, makes at least.
+/// The judge is asked about no more moves than are tried, and at most twice as often what a move, or a run of moves,
+/// makes at least.
 ///
 /// The only refusal is want of memory. Routes and judge then hold the same valid lists, the judge was asked about no
 /// more moves than the limit has tries, and the watchers have been told the events up to there: of the event in hand,

@@ -33,8 +33,9 @@ pub struct Progress {
 }
 
 impl Progress {
-    /// One scan: the first acceptable move is made and told to the watchers; the tries are counted. What the scan
-    /// refused is known then, but for what names a vehicle whose list the move changed, or changes activity as it did.
+    /// One scan: the first acceptable move is made and told to the watchers; the tries are counted. The rows that the
+    /// scan refused whole are known then, where anything is learned, but for what names a vehicle whose list the move
+    /// changed, or changes activity as it did.
     ///
     /// The only refusal is want of memory. Routes and judge then hold the same valid lists, and of the event in hand
     /// some watchers at the front were told.

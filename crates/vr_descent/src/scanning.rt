@@ -90,11 +90,10 @@ impl<'a, J: Judge, A: Accept> Sieve for Refusals<'a, J, A> {
 }
 
 /// Tries the moves of the model's neighbourhoods in order, at most `rest` of them, up to the first that is acceptable:
-/// the lists after it are valid, and `accept` takes it. Each try is one step of the list of moves, is judged at most
-/// once, and adds at most three to how often the judge is asked what moves make at least: a run of them, and a move by
-/// its numbers and by its change. A move that `accept` does not take with the least difference that it may make is not
-/// judged, and where its numbers tell this, what it changes is not written. Else that is written once, for what it
-/// makes at least and for what `accept` says of that.
+/// the lists after it are valid, and `accept` takes it. Each try is judged at most once, and adds at most two to how
+/// often the judge is asked what moves make at least: a run of them, and a move. What a move changes is written once,
+/// for all that is asked of it. A move that `accept` does not take with the least difference that it may make is not
+/// judged.
 ///
 /// Moves that are known not to be acceptable are tries as any others, and nothing is asked about them. Of the moves of
 /// a run, which differ in their last number, the judge is asked at once which may be taken, and those in front of these
@@ -154,7 +153,8 @@ pub fn scan<J: Judge, A: Accept, L: Ledger>(
     Ok(ScanEnd::Complete { length: place })
 }
 
-// Takes the first move of a list, behind some that are passed over since they are not acceptable, which are counted.
+// The next move of a list that is to be tried: the next of a stretch in hand, of which nothing can be told, or else the
+// first behind moves that are passed over since they are not acceptable, which are counted.
 #[inline(always)]
 fn next_open<J: Judge, A: Accept>(
     list: &mut MoveList,
@@ -184,8 +184,8 @@ fn next_open<J: Judge, A: Accept>(
     open_next(list, judge, routes, accept, known, rest, place)
 }
 
-// So it does where the judge and what is known are to be asked. It is not inlined: what a list holds is large, and
-// stays where it lies.
+// The same where no stretch is in hand: what is known says which blocks are passed over, and the judge which moves of a
+// run. It is not inlined: what a list holds is large, and stays where it lies.
 #[inline(never)]
 fn open_next<J: Judge, A: Accept>(
     list: &mut MoveList,
@@ -217,29 +217,8 @@ fn open_next<J: Judge, A: Accept>(
     list.step(&refusals, judge, place)
 }
 
-// Whether the judge tells by the numbers of a move that it is not acceptable.
-#[inline(always)]
-fn is_ruled_out<J: Judge, A: Accept>(judge: &mut J, routes: &Routes, accept: &A, mv: Move) -> bool
-    requires well_formed { IsWellFormed (A.model accept.now) }
-    requires judge_model { J.model judge.old ≡ A.model accept.now }
-    requires accept_stands { A.stands_at accept.now routes.now.lists }
-    requires holds { HoldSame (A.model accept.now) (J.committed judge.old) routes.now }
-    requires mv { IsTrue (is_move (A.model accept.now) routes.now.lists mv) }
-    ensures refused { IsTrue result → is_acceptable (A.model accept.now) (A.takes accept.now) routes.now.lists mv
-        ≡ false }
-    ensures model { J.model judge.new ≡ J.model judge.old }
-    ensures committed { J.committed judge.new ≡ J.committed judge.old }
-    ensures asked { J.asked judge.new ≡ J.asked judge.old }
-    ensures looked { J.looked judge.new ≤ J.looked judge.old + 1 }
-{
-    match judge.least_by_numbers(routes, mv) {
-        Some(least) => !accept.may_accept_by_numbers(routes, mv, least),
-        None => false,
-    }
-}
-
-// The difference that a move makes, where it is acceptable. What it changes is written over `change`. The judge is
-// asked only where the move may be taken, told first by its numbers, and then by its change.
+// The difference that a move makes, where it is acceptable. What it changes is written over `change`. The move is
+// judged only where it may be taken by what it makes at least.
 #[inline(always)]
 fn try_move<J: Judge, A: Accept, L: Ledger>(
     closed: Closed<'_>,
@@ -260,11 +239,8 @@ fn try_move<J: Judge, A: Accept, L: Ledger>(
     ensures model { J.model judge.new ≡ J.model judge.old }
     ensures committed { J.committed judge.new ≡ J.committed judge.old }
     ensures asked { J.asked judge.new ≤ J.asked judge.old + 1 }
-    ensures looked { J.looked judge.new ≤ J.looked judge.old + 2 }
+    ensures looked { J.looked judge.new ≤ J.looked judge.old + 1 }
 {
-    if is_ruled_out(judge, routes, accept, mv) {
-        return Ok(None);
-    }
     Change::write(closed.model, routes, mv, change);
     let least = judge.least_difference(routes, mv, change);
     if !accept.may_accept(routes, mv, change, least) {

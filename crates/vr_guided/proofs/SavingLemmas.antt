@@ -112,7 +112,7 @@ module _ (model : Model) (well : IsWellFormed model) (p : Penalties) (few : AtMo
       touched_most lists (apply model lists mv) are (moves_keep_lists model well lists mv are h) both low.0 low.1 (unchanged_kept model lists (all_once model lists are) mv h both told)
 
   -- so it is not taken where so much is no gain with the least difference that it may make
-  pub never_a_gain : (lambda : Lambda) → pos 1 ≤ℤ lambda.p → pos 1 ≤ℤ lambda.q → (lists : List (List ℕ)) → IsTrue (is_valid model lists) → (mv : Move) → IsTrue (is_move model lists mv)
+  never_a_gain : (lambda : Lambda) → pos 1 ≤ℤ lambda.p → pos 1 ≤ℤ lambda.q → (lists : List (List ℕ)) → IsTrue (is_valid model lists) → (mv : Move) → IsTrue (is_move model lists mv)
       → (both : Touched) → AreFound model lists mv (Some both) → (saved : ℤ) → touched_weight model p lists both ≤ℤ saved
       → (least : ℤ) → is_gain lambda least (pos 0 -ℤ saved) ≡ false → IsPassedOver model (makes_less model lambda p) lists mv least
   never_a_gain lambda p_some q_some lists valid mv h both told saved most least none after low =

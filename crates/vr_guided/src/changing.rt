@@ -52,6 +52,7 @@ fn node_from(list: &[u32], place: u32, end: u32) -> u32
 /// Valid routes with the sums of their lists.
 #[derive(Clone, Copy)]
 pub struct WeighedRoutes<'m, 'p, 's, 'r> {
+    /// By which the arcs are weighed.
     pub on: Weights<'m, 'p>,
     pub routes: &'r Routes,
     pub route_sums: &'s AllRouteSums,

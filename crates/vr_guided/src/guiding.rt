@@ -48,15 +48,6 @@ impl<'m, 'p, 's> Accept for Guiding<'m, 'p, 's> {
         self.gains_by(routes, mv, change, difference)
     }
 
-    #[inline(always)]
-    fn may_accept_by_numbers(&self, routes: &Routes, mv: Move, least: i64) -> bool {
-        let Some(touched) = Touched::found(self.weights.closed.model, routes, mv) else {
-            return true;
-        };
-        let saved = self.saved_by_lists(routes, touched);
-        self.gains(least, -saved)
-    }
-
     #[inline]
     fn open_below(&self, routes: &Routes, mv: Move) -> Option<i64> {
         let Some(touched) = Touched::found(self.weights.closed.model, routes, mv) else {

@@ -1,13 +1,13 @@
 //! Guided local search.
 //!
 //! [`guide`] scans as a descent does, by the cost with penalties: at each local optimum a penalty rises on those used
-//! arcs whose cost is greatest beside what they were penalised already, which leads the search away. What a move makes
-//! of the penalised arc costs is told by the stretches that its change touches (`changing`, `stretches`), with sums
+//! arcs whose utility, cost over one more than penalty, is greatest, which leads the search away. What a move makes of
+//! the penalised arc costs is told by the stretches that its change touches (`changing`, `stretches`), with sums
 //! along the lists of vehicles (`route_sums`).
 //!
-//! The moves of a row that a scan refused whole are known to be refused until a commit changes the list of one of their
-//! vehicles (or activity, if they change that), or a round penalises an arc of such a list: what a move makes of the
-//! penalised arc costs depends on arcs of these lists alone (`raising`).
+//! Where nothing is paid for global spans, the moves of a row that a scan refused whole are known to be refused until a
+//! commit changes the list of one of their vehicles (or activity, if they change that), or a round penalises an arc of
+//! such a list: what a move makes of the penalised arc costs depends on arcs of these lists alone (`raising`).
 //!
 //! Between scans the sums are those of the lists and the penalties, no arc was penalised more often than a move was
 //! tried, and the best lists so far are valid and of known cost; routes and judge stand as in `vr_descent`.

@@ -17,7 +17,9 @@ use vr_routes::Routes;
 /// What the arcs of one vehicle add up to before each stop, taken on and back.
 #[derive(Drop)]
 pub struct RouteSums {
+    /// Along its list from the start.
     pub on: Sums,
+    /// Along it from the end backwards.
     pub back: Sums,
 }
 

@@ -39,8 +39,8 @@ pub struct Guided {
 /// The report's end is `Optimum` where no move was left to try or no used arc costs anything, so that no penalty could
 /// help, `Tries` where the tries ran out, and `Solutions` where as many solutions were found as the limit allows.
 ///
-/// The judge is asked about no more moves than are tried, and at most three times as often what a move, or a run of
-/// moves, makes at least.
+/// The judge is asked about no more moves than are tried, and at most twice as often what a move, or a run of moves,
+/// makes at least.
 ///
 /// The only refusal is want of memory. Routes and judge then hold the same valid lists, the judge was asked about no
 /// more moves than the limit has tries, and the watchers have been told the events up to there: of the event in hand,

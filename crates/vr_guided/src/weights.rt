@@ -25,6 +25,7 @@ pub struct Weights<'m, 'p> {
 /// Those of a vehicle.
 #[derive(Clone, Copy)]
 pub struct VehicleWeights<'m, 'p> {
+    /// Those of all vehicles.
     pub on: Weights<'m, 'p>,
     pub vehicle: u32,
     /// The model has it.

@@ -1,6 +1,6 @@
 -- What moves add at least, where arcs and groups alone are paid.
 use Rattle.std.proofs.Common.{◌≡◌, ◌∙◌, ℕ, ◌<◌, Bool, true, false, List, refl, sym, ap, subst, arith}
-use Rattle.std.specs.Prelude.{ℤ, pos, ◌+ℤ◌, ◌-ℤ◌, ◌≤ℤ◌, not, ◌&&◌, ◌||◌, nat_lt, IsTrue, Option, Some, None, MatchOption, IfSome, count_by}
+use Rattle.std.specs.Prelude.{ℤ, pos, ◌+ℤ◌, ◌-ℤ◌, ◌≤ℤ◌, ◌&&◌, ◌||◌, nat_lt, IsTrue, Option, Some, None, IfSome, count_by}
 use Rattle.std.proofs.lemmas.Int.{ints}
 use Rattle.vr_model.specs.tables.Numbers.{is_same_number, total_by}
 use Rattle.vr_model.specs.tables.WellFormed.{IsWellFormed}
@@ -16,9 +16,9 @@ use Rattle.vr_routes.specs.Runs.{with_last}
 use Rattle.vr_known.specs.Blocks.{kind_of}
 use Rattle.vr_usecosts.specs.Groups.{SavesAtMost}
 use Rattle.vr_judge.proofs.PairLemmas.{stay_active}
-use Rattle.vr_arccosts.specs.ArcMoves.{arcs_added, is_of_pair}
+use Rattle.vr_arccosts.specs.ArcMoves.{arcs_added}
 use Rattle.vr_arccosts.specs.Runs.{AddsNoLess}
-use Rattle.vr_judge.specs.Costs.{AddArcsAtLeast, AddArcsBut, IsKnownByNumbers, PaysArcsAndGroups, is_least_by_arcs, pays_arcs_and_groups}
+use Rattle.vr_judge.specs.Costs.{AddArcsAtLeast, AddArcsBut, PaysArcsAndGroups, is_least_by_arcs, pays_arcs_and_groups}
 
 -- penalties, by which visits are active
 abbrev penalties : Model → (ℕ → Bool) → ℤ
@@ -87,18 +87,6 @@ pub by_penalties : (model : Model) (lists : List (List ℕ)) (kind : ℕ) (none 
     → (none || nat_lt kind 6) ≡ is_least_by_arcs model lists kind
 by_penalties model lists kind none pays is =
     sym (ap (λ b. b && (is_same_number (penalty_part model lists) (pos 0) || nat_lt kind 6)) pays ∙ ap (λ b. b || nat_lt kind 6) is)
-
--- what is told of the arcs is told by the numbers of a move
-pub numbers_tell : (model : Model) (lists : List (List ℕ)) (mv : Move) (known : Option ℤ) → is_least_by_arcs model lists (kind_of mv) ≡ true
-    → MatchOption known (is_of_pair mv ≡ true) (λ added. added ≡ arcs_added model lists mv) → IsKnownByNumbers model lists mv known
-numbers_tell model lists mv None least pair = ap (λ b. b && not (is_of_pair mv)) least ∙ ap not pair
-numbers_tell model lists mv (Some added) least is = is
-
--- what is known is the least
-pub known_least : (model : Model) (lists : List (List ℕ)) (mv : Move) (known : Option ℤ) (P : Type 0) → MatchOption known P (λ added. added ≡ arcs_added model lists mv)
-    → IsDifferenceBound model lists mv (arcs_added model lists mv) → IfSome known (IsDifferenceBound model lists mv)
-known_least model lists mv None P exact least = cc
-known_least model lists mv (Some added) P exact least = subst (IsDifferenceBound model lists mv) (sym exact) least
 
 -- what is told of the arcs of a model that is the same
 pub known_of : (m model : Model) (lists : List (List ℕ)) (mv : Move) (bound : ℤ) → m ≡ model → AddsNoLess m lists mv bound → AddsNoLess model lists mv bound

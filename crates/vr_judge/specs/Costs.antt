@@ -1,5 +1,5 @@
 -- Where the parts of the cost stand.
-use Rattle.std.specs.Prelude.{◌≡◌, ℕ, ℤ, Bool, false, not, ◌&&◌, ◌||◌, nat_lt, IsTrue, List, Option, MatchOption}
+use Rattle.std.specs.Prelude.{◌≡◌, ℕ, ℤ, Bool, not, ◌&&◌, ◌||◌, nat_lt, IsTrue, List}
 use Rattle.std.specs.Prelude.{pos, ◌*◌, ◌+ℤ◌, ◌-ℤ◌}
 use Rattle.vr_model.specs.tables.Numbers.{is_same_number}
 use Rattle.vr_model.specs.routes.Costs.{arcs_part, cost, penalty_part}
@@ -12,7 +12,7 @@ use Rattle.vr_routes.specs.Runs.{with_last}
 use Rattle.vr_routes.specs.Tours.{Tours}
 use Rattle.vr_known.specs.Blocks.{kind_of}
 use Rattle.vr_arccosts.specs.Along.{KeptAlong, StandsAlong}
-use Rattle.vr_arccosts.specs.ArcMoves.{arcs_added, is_of_pair}
+use Rattle.vr_arccosts.specs.ArcMoves.{arcs_added}
 use Rattle.vr_usecosts.specs.Fixed.{is_some_fixed, KeptFixed, StandsFixed}
 use Rattle.vr_costfilter.specs.GlobalCosts.{is_some_spanned, KeptSpans, StandsSpans}
 use Rattle.vr_usecosts.specs.Groups.{KeptGroups, StandsGroups}
@@ -37,15 +37,6 @@ pays_arcs_and_groups model = (not (is_some_fixed model) && pays_no_plan model) &
 abbrev pub is_least_by_arcs : Model → List (List ℕ) → ℕ → Bool
 is_least_by_arcs model lists kind =
     pays_arcs_and_groups model && (is_same_number (penalty_part model lists) (pos 0) || nat_lt kind 6)
-
--- the numbers of a move say what it adds at least: it adds no less than to the cost of arcs, and is no move of a pair
-abbrev pub is_known_by_numbers : Model → List (List ℕ) → Move → Bool
-is_known_by_numbers model lists mv = is_least_by_arcs model lists (kind_of mv) && not (is_of_pair mv)
-
--- what a move adds to the cost of arcs is known, and nothing only where its numbers do not say what it adds at least
-abbrev pub IsKnownByNumbers : Model → List (List ℕ) → Move → Option ℤ → Type 0
-IsKnownByNumbers model lists mv least =
-    MatchOption least (is_known_by_numbers model lists mv ≡ false) (λ added. added ≡ arcs_added model lists mv)
 
 -- each move of a kind adds no less to the cost of lists than it adds to the cost of their arcs
 abbrev pub AddArcsAtLeast : Model → List (List ℕ) → ℕ → Type 0

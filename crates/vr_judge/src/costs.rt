@@ -2,19 +2,18 @@
 
 ghost use Rattle.std.specs.Prelude.{◌≡◌, ℕ, ◌<◌, ◌≤◌, ◌+ℤ◌, ◌-ℤ◌, ◌≤ℤ◌, true, nat_lt, IsTrue};
 ghost use Rattle.std.specs.Prelude.{IfOk, IfSome, OnOk, OnErr};
-ghost use Rattle.vr_model.specs.moves.MoveTests.{is_move};
 ghost use Rattle.vr_model.specs.routes.Costs.{cost};
 ghost use Rattle.vr_model.specs.routes.Rules.{is_valid};
 ghost use Rattle.vr_model.specs.tables.Tables.{visits};
-ghost use Rattle.vr_routes.specs.Changes.{IsChange, IsMadeOn, after};
+ghost use Rattle.vr_routes.specs.Changes.{IsMadeOn, after};
 ghost use Rattle.vr_routes.specs.Pieces.{changed};
-ghost use Rattle.vr_routes.specs.Judging.{IsDifferenceBound, IsNoLess};
+ghost use Rattle.vr_routes.specs.Judging.{IsNoLess};
 ghost use Rattle.vr_routes.specs.Runs.{with_last};
 ghost use Rattle.vr_known.specs.Blocks.{kind_of};
 ghost use Rattle.vr_usecosts.specs.Fixed.{StandsFixed};
 ghost use Rattle.vr_parts.specs.Bounds.{IsAddedByChange};
 ghost use Rattle.vr_judge.specs.Costs.{AddArcsAtLeast, AddArcsBut, PaysArcsAndGroups, StandsCosts};
-ghost use Rattle.vr_judge.specs.Costs.{is_least_by_arcs, pays_arcs_and_groups, AreChangesInRange, IsKnownByNumbers};
+ghost use Rattle.vr_judge.specs.Costs.{is_least_by_arcs, pays_arcs_and_groups, AreChangesInRange};
 
 use crate::try_both::try_both;
 use std::alloc::Global;
@@ -39,7 +38,7 @@ pub(crate) struct Costs<'m> {
     earliest: Earliest<'m>,
     // room for that of the lists after a change
     earlies: Earlies,
-    // whether arcs and groups alone are paid, so that the numbers of a move tell what it makes at least
+    // whether arcs and groups alone are paid, so that runs of moves are told by them
     arcs_and_groups: bool,
 }
 
@@ -157,22 +156,6 @@ impl<'m> Costs<'m> {
         keeps_activity(mv)
     }
 
-    /// What a move of the committed lists adds to the cost of arcs, by the numbers of the move alone; where the lists
-    /// after it are valid, it adds no less to their cost. `None` only where a fixed cost, a soft bound or a span
-    /// may be paid, where a penalty is paid and moves of the kind change activity, and for a move of a pair.
-    #[inline(always)]
-    pub fn least_by_numbers(&self, routes: &Routes, mv: Move) -> Option<i64>
-        requires stands { StandsCosts self.now routes.now }
-        requires is_one { is_move self.now.model routes.now.lists mv ≡ true }
-        ensures known { IsKnownByNumbers self.now.model routes.now.lists mv result }
-        ensures least { IfSome result (IsDifferenceBound self.now.model routes.now.lists mv) }
-    {
-        if !self.adds_arcs_at_least(routes, mv) {
-            return None;
-        }
-        self.arcs.added_by_numbers(routes, mv)
-    }
-
     // What each move of a run saves at most beside what it adds to the cost of arcs: the penalties of what it puts into
     // a list, less those of what it takes out. The moves of a run differ in their last number. `None` where it is not
     // known of all at once.
@@ -234,20 +217,17 @@ impl<'m> Costs<'m> {
         Ok(sum(arcs, fixed, groups, plans, spans))
     }
 
-    /// What a move of the committed lists adds to their cost at least, where the lists after it are valid: what arcs
-    /// and fixed costs add, and what groups, soft upper bounds, spans and global spans add at least. The caller hands
-    /// in the change that the move makes.
-    pub fn least(&mut self, routes: &Routes, mv: Move, change: &Change) -> i64
+    /// What a change of the committed lists adds to their cost at least, where the lists after it are valid: what arcs
+    /// and fixed costs add, and what groups, soft upper bounds, spans and global spans add at least.
+    pub fn least(&mut self, routes: &Routes, change: &Change) -> i64
         requires stands { StandsCosts self.old routes.now }
         requires made { IsMadeOn routes.now change.now }
-        requires is_one { is_move self.old.model routes.now.lists mv ≡ true }
-        requires change { IsChange self.old.model routes.now.lists mv change.now }
         ensures least { IsTrue (is_valid self.old.model (changed routes.now.lists change.now))
             → result ≤ℤ (cost self.old.model (changed routes.now.lists change.now)
             -ℤ cost self.old.model routes.now.lists) }
         ensures stays { self.new ≡ self.old }
     {
-        let arcs = self.arcs.added_by_move(routes, mv, change);
+        let arcs = self.arcs.added(routes, change);
         let fixed = self.fixed.added(routes, change);
         let groups = self.groups.least(routes, change);
         self.earliest.write_after(routes, change, &mut self.earlies);

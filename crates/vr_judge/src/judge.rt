@@ -1,14 +1,11 @@
 //! The judge that looks only at what a move changes.
 
-ghost use Rattle.std.specs.Prelude.{◌≡◌, ◌+◌, ◌≤◌, IfOk, IfSome, IsTrue, OnOk, OnErr};
+ghost use Rattle.std.specs.Prelude.{◌≡◌, IfOk, IsTrue};
 ghost use Rattle.vr_model.specs.moves.Moves.{apply};
-ghost use Rattle.vr_model.specs.moves.MoveTests.{is_move};
 ghost use Rattle.vr_model.specs.routes.Rules.{is_valid};
 ghost use Rattle.vr_model.specs.tables.Tables.{visits};
 ghost use Rattle.vr_model.specs.tables.WellFormed.{IsWellFormed};
-ghost use Rattle.vr_routes.specs.Changes.{IsChange};
-ghost use Rattle.vr_routes.specs.Judging.{HoldSame, IsDifferenceBound, moved, verdict_of};
-ghost use Rattle.vr_judge.specs.Costs.{IsKnownByNumbers};
+ghost use Rattle.vr_routes.specs.Judging.{HoldSame};
 ghost use Rattle.vr_judge.specs.Rules.{total_weight};
 
 use crate::costs::Costs;
@@ -119,21 +116,6 @@ impl<'m> Judge for FilterJudge<'m> {
     #[inline]
     fn least_difference(&mut self, routes: &Routes, mv: Move, change: &Change) -> i64 {
         self.judging.least_difference(routes, mv, change)
-    }
-
-    // `known` says when there is an answer. The others are those of the trait; `looked` is always 0 here.
-    #[inline(always)]
-    fn least_by_numbers(&mut self, routes: &Routes, mv: Move) -> Option<i64>
-        requires well_formed { IsWellFormed self.old.model }
-        requires holds { HoldSame self.old.model self.old.lists routes.now }
-        requires mv { IsTrue (is_move self.old.model routes.now.lists mv) }
-        ensures known { IsKnownByNumbers self.old.model routes.now.lists mv result }
-        ensures least { IfSome result (IsDifferenceBound self.old.model routes.now.lists mv) }
-        ensures model { self.new.model ≡ self.old.model }
-        ensures committed { self.new.lists ≡ self.old.lists }
-        ensures looked { 0 ≤ 0 + 1 }
-    {
-        self.judging.least_by_numbers(routes, mv)
     }
 
     #[inline(always)]

@@ -1,17 +1,15 @@
 //! Judging a move by a filter of what it changes, and by the parts of the cost.
 
-ghost use Rattle.std.specs.Prelude.{◌≡◌, ◌+◌, ◌≤◌, ℕ, List, IfOk, IfSome, IsTrue, OnOk, OnErr, length};
+ghost use Rattle.std.specs.Prelude.{◌≡◌, ◌+◌, ◌≤◌, ℕ, List, IfOk, IsTrue};
 ghost use Rattle.vr_filter.specs.Filters.{IsSameRule, IsSameWeight};
 ghost use Rattle.vr_model.specs.moves.Moves.{apply};
-ghost use Rattle.vr_model.specs.moves.MoveTests.{is_move};
 ghost use Rattle.vr_model.specs.routes.Rules.{is_valid};
 ghost use Rattle.vr_model.specs.tables.Tables.{visits};
-ghost use Rattle.vr_model.specs.tables.WellFormed.{IsWellFormed};
-ghost use Rattle.vr_judge.specs.Costs.{IsKnownByNumbers, StandsCosts};
+ghost use Rattle.vr_judge.specs.Costs.{StandsCosts};
 ghost use Rattle.vr_judge.specs.Verdicts.{verdict_by};
-ghost use Rattle.vr_routes.specs.Changes.{IsChange, IsMadeOn};
+ghost use Rattle.vr_routes.specs.Changes.{IsMadeOn};
 ghost use Rattle.vr_routes.specs.Pieces.{changed};
-ghost use Rattle.vr_routes.specs.Judging.{HoldSame, IsDifferenceBound, moved, verdict_of};
+ghost use Rattle.vr_routes.specs.Judging.{HoldSame};
 ghost use Rattle.vr_judge.specs.Rules.{keeps_rules, total_weight};
 
 use crate::costs::Costs;
@@ -145,23 +143,8 @@ impl<'m, F: PathFilter + Drop> Judge for Judging<'m, F> {
     }
 
     #[inline]
-    fn least_difference(&mut self, routes: &Routes, mv: Move, change: &Change) -> i64 {
-        self.costs.least(routes, mv, change)
-    }
-
-    // `known` says when there is an answer. The others are those of the trait; `looked` is always 0 here.
-    #[inline(always)]
-    fn least_by_numbers(&mut self, routes: &Routes, mv: Move) -> Option<i64>
-        requires well_formed { IsWellFormed self.old.model }
-        requires holds { HoldSame self.old.model self.old.lists routes.now }
-        requires mv { IsTrue (is_move self.old.model routes.now.lists mv) }
-        ensures known { IsKnownByNumbers self.old.model routes.now.lists mv result }
-        ensures least { IfSome result (IsDifferenceBound self.old.model routes.now.lists mv) }
-        ensures model { self.new.model ≡ self.old.model }
-        ensures committed { self.new.lists ≡ self.old.lists }
-        ensures looked { 0 ≤ 0 + 1 }
-    {
-        self.costs.least_by_numbers(routes, mv)
+    fn least_difference(&mut self, routes: &Routes, _mv: Move, change: &Change) -> i64 {
+        self.costs.least(routes, change)
     }
 
     #[inline(always)]

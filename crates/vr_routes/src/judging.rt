@@ -13,7 +13,7 @@ ghost use Rattle.vr_routes.specs.Runs.{with_last};
 
 use crate::{Change, Routes};
 use std::sync::ledger::Ledger;
-use vr_model::{Move, NoMemory, Steps, laws};
+use vr_model::{Move, NoMemory, Steps};
 
 /// What a judge says of a move.
 #[derive(Clone, Copy, Debug, PartialEq, Eq)]
@@ -78,8 +78,7 @@ pub trait Judge {
         ensures looked { looked self.new ≡ looked self.old }
         ensures steps { steps.new ≤ steps.old + weight self.old mv }
     {
-        let verdict = self.judge(routes, mv, steps)?;
-        Ok(verdict)
+        self.judge(routes, mv, steps)
     }
 
     /// A number that the difference of a move is never below, where the lists after it are valid; of other moves it
@@ -97,25 +96,7 @@ pub trait Judge {
         ensures asked { asked self.new ≡ asked self.old }
         ensures looked { looked self.new ≤ looked self.old + 1 }
     {
-        laws::costs_are_bounded();
         i64::MIN
-    }
-
-    /// A number that the difference of a move is never below, where the lists after it are valid, told by the numbers
-    /// of the move itself (vehicles, places, nodes), so that a search can ask it before it makes the change. `None`
-    /// where the judge cannot tell it so. Takes no memory and counts no steps.
-    #[inline]
-    fn least_by_numbers(&mut self, routes: &Routes, mv: Move) -> Option<i64>
-        requires well_formed { IsWellFormed (model self.old) }
-        requires holds { HoldSame (model self.old) (committed self.old) routes.now }
-        requires mv { IsTrue (is_move (model self.old) routes.now.lists mv) }
-        ensures least { IfSome result (IsDifferenceBound (model self.old) routes.now.lists mv) }
-        ensures model { model self.new ≡ model self.old }
-        ensures committed { committed self.new ≡ committed self.old }
-        ensures asked { asked self.new ≡ asked self.old }
-        ensures looked { looked self.new ≤ looked self.old + 1 }
-    {
-        None
     }
 
     /// Goes over a run of moves, which differ in their last number: those of the numbers from `from` on, below `end`.

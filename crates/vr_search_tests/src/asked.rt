@@ -85,11 +85,6 @@ impl<J: Judge> Judge for Counting<J> {
         self.judge.least_difference(routes, mv, change)
     }
 
-    fn least_by_numbers(&mut self, routes: &Routes, mv: Move) -> Option<i64> {
-        self.looks = self.looks.saturating_add(1);
-        self.judge.least_by_numbers(routes, mv)
-    }
-
     fn first_below(
         &mut self,
         routes: &Routes,

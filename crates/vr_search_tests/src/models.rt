@@ -120,7 +120,7 @@ pub(crate) const SQUARE: &str =
     r#"{"format":1,"nodes":4,"matrices":[[[0,7,5,5],[7,0,5,5],[5,5,0,7],[5,5,7,0]]],
 "vehicles":[{"start":0,"end":0}]}"#;
 
-/// The same square, where the vehicle costs something, so that the numbers of a move tell nothing.
+/// The same square, where the vehicle costs something, so that nothing is told of runs of moves.
 pub(crate) const PAID_SQUARE: &str =
     r#"{"format":1,"nodes":4,"matrices":[[[0,7,5,5],[7,0,5,5],[5,5,0,7],[5,5,7,0]]],
 "vehicles":[{"start":0,"end":0,"fixed":1}]}"#;

@@ -1,6 +1,6 @@
 //! Whole searches by both judges, which must find the same, and how often they ask a judge: no more often than they try
-//! moves, and less often where what a move makes at least rules it out; and at most three times a try what moves make
-//! at least. Of tabu search also which moves it makes, passes over and ends at.
+//! moves, and less often where what a move makes at least rules it out; and at most twice a try what moves make at
+//! least. Of tabu search also which moves it makes, passes over and ends at.
 
 ghost use Rattle.std.specs.Prelude.{IfOk};
 ghost use Rattle.vr_descent.specs.Asking.{AsksFor};
@@ -119,9 +119,9 @@ fn is_asked_enough(by: By, asked: u64, tries: u64) -> bool {
     }
 }
 
-// Whether a judge is asked what moves make at least, and at most three times a try.
+// Whether a judge is asked what moves make at least, and at most twice a try.
 fn is_looked_enough(looked: u64, tries: u64) -> bool {
-    looked > 0 && looked <= tries.saturating_mul(3)
+    looked > 0 && looked <= tries.saturating_mul(2)
 }
 
 /// Whether this is the list of the first vehicle.

@@ -8,7 +8,7 @@ ghost use Rattle.vr_model.specs.tables.WellFormedOnce.{IsWellFormed-prop};
 ghost use Rattle.vr_descent.specs.Asking.{AsksFor, Keeps};
 ghost use Rattle.vr_known.specs.Passing.{Takes, tries_taken, tries_within};
 ghost use Rattle.vr_routes.specs.Changes.{IsChange};
-ghost use Rattle.vr_tabu.specs.Rounds.{IsCeiling, IsJudgeOf, IsDifferenceKnown, IsNoBetter, IsPassedInRound};
+ghost use Rattle.vr_tabu.specs.Rounds.{IsCeiling, IsJudgeOf, IsDifferenceKnown, IsPassedInRound};
 ghost use Rattle.vr_tabu.specs.Rounds.{aspiration, better_with};
 ghost use Rattle.vr_tabu.specs.Rounds.{bound_of, end_with, is_no_less, move_of, tabu_round_end, tries_of};
 ghost use Rattle.vr_tabu.specs.Standing.{IsKnownState};
@@ -66,20 +66,37 @@ impl<'a> Round<'a> {
         ensures routes { result.routes.now ≡ routes.now }
         ensures state { result.state.now ≡ state.now }
     {
-        let ceiling = ceiling_of(model, routes, state);
+        let round = Round {
+            model,
+            routes,
+            state,
+            ceiling: None,
+        };
+        if !state.tabus.are_all_tabu(model) {
+            return round;
+        }
         Round {
             model,
             routes,
             state,
-            ceiling,
+            ceiling: Some(round.aspiration()),
         }
     }
 
+    // Moves that make a lesser difference lead to lists that cost less than any before.
+    #[inline]
+    fn aspiration(&self) -> i64
+        ensures { result ≡ aspiration self.now.model.now self.now.state.now.best.routes.lists
+            self.now.routes.now.lists }
+    {
+        self.state.best.cost - self.state.at.cost
+    }
+
     /// Tries all moves of the lists, where there are at most `rest`, for the best candidate. Each try is judged at most
-    /// once, and the judge is asked at most three times as often what moves make at least: a move that would cost no
-    /// less than the best candidate so far is not judged, and which visits it changes is asked of the others alone. Of
-    /// the moves of a run, which differ in their last number, the judge is asked at once from which on some may cost
-    /// less, and those in front of these are tries as well.
+    /// once, and the judge is asked at most twice as often what moves make at least: a move that would cost no less
+    /// than the best candidate so far is not judged, and which visits it changes is asked of the others alone. Of the
+    /// moves of a run, which differ in their last number, the judge is asked at once from which on some may cost less,
+    /// and those in front of these are tries as well.
     ///
     /// The only refusal is want of memory, which is taken by the judge alone; the judge still holds the same lists
     /// then.
@@ -184,40 +201,9 @@ impl<'a> Round<'a> {
     }
 
     // The better of the best candidate so far and a move, where that is a candidate. What it changes is written over
-    // `change` and `after`.
-    #[inline(always)]
-    fn try_move<J: Judge, L: Ledger>(
-        &self,
-        judge: &mut J,
-        mv: Move,
-        best: Option<Candidate>,
-        change: &mut Change,
-        after: &mut NewList,
-        steps: &mut Steps<L>,
-    ) -> Result<Option<Candidate>, NoMemory>
-        requires judge { IsJudgeOf self.now.model.now self.now.routes.now.lists (J.model judge.old)
-            (J.committed judge.old) }
-        requires mv { IsTrue (is_move self.now.model.now self.now.routes.now.lists mv) }
-        requires best { IfSome best (IsDifferenceKnown self.now.model.now self.now.routes.now.lists) }
-        ensures best { IfOk result (λ found. move_of found ≡ better_with self.now.model.now
-            (tabus_of self.now.state.now.tabus) self.now.state.now.best.routes.lists self.now.routes.now.lists
-            (move_of best) mv) }
-        ensures known { IfOk result (λ found. IfSome found
-            (IsDifferenceKnown self.now.model.now self.now.routes.now.lists)) }
-        ensures model { J.model judge.new ≡ J.model judge.old }
-        ensures committed { J.committed judge.new ≡ J.committed judge.old }
-        ensures asked { J.asked judge.new ≤ J.asked judge.old + 1 }
-        ensures looked { J.looked judge.new ≤ J.looked judge.old + 2 }
-    {
-        if self.is_told_no_better(judge, mv, best) {
-            return Ok(best);
-        }
-        self.weigh(judge, mv, best, change, after, steps)
-    }
-
-    // The same of a move whose numbers do not tell. It stands apart from the loop, which most moves do not leave.
+    // `change` and `after`. It stands apart from the loop, whose list passes over most moves where runs are told.
     #[inline(never)]
-    fn weigh<J: Judge, L: Ledger>(
+    fn try_move<J: Judge, L: Ledger>(
         &self,
         judge: &mut J,
         mv: Move,
@@ -259,25 +245,6 @@ impl<'a> Round<'a> {
         }
     }
 
-    // Whether the judge tells by the numbers of a move that it is no better than the best candidate so far.
-    #[inline]
-    fn is_told_no_better<J: Judge>(&self, judge: &mut J, mv: Move, best: Option<Candidate>) -> bool
-        requires judge { IsJudgeOf self.now.model.now self.now.routes.now.lists (J.model judge.old)
-            (J.committed judge.old) }
-        requires mv { IsTrue (is_move self.now.model.now self.now.routes.now.lists mv) }
-        ensures no_better { IsTrue result → IsNoBetter self.now.model.now self.now.routes.now.lists mv
-            (bound_of best self.now.ceiling) }
-        ensures model { J.model judge.new ≡ J.model judge.old }
-        ensures committed { J.committed judge.new ≡ J.committed judge.old }
-        ensures asked { J.asked judge.new ≡ J.asked judge.old }
-        ensures looked { J.looked judge.new ≤ J.looked judge.old + 1 }
-    {
-        match judge.least_by_numbers(self.routes, mv) {
-            Some(least) => is_no_less(self.bound(best), least),
-            None => false,
-        }
-    }
-
     // Whether a move is tabu, told by its change.
     fn is_tabu(&self, _mv: Move, change: &Change, after: &mut NewList) -> bool
         requires mv { IsTrue (is_move self.now.model.now self.now.routes.now.lists _mv) }
@@ -305,20 +272,11 @@ impl<'a> Round<'a> {
             (tabus_of self.now.state.now.tabus) self.now.routes.now.lists
             (apply self.now.model.now self.now.routes.now.lists mv)) }
     {
-        if difference < aspiration(self.model, self.routes, self.state) {
+        if difference < self.aspiration() {
             return false;
         }
         self.is_tabu(mv, change, after)
     }
-}
-
-// Moves that make a lesser difference lead to lists that cost less than any before.
-#[inline]
-fn aspiration(_model: &Model, _routes: &Routes, state: &State) -> i64
-    requires known { IsKnownState _model.now _routes.now state.now }
-    ensures { result ≡ aspiration _model.now state.now.best.routes.lists _routes.now.lists }
-{
-    state.best.cost - state.at.cost
 }
 
 // Whether a difference is not below a bound, where there is one.
@@ -330,18 +288,6 @@ fn is_no_less(bound: Option<i64>, least: i64) -> bool
         Some(bound) => least >= bound,
         None => false,
     }
-}
-
-// What differences of candidates are below, where each visit is tabu: only moves to lists that cost less than any
-// before are candidates then.
-fn ceiling_of(model: &Model, routes: &Routes, state: &State) -> Option<i64>
-    requires known { IsKnownState model.now routes.now state.now }
-    ensures { IsCeiling model.now (tabus_of state.now.tabus) state.now.best.routes.lists routes.now.lists result }
-{
-    if !state.tabus.are_all_tabu(model) {
-        return None;
-    }
-    Some(aspiration(model, routes, state))
 }
 
 // The end of a round of so many moves.

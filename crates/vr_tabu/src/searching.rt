@@ -55,8 +55,8 @@ pub struct Bounds {
 /// `Tries` where there are more moves than tries left, which then count as used; and `Optimum` where no move may be
 /// made.
 ///
-/// The judge is asked about no more moves than are tried, and at most three times as often what a move, or a run of
-/// moves, makes at least.
+/// The judge is asked about no more moves than are tried, and at most twice as often what a move, or a run of moves,
+/// makes at least.
 ///
 /// The only refusal is want of memory. Routes and judge then hold the same valid lists, the judge was asked about no
 /// more moves than the limit has tries, and the watchers have been told the events up to there: of the event in hand,

@@ -38,7 +38,7 @@ further : (g : Over) (c : In-Some g) → c.loop-mv.place ≤ c.next_open.new.pla
 further g c = at_or_behind c.args.rest c.loop-mv.place c.next_open.new.place _ c.in-Some.ensures.takes.passes.counts (omega (arith, c.ranges.rest)) c.loop-mv.invariant.within
 
 -- how often the judge was asked by then, where a move was tried
-asks : (g : Over) (c : In-Some g) → (later : g.row.J.Denot) (to : ℕ) → g.J.Judge.asked later ≤ g.J.Judge.asked c.next_open.new.judge + 1 → g.J.Judge.looked later ≤ g.J.Judge.looked c.next_open.new.judge + 2 → c.next_open.new.place + 1 ≤ to → suc c.loop-mv.place ≤ to
+asks : (g : Over) (c : In-Some g) → (later : g.row.J.Denot) (to : ℕ) → g.J.Judge.asked later ≤ g.J.Judge.asked c.next_open.new.judge + 1 → g.J.Judge.looked later ≤ g.J.Judge.looked c.next_open.new.judge + 1 → c.next_open.new.place + 1 ≤ to → suc c.loop-mv.place ≤ to
     → AsksFor g.J.Judge.asked g.J.Judge.looked c.args.judge.now later to
 asks g c = asks_tried c.args.rest _ _ _ c.loop-mv.place c.next_open.new.place 1 (omega (arith, c.ranges.rest)) c.loop-mv.invariant.within c.loop-mv.invariant.asked c.in-Some.ensures.asked c.in-Some.ensures.looked
 

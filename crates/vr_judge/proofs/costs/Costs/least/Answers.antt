@@ -1,9 +1,7 @@
-use Rattle.std.proofs.Common.{◌≡◌, ◌∙◌, ◌<◌, ℕ, List, true, ap, subst, sym}
+use Rattle.std.proofs.Common.{◌≡◌, ◌∙◌, ◌<◌, ℕ, List, ap, subst, sym}
 use Rattle.std.specs.Prelude.{◌-ℤ◌, ◌≤ℤ◌, All}
 use Rattle.vr_model.specs.routes.Costs.{arcs_part, cost, fixed_part, penalty_part}
 use Rattle.vr_model.specs.declared.records.Model.{Model}
-use Rattle.vr_model.specs.moves.MoveTests.{is_move}
-use Rattle.vr_routes.specs.Changes.{IsChange}
 use Rattle.vr_routes.specs.Pieces.{changed, joined, part_at}
 use Rattle.vr_costfilter.specs.GlobalCosts.{global_cost_of}
 use Rattle.vr_costfilter.specs.PlanCosts.{soft_and_span}
@@ -12,16 +10,6 @@ use Rattle.vr_judge.specs.Costs.{AreChangesInRange}
 use Rattle.vr_judge.proofs.SumLemmas.{adds_as, adds_least, adds_least_as, read_bounded, read_sum}
 use Rattle.vr_judge.proofs.costs.Costs.least.Goals as goal
 use Rattle.vr_judge.proofs.costs.Costs.least.Goals.{After-least-spans}
-
-pub added_by_move-arcs-requires-clause-is_one : goal.added_by_move-arcs-requires-clause-is_one
-added_by_move-arcs-requires-clause-is_one c =
-    let same : c.self.inside.arcs.model ≡ c.args.self.now.model = ap (λ k. k.arcs.model) c.self.view_is ∙ c.requires.stands.arcs_model in
-    subst (λ (m : Model). is_move m c.args.routes.now.lists c.args.mv ≡ true) (sym same) c.requires.is_one
-
-pub added_by_move-arcs-requires-clause-change : goal.added_by_move-arcs-requires-clause-change
-added_by_move-arcs-requires-clause-change c =
-    let same : c.self.inside.arcs.model ≡ c.args.self.now.model = ap (λ k. k.arcs.model) c.self.view_is ∙ c.requires.stands.arcs_model in
-    subst (λ (m : Model). IsChange m c.args.routes.now.lists c.args.mv c.args.change.now) (sym same) c.requires.change
 
 pub write_after-requires-clause-nodes : goal.write_after-requires-clause-nodes
 write_after-requires-clause-nodes c k low =
@@ -32,9 +20,9 @@ write_after-requires-clause-nodes c k low =
     subst (λ (m : Model). All (λ node. node < m.nodes) (joined lists (part_at parts k).pieces)) same
     (below-after c.args.self.now.plans.model c.args.routes.now h.plans.of_model h.plans.valid parts c.requires.made k low)
 
-bounded : (c : After-least-spans) → AreChangesInRange c.added_by_move-arcs.result c.added-fixed.result c.least-groups.result c.least-plans.result c.least-spans.result
+bounded : (c : After-least-spans) → AreChangesInRange c.added-arcs.result c.added-fixed.result c.least-groups.result c.least-plans.result c.least-spans.result
 bounded c = record {
-  arcs_are = c.added_by_move-arcs.ensures.range;
+  arcs_are = c.added-arcs.ensures.range;
   fixed_are = c.added-fixed.ensures.range;
   groups_are = c.least-groups.ensures.range;
   plans_are = c.least-plans.ensures.range;
@@ -53,7 +41,7 @@ returns-clause-least c valid =
     let seen = c.self.view_is in
     subst (λ x. x ≤ℤ (cost model later -ℤ cost model lists)) (sym (read_sum _ _ _ _ _ (bounded (goal.at.returns-clause-least c).After-least-spans) _ c.sum.ensures))
     (adds_least model lists later
-    (adds_as arcs_part lists later (ap (λ k. k.arcs.model) seen ∙ h.arcs_model) c.added_by_move-arcs.ensures.exact)
+    (adds_as arcs_part lists later (ap (λ k. k.arcs.model) seen ∙ h.arcs_model) c.added-arcs.ensures.exact)
     (adds_as fixed_part lists later (ap (λ k. k.fixed.model) seen ∙ h.fixed_model) c.added-fixed.ensures.exact)
     (adds_least_as penalty_part lists later (ap (λ k. k.groups.model) seen ∙ h.groups_model) c.least-groups.ensures.least valid)
     (adds_least_as soft_and_span lists later (ap (λ k. k.plans.model) seen ∙ h.plans_model) c.least-plans.ensures.least valid)

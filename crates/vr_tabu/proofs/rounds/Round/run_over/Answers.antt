@@ -47,7 +47,7 @@ further : (g : Over) (c : In-Some g) → c.loop-mv.length ≤ c.next_open.new.le
 further g c = at_or_behind c.args.rest c.loop-mv.length c.next_open.new.length _ c.in-Some.ensures.takes.passes.counts (fits c.args.rest c.requires.rest) c.loop-mv.invariant.within
 
 -- how often the judge was asked by then, where a move was tried
-asks : (g : Over) (c : In-Some g) → (later : g.row.J.Denot) (to : ℕ) → g.J.Judge.asked later ≤ g.J.Judge.asked c.next_open.new.judge + 1 → g.J.Judge.looked later ≤ g.J.Judge.looked c.next_open.new.judge + 2 → c.next_open.new.length + 1 ≤ to → suc c.loop-mv.length ≤ to
+asks : (g : Over) (c : In-Some g) → (later : g.row.J.Denot) (to : ℕ) → g.J.Judge.asked later ≤ g.J.Judge.asked c.next_open.new.judge + 1 → g.J.Judge.looked later ≤ g.J.Judge.looked c.next_open.new.judge + 1 → c.next_open.new.length + 1 ≤ to → suc c.loop-mv.length ≤ to
     → AsksFor g.J.Judge.asked g.J.Judge.looked c.args.judge.now later to
 asks g c = asks_tried c.args.rest _ _ _ c.loop-mv.length c.next_open.new.length 1 (fits c.args.rest c.requires.rest) c.loop-mv.invariant.within c.loop-mv.invariant.asked c.in-Some.ensures.asked c.in-Some.ensures.looked
 

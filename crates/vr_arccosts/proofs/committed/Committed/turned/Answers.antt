@@ -1,8 +1,0 @@
-use Rattle.std.proofs.Common.{◌∙◌}
-use Rattle.vr_arccosts.proofs.AddedLemmas.{list-read, turned-adds}
-use Rattle.vr_arccosts.proofs.committed.Committed.turned.Goals as goal
-
-pub returns-clause-exact : goal.returns-clause-exact
-returns-clause-exact c =
-    let a = c.args in
-    list-read c.between_adds.ensures.range (c.between_adds.ensures.value ∙ turned-adds a.self.kept.now.model a.self.routes.now.lists a.v a.a a.b c.requires.is_one)
