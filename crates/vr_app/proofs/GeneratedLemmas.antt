@@ -13,7 +13,7 @@ use Rattle.vr_model.specs.declared.search.Event.{Event}
 use Rattle.vr_gen.proofs.Solved.{generated_models_are_solved}
 use Rattle.vr_app.specs.Found.{found_from}
 use Rattle.vr_app.specs.Reply.{reply, reply_generated, reply_in, reply_of_demo, summary_of_found, summary_of_model}
-use Rattle.vr_app.specs.Runs.{IsNotAccepted, IsUnread}
+use Rattle.vr_app.specs.Runs.{IsNotAccepted, ReadsNothing}
 use Rattle.vr_app.specs.Words.{is_read, request_of}
 use Rattle.vr_app.specs.declared.words.Mode.TheVariants as mode
 use Rattle.vr_app.specs.declared.words.Request.{Request}
@@ -107,7 +107,7 @@ or-else f (inl a) = inl a
 or-else f (inr b) = inr (f b)
 
 -- words that read nothing and are accepted have a reply of status 0
-pub unread-done : (reports : List Event → List ℕ) (words : List (List ℕ)) (bytes : List ℕ) → IsUnread words → IsNotAccepted words ⊎ ((reply reports words bytes).status ≡ 0)
+pub unread-done : (reports : List Event → List ℕ) (words : List (List ℕ)) (bytes : List ℕ) → ReadsNothing words → IsNotAccepted words ⊎ ((reply reports words bytes).status ≡ 0)
 unread-done reports words bytes unread = by (request_of words) unread
   where
     by : (o : Option Request) → is_read o ≡ false → (o ≡ None) ⊎ ((reply_in reports o bytes).status ≡ 0)

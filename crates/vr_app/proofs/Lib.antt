@@ -1,5 +1,6 @@
 pub mod printing
 pub mod InputLemmas
+pub mod ImproveLemmas
 pub mod CauseLemmas
 pub mod MetLemmas
 pub mod SolutionLemmas

@@ -5,7 +5,7 @@ use Rattle.serde_json.specs.Data.{Data}
 use Rattle.vr_json.specs.Trees.{text_line}
 use Rattle.vr_json.specs.declared.fault.Fault.{Fault}
 use Rattle.std.specs.Result.{IsErrAnd}
-use Rattle.vr_json.specs.Reading.{Answers, and_then, required, seen}
+use Rattle.vr_json.specs.Reading.{Answers, required, seen}
 use Rattle.vr_json.specs.declared.fault.ReadFail.{ReadFail}
 use Rattle.vr_json.specs.declared.fault.ReadFail.TheVariants.{Refused}
 use Rattle.vr_json.proofs.Readings.{EachEnsures, Ensures, after, any_value, gives, required_ensures}
@@ -17,8 +17,6 @@ use Rattle.vr_check.proofs.AllMet.{met_keeps_all_rules}
 use Rattle.vr_check.specs.Laws.{KeepsAllRules}
 use Rattle.vr_check.specs.declared.finding.Finding.{Finding}
 use Rattle.vr_check.specs.declared.finding.Finding.TheVariants.{Meets, Broken}
-use Rattle.vr_app.specs.Answers.{AnswersReply, replied}
-use Rattle.vr_app.specs.declared.answer.Answer.{Answer}
 use Rattle.vr_app.specs.Causes.{HasFault, IsNotJson, IsReadAs, IsTooLong}
 use Rattle.vr_app.specs.Checked.{Checked, checked_at, checked_of, found_in, is_met}
 use Rattle.vr_app.specs.Input.{max_input, input_value}
@@ -27,8 +25,8 @@ use Rattle.vr_printed.specs.Shape.{printed_in}
 use Rattle.vr_printed.specs.declared.printed.Printed.{Printed}
 use Rattle.vr_app.specs.Met.{IsBrokenBy, HasKept, IsMetBy, IsSpannedBy}
 use Rattle.vr_app.specs.Spans.{printed_assignment, spans_of, spans_tree}
-use Rattle.vr_app.specs.Reply.{Reply, answer_tree, not_json, refused, reply, reply_in, reply_to_checked, reply_to_finding, reply_to_input, reply_to_question, reply_to_value, too_long}
-use Rattle.vr_app.specs.Runs.{Asks, IsRead, ReadsJson}
+use Rattle.vr_app.specs.Reply.{Reply, answer_tree, not_json, refused, reply, reply_in, reply_to_checked, reply_to_finding, reply_to_input, reply_to_value, too_long}
+use Rattle.vr_app.specs.Runs.{Asks, ReadsInput, ReadsJson}
 use Rattle.vr_app.specs.Texts.{refused_tree}
 use Rattle.vr_app.specs.Words.{is_read, reads_json, request_of}
 use Rattle.vr_app.specs.declared.words.Question.{Question}
@@ -43,17 +41,6 @@ use Rattle.vr_app.proofs.InputLemmas.{of_input, reply-short}
 use Rattle.vr_app.proofs.SpanLemmas.{reports_shortest}
 
 -- ---- what is read
-
--- a step gave x, and the rest answers, of a function of the value
-pub then_seen : {A B C : Type 0} {r : Result A Fault} {x : A} {a : Result C ReadFail} (g : B → C) (f : A → Result B Fault) → Answers (Ok x) r → Answers a (seen g (f x)) → Answers a (seen g (and_then r f))
-unfolding and_then
-then_seen g f h k = rw h.value k
-
--- a step failed, and its failure is the answer
-pub stops_seen : {A B C : Type 0} {r : Result A Fault} {e : ReadFail} (a : Result C ReadFail) (g : B → C) (f : A → Result B Fault) → Answers {A = A} (Err e) r → IsErrAnd a (λ d. d ≡ e) → Answers a (seen g (and_then r f))
-unfolding and_then
-stops_seen (Ok x) g f h same = absurd same
-stops_seen {e = e} (Err d) g f h same = record { value = tt; refused = λ fault is. let fails : e ≡ Refused fault = cc in rw (h.refused fault (ap Err fails)) refl }
 
 -- a failure stays one, of a function of the value
 pub seen_fails : {A B : Type 0} (P : ReadFail → Type 0) (g : A → B) (r : Result A ReadFail) → IsErrAnd r P → IsErrAnd (seen g r) P
@@ -84,22 +71,6 @@ checked_ensures d =
 
 pub checked-well_formed : (d : Data) (it : Checked) → checked_of d ≡ Ok it → IsWellFormed it.model
 checked-well_formed d it is = (checked_ensures d).of_value it is
-
--- an answer and the reply that it is
-pub reply_same : (r : Reply) (a : Answer) → AnswersReply r a → replied a ≡ r
-reply_same r a is = let status = is.status_is in let text = is.text_is in λ i. record { status = status i; text = text i }
-
-pub answers_its_reply : (a : Answer) → AnswersReply (replied a) a
-answers_its_reply a = record { status_is = refl; text_is = refl }
-
--- what was answered, or the first fault, is the reply
-pub found-replies : (asked : Question) (m : Result Checked Fault) (r : Reply) → seen (reply_to_question asked) m ≡ Ok r → r ≡ reply_to_checked asked m
-found-replies asked (Ok it) r e = let k : reply_to_question asked it ≡ r = cc in sym k
-found-replies asked (Err fault) r e = absurd cc
-
-pub fault-replies : (asked : Question) (m : Result Checked Fault) (fault : Fault) → seen (reply_to_question asked) m ≡ Err fault → refused fault ≡ reply_to_checked asked m
-fault-replies asked (Ok it) fault e = absurd cc
-fault-replies asked (Err other) fault e = let k : other ≡ fault = cc in ap refused (sym k)
 
 -- ---- which inputs have a status
 
@@ -205,7 +176,7 @@ pub record ClassifiesText (words : List (List ℕ)) (bytes : List ℕ) (status :
   pub too_long : (status ≡ 8) ↔ IsTooLong bytes
   pub not_json : (status ≡ 4) ↔ (ReadsJson words × IsNotJson bytes)
 
-pub read-classifies : (reports : List Event → List ℕ) (words : List (List ℕ)) (bytes : List ℕ) → IsRead words → ClassifiesText words bytes (reply reports words bytes).status
+pub read-classifies : (reports : List Event → List ℕ) (words : List (List ℕ)) (bytes : List ℕ) → ReadsInput words → ClassifiesText words bytes (reply reports words bytes).status
 read-classifies reports words bytes h = record { too_long = long (request_of words) h; not_json = json (request_of words) }
   where
     long : (o : Option Request) → is_read o ≡ true → ((reply_in reports o bytes).status ≡ 8) ↔ IsTooLong bytes

@@ -14,7 +14,7 @@ use Rattle.vr_app.specs.Ended.{Ends, IsCut, IsSilent, IsAnswered, Ran, Responds}
 use Rattle.vr_app.specs.Input.{model_of_value}
 use Rattle.vr_app.specs.Met.{IsBrokenBy, IsMetBy, IsSpannedBy}
 use Rattle.vr_app.specs.Reply.{Replies, Reply, reply, reply_in, reply_to_file}
-use Rattle.vr_app.specs.Runs.{Imports, IsAskedFor, IsAsking, IsChecked, IsNotAccepted, IsRead, IsStatusOfAnswer, IsSolutionAsked, IsSpanned, IsUnread, WhereAnswered, WhereAsked, WhereImported, WhereSolved, WhereKnown}
+use Rattle.vr_app.specs.Runs.{Imports, IsAskedFor, IsAsking, AsksCheck, IsNotAccepted, ReadsInput, IsStatusOfAnswer, IsSolutionAsked, AsksSpans, ReadsNothing, WhereAnswered, WhereAsked, WhereImported, WhereSolved, WhereKnown}
 use Rattle.vr_app.specs.Status.{status_number}
 use Rattle.vr_app.specs.Texts.{refused_tree}
 use Rattle.vr_app.specs.Words.{is_read}
@@ -116,13 +116,13 @@ module _ {K : Type 0} (written : K → Option (List ℕ)) (faults : K → ℕ) (
 
 -- ---- the clauses of a run
 
-module _ {K : Type 0} {written : K → Option (List ℕ)} {faults : K → ℕ} {reports : List Event → List ℕ} {words : List (List ℕ)} {left rest : Option (List ℕ)} {failed fails : ℕ} {old new : K} {status : ℕ}
-    (ran : Ran written faults reports words left rest failed fails old new status) where
+module _ {K : Type 0} {written : K → Option (List ℕ)} {faults : K → ℕ} {reports : List Event → List ℕ} {words : List (List ℕ)} {left_before left_after : Option (List ℕ)} {read_faults_before read_faults_after : ℕ} {old new : K} {status : ℕ}
+    (ran : Ran written faults reports words left_before left_after read_faults_before read_faults_after old new status) where
   abbrev P : Answer → Type 0
-  P = Responds reports words left rest
+  P = Responds reports words left_before left_after
 
   abbrev F : Type 0
-  F = Rose failed fails × IsRead words
+  F = Rose read_faults_before read_faults_after × ReadsInput words
 
   settles : (answer : Answer) → P answer → IsStatusOfAnswer (status_number answer.status)
   settles answer is = answer-settles answer.status is.settled
@@ -143,51 +143,51 @@ module _ {K : Type 0} {written : K → Option (List ℕ)} {faults : K → ℕ} {
   written-replies : {r : Reply} (is : IsAnswered P (written old) (written new) status) → AnswersReply r is.answer → Replies r (written old) (written new) status
   written-replies is has = record { status = is.status_is ∙ has.status_is; written = subst (Took (written old) (written new)) has.text_is is.took }
 
-  pub replies : IsStatusOfAnswer status → WhereKnown left (λ bytes. Replies (reply reports words bytes) (written old) (written new) status)
+  pub replies : IsStatusOfAnswer status → WhereKnown left_before (λ bytes. Replies (reply reports words bytes) (written old) (written new) status)
   replies settled bytes known = let is = is_written settled in written-replies is (is.responds.replies bytes known)
 
-  pub unread : IsStatusOfAnswer status → IsUnread words → (bytes : List ℕ) → Replies (reply reports words bytes) (written old) (written new) status
+  pub unread : IsStatusOfAnswer status → ReadsNothing words → (bytes : List ℕ) → Replies (reply reports words bytes) (written old) (written new) status
   unread settled none bytes = let is = is_written settled in written-replies is (is.responds.unread none bytes)
 
   -- which inputs have the status
-  pub classifies-text : WhereAnswered words left status (λ bytes. ClassifiesText words bytes status)
+  pub classifies-text : WhereAnswered words left_before status (λ bytes. ClassifiesText words bytes status)
   classifies-text settled reads bytes known = subst (ClassifiesText words bytes) (sym (replies settled bytes known).status) (read-classifies reports words bytes reads)
 
-  pub classifies-first : WhereSolved words left status (λ bytes. ClassifiesFirst bytes status)
+  pub classifies-first : WhereSolved words left_before status (λ bytes. ClassifiesFirst bytes status)
   classifies-first settled solves bytes known = subst (ClassifiesFirst bytes) (sym (replies settled bytes known).status) (solved-classifies reports words bytes solves)
 
-  pub classifies-met : WhereAsked words left status (λ bytes. ClassifiesMet bytes status)
+  pub classifies-met : WhereAsked words left_before status (λ bytes. ClassifiesMet bytes status)
   classifies-met settled asks bytes known = subst (ClassifiesMet bytes) (sym (replies settled bytes known).status) (asked_words-classify asks.0 reports words bytes asks.1)
 
-  pub classifies-file : WhereImported words left status (λ vehicles bytes. ClassifiesFile vehicles bytes status)
+  pub classifies-file : WhereImported words left_before status (λ vehicles bytes. ClassifiesFile vehicles bytes status)
   classifies-file settled vehicles imports bytes known =
       let P : Option Request → Type 0 = λ o. ClassifiesFile vehicles bytes (reply_in reports o bytes).status in
       subst (ClassifiesFile vehicles bytes) (sym (replies settled bytes known).status) (subst P (sym imports) (file-classifies vehicles bytes))
 
   -- which texts are written
-  pub solution : status ≡ 0 → (asked : Mode) → IsAskedFor asked words → WhereKnown left (λ bytes. (text : List ℕ) × IsAnsweredBy asked reports bytes text × Took (written old) (written new) text)
+  pub solution : status ≡ 0 → (asked : Mode) → IsAskedFor asked words → WhereKnown left_before (λ bytes. (text : List ℕ) × IsAnsweredBy asked reports bytes text × Took (written old) (written new) text)
   solution e asked is bytes known =
       let r = replies (settled_by settled_0 e) bytes known in
       ((reply reports words bytes).text, reply-answered asked reports bytes words is (sym r.status ∙ e), r.written)
 
-  pub kept : status ≡ 0 → IsChecked words → WhereKnown left (λ bytes. (text : List ℕ) × IsMetBy bytes text × Took (written old) (written new) text)
+  pub kept : status ≡ 0 → AsksCheck words → WhereKnown left_before (λ bytes. (text : List ℕ) × IsMetBy bytes text × Took (written old) (written new) text)
   kept e checks bytes known =
       let r = replies (settled_by settled_0 e) bytes known in
       ((reply reports words bytes).text, kept-met bytes _ ((asked_words-find question.Check reports words bytes checks).met (sym r.status ∙ e)), r.written)
 
-  pub spans : status ≡ 0 → IsSpanned words → WhereKnown left (λ bytes. (text : List ℕ) × IsSpannedBy bytes text × Took (written old) (written new) text)
+  pub spans : status ≡ 0 → AsksSpans words → WhereKnown left_before (λ bytes. (text : List ℕ) × IsSpannedBy bytes text × Took (written old) (written new) text)
   spans e asks bytes known =
       let r = replies (settled_by settled_0 e) bytes known in
       ((reply reports words bytes).text, kept-spanned bytes _ ((asked_words-find question.Spans reports words bytes asks).met (sym r.status ∙ e)), r.written)
 
-  pub model : status ≡ 0 → (vehicles : ℕ) → Imports vehicles words → WhereKnown left (λ bytes. (tree : Data) × IsImportedAs vehicles bytes tree × Took (written old) (written new) (text_line tree))
+  pub model : status ≡ 0 → (vehicles : ℕ) → Imports vehicles words → WhereKnown left_before (λ bytes. (tree : Data) × IsImportedAs vehicles bytes tree × Took (written old) (written new) (text_line tree))
   model e vehicles imports bytes known =
       let r = replies (settled_by settled_0 e) bytes known in
       let same : reply reports words bytes ≡ reply_to_file vehicles bytes = ap (λ o. reply_in reports o bytes) imports in
       let is = file-reported vehicles bytes (sym (ap (λ reply. reply.status) same) ∙ sym r.status ∙ e) in
       (is.0, is.1, subst (Took (written old) (written new)) (ap (λ reply. reply.text) same ∙ is.2) r.written)
 
-  pub flaw : status ≡ 5 → (vehicles : ℕ) → Imports vehicles words → WhereKnown left (λ bytes. (fault : Fault) → HasFlaw vehicles bytes fault → Took (written old) (written new) (text_line (refused_tree fault)))
+  pub flaw : status ≡ 5 → (vehicles : ℕ) → Imports vehicles words → WhereKnown left_before (λ bytes. (fault : Fault) → HasFlaw vehicles bytes fault → Took (written old) (written new) (text_line (refused_tree fault)))
   flaw e vehicles imports bytes known fault has =
       let same : reply reports words bytes ≡ reply_to_file vehicles bytes = ap (λ o. reply_in reports o bytes) imports in
       subst (Took (written old) (written new)) (ap (λ reply. reply.text) same ∙ file-refused vehicles bytes fault has) (replies (settled_by settled_5 e) bytes known).written
@@ -198,50 +198,50 @@ module _ {K : Type 0} {written : K → Option (List ℕ)} {faults : K → ℕ} {
   pub not_met_only : status ≡ 9 → IsAsking words
   not_met_only e = let is = is_written (settled_by settled_9 e) in is.responds.not_met_only (same_status is.answer.status all.NotMet (sym is.status_is ∙ e))
 
-  pub broken : status ≡ 9 → WhereKnown left (λ bytes. (text : List ℕ) × IsBrokenBy bytes text × Took (written old) (written new) text)
+  pub broken : status ≡ 9 → WhereKnown left_before (λ bytes. (text : List ℕ) × IsBrokenBy bytes text × Took (written old) (written new) text)
   broken e bytes known =
       let r = replies (settled_by settled_9 e) bytes known in
       let asks = not_met_only e in
       ((reply reports words bytes).text, (asked_words-find asks.0 reports words bytes asks.1).broken (sym r.status ∙ e), r.written)
 
-  pub refusal : status ≡ 5 → IsSolutionAsked words → WhereKnown left (λ bytes. (fault : Fault) → HasFault model_of_value bytes fault → Took (written old) (written new) (text_line (refused_tree fault)))
+  pub refusal : status ≡ 5 → IsSolutionAsked words → WhereKnown left_before (λ bytes. (fault : Fault) → HasFault model_of_value bytes fault → Took (written old) (written new) (text_line (refused_tree fault)))
   refusal e solves bytes known fault has = subst (Took (written old) (written new)) (solved-refused reports words bytes fault solves has) (replies (settled_by settled_5 e) bytes known).written
 
-  pub check_refusal : status ≡ 5 → IsAsking words → WhereKnown left (λ bytes. (fault : Fault) → HasFault checked_of bytes fault → Took (written old) (written new) (text_line (refused_tree fault)))
+  pub check_refusal : status ≡ 5 → IsAsking words → WhereKnown left_before (λ bytes. (fault : Fault) → HasFault checked_of bytes fault → Took (written old) (written new) (text_line (refused_tree fault)))
   check_refusal e asks bytes known fault has = subst (Took (written old) (written new)) (asked_words-refused asks.0 reports words bytes asks.1 fault has) (replies (settled_by settled_5 e) bytes known).written
 
   -- of words that read nothing
   pub usage : IsStatusOfAnswer status → IsNotAccepted words → status ≡ 1
   usage settled none = (unread settled (ap is_read none) []).status ∙ ap (λ o. (reply_in reports o []).status) none
 
-  pub numbered : IsStatusOfAnswer status → IsUnread words → IsNotAccepted words ⊎ (status ≡ 0)
+  pub numbered : IsStatusOfAnswer status → ReadsNothing words → IsNotAccepted words ⊎ (status ≡ 0)
   numbered settled none = or-else (λ e. (unread settled none []).status ∙ e) (unread-done reports words [] none)
 
   -- where the sink fails
   pub write_fault : status ≡ 3 → Rose (faults old) (faults new)
   write_fault e = (is_cut e).fault
 
-  pub front : status ≡ 3 → WhereKnown left (λ bytes. TookFront (written old) (written new) (reply reports words bytes).text)
+  pub front : status ≡ 3 → WhereKnown left_before (λ bytes. TookFront (written old) (written new) (reply reports words bytes).text)
   front e bytes known = let is = is_cut e in subst (TookFront (written old) (written new)) (is.responds.replies bytes known).text_is is.took
 
-  pub unread_front : status ≡ 3 → IsUnread words → (bytes : List ℕ) → TookFront (written old) (written new) (reply reports words bytes).text
+  pub unread_front : status ≡ 3 → ReadsNothing words → (bytes : List ℕ) → TookFront (written old) (written new) (reply reports words bytes).text
   unread_front e none bytes = let is = is_cut e in subst (TookFront (written old) (written new)) (is.responds.unread none bytes).text_is is.took
 
   -- where neither source nor sink fails
   whole : (F → ⊥) → (Rose (faults old) (faults new) → ⊥) → (status ≡ 7) ⊎ IsAnswered P (written old) (written new) status
   whole = end-whole written faults P F old new status ran.ends
 
-  pub complete : WhereKnown left (λ bytes. (Rose failed fails → ⊥) → (Rose (faults old) (faults new) → ⊥) → (status ≡ 7) ⊎ Replies (reply reports words bytes) (written old) (written new) status)
+  pub complete : WhereKnown left_before (λ bytes. (Rose read_faults_before read_faults_after → ⊥) → (Rose (faults old) (faults new) → ⊥) → (status ≡ 7) ⊎ Replies (reply reports words bytes) (written old) (written new) status)
   complete bytes known calm quiet = or-else (λ is. written-replies is (is.responds.replies bytes known)) (whole (λ f. calm f.0) quiet)
 
-  pub complete_unread : IsUnread words → (Rose (faults old) (faults new) → ⊥) → (bytes : List ℕ) → (status ≡ 7) ⊎ Replies (reply reports words bytes) (written old) (written new) status
+  pub complete_unread : ReadsNothing words → (Rose (faults old) (faults new) → ⊥) → (bytes : List ℕ) → (status ≡ 7) ⊎ Replies (reply reports words bytes) (written old) (written new) status
   complete_unread none quiet bytes = or-else (λ is. written-replies is (is.responds.unread none bytes)) (whole (λ f. let k = sym f.1 ∙ none in absurd cc) quiet)
 
   -- the source was read to its end
-  pub emptied : IsRead words → status ≢ 2 → status ≢ 7 → status ≢ 8 → WhereKnown left (λ bytes. (status ≡ 3 → (reply reports words bytes).status ≢ 8) → rest ≡ Some [])
+  pub emptied : ReadsInput words → status ≢ 2 → status ≢ 7 → status ≢ 8 → WhereKnown left_before (λ bytes. (status ≡ 3 → (reply reports words bytes).status ≢ 8) → left_after ≡ Some [])
   emptied reads read memory long bytes known cut_long = by ran.ends
     where
-      by : Ends written faults P F old new status → rest ≡ Some []
+      by : Ends written faults P F old new status → left_after ≡ Some []
       by (inl is) = is.responds.emptied reads (λ e. long (is.status_is ∙ ap status_number e)) bytes known
       by (inr (inl is)) = is.responds.emptied reads (λ e. cut_long is.status_is (sym (is.responds.replies bytes known).status_is ∙ ap status_number e)) bytes known
       by (inr (inr (inl silent))) = absurd (read silent.0.status_is)

@@ -16,10 +16,6 @@ pub record AnswersReply (reply : Reply) (answer : Answer) : Type 0 where
   pub status_is : status_number answer.status ≡ reply.status
   pub text_is : answer.text ≡ reply.text
 
--- the reply that an answer is
-abbrev pub replied : Answer → Reply
-replied answer = record { status = status_number answer.status; text = answer.text }
-
 -- the status of an answer to a file
 abbrev pub IsOfFile : Status → Type 0
 IsOfFile status = (status ≡ all.Done) ⊎ (status ≡ all.Refused)

@@ -6,7 +6,7 @@ use Rattle.vr_model.specs.first.FirstSolutions.{first_lists}
 use Rattle.vr_model.specs.declared.records.Model.{Model}
 use Rattle.vr_model.specs.declared.search.Event.{Event}
 use Rattle.vr_app.specs.Input.{max_input, input_value, model_of_value}
-use Rattle.vr_app.specs.Found.{Found, answer, line_of_found}
+use Rattle.vr_app.specs.Found.{Found, found_for, line_of_found}
 use Rattle.vr_app.specs.Reply.{with_reports}
 use Rattle.vr_app.specs.Solutions.{PrintsSolution}
 use Rattle.vr_app.specs.declared.words.Mode.{Mode}
@@ -75,6 +75,6 @@ pub record IsAnsweredBy (asked : Mode) (reports : List Event → List ℕ) (byte
   pub model : Model
   pub found : Found
   pub is_model : IsModel bytes model
-  pub is_found : answer asked model ≡ Some found
+  pub is_found : found_for asked model ≡ Some found
   pub prints : PrintsSolution model (line_of_found model found)
   pub text_is : text ≡ with_reports asked (line_of_found model found) (reports found.outcome.events)

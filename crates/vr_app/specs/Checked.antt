@@ -15,8 +15,8 @@ pub record Checked : Type 0 where
   pub solution : Data
 
 -- a model and a tree beside it
-abbrev pub checked_pair : Model → Data → Checked
-checked_pair model solution = record { model = model; solution = solution }
+abbrev pub checked_together : Model → Data → Checked
+checked_together model solution = record { model = model; solution = solution }
 
 -- any tree, as it stands
 abbrev pub any_tree : ReaderOf Data
@@ -26,18 +26,14 @@ any_tree path d = Ok d
 abbrev pub checked_fields : List (List ℕ)
 checked_fields = codes "model" ∷ codes "solution" ∷ []
 
--- what is checked of a model that was read, or the first fault: that there is no solution, then an unknown field
-abbrev pub checked_with : Model → ReaderOf Checked
-checked_with model path d = do
-  solution ← required (codes "solution") any_tree path d
-  others ← known checked_fields path d
-  Ok (checked_pair model solution)
-
--- what is checked, or the first fault: those of the model at its place, then those behind it
+-- what is checked, or the first fault: those of the model at its place, then that there is no solution, then an unknown
+-- field
 unfoldable pub checked_at : ReaderOf Checked
 checked_at path d = do
   model ← required (codes "model") read_model path d
-  checked_with model path d
+  solution ← required (codes "solution") any_tree path d
+  others ← known checked_fields path d
+  Ok (checked_together model solution)
 
 -- the same of a whole input
 abbrev pub checked_of : Data → Result Checked Fault

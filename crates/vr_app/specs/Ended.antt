@@ -5,20 +5,20 @@ use Rattle.vr_io.specs.Whole.{TookFront}
 use Rattle.vr_model.specs.declared.search.Event.{Event}
 use Rattle.vr_app.specs.Answers.{AnswersReply, IsOfAnswer}
 use Rattle.vr_app.specs.Reply.{reply}
-use Rattle.vr_app.specs.Runs.{IsAsking, IsNotAccepted, IsRead, IsUnread, WhereKnown}
+use Rattle.vr_app.specs.Runs.{IsAsking, IsNotAccepted, ReadsInput, ReadsNothing, WhereKnown}
 use Rattle.vr_app.specs.Status.{status_number}
 use Rattle.vr_app.specs.declared.answer.Answer.{Answer}
 use Rattle.vr_app.specs.declared.status.Status.{Status}
 use Rattle.vr_app.specs.declared.status.Status.TheVariants as all
 
 -- the answer is the one to these words and to a source that has this left before, and this after
-pub record Responds (reports : List Event → List ℕ) (words : List (List ℕ)) (left rest : Option (List ℕ))
+pub record Responds (reports : List Event → List ℕ) (words : List (List ℕ)) (left_before left_after : Option (List ℕ))
     (answer : Answer) : Type 0 where
-  pub replies : WhereKnown left (λ bytes. AnswersReply (reply reports words bytes) answer)
-  pub unread : IsUnread words → (bytes : List ℕ) → AnswersReply (reply reports words bytes) answer
+  pub replies : WhereKnown left_before (λ bytes. AnswersReply (reply reports words bytes) answer)
+  pub unread : ReadsNothing words → (bytes : List ℕ) → AnswersReply (reply reports words bytes) answer
   pub usage_only : answer.status ≡ all.Usage → IsNotAccepted words
   pub not_met_only : answer.status ≡ all.NotMet → IsAsking words
-  pub emptied : IsRead words → answer.status ≢ all.TooLong → WhereKnown left (λ bytes. rest ≡ Some [])
+  pub emptied : ReadsInput words → answer.status ≢ all.TooLong → WhereKnown left_before (λ bytes. left_after ≡ Some [])
   pub settled : IsOfAnswer answer.status
 
 -- an answer of which P holds was written, and the status is its own
@@ -29,12 +29,13 @@ pub record IsAnswered (P : Answer → Type 0) (old new : Option (List ℕ)) (sta
   pub took : Took old new answer.text
 
 -- the sink failed at such an answer, and took a front of it
-pub record IsCut (P : Answer → Type 0) (old new : Option (List ℕ)) (failed fails status : ℕ) : Type 0 where
+pub record IsCut (P : Answer → Type 0) (old new : Option (List ℕ)) (write_faults_before write_faults_after : ℕ)
+    (status : ℕ) : Type 0 where
   pub answer : Answer
   pub responds : P answer
   pub status_is : status ≡ status_number all.WriteFault
   pub took : TookFront old new answer.text
-  pub fault : Rose failed fails
+  pub fault : Rose write_faults_before write_faults_after
 
 -- there is no answer, for a cause of this status, and the sink is as it was
 pub record IsSilent {K : Type 0} (cause : Status) (old new : K) (status : ℕ) : Type 0 where
@@ -52,5 +53,7 @@ Ends written faults P failed old new status =
 
 -- a run of these words ends so: the source has this left before and after it, and failed so often
 pub record Ran {K : Type 0} (written : K → Option (List ℕ)) (faults : K → ℕ) (reports : List Event → List ℕ)
-    (words : List (List ℕ)) (left rest : Option (List ℕ)) (failed fails : ℕ) (old new : K) (status : ℕ) : Type 0 where
-  pub ends : Ends written faults (Responds reports words left rest) (Rose failed fails × IsRead words) old new status
+    (words : List (List ℕ)) (left_before left_after : Option (List ℕ)) (read_faults_before read_faults_after : ℕ)
+    (old new : K) (status : ℕ) : Type 0 where
+  pub ends : Ends written faults (Responds reports words left_before left_after)
+      (Rose read_faults_before read_faults_after × ReadsInput words) old new status

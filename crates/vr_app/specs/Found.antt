@@ -28,8 +28,8 @@ abbrev pub found_from : Mode → Model → List (List ℕ) → Found
 found_from asked model lists = record { first = lists; outcome = searched asked model lists }
 
 -- what a mode finds for a model; none exactly where the construction of a first solution gives none
-abbrev pub answer : Mode → Model → Option Found
-answer asked model = option_map (found_from asked model) (first_lists model)
+abbrev pub found_for : Mode → Model → Option Found
+found_for asked model = option_map (found_from asked model) (first_lists model)
 
 -- the events of what was found
 abbrev pub found_events : Option Found → List Event

@@ -15,7 +15,7 @@ use Rattle.vr_app.specs.Input.{max_input, input_value, model_of_value}
 use Rattle.vr_app.specs.Texts.{status_tree, refused_tree, met_tree, not_met_tree, summary_of, summary_tree}
 use Rattle.vr_app.specs.Checked.{Checked, checked_of, found_in}
 use Rattle.vr_app.specs.Spans.{spans_of}
-use Rattle.vr_app.specs.Found.{Found, answer, line_of_found}
+use Rattle.vr_app.specs.Found.{Found, found_for, line_of_found}
 use Rattle.vr_app.specs.declared.words.Mode.{Mode}
 use Rattle.vr_app.specs.declared.words.Mode.TheVariants as mode
 use Rattle.vr_app.specs.declared.words.Question.{Question}
@@ -75,7 +75,7 @@ reply_to_found asked reports model (Some found) =
 -- the reply to a model, or to the first fault
 abbrev pub reply_to_model : Mode → (List Event → List ℕ) → Result Model Fault → Reply
 reply_to_model asked reports (Err fault) = refused fault
-reply_to_model asked reports (Ok model) = reply_to_found asked reports model (answer asked model)
+reply_to_model asked reports (Ok model) = reply_to_found asked reports model (found_for asked model)
 
 -- the tree that answers a question about a solution that meets the rules of its model and costs so much
 abbrev pub answer_tree : Question → Checked → ℤ → Data
@@ -136,7 +136,7 @@ summary_of_found n model (Some found) = done (text_line (summary_tree (summary_o
 
 abbrev pub summary_of_model : ℕ → Result Model Fault → Reply
 summary_of_model n (Err fault) = refused fault
-summary_of_model n (Ok model) = summary_of_found n model (answer mode.Solve model)
+summary_of_model n (Ok model) = summary_of_found n model (found_for mode.Solve model)
 
 unfoldable pub reply_of_demo : ℕ → Reply
 reply_of_demo n = summary_of_model n (model_of_value (generated n))

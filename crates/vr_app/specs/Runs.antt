@@ -34,12 +34,12 @@ abbrev pub Asks : Question → List (List ℕ) → Type 0
 Asks asked words = request_of words ≡ Some (request.Read (task.Ask asked))
 
 -- the words ask whether the solution in the input meets the rules of its model
-abbrev pub IsChecked : List (List ℕ) → Type 0
-IsChecked words = Asks question.Check words
+abbrev pub AsksCheck : List (List ℕ) → Type 0
+AsksCheck words = Asks question.Check words
 
 -- the words ask how short the routes of the solution in the input could be
-abbrev pub IsSpanned : List (List ℕ) → Type 0
-IsSpanned words = Asks question.Spans words
+abbrev pub AsksSpans : List (List ℕ) → Type 0
+AsksSpans words = Asks question.Spans words
 
 -- the words ask about the solution in the input
 abbrev pub IsAsking : List (List ℕ) → Type 0
@@ -50,16 +50,16 @@ abbrev pub Imports : ℕ → List (List ℕ) → Type 0
 Imports vehicles words = request_of words ≡ Some (request.Import vehicles)
 
 -- the words are accepted, and the input is read
-abbrev pub IsRead : List (List ℕ) → Type 0
-IsRead words = is_read (request_of words) ≡ true
+abbrev pub ReadsInput : List (List ℕ) → Type 0
+ReadsInput words = is_read (request_of words) ≡ true
 
 -- the words are accepted, and the input is read as JSON: they do not ask for the model of a file
 abbrev pub ReadsJson : List (List ℕ) → Type 0
 ReadsJson words = reads_json (request_of words) ≡ true
 
 -- the words are not accepted, or the input is not read
-abbrev pub IsUnread : List (List ℕ) → Type 0
-IsUnread words = is_read (request_of words) ≡ false
+abbrev pub ReadsNothing : List (List ℕ) → Type 0
+ReadsNothing words = is_read (request_of words) ≡ false
 
 -- a status that is that of an answer: no fault of source or sink, and no want of memory
 pub record IsStatusOfAnswer (status : ℕ) : Type 0 where
@@ -73,7 +73,7 @@ WhereKnown left P = (bytes : List ℕ) → left ≡ Some bytes → P bytes
 
 -- what is said of the input of a run that was settled, where it is read
 abbrev pub WhereAnswered : List (List ℕ) → Option (List ℕ) → ℕ → (List ℕ → Type 0) → Type 0
-WhereAnswered words left status P = IsStatusOfAnswer status → IsRead words → WhereKnown left P
+WhereAnswered words left status P = IsStatusOfAnswer status → ReadsInput words → WhereKnown left P
 
 -- the same, where a solution of it is asked for
 abbrev pub WhereSolved : List (List ℕ) → Option (List ℕ) → ℕ → (List ℕ → Type 0) → Type 0

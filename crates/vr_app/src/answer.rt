@@ -27,7 +27,11 @@ pub struct Answer {
 }
 
 /// The answer of a tree's line.
-pub(crate) fn line(alloc: Global, status: Status, tree: &Value) -> Result<Answer, NoMemory>
+pub(crate) fn answer_of_tree(
+    alloc: Global,
+    status: Status,
+    tree: &Value,
+) -> Result<Answer, NoMemory>
     requires whole { has_float (view tree.now) ≡ false }
     requires nested { depth (view tree.now) ≤ max_depth }
     ensures { IfOk result (AnswersWith status (text_line (view tree.now))) }
@@ -41,7 +45,7 @@ fn status_line(alloc: Global, status: Status, name: &str) -> Result<Answer, NoMe
     ensures { IfOk result (AnswersWith status (text_line (texts.status_tree name.now))) }
 {
     let tree = status_tree(alloc, name)?;
-    line(alloc, status, &tree)
+    answer_of_tree(alloc, status, &tree)
 }
 
 /// The answer to words that are not accepted. `NoMemory` where there was no memory.
@@ -82,5 +86,5 @@ pub fn refused(alloc: Global, fault: &Fault) -> Result<Answer, NoMemory>
     ensures status { IfOk result (λ a. a.status ≡ Status.Refused) }
 {
     let tree = refused_tree(alloc, fault)?;
-    line(alloc, Status::Refused, &tree)
+    answer_of_tree(alloc, Status::Refused, &tree)
 }

@@ -8,11 +8,11 @@ ghost use Rattle.vr_check.specs.declared.finding.Finding.TheVariants.{Meets};
 ghost use Rattle.vr_json.specs.Reading.{Answers, required as field_of, seen};
 ghost use Rattle.vr_model.specs.tables.WellFormed.{IsWellFormed};
 ghost use Rattle.vr_read.specs.Models.{read_model as model_at};
-ghost use Rattle.vr_app.specs.Answers.{AnswersReply, IsOfChecking, replied};
-ghost use Rattle.vr_app.specs.Checked.{any_tree, checked_at, checked_of, checked_pair, checked_with};
+ghost use Rattle.vr_app.specs.Answers.{AnswersReply, IsOfChecking};
+ghost use Rattle.vr_app.specs.Checked.{any_tree, checked_at, checked_of, checked_together};
 ghost use Rattle.vr_app.specs.Reply as replies;
 
-use crate::answer::{Answer, line, refused};
+use crate::answer::{Answer, answer_of_tree, refused};
 use crate::spans::spans_tree;
 use crate::status::Status;
 use crate::texts::{met_tree, not_met_tree};
@@ -58,6 +58,22 @@ fn solution_in<'a>(alloc: Global, value: &'a Value, path: &Path) -> Result<&'a V
     }
 }
 
+// A model and the solution beside it, in an object of these two.
+fn model_and_solution<'a>(
+    alloc: Global,
+    value: &'a Value,
+    path: &Path,
+) -> Result<(Model, &'a Value), ReadFail>
+    ensures read { Answers (seen (λ both. checked_together both.0 (view both.1.now)) result)
+        (checked_at path.now (view value.now)) }
+    ensures well_formed { IfOk result (λ both. IsWellFormed both.0) }
+{
+    let model = model_in(alloc, value, path)?;
+    let solution = solution_in(alloc, value, path)?;
+    known(alloc, value, &["model", "solution"], path)?;
+    Ok((model, solution))
+}
+
 // The answer to a question about a solution that meets the rules of its model, and costs so much.
 fn answer_met(
     alloc: Global,
@@ -67,18 +83,18 @@ fn answer_met(
     cost: i64,
 ) -> Result<Answer, NoMemory>
     requires meets { finding closed.model.now (view solution.now) ≡ Meets cost }
-    ensures reply { let it = checked_pair closed.entry.model.now (view solution.now) in
+    ensures reply { let it = checked_together closed.entry.model.now (view solution.now) in
         IfOk result (AnswersReply (replies.reply_to_finding question it (Meets cost))) }
     ensures status { IfOk result (λ a. IsOfChecking a.status) }
 {
     match question {
         Question::Check => {
             let tree = met_tree(alloc, cost)?;
-            line(alloc, Status::Done, &tree)
+            answer_of_tree(alloc, Status::Done, &tree)
         }
         Question::Spans => {
             let tree = spans_tree(alloc, closed, solution)?;
-            line(alloc, Status::Done, &tree)
+            answer_of_tree(alloc, Status::Done, &tree)
         }
     }
 }
@@ -89,17 +105,17 @@ fn answer_broken(alloc: Global, rule: Rule, vehicle: i64, place: i64) -> Result<
     ensures status { IfOk result (λ a. IsOfChecking a.status) }
 {
     let tree = not_met_tree(alloc, rule, vehicle, place)?;
-    line(alloc, Status::NotMet, &tree)
+    answer_of_tree(alloc, Status::NotMet, &tree)
 }
 
 // The answer to a question about a solution of a model.
-fn answer_pair(
+fn answer_solution(
     alloc: Global,
     question: Question,
     closed: Closed<'_>,
     solution: &Value,
 ) -> Result<Answer, NoMemory>
-    ensures reply { let it = checked_pair closed.entry.model.now (view solution.now) in
+    ensures reply { let it = checked_together closed.entry.model.now (view solution.now) in
         IfOk result (AnswersReply (replies.reply_to_question question it)) }
     ensures status { IfOk result (λ a. IsOfChecking a.status) }
 {
@@ -113,57 +129,19 @@ fn answer_pair(
     }
 }
 
-// The answer to a question about the solution beside a model that was read, in an object of these two.
-fn answer_with(
-    alloc: Global,
-    question: Question,
-    closed: Closed<'_>,
-    value: &Value,
-    path: &Path,
-) -> Result<Answer, ReadFail>
-    ensures reply { let reading = checked_with closed.entry.model.now path.now (view value.now) in
-        Answers (seen replied result) (seen (replies.reply_to_question question) reading) }
-    ensures status { IfOk result (λ a. IsOfChecking a.status) }
-{
-    let solution = solution_in(alloc, value, path)?;
-    known(alloc, value, &["model", "solution"], path)?;
-    let answer = answer_pair(alloc, question, closed, solution)?;
-    Ok(answer)
-}
-
-// The answer to a question about a model and a solution, in an object of these two.
-fn answer_in(
-    alloc: Global,
-    question: Question,
-    value: &Value,
-    path: &Path,
-) -> Result<Answer, ReadFail>
-    ensures reply { let reading = checked_at path.now (view value.now) in
-        Answers (seen replied result) (seen (replies.reply_to_question question) reading) }
-    ensures status { IfOk result (λ a. IsOfChecking a.status) }
-{
-    let model = model_in(alloc, value, path)?;
-    answer_with(alloc, question, Closed { model: &model }, value, path)
-}
-
-// The same, where that object is the whole input.
-fn answer_of(alloc: Global, question: Question, value: &Value) -> Result<Answer, ReadFail>
-    ensures reply { let reading = checked_of (view value.now) in
-        Answers (seen replied result) (seen (replies.reply_to_question question) reading) }
-    ensures status { IfOk result (λ a. IsOfChecking a.status) }
-{
-    let path = Path::root(alloc);
-    let answer = answer_in(alloc, question, value, &path)?;
-    Ok(answer)
-}
-
 // The answer to a question about a value.
 fn answer_borrowed(alloc: Global, question: Question, value: &Value) -> Result<Answer, NoMemory>
     ensures reply { IfOk result (AnswersReply (replies.reply_to_checked question (checked_of (view value.now)))) }
     ensures status { IfOk result (λ a. IsOfChecking a.status) }
 {
-    match answer_of(alloc, question, value) {
-        Ok(answer) => Ok(answer),
+    let path = Path::root(alloc);
+    match model_and_solution(alloc, value, &path) {
+        Ok((model, solution)) => answer_solution(
+            alloc,
+            question,
+            Closed { model: &model },
+            solution,
+        ),
         Err(ReadFail::Refused(fault)) => refused(alloc, &fault),
         Err(ReadFail::NoMemory) => Err(NoMemory),
     }

@@ -14,7 +14,7 @@ use crate::answer::{Answer, none_found, refused};
 use crate::first::first_routes;
 use crate::input::read_owned;
 use crate::numbered::summarised;
-use crate::search::solve_unwatched;
+use crate::search::search_unwatched;
 use crate::status::Status;
 use crate::total::total_over;
 use serde_json::Value;
@@ -82,7 +82,6 @@ fn summary_of_first(
     ensures status { IfOk result (λ a. a.status ≡ Status.Done) }
 {
     let first_cost = total_over(alloc, lookups, &first)?;
-    let best = solve_unwatched(alloc, lookups, first, first_cost)?;
-    let answer = summarised(alloc, number, lookups, first_cost, &best)?;
-    Ok(answer)
+    let best = search_unwatched(alloc, lookups, first, first_cost)?;
+    summarised(alloc, number, lookups, first_cost, &best)
 }

@@ -5,7 +5,7 @@ ghost use Rattle.vr_app.specs.Answers.{AnswersReply, IsOfFile};
 ghost use Rattle.vr_app.specs.Reply as replies;
 ghost use Rattle.vr_tsplib.specs.Imported as files;
 
-use crate::answer::{Answer, line, refused};
+use crate::answer::{Answer, answer_of_tree, refused};
 use crate::status::Status;
 use std::alloc::Global;
 use vr_json::ReadFail;
@@ -20,7 +20,7 @@ fn answer_bytes(alloc: Global, vehicles: u32, bytes: &[u8]) -> Result<Answer, No
     ensures status { IfOk result (λ a. IsOfFile a.status) }
 {
     match import(alloc, bytes, vehicles) {
-        Ok(tree) => line(alloc, Status::Done, &tree),
+        Ok(tree) => answer_of_tree(alloc, Status::Done, &tree),
         Err(ReadFail::Refused(fault)) => refused(alloc, &fault),
         Err(ReadFail::NoMemory) => Err(NoMemory),
     }

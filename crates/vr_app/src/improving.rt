@@ -1,17 +1,10 @@
 //! The improvement of a first solution.
 
-ghost use Rattle.vr_model.specs.routes.Costs.{cost};
+ghost use Rattle.std.specs.Prelude.{◌≡◌, ◌≤◌, ◌≤ℤ◌, pos, IfOk, IsTrue};
 ghost use Rattle.vr_model.specs.routes.Rules.{is_valid};
-ghost use Rattle.vr_model.specs.search.Descents.{descent};
-ghost use Rattle.vr_model.specs.search.GuidedSearches.{guided};
-ghost use Rattle.std.specs.Prelude.{◌≡◌, ◌≤◌, ◌≤ℤ◌, pos, IfOk, IsTrue, OnOk};
-ghost use Rattle.vr_lns.specs.PathLns.{path_lns};
-ghost use Rattle.vr_tabu.specs.TabuSearches.{tabu_search};
-ghost use Rattle.vr_app.specs.Improved as improved;
 ghost use Rattle.vr_model.specs.tables.Tables.{visits};
-ghost use Rattle.vr_routes.specs.Judging.{HoldSame};
-ghost use Rattle.vr_watch.specs.Told.{Reported};
-ghost use Rattle.vr_app.specs.Endings.{IsBestOfOutcome};
+ghost use Rattle.vr_app.specs.Endings.{CanImprove, IsImproved};
+ghost use Rattle.vr_app.specs.Improved as how;
 
 use crate::best::{Best, untried};
 use std::alloc::Global;
@@ -39,7 +32,7 @@ pub struct FirstSolution {
 
 // How many tries and solutions a model allows.
 fn limit_of(closed: Closed<'_>) -> Limit
-    ensures limit { result ≡ improved.limit_of closed.entry.model.now }
+    ensures limit { result ≡ how.limit_of closed.entry.model.now }
     ensures tries { result.tries ≤ 1000000000 }
     ensures one_solution { 1 ≤ result.solutions }
     ensures solutions { result.solutions ≤ 1000000000 }
@@ -52,7 +45,7 @@ fn limit_of(closed: Closed<'_>) -> Limit
 
 // How much penalised arcs weigh.
 fn lambda_of(closed: Closed<'_>) -> Lambda
-    ensures lambda { result ≡ improved.lambda_of closed.entry.model.now }
+    ensures lambda { result ≡ how.lambda_of closed.entry.model.now }
     ensures p_from_one { pos 1 ≤ℤ result.p }
     ensures p_to_1000 { result.p ≤ℤ pos 1000 }
     ensures q_from_one { pos 1 ≤ℤ result.q }
@@ -90,13 +83,10 @@ fn descend_from<J: Judge, L: Ledger>(
     watch: &mut Watchers,
     steps: &mut Steps<L>,
 ) -> Result<Best, NoMemory>
-    requires judge_model { J.model judge.old ≡ closed.model.now }
-    requires holds { HoldSame closed.model.now (J.committed judge.old) first.routes }
-    requires first_cost { first.cost ≡ cost closed.model.now first.routes.lists }
-    ensures ends { IfOk result (IsBestOfOutcome first.routes.visits
-        (descent closed.entry.model.now first.routes.lists (improved.limit_of closed.entry.model.now))) }
-    ensures told { OnOk result (Reported (λ w later. after w later) watch.old.items watch.new.items
-        (descent closed.entry.model.now first.routes.lists (improved.limit_of closed.entry.model.now)).events) }
+    requires { CanImprove closed.model.now first (J.model judge.old) (J.committed judge.old) }
+    ensures { let outcome = how.improved Improve.GreedyDescent closed.entry.model.now first.routes.lists in
+        IfOk result (IsImproved (λ w later. after w later) first.routes.visits outcome
+        watch.old.items watch.new.items) }
 {
     let limit = limit_of(closed);
     let FirstSolution { mut routes, cost } = first;
@@ -113,15 +103,10 @@ fn guide_from<J: Judge, L: Ledger>(
     watch: &mut Watchers,
     steps: &mut Steps<L>,
 ) -> Result<Best, NoMemory>
-    requires judge_model { J.model judge.old ≡ closed.model.now }
-    requires holds { HoldSame closed.model.now (J.committed judge.old) first.routes }
-    requires first_cost { first.cost ≡ cost closed.model.now first.routes.lists }
-    ensures ends { IfOk result (IsBestOfOutcome first.routes.visits
-        (guided closed.entry.model.now first.routes.lists (improved.limit_of closed.entry.model.now)
-        (improved.lambda_of closed.entry.model.now))) }
-    ensures told { OnOk result (Reported (λ w later. after w later) watch.old.items watch.new.items
-        (guided closed.entry.model.now first.routes.lists (improved.limit_of closed.entry.model.now)
-        (improved.lambda_of closed.entry.model.now)).events) }
+    requires { CanImprove closed.model.now first (J.model judge.old) (J.committed judge.old) }
+    ensures { let outcome = how.improved Improve.GuidedLocalSearch closed.entry.model.now first.routes.lists in
+        IfOk result (IsImproved (λ w later. after w later) first.routes.visits outcome
+        watch.old.items watch.new.items) }
 {
     let limit = limit_of(closed);
     let lambda = lambda_of(closed);
@@ -152,15 +137,10 @@ fn tabu_from<J: Judge, L: Ledger>(
     watch: &mut Watchers,
     steps: &mut Steps<L>,
 ) -> Result<Best, NoMemory>
-    requires judge_model { J.model judge.old ≡ closed.model.now }
-    requires holds { HoldSame closed.model.now (J.committed judge.old) first.routes }
-    requires first_cost { first.cost ≡ cost closed.model.now first.routes.lists }
-    ensures ends { IfOk result (IsBestOfOutcome first.routes.visits
-        (tabu_search closed.entry.model.now first.routes.lists
-        (improved.limit_of closed.entry.model.now) closed.entry.model.now.search.tenure)) }
-    ensures told { OnOk result (Reported (λ w later. after w later) watch.old.items watch.new.items
-        (tabu_search closed.entry.model.now first.routes.lists
-        (improved.limit_of closed.entry.model.now) closed.entry.model.now.search.tenure).events) }
+    requires { CanImprove closed.model.now first (J.model judge.old) (J.committed judge.old) }
+    ensures { let outcome = how.improved Improve.TabuSearch closed.entry.model.now first.routes.lists in
+        IfOk result (IsImproved (λ w later. after w later) first.routes.visits outcome
+        watch.old.items watch.new.items) }
 {
     let limit = limit_of(closed);
     let tenure = tenure_of(closed);
@@ -192,12 +172,9 @@ fn rebuild_from<R: Rebuild>(
 ) -> Result<Best, NoMemory>
     requires of_model { first.routes.visits ≡ visits lookups.now.closed.model.now }
     requires valid { IsTrue (is_valid lookups.now.closed.model.now first.routes.lists) }
-    ensures ends { IfOk result (IsBestOfOutcome first.routes.visits
-        (path_lns lookups.now.closed.model.now first.routes.lists
-        (improved.limit_of lookups.now.closed.model.now) lookups.now.closed.model.now.search.cut)) }
-    ensures told { OnOk result (Reported (λ w later. after w later) watch.old.items watch.new.items
-        (path_lns lookups.now.closed.model.now first.routes.lists
-        (improved.limit_of lookups.now.closed.model.now) lookups.now.closed.model.now.search.cut).events) }
+    ensures { let outcome = how.improved Improve.PathLns lookups.now.closed.model.now first.routes.lists in
+        IfOk result (IsImproved (λ w later. after w later) first.routes.visits outcome
+        watch.old.items watch.new.items) }
 {
     let limit = limit_of(lookups.closed);
     let cut = cut_of(lookups.closed);
@@ -223,15 +200,11 @@ pub fn improve<J: Judge, R: Rebuild, L: Ledger>(
     watch: &mut Watchers,
     steps: &mut Steps<L>,
 ) -> Result<Best, NoMemory>
-    requires judge_model { J.model judge.old ≡ lookups.now.closed.model.now }
-    requires holds { HoldSame lookups.now.closed.model.now (J.committed judge.old) first.routes }
-    requires first_cost { first.cost ≡ cost lookups.now.closed.model.now first.routes.lists }
-    ensures ends { let model = lookups.now.closed.model.now in
-        IfOk result (IsBestOfOutcome first.routes.visits
-        (improved.improved model.search.improve model first.routes.lists)) }
-    ensures told { let model = lookups.now.closed.model.now in
-        let outcome = improved.improved model.search.improve model first.routes.lists in
-        OnOk result (Reported (λ w later. after w later) watch.old.items watch.new.items outcome.events) }
+    requires { CanImprove lookups.now.closed.model.now first (J.model judge.old) (J.committed judge.old) }
+    ensures { let model = lookups.now.closed.model.now in
+        let outcome = how.improved model.search.improve model first.routes.lists in
+        IfOk result (IsImproved (λ w later. after w later) first.routes.visits outcome
+        watch.old.items watch.new.items) }
 {
     let closed = lookups.closed;
     match closed.model.search.improve {

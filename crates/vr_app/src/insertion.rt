@@ -47,10 +47,7 @@ impl Rebuild for Insertion {
         routes: &mut Routes,
     ) -> Result<(), NoMemory> {
         match &mut self.rebuilder {
-            Some(rebuilder) => {
-                rebuilder.rebuild(lookups, routes)?;
-                Ok(())
-            }
+            Some(rebuilder) => rebuilder.rebuild(lookups, routes),
             None => unreachable!(),
         }
     }

@@ -3,18 +3,19 @@
 //!
 //! Asked: `words` says what is asked for, `input` reads bytes and the model in them, `files` a file that is imported.
 //!
-//! Searched: `first` builds a first solution, and `search` improves it by the judge that it chooses and by `insertion`,
-//! which rebuilds open routes. `improving` takes the search that the model names: nothing, greedy descent, guided local
-//! search, path neighbourhoods or tabu search. Each is a strategy over rounds: greedy descent and guided local search
-//! scan for the first move that they accept, tabu search makes the best move of all, and path neighbourhoods take the
-//! first cut whose rebuilding costs less. Each keeps valid lists of known cost between rounds, counts tries and
-//! solutions, tells the watchers, and stands in a crate of its own; what all four answer is put side by side here.
+//! Searched: `first` builds a first solution, `total` tells what routes cost, and `search` improves a first solution by
+//! the judge that it chooses and by `insertion`, which rebuilds open routes; `best` is what a search gives. `improving`
+//! takes the search that the model names: nothing, greedy descent, guided local search, path neighbourhoods or tabu
+//! search. Each is a strategy over rounds: greedy descent and guided local search scan for the first move that they
+//! accept, tabu search makes the best move of all, and path neighbourhoods take the first cut whose rebuilding costs
+//! less. Each keeps valid lists of known cost between rounds, counts tries and solutions, tells the watchers, and
+//! stands in a crate of its own; what all four answer is put side by side here.
 //!
 //! Replied: `solving` works out the answer to an input, `demo` a summary of a search for a number, `checked` what is
 //! asked of a solution, `spans` the tree of least spans for it, `numbered` what has a number, `answer` what says a
 //! status alone and refusals, `logs` puts the reports of watchers behind the line of a solution, `texts` makes the
 //! trees that say no solution, and `laws` has the law that what is printed meets a check. `reply` ties these to the
-//! source and the sink.
+//! source and the sink, and `status` says how a run ends.
 //!
 //! Each call that answers says which reply of the definition it gives, or that memory was wanting. An input is let go
 //! as it is used: the bytes before its model is read, the value before that is solved. A function owns one large value
@@ -26,6 +27,7 @@
 //!
 //!     main                 vr_cli: the words, and the two standard streams
 //!     run_watched          vr_cli: the watchers, a tally and a trace
+//!     run_with             vr_cli: what is written is the reply with what these watchers report
 //!     run                  reply: lends the watchers, and drops them at the end
 //!     run_watched          reply: what is written, and the status
 //!     respond              reply: what the words ask for
@@ -38,8 +40,9 @@
 //!     line_found           solving: the first solution
 //!     line_from            solving: what this costs, and the line of what is found
 //!     search               search: as the mode asks, the first solution or a search from it
-//!     solve                search: the judge
-//!     improve_judged       search: what rebuilds open routes
+//!     search_unwatched     search: no watchers, where none are asked for; of `solve --log` this frame is left out
+//!     search_watched       search: the judge, opened for each search; path neighbourhoods do not ask it
+//!     improve_judged       search: what rebuilds open routes, asked by path neighbourhoods alone
 //!     improve              improving: the search that the model names, say
 //!     guide_from           improving: guided local search, by the limit and weights of the model
 //!     guide, improve       vr_guided: rounds of scans, and penalties between them

@@ -8,7 +8,7 @@ ghost use Rattle.vr_app.specs.Found.{Found};
 ghost use Rattle.vr_app.specs.Reply as replies;
 ghost use Rattle.vr_app.specs.Texts as texts;
 
-use crate::answer::{Answer, line};
+use crate::answer::{Answer, answer_of_tree};
 use crate::best::Best;
 use crate::status::Status;
 use crate::texts::{Summary, summary_tree};
@@ -25,8 +25,7 @@ pub fn generated(alloc: Global, number: u64) -> Result<Answer, NoMemory>
     ensures status { IfOk result (λ a. a.status ≡ Status.Done) }
 {
     let tree = generate(alloc, number)?;
-    let answer = line(alloc, Status::Done, &tree)?;
-    Ok(answer)
+    answer_of_tree(alloc, Status::Done, &tree)
 }
 
 /// The answer that reports in short on a search in the model of a number, from a first solution that costs
@@ -45,7 +44,7 @@ pub fn summarised(
 {
     let summary = summary_of(alloc, number, lookups, first_cost, best)?;
     let tree = summary_tree(alloc, &summary)?;
-    line(alloc, Status::Done, &tree)
+    answer_of_tree(alloc, Status::Done, &tree)
 }
 
 // The same search as numbers.

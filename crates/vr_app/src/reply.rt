@@ -8,7 +8,8 @@ ghost use Rattle.vr_app.specs.Promises.{program_run, HasCause, HasFailed, IsChec
 ghost use Rattle.vr_app.specs.Promises.{IsImporting, IsReply, IsSolving};
 ghost use Rattle.vr_app.specs.Reply as replies;
 ghost use Rattle.vr_app.specs.Reports.{joined_reports};
-ghost use Rattle.vr_app.specs.Runs.{IsAsking, IsNotAccepted, IsQuestion, IsRead, IsUnread, WhereKnown, bytes_of};
+ghost use Rattle.vr_app.specs.Runs.{IsAsking, IsNotAccepted, IsQuestion, ReadsInput, ReadsNothing, WhereKnown};
+ghost use Rattle.vr_app.specs.Runs.{bytes_of};
 ghost use Rattle.vr_app.specs.Status.{IsStatus};
 
 use crate::answer::{Answer, too_long, usage};
@@ -96,16 +97,16 @@ fn respond<S: Source>(
         IfOk result (λ a. WhereKnown (S.left source.old) (λ bytes.
         AnswersReply (replies.reply reports (bytes_of words.now) bytes) a)) }
     ensures unread { let reports = joined_reports (λ w later. after w later) watch.old.items in
-        IfOk result (λ a. IsUnread (bytes_of words.now) → (bytes : List ℕ)
+        IfOk result (λ a. ReadsNothing (bytes_of words.now) → (bytes : List ℕ)
         → AnswersReply (replies.reply reports (bytes_of words.now) bytes) a) }
     ensures usage_only { IfOk result (λ a. a.status ≡ Status.Usage → IsNotAccepted (bytes_of words.now)) }
     ensures not_met_only { IfOk result (λ a. a.status ≡ Status.NotMet → IsAsking (bytes_of words.now)) }
-    ensures untouched { IsUnread (bytes_of words.now) → source.new ≡ source.old }
-    ensures emptied { IfOk result (λ a. IsRead (bytes_of words.now) → a.status ≢ Status.TooLong
+    ensures untouched { ReadsNothing (bytes_of words.now) → source.new ≡ source.old }
+    ensures emptied { IfOk result (λ a. ReadsInput (bytes_of words.now) → a.status ≢ Status.TooLong
         → WhereKnown (S.left source.old) (λ bytes. S.left source.new ≡ Some [])) }
     ensures status { IfOk result (λ a. IsOfAnswer a.status) }
     ensures fault { IsErrOf result Stop.ReadFault → Rose (S.faults source.old) (S.faults source.new) }
-    ensures reads { IsErrOf result Stop.ReadFault → IsRead (bytes_of words.now) }
+    ensures reads { IsErrOf result Stop.ReadFault → ReadsInput (bytes_of words.now) }
 {
     match request_of(words) {
         None => Ok(usage(alloc)?),
@@ -128,7 +129,7 @@ fn run_watched<S: Source, K: Sink>(
     ensures ran { let reports = joined_reports (λ w later. after w later) watch.old.items in
         Ran (λ k. K.written k) (λ k. K.faults k) reports (bytes_of words.now) (S.left source.old) (S.left source.new)
         (S.faults source.old) (S.faults source.new) sink.old sink.new result }
-    ensures untouched { IsUnread (bytes_of words.now) → source.new ≡ source.old }
+    ensures untouched { ReadsNothing (bytes_of words.now) → source.new ≡ source.old }
 {
     match respond(alloc, words, source, watch) {
         Ok(answer) => match write_all(sink, answer.text.as_slice()) {
@@ -232,7 +233,7 @@ pub fn run<S: Source, K: Sink>(
         IsEmptied reports (program_run (bytes_of words.now)
         (S.left source.old) (S.left source.new) (S.faults source.old) (S.faults source.new)
         (K.written sink.old) (K.written sink.new) (K.faults sink.old) (K.faults sink.new) result) }
-    ensures untouched { IsUnread (bytes_of words.now) → source.new ≡ source.old }
+    ensures untouched { ReadsNothing (bytes_of words.now) → source.new ≡ source.old }
 {
     let mut watch = watch;
     run_watched(alloc, words, source, sink, &mut watch)

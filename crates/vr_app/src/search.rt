@@ -59,7 +59,7 @@ pub fn improve_judged<L: Ledger>(
 
 /// What the search that the model names makes of its first solution, which costs so much. The watchers are told of each
 /// event. The only refusal is want of memory.
-pub(crate) fn solve(
+pub(crate) fn search_watched(
     alloc: Global,
     lookups: &Lookups<'_>,
     first: Routes,
@@ -86,7 +86,7 @@ pub(crate) fn solve(
 }
 
 /// The same, where no event is told.
-pub(crate) fn solve_unwatched(
+pub(crate) fn search_unwatched(
     alloc: Global,
     lookups: &Lookups<'_>,
     first: Routes,
@@ -99,7 +99,7 @@ pub(crate) fn solve_unwatched(
         IfOk result (IsBestOfOutcome first.visits (how.improved model.search.improve model first.lists)) }
 {
     let mut none = Vec::new(alloc);
-    solve(alloc, lookups, first, first_cost, &mut none)
+    search_watched(alloc, lookups, first, first_cost, &mut none)
 }
 
 /// What the search of a mode makes of the first solution of a model, which costs so much. With `Log` the watchers are
@@ -122,7 +122,7 @@ pub(crate) fn search(
 {
     match mode {
         Mode::First => Ok(untried(first)),
-        Mode::Solve => solve_unwatched(alloc, lookups, first, first_cost),
-        Mode::Log => solve(alloc, lookups, first, first_cost, watch),
+        Mode::Solve => search_unwatched(alloc, lookups, first, first_cost),
+        Mode::Log => search_watched(alloc, lookups, first, first_cost, watch),
     }
 }

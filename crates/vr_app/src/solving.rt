@@ -6,7 +6,7 @@ ghost use Rattle.vr_model.specs.first.FirstSolutions.{first_lists};
 ghost use Rattle.vr_model.specs.tables.Tables.{visits};
 ghost use Rattle.vr_watch.specs.Told.{Reported};
 ghost use Rattle.vr_app.specs.Answers.{AnswersReply, IsOfShort, IsOfSolving};
-ghost use Rattle.vr_app.specs.Found.{answer as wanted, found_events, found_from, line_of_found};
+ghost use Rattle.vr_app.specs.Found.{found_events, found_for, found_from, line_of_found};
 ghost use Rattle.vr_app.specs.Input.{max_input, model_of_value};
 ghost use Rattle.vr_app.specs.Reply as replies;
 ghost use Rattle.vr_app.specs.Reports.{joined_reports};
@@ -47,8 +47,7 @@ fn line_from(
 {
     let first_cost = total_over(alloc, lookups, &first)?;
     let found = search(alloc, mode, lookups, first, first_cost, watch)?;
-    let line = solution_line_over(alloc, lookups, &found.routes, first_cost, found.report)?;
-    Ok(line)
+    solution_line_over(alloc, lookups, &found.routes, first_cost, found.report)
 }
 
 // The line of what a mode finds for a model, over what was looked up of it; none where the construction gives no first
@@ -60,9 +59,9 @@ fn line_found(
     watch: &mut Watchers,
 ) -> Result<Option<Seq<u8>>, NoMemory>
     ensures line { IfOk result (λ line. line ≡ option_map (line_of_found lookups.now.closed.model.now)
-        (wanted mode lookups.now.closed.model.now)) }
+        (found_for mode lookups.now.closed.model.now)) }
     ensures told { mode ≡ Mode.Log → OnOk result (Reported (λ w later. after w later) watch.old.items watch.new.items
-        (found_events (wanted mode lookups.now.closed.model.now))) }
+        (found_events (found_for mode lookups.now.closed.model.now))) }
 {
     match first_routes(alloc, lookups)? {
         None => Ok(None),
@@ -85,10 +84,7 @@ fn answer_over(
     ensures status { IfOk result (λ a. IsOfSolving a.status) }
 {
     match line_found(alloc, mode, lookups, watch)? {
-        Some(line) => {
-            let answer = done(mode, line, watch)?;
-            Ok(answer)
-        }
+        Some(line) => done(mode, line, watch),
         None => none_found(alloc),
     }
 }

@@ -15,7 +15,7 @@ ghost use Rattle.vr_model.specs.tables.WellFormed.{IsIn};
 ghost use Rattle.vr_plan.specs.Plans.{as_defined};
 ghost use Rattle.vr_plan.specs.Settled.{IsUnfeasible};
 ghost use Rattle.vr_printed.specs.Printed.{assignment_of, lists_of, plan_of};
-ghost use Rattle.vr_app.specs.Checked.{checked_pair};
+ghost use Rattle.vr_app.specs.Checked.{checked_together};
 ghost use Rattle.vr_app.specs.Spans as spans;
 ghost use Rattle.vr_app.specs.Scheduled.{AreScheduled, HasSchedules, IsMetIn, IsShortestOf, printed_plans};
 ghost use Rattle.vr_steps.specs.Lines.{IsSoundLine};
@@ -95,14 +95,13 @@ fn row(
     let line = Line::build(alloc, closed.model, d, v, list)?;
     let least = shortest(alloc, &line)?;
     let printed = span_between(plan.cumuls.as_slice());
-    let tree = span_tree(
+    span_tree(
         alloc,
         closed.model.dimensions.get(d as usize),
         v,
         &least,
         printed,
-    )?;
-    Ok(tree)
+    )
 }
 
 // Whether some vehicle has breaks in a dimension.
@@ -225,8 +224,7 @@ fn routes_tree(
 {
     let lists = printed_lists(alloc, routes)?;
     let rows = rows_of(alloc, closed, routes, lists.as_slice())?;
-    let tree = reported_spans(alloc, rows)?;
-    Ok(tree)
+    reported_spans(alloc, rows)
 }
 
 /// How short the routes of a printed solution could be, which meets the rules of its model. `NoMemory` where there was
@@ -238,9 +236,8 @@ pub(crate) fn spans_tree(
 ) -> Result<Value, NoMemory>
     requires { IsMetIn closed.model.now (view solution.now) }
     ensures { IfOk result (λ tree. view tree
-        ≡ spans.spans_of (checked_pair closed.entry.model.now (view solution.now))) }
+        ≡ spans.spans_of (checked_together closed.entry.model.now (view solution.now))) }
 {
     let printed = read_printed(alloc, closed.model, solution)?.unwrap();
-    let tree = routes_tree(alloc, closed, printed.routes.as_slice())?;
-    Ok(tree)
+    routes_tree(alloc, closed, printed.routes.as_slice())
 }

@@ -10,7 +10,7 @@ ghost use Rattle.vr_app.specs.Texts as texts;
 use serde_json::{Value, json};
 use std::alloc::Global;
 use vr_check::Rule;
-use vr_json::{Fault, Tree};
+use vr_json::{Fault, Tree, text_value};
 use vr_model::NoMemory;
 
 /// The tree of a status alone.
@@ -25,7 +25,7 @@ pub(crate) fn status_tree(alloc: Global, status: &str) -> Result<Value, NoMemory
 fn put_text(alloc: Global, tree: &mut Tree, key: &str, text: &str) -> Result<(), NoMemory>
     ensures { OnOk result (members_put tree.new ≡ put key.now (string text.now) (members_put tree.old)) }
 {
-    tree.put(key, Value::String(String::from_str(alloc, text)?))
+    tree.put(key, text_value(alloc, text)?)
 }
 
 // Puts a number that counts something.

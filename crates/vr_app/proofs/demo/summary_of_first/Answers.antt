@@ -11,11 +11,11 @@ use Rattle.vr_app.proofs.demo.summary_of_first.Goals as goal
 pub total_over-requires : goal.total_over-requires
 total_over-requires c = first_lists-valid c.args.lookups.now.closed.model.now c.args.first.lists c.requires.first
 
-pub solve_unwatched-requires-clause-valid : goal.solve_unwatched-requires-clause-valid
-solve_unwatched-requires-clause-valid c = first_lists-valid c.args.lookups.now.closed.model.now c.args.first.lists c.requires.first
+pub search_unwatched-requires-clause-valid : goal.search_unwatched-requires-clause-valid
+search_unwatched-requires-clause-valid c = first_lists-valid c.args.lookups.now.closed.model.now c.args.first.lists c.requires.first
 
-pub solve_unwatched-requires-clause-first_cost : goal.solve_unwatched-requires-clause-first_cost
-solve_unwatched-requires-clause-first_cost c =
+pub search_unwatched-requires-clause-first_cost : goal.search_unwatched-requires-clause-first_cost
+search_unwatched-requires-clause-first_cost c =
     let model = c.args.lookups.now.closed.model.now in
     let lists = c.args.first.lists in
     let bounds = costs_are_bounded model c.args.lookups.now.closed.well_formed lists (first_lists-valid model lists c.requires.first) in
@@ -35,7 +35,7 @@ returns-clause-reply c =
     let bounds = costs_are_bounded model c.args.lookups.now.closed.well_formed first (first_lists-valid model first c.requires.first) in
     let first_cost : to_z w64 (of_z w64 c.in_ok-first_cost.first_cost) ≡ cost model first =
     omega (arith, ints, c.in_ok-first_cost.ensures, bounds.least, bounds.greatest) in
-    c.in_ok-answer.ensures.reply (found_from mode.Solve model first) (record {
+    c.summarised.ensures.reply (found_from mode.Solve model first) (record {
       ends = record { best_is = ends.best_is; report_is = ends.report_is; visits_are = ends.visits_are ∙ c.requires.of_model };
       first_cost_is = first_cost;
     })

@@ -1,5 +1,6 @@
 use Rattle.std.proofs.Common.{◌≡◌, ◌∙◌, ap, arith, w64, to_z, of_z}
 use Rattle.std.proofs.lemmas.Int.{ints}
+use Rattle.std.proofs.lemmas.Result.{IfOk-weaker}
 use Rattle.vr_json.specs.Trees.{text_line}
 use Rattle.vr_model.specs.routes.Costs.{cost}
 use Rattle.vr_model.specs.routes.Rules.{is_valid}
@@ -39,7 +40,7 @@ returns-clause-line g c =
     let bounds = costs_are_bounded model c.args.lookups.now.closed.well_formed first (first_lists-valid model first c.requires.first) in
     let sum : to_z w64 (of_z w64 c.in_ok-first_cost.first_cost) ≡ cost model first =
     omega (arith, ints, c.in_ok-first_cost.ensures, bounds.least, bounds.greatest) in
-    c.in_ok-line.ensures.text
+    IfOk-weaker c.solution_line_over.result _ _ (λ line is. is
     ∙ ap (λ lists. text_line (solution_tree model lists (to_z w64 (of_z w64 c.in_ok-first_cost.first_cost)) found.report)) ends.best_is
     ∙ ap (λ z. text_line (solution_tree model end.best z found.report)) sum
-    ∙ ap (λ report. text_line (solution_tree model end.best (cost model first) report)) ends.report_is
+    ∙ ap (λ report. text_line (solution_tree model end.best (cost model first) report)) ends.report_is) c.solution_line_over.ensures.text

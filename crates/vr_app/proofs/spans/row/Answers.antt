@@ -1,5 +1,6 @@
 use Rattle.std.proofs.Common.{◌≡◌, List, ℤ, ◌-◌, ◌-ℤ◌, length, sym, ap, ◌∙◌, arith, w64, to_z, of_z}
 use Rattle.std.proofs.lemmas.Int.{ints}
+use Rattle.std.proofs.lemmas.Result.{IfOk-weaker}
 use Rattle.serde_json.specs.View.{view}
 use Rattle.vr_model.specs.schedules.Lines.{Line, line}
 use Rattle.vr_model.specs.tables.Numbers.{number_at}
@@ -25,5 +26,5 @@ returns c =
     let low = span_low its (plan_of c.args.plan.now) c.requires.schedule in
     let high = span_high its (plan_of c.args.plan.now) c.requires.schedule in
     let same : to_z w64 (of_z w64 c.span_between-printed.result) ≡ c.span_between-printed.result = omega (arith, ints, took, low, high) in
-    row_is _ _ c.args.v its (plan_of c.args.plan.now) (as_defined c.in_ok-least.least.plan) _ _ (view c.in_ok-tree.tree) c.in_ok-tree.ensures
-    (sym (c.get.ensures.value no_dimension)) short.plan_is short.span_is (same ∙ took)
+    IfOk-weaker c.span_tree.result _ _ (λ tree is. row_is _ _ c.args.v its (plan_of c.args.plan.now) (as_defined c.in_ok-least.least.plan) _ _ (view tree) is
+    (sym (c.get.ensures.value no_dimension)) short.plan_is short.span_is (same ∙ took)) c.span_tree.ensures

@@ -1,4 +1,5 @@
 use Rattle.std.proofs.Common.{◌∙◌, sym, ap, subst}
+use Rattle.std.proofs.lemmas.Result.{IfOk-weaker}
 use Rattle.serde_json.specs.View.{view}
 use Rattle.vr_printed.specs.Printed.{assignment_of}
 use Rattle.vr_app.specs.Scheduled.{AreScheduled}
@@ -18,5 +19,5 @@ pub returns : goal.returns
 unfolding spans_of
 returns c =
     let is = sym c.unwrap-printed.ensures ∙ c.in_ok-read_printed.ensures in
-    c.in_ok-tree.ensures ∙ ap (λ routes. spans_tree c.args.closed.model.now (assignment_of routes)) c.as_slice.ensures
-    ∙ ap (λ o. spans_tree c.args.closed.model.now (printed_assignment o)) is
+    IfOk-weaker c.routes_tree.result _ _ (λ tree same. same ∙ ap (λ routes. spans_tree c.args.closed.model.now (assignment_of routes)) c.as_slice.ensures
+    ∙ ap (λ o. spans_tree c.args.closed.model.now (printed_assignment o)) is) c.routes_tree.ensures
