@@ -2,7 +2,7 @@
 
 ghost use Rattle.std.specs.Prelude.{◌≡◌, ◌<◌, IfOk, length, replicate};
 ghost use Rattle.vr_first_insert.specs.Kept.{begun_with as begun_with_of, best_of, better_choice};
-ghost use Rattle.vr_first_insert.specs.Kept.{is_settled as is_settled_of, known_by_search as told_by_of};
+ghost use Rattle.vr_first_insert.specs.Kept.{is_settled as is_settled_of, known_by_search as known_by_search_of};
 ghost use Rattle.vr_first_insert.specs.Kept.{AddsAtLeast, BestAddsAtLeast, IsForgotten};
 ghost use Rattle.vr_first_insert.specs.VehicleLists.{best_of_candidate, sought_in, tried_in, IsKnownOf, IsReadyList};
 ghost use Rattle.vr_first_insert.specs.KeptRows.{list_model};
@@ -81,18 +81,18 @@ fn least_in(of: &CandidateIn<'_, '_, '_>) -> i64
 }
 
 // What a search tells that began with the best so far: what is better is the best of the list.
-fn told_by(best: Option<InsertionChoice>, found: Option<InsertionChoice>) -> KnownItem
-    ensures { result ≡ told_by_of best found }
+fn known_by_search(best: Option<InsertionChoice>, found: Option<InsertionChoice>) -> KnownItem
+    ensures { result ≡ known_by_search_of best found }
 {
     match (best, found) {
-        (Some(best), Some(next)) => told_beside(best, next),
+        (Some(best), Some(next)) => known_beside(best, next),
         (_, found) => KnownItem::Best(found),
     }
 }
 
 // The same where there was a best so far.
-fn told_beside(best: InsertionChoice, next: InsertionChoice) -> KnownItem
-    ensures { result ≡ told_by_of (Some best) (Some next) }
+fn known_beside(best: InsertionChoice, next: InsertionChoice) -> KnownItem
+    ensures { result ≡ known_by_search_of (Some best) (Some next) }
 {
     if improves(Some(best), next) {
         KnownItem::Best(Some(next))
@@ -120,7 +120,7 @@ fn begun_with(item: Item, searched: bool, best: Option<InsertionChoice>) -> Opti
 }
 
 // What a search of a list tells that begins with the best so far.
-fn sought(
+fn search_list(
     scratch: &mut InsertScratch,
     of: &CandidateIn<'_, '_, '_>,
     best: Option<InsertionChoice>,
@@ -129,11 +129,11 @@ fn sought(
     ensures { IfOk result (λ known. known ≡ sought_in of.now best) }
 {
     let found = best_in_list(scratch, of, best)?;
-    Ok(told_by(best, found))
+    Ok(known_by_search(best, found))
 }
 
 /// What is known of a candidate in a list once it was asked whether it is better than the best so far.
-pub(crate) fn asked(
+pub(crate) fn find_out(
     scratch: &mut InsertScratch,
     of: &CandidateIn<'_, '_, '_>,
     known: KnownItem,
@@ -146,20 +146,20 @@ pub(crate) fn asked(
 {
     match known {
         KnownItem::Best(_) => Ok(known),
-        KnownItem::AtLeast(bound) => tried(scratch, of, bound, best),
+        KnownItem::AtLeast(bound) => search_if_better(scratch, of, bound, best),
         KnownItem::Nothing => {
             let bound = Bound {
                 least: least_in(of),
                 searched: false,
             };
-            tried(scratch, of, bound, best)
+            search_if_better(scratch, of, bound, best)
         }
     }
 }
 
 // The same of a candidate of which a bound is known: where that is not better than the best so far, no more is known,
 // and the list is not searched.
-fn tried(
+fn search_if_better(
     scratch: &mut InsertScratch,
     of: &CandidateIn<'_, '_, '_>,
     bound: Bound,
@@ -176,7 +176,7 @@ fn tried(
         return Ok(KnownItem::AtLeast(bound));
     }
     let begin = begun_with(of.candidate.item, bound.searched, best);
-    sought(scratch, of, begin)
+    search_list(scratch, of, begin)
 }
 
 /// For each of `vehicles` lists that nothing is known of any of `count` items.

@@ -49,7 +49,7 @@ impl ListRows {
     }
 
     // Writes the rows of a list of vehicle `v` over those of its list before.
-    fn learn(
+    fn rewrite(
         &mut self,
         alloc: Global,
         d: u32,
@@ -98,7 +98,7 @@ pub(crate) fn keep_each(
 /// is said of what is kept.
 ///
 /// It takes memory only where a list is longer than any before, or a set has more than four runs.
-pub(crate) fn learn(
+pub(crate) fn rewrite(
     alloc: Global,
     list_rows: &mut [ListRows],
     lists: &[Seq<u32>],
@@ -110,7 +110,7 @@ pub(crate) fn learn(
         (with_route lists.now new.now.vehicle new.now.nodes.now) list_rows.new) }
 {
     for d in 0..list_rows.len() {
-        list_rows[d].learn(alloc, d as u32, lists, new)?;
+        list_rows[d].rewrite(alloc, d as u32, lists, new)?;
     }
     Ok(())
 }
@@ -128,7 +128,7 @@ pub(crate) fn change_list(
     ensures lists { OnOk result (lists.new ≡ with_route lists.old new.now.vehicle new.now.nodes.now) }
     ensures kept { OnOk result (AreKeptRows (list_model new.now) lists.new list_rows.new) }
 {
-    learn(alloc, list_rows, lists, new)?;
+    rewrite(alloc, list_rows, lists, new)?;
     write_list(new.nodes, &mut lists[new.vehicle as usize])?;
     Ok(())
 }

@@ -11,7 +11,7 @@ ghost use Rattle.vr_first_insert.specs.Asking.{best_asked, best_asked_of_each, i
 ghost use Rattle.vr_first_insert.specs.Asking.{MayAsk, MayAskEach, MayCount, MayInsert, MayWeigh};
 
 use crate::choice::InsertionChoice;
-use crate::known::{asked, better_of, forget, is_settled};
+use crate::known::{better_of, find_out, forget, is_settled};
 use crate::known_items::KnownItems;
 use crate::list_rows::ListRows;
 use crate::place::place_in;
@@ -87,7 +87,7 @@ fn ask(
         list_rows: on.list_rows,
         candidate,
     };
-    let told = asked(scratch, &of, known, best)?;
+    let told = find_out(scratch, &of, known, best)?;
     known_here.set(i, told);
     Ok(better_of(best, &told))
 }
@@ -113,7 +113,7 @@ fn best_in_lists(
 }
 
 // Whether an item may count: its first node is not marked, and the groups have room for it.
-fn counts(items: &Items<'_, '_, '_>, marks: &[bool], candidate: Candidate) -> bool
+fn may_be_placed(items: &Items<'_, '_, '_>, marks: &[bool], candidate: Candidate) -> bool
     requires { MayCount items.now marks.now candidate }
     ensures { result ≡ counts_of (items_model items.now) marks.now candidate }
 {
@@ -138,7 +138,7 @@ fn beside(
         (candidate_at on.now.items.candidates.now i) best.old) }
     ensures known { OnOk result (AreKnownInEach on.now known_items.new) }
 {
-    if !counts(&on.items, marks, on.items.candidates[i]) {
+    if !may_be_placed(&on.items, marks, on.items.candidates[i]) {
         return Ok(());
     }
     *best = best_in_lists(scratch, on, i, known_items, *best)?;

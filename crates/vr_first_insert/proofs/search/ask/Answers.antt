@@ -14,8 +14,8 @@ invariant_of-of c =
     let list : c.as_slice-nodes.result.now ≡ route lists v = list_at lists v c.as_slice-nodes.result.now c.index-lists-v.result c.as_slice-nodes.ensures c.index-lists-v.is c.requires.there in
     record { may_hold = subst (λ list. MayHold c.args.on.now.items.lookups.now.closed.model.now list (candidate_at c.args.on.now.items.candidates.now c.args.i).item) (sym list) (c.requires.may_hold v c.requires.there) }
 
-pub asked-requires-clause-known : goal.asked-requires-clause-known
-asked-requires-clause-known c =
+pub find_out-requires-clause-known : goal.find_out-requires-clause-known
+find_out-requires-clause-known c =
     let model = c.args.on.now.items.lookups.now.closed.model.now in
     let lists = c.args.on.now.lists.now in
     let v : ℕ = c.args.v in
@@ -23,8 +23,8 @@ asked-requires-clause-known c =
     subst (λ list. IsCandidateKnown model v list (candidate_at c.args.on.now.items.candidates.now c.args.i) c.get-known.result) (sym list)
     (subst (IsCandidateKnown model v (route lists v) (candidate_at c.args.on.now.items.candidates.now c.args.i)) (sym c.get-known.ensures) (c.requires.row.each c.args.i c.requires.candidate))
 
-pub asked-requires-clause-ready : goal.asked-requires-clause-ready
-asked-requires-clause-ready c =
+pub find_out-requires-clause-ready : goal.find_out-requires-clause-ready
+find_out-requires-clause-ready c =
     let lists = c.args.on.now.lists.now in
     let v : ℕ = c.args.v in
     let list : c.as_slice-nodes.result.now ≡ route lists v = list_at lists v c.as_slice-nodes.result.now c.index-lists-v.result c.as_slice-nodes.ensures c.index-lists-v.is c.requires.there in

@@ -3,7 +3,7 @@ use Rattle.std.specs.Vec.{with_item}
 use Rattle.vr_model.specs.routes.Routes.{route}
 use Rattle.vr_reach.specs.KnownRows.{AreRowsIfUsed}
 use Rattle.vr_first_insert.proofs.RowLemmas.{kept_again, list_at}
-use Rattle.vr_first_insert.proofs.list_rows.ListRows.learn.Goals as goal
+use Rattle.vr_first_insert.proofs.list_rows.ListRows.rewrite.Goals as goal
 
 pub rewrite_rows-requires-clause-rows : goal.rewrite_rows-requires-clause-rows
 rewrite_rows-requires-clause-rows c =

@@ -3,7 +3,7 @@ use Rattle.std.specs.Prelude.{slice_index_or}
 use Rattle.vr_model.specs.moves.Moves.{with_route}
 use Rattle.vr_first_insert.specs.declared.list_rows.ListRows.{ListRows}
 use Rattle.vr_first_insert.specs.KeptRows.{AreKeptRowsIn}
-use Rattle.vr_first_insert.proofs.list_rows.learn.Given as goal
+use Rattle.vr_first_insert.proofs.list_rows.rewrite.Given as goal
 
 -- the rows of the dimensions so far are written, the others not yet
 abbrev pub invariant-loop-d : goal.invariant-loop-d

@@ -1,7 +1,7 @@
 use Rattle.std.proofs.Common.{◌≡◌, ◌∙◌, ap, of_z, rules, subst, sym, to_z, w64}
 use Rattle.vr_first_insert.specs.Kept.{best_of, BestAddsAtLeast, IsCandidateKnown}
 use Rattle.vr_first_insert.proofs.ToldLemmas.{best-adds, best-merged}
-use Rattle.vr_first_insert.proofs.known.asked.Goals as goal
+use Rattle.vr_first_insert.proofs.known.find_out.Goals as goal
 
 pub returns-in-Best-clause-better : goal.returns-in-Best-clause-better
 returns-in-Best-clause-better c =
@@ -10,8 +10,8 @@ returns-in-Best-clause-better c =
     ap (λ known. best_of known c.args.best) c.in-Best.is
     ∙ best-merged model c.args.of.now.list.vehicle list c.args.of.now.candidate c.in-Best.field-0 c.args.best (subst (IsCandidateKnown model c.args.of.now.list.vehicle list c.args.of.now.candidate) c.in-Best.is c.requires.known)
 
-pub tried-requires-in-Nothing-clause-bound : goal.tried-requires-in-Nothing-clause-bound
-tried-requires-in-Nothing-clause-bound c =
+pub search_if_better-requires-in-Nothing-clause-bound : goal.search_if_better-requires-in-Nothing-clause-bound
+search_if_better-requires-in-Nothing-clause-bound c =
     let model = c.args.of.now.list.lookups.now.closed.model.now in
     let list = c.args.of.now.list.nodes.now in
     let v = c.args.of.now.list.vehicle in
