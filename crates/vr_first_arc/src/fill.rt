@@ -64,8 +64,7 @@ fn consider_candidate(
         class: candidate.class,
         cost: model.arc_cost(v, last_stop(model, v, growing.list), number),
     };
-    let chosen = consider(growing, room, next, best)?;
-    Ok(chosen)
+    consider(growing, room, next, best)
 }
 
 // The item to append next to the list of vehicle `v`, if any may be appended.

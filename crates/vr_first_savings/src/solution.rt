@@ -17,7 +17,7 @@ use vr_plan::Lookups;
 use vr_routes::Routes;
 use vr_rules::{Driving, Rules};
 
-// The lists at which the construction ends. Nothing large is owned where it ends early.
+// The lists at which the construction ends. The room for walks is lent, so that little is let go where it ends early.
 fn lists_joined(
     alloc: Global,
     lookups: &Lookups<'_>,
@@ -29,8 +29,7 @@ fn lists_joined(
     let singles = single_routes(alloc, lookups, driving)?;
     let routes = merged(alloc, lookups, singles, driving)?;
     let (model, nodes) = (lookups.closed.model, lookups.nodes());
-    let lists = lists_of(alloc, model, ranked(alloc, nodes, &routes)?)?;
-    Ok(lists)
+    lists_of(alloc, model, ranked(alloc, nodes, &routes)?)
 }
 
 // The same, with room of its own for the walks.
@@ -60,6 +59,7 @@ pub fn first_over(alloc: Global, lookups: &Lookups<'_>) -> Result<Option<Routes>
         IfSome first (λ routes. routes.visits ≡ visits lookups.now.closed.model.now)) }
 {
     let lists = lists_by_savings(alloc, lookups)?;
+    // they are lists of the model, so there are such routes
     let Some(routes) = Routes::from_lists(alloc, lookups.closed.model, &lists)? else {
         return Ok(None);
     };

@@ -250,6 +250,5 @@ pub fn generate(alloc: Global, number: u64) -> Result<Value, NoMemory>
     let mut words = words_of(number);
     let sites = repeated::<Site>(alloc, &mut words, 61)?;
     let customers = repeated::<Customer>(alloc, &mut words, 60)?;
-    let tree = model(alloc, sites.as_slice(), customers.as_slice())?;
-    Ok(tree)
+    model(alloc, sites.as_slice(), customers.as_slice())
 }
