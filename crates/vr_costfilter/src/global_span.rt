@@ -46,6 +46,7 @@ pub struct GlobalSpan<'m> {
     next: ArrayVec<ListTimings, 2>,
     next_orders: Vec<SortedEnds>,
     next_cost: i64,
+    // whether a change was made ready: contracts alone read it
     is_prepared: bool,
     // the cumuls of the committed lists
     cumuls: AllCumuls,

@@ -186,7 +186,7 @@ impl KeptList {
         asked.timing_between(ends, trail)
     }
 
-    // The same from another start to the end that is kept.
+    // The same from a start that is given to the end that is kept.
     fn timing_from(&self, asked: &Asked, start: i64, trail: &mut Trail) -> Option<Timing>
         requires allows { ChoiceAllows asked.now
             (between_runs (runs_of asked.now.guide.now) start self.now.between.last) }

@@ -14,9 +14,9 @@
 //! were. The two ends of a tight schedule follow from a walk that waits for the begins of runs alone: the ways along
 //! the first visits of the committed list are kept, and what is left behind each place. Between its ends a tight
 //! schedule is an earliest one. Where soft upper bounds may cost anything, floors and cumuls are kept of it too: where
-//! the list ends as it did, its start alone is another, and what was kept is met as soon as a cumul is as it was; where
-//! it ends at another cumul, the whole list is walked. What is kept is always of the committed lists (`AreAllKept`):
-//! who changes them commits the change here first.
+//! the list ends as it did, its start alone may be another, and what was kept is met as soon as a cumul is as it was;
+//! where it ends at another cumul, the whole list is walked. What is kept is always of the committed lists
+//! (`AreAllKept`): who changes them commits the change here first.
 #![tactic(auto)]
 
 mod asked;

@@ -37,6 +37,7 @@ pub struct PlanCost<'m> {
     costs: Vec<i64>,
     // what the lists of a change that is ready cost
     next: ArrayVec<i64, 2>,
+    // whether a change was made ready: contracts alone read it
     is_prepared: bool,
     // the cumuls of the committed lists
     cumuls: AllCumuls,

@@ -43,8 +43,8 @@ pub struct Lead {
     first: Step,
 }
 
-/// Where a walk along new steps begins: the stage that is kept there, the cumul at the start, and how much more was
-/// paid up to the stage than is kept.
+/// Where a walk along new steps begins: a stage, the kept one where one is met; the cumul at the start; and what was
+/// paid up to there beyond what the stage says, 0 where it is not a kept one.
 #[derive(Clone, Copy)]
 pub struct Outset {
     stage: Stage,
@@ -315,7 +315,8 @@ impl<'a, 'm> KnownSteps<'a, 'm> {
         self.guide.standing(cumul)
     }
 
-    // The same, where the vehicle starts at another cumul than the kept one.
+    // The stage where new steps begin, where the start is at a cumul that is given. Nothing exactly where the vehicle
+    // does not come there.
     fn meet_from(&self, start: i64, lead: Lead) -> Option<Outset>
         requires start { IsIn (pos 0) horizon start }
         requires lead { IsLead self.now.guide.now.model.now (steps_of self.now.kept.now)
@@ -383,6 +384,7 @@ impl<'a, 'm> KnownSteps<'a, 'm> {
             (runs_of self.now.guide.now) (Some stage)
             (drop behind (steps_of self.now.kept.now)) }
     {
+        // taken out once: each turn of the loop would read them anew
         let guide = self.guide;
         let list = self.list;
         let all = self.kept;

@@ -10,8 +10,9 @@ pub struct Step {
     pub floor: i64,
 }
 
-/// A stack of the steps to visits of a list, which has the last one at its bottom. A caller lends it as scratch, so
-/// that a walk from the end backwards takes no memory; what is on it before a call does not matter.
+/// A stack of the steps to visits of a list, which has the last one at its bottom: kept of a committed list, or scratch
+/// that a caller lends, so that a walk from the end backwards takes no memory. What is on scratch before a timing is
+/// asked for does not matter; inside this crate walks put their steps on top.
 #[derive(Drop)]
 pub struct Trail {
     pub steps: ArrayVec<Step, 1000>,

@@ -5,8 +5,8 @@
 //! path where it stands, and the first fault in the order of the table is the answer. A tree is built field by field,
 //! in any order, and `to_line` prints it, its keys in the order of bytes.
 //!
-//! `vr_read`, `vr_printed` and `vr_tsplib` read by it, `vr_gen` and `vr_print` build trees by it, and `vr_app` prints
-//! the replies that are no solution.
+//! `vr_read`, `vr_printed` and `vr_app` (the object of a check) read by it, `vr_gen`, `vr_print` and `vr_tsplib` build
+//! trees by it, and `vr_app` prints.
 #![tactic(auto)]
 
 mod arrays;

@@ -21,7 +21,7 @@ pub trait Sieve {
     /// What is known of a move that is passed over.
     ghost covers: { Self → Moved → Type 0 };
 
-    /// How many moves may be tried.
+    /// Up to how many tries it is asked about runs: of none where it is 0.
     ghost tries: { Self → ℕ };
 
     /// This judge can be asked.
@@ -33,7 +33,7 @@ pub trait Sieve {
     /// A number of a judge that rises by at most one where it is asked about a run.
     ghost looked: { Self.Judge → ℕ };
 
-    /// How many moves may be tried.
+    /// Up to how many tries it is asked about runs: of none where it is 0.
     fn limit(&self) -> u64
         ensures { result ≡ tries self.now };
 

@@ -2,7 +2,8 @@
 
 use std::alloc::{AllocError, AllocFailed};
 
-/// Want of memory. No contract ties it to a refused growth; it is merged with no other refusal.
+/// Want of memory. No contract ties it to a refused growth; of other refusals only a count of
+/// sharers that is full comes as it (`vr_plan::Lookups::share`).
 #[derive(Clone, Copy, Debug, PartialEq, Eq)]
 pub struct NoMemory;
 

@@ -190,7 +190,7 @@ pub struct Allowed {
 pub struct SearchRow {
     pub first: First,
     pub improve: Improve,
-    /// How many moves may be tried, in `0..=10^9`.
+    /// How many moves may be tried, or cuts of path neighbourhoods, in `0..=10^9`.
     pub tries: u64,
     /// How many solutions may be found, in `1..=10^9`.
     pub solutions: u64,
@@ -262,7 +262,7 @@ pub enum End {
 /// How a search went.
 #[derive(Clone, Copy)]
 pub struct Report {
-    /// How many moves were tried.
+    /// How many moves were tried, or cuts. A round of tabu search that would need more tries than are left uses up all.
     pub tries: u64,
     /// How many solutions were found: 1, and 1 for each move that was made or cut that was kept.
     pub solutions: u64,

@@ -3,7 +3,7 @@
 /// How far a search may go: each search stops at the first of the two that it reaches.
 #[derive(Clone, Copy)]
 pub struct Limit {
-    /// How many moves may be tried, in `0..=10^9`.
+    /// How many moves may be tried, or cuts of path neighbourhoods, in `0..=10^9`.
     pub tries: u64,
     /// How many solutions may be found, the first one included, in `1..=10^9`.
     pub solutions: u64,
@@ -24,7 +24,7 @@ pub struct Lambda {
 pub enum Kind {
     /// The search began with the first solution.
     First,
-    /// A move was accepted.
+    /// A move was made, or a cut kept.
     Move,
     /// Guided local search raised penalties at a local optimum.
     Round,
@@ -33,7 +33,7 @@ pub enum Kind {
 /// One event of a search.
 #[derive(Clone, Copy)]
 pub struct Event {
-    /// The moves tried so far.
+    /// The moves tried so far, or the cuts.
     pub tries: u64,
     pub kind: Kind,
     /// The cost of the lists after the event, without penalties of guided local search.

@@ -38,7 +38,7 @@ impl Pattern for Deliveries {
     ghost differ_in_last = { λ m t. refl };
 }
 
-/// The places of `w`, which has `n`, before which the pickup may be put.
+/// The places before which the pickup may be put in the list of `w`, which has `n` nodes: its end is one of them.
 #[derive(Drop)]
 pub struct Pickups {
     p: u32,

@@ -63,7 +63,8 @@ impl Numbered for Deliveries {
     }
 }
 
-/// The places of the rest of `w`, which has `n`, before which the pickup may be put.
+/// The places before which the pickup may be put in the rest of the list of `w`, which has `n` nodes: its end is one of
+/// them.
 #[derive(Drop)]
 pub struct Pickups {
     p: u32,

@@ -53,6 +53,7 @@ pub struct DimensionFilter<'m> {
     // the rows of the changed lists, where a change was made ready
     first: Rows,
     second: Rows,
+    // whether a change was made ready: contracts alone read it
     is_prepared: bool,
 }
 

@@ -31,6 +31,7 @@ pub struct GroupFilter<'m> {
     // for each node the number of its group
     numbers: Seq<u32>,
     balance: Balance,
+    // whether a change was made ready: contracts alone read it
     is_prepared: bool,
 }
 

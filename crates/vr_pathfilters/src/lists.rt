@@ -48,6 +48,7 @@ pub trait ListRule {
 #[derive(Drop)]
 pub struct ListFilter<R> {
     pub(crate) rule: R,
+    // whether a change was made ready: contracts alone read it
     pub(crate) is_prepared: bool,
 }
 

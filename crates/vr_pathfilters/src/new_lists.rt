@@ -123,7 +123,7 @@ impl<'r, 'n> NewList<'r, 'n> {
     fn serves(&self, pair: Pair) -> bool
         ensures { result ≡ serves_pair self.now pair }
     {
-        // no node stands twice
+        // no node stands twice; the place of a node that is absent is the length
         let _ = &self.ends;
         let pickup = self.place(pair.pickup);
         let delivery = self.place(pair.delivery);
