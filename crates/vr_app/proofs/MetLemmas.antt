@@ -1,5 +1,5 @@
 -- What the reply to a question about a solution says of the input.
-use Rattle.std.proofs.Common.{◌≡◌, ◌∙◌, ◌≤◌, ◌↔◌, ℕ, ℤ, List, [], Bool, true, false, Option, Some, None, Result, Ok, Err, refl, ap, sym, subst, arith, length}
+use Rattle.std.proofs.Common.{◌≡◌, ◌∙◌, ◌≤◌, ◌↔◌, ℕ, List, [], Bool, true, false, Option, Some, None, Result, Ok, Err, refl, ap, sym, subst, arith, length}
 use Rattle.std.specs.Prelude.{IsTrue, codes}
 use Rattle.serde_json.specs.Data.{Data}
 use Rattle.vr_json.specs.Trees.{text_line}
@@ -14,18 +14,15 @@ use Rattle.vr_model.specs.tables.WellFormed.{IsWellFormed}
 use Rattle.vr_read.specs.Models.{read_model}
 use Rattle.vr_read.proofs.WellFormedModels.{well_formed_from_read}
 use Rattle.vr_check.proofs.AllMet.{met_keeps_all_rules}
-use Rattle.vr_check.specs.Laws.{KeepsAllRules}
 use Rattle.vr_check.specs.declared.finding.Finding.{Finding}
 use Rattle.vr_check.specs.declared.finding.Finding.TheVariants.{Meets, Broken}
 use Rattle.vr_app.specs.Causes.{HasFault, IsNotJson, IsReadAs, IsTooLong}
 use Rattle.vr_app.specs.Checked.{Checked, checked_at, checked_of, found_in, is_met}
 use Rattle.vr_app.specs.Input.{max_input, input_value}
 use Rattle.vr_printed.specs.Printed.{assignment_of}
-use Rattle.vr_printed.specs.Shape.{printed_in}
-use Rattle.vr_printed.specs.declared.printed.Printed.{Printed}
 use Rattle.vr_app.specs.Met.{IsBrokenBy, HasKept, IsMetBy, IsSpannedBy}
 use Rattle.vr_app.specs.Spans.{printed_assignment, spans_of, spans_tree}
-use Rattle.vr_app.specs.Reply.{Reply, answer_tree, not_json, refused, reply, reply_in, reply_to_checked, reply_to_finding, reply_to_input, reply_to_value, too_long}
+use Rattle.vr_app.specs.Reply.{Reply, answer_tree, not_json, reply, reply_in, reply_to_checked, reply_to_finding, reply_to_input, reply_to_value, too_long}
 use Rattle.vr_app.specs.Runs.{Asks, ReadsInput, ReadsJson}
 use Rattle.vr_app.specs.Texts.{refused_tree}
 use Rattle.vr_app.specs.Words.{is_read, reads_json, request_of}
