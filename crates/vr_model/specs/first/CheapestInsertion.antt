@@ -41,7 +41,7 @@ abbrev pub increase : Model → List (List ℕ) → Insertion → ℤ
 increase model lists insertion = let v = insertion.vehicle in
     route_cost model v (route (inserted lists insertion) v) -ℤ route_cost model v (route lists v)
 
--- insertions are taken by class, then by increase, then by the number of the item, the vehicle and the places
+-- insertions are taken by class, then by increase, then by the item's first node, the vehicle and the places
 abbrev pub insertion_key : Model → List (List ℕ) → Insertion → List ℤ
 insertion_key model lists insertion =
     pos (class model insertion.item) ∷ increase model lists insertion ∷ pos (first_node insertion.item)

@@ -54,7 +54,8 @@ is_before line plan i = int_le (break_end line plan i) (cumul plan 0)
 abbrev pub is_after : Line → Plan → ℕ → Bool
 is_after line plan i = int_le (cumul plan (length line.arcs)) (break_start plan i)
 
--- break i lies inside arc k: after the visit at its start, and before the cumul at its end
+-- break i lies inside arc k: it starts no earlier than the visit at the arc's start ends, and ends no later than the
+-- cumul at the arc's end
 abbrev pub is_inside : Line → Plan → ℕ → ℕ → Bool
 is_inside line plan i k =
     int_le (cumul plan k +ℤ (arc_at line k).visit) (break_start plan i)
@@ -87,8 +88,8 @@ no_side = sides false false
 
 -- The rules of a schedule, where breaks may stand at these sides. Rules on an index speak of each stop, each arc,
 -- or each break: its cumul is allowed; its slack is what the cumuls leave, and is in 0..=slack_max; its start is
--- in range; it ends before the next one starts; it stands before the first stop, after the last one, or inside an
--- arc; the slack of an arc is enough for the breaks inside it.
+-- in range; it ends no later than the next one starts; it stands before the first stop, after the last one, or inside
+-- an arc; the slack of an arc is enough for the breaks inside it.
 pub record KeepsRules (where_else : Sides) (line : Line) (plan : Plan) : Type 0 where
   pub cumul_of_each_stop : length plan.cumuls ≡ length line.allowed
   pub slack_of_each_arc : length plan.slacks ≡ length line.arcs

@@ -71,7 +71,8 @@ raised model penalties lists origin target =
 abbrev pub has_costly_arc : Model → List (List ℕ) → Bool
 has_costly_arc model lists = list_any (λ arc. int_lt (pos 0) (cost_of_arc model arc)) (used_arcs model lists)
 
--- after a complete scan of no move, or where no used arc has a cost above 0, no penalty can help
+-- guided search is at its end where there was no move to try, or where no used arc has a cost above 0: then penalties
+-- change nothing
 abbrev pub is_at_end : Model → SearchState → ℕ → Bool
 is_at_end model state n = (n == 0) || not (has_costly_arc model state.lists)
 

@@ -9,7 +9,8 @@ pub data Scan : Type 0 where
   Complete : ℕ → Scan
   Cut : Scan
 
--- the scan of the moves behind the first `place` ones, of which none was acceptable
+-- the scan of the moves behind the first `place` ones, of which none was acceptable; at most `rest` moves in all may be
+-- tried
 abbrev pub scan_from : ℕ → (Move → Bool) → ℕ → List Move → Scan
 scan_from place acceptable rest [] = cond (nat_lt rest place) Cut (Complete place)
 scan_from place acceptable rest (m ∷ ms) =
