@@ -125,7 +125,7 @@ impl Balance {
         for k in 0..pieces.len() {
             place = self.add_piece(routes, v, place, pieces[k]);
         }
-        self.leave(routes, v, place, routes.len(v));
+        self.leave(v, place, routes.len(v));
     }
 
     // The nodes of a vehicle from a place up to the place that is answered become those of a piece.
@@ -156,10 +156,10 @@ impl Balance {
                 ..
             } => {
                 if vehicle == v && place <= from {
-                    self.leave(routes, v, place, from);
+                    self.leave(v, place, from);
                     return to;
                 }
-                self.bring(routes, vehicle, from, to);
+                self.bring(vehicle, from, to);
                 place
             }
         }
@@ -178,22 +178,21 @@ impl Balance {
             Some(seat) => {
                 // That a list is short says that the sum fits.
                 let _few = routes.len(seat.vehicle);
-                self.bring(routes, seat.vehicle, seat.place, seat.place + 1);
+                self.bring(seat.vehicle, seat.place, seat.place + 1);
             }
             None => enter(&mut self.come, &mut self.gone, Piece::Node { node }),
         }
     }
 
     // The nodes of a vehicle from a place up to but not including a place come.
-    fn bring(&mut self, _routes: &Routes, v: u32, from: u32, to: u32)
-        requires chain { IsWithin _routes.now.lists (Chain v from to false) }
+    fn bring(&mut self, v: u32, from: u32, to: u32)
         requires room { length self.old.come < 18 }
-        requires within { IsTurnover _routes.now.lists self.old }
         ensures room { length self.new.come ≤ length self.old.come + 1 }
         ensures room_too { length self.new.gone ≤ length self.old.gone }
-        ensures within { IsTurnover _routes.now.lists self.new }
-        ensures became { Became _routes.now.lists self.old self.new []
-            (slice_range (route _routes.now.lists v) from to) }
+        ensures within { (lists : List (List ℕ)) → IsWithin lists (Chain v from to false)
+            → IsTurnover lists self.old → IsTurnover lists self.new }
+        ensures became { (lists : List (List ℕ))
+            → Became lists self.old self.new [] (slice_range (route lists v) from to) }
     {
         if from < to {
             let chain = Piece::Chain {
@@ -207,15 +206,14 @@ impl Balance {
     }
 
     // The nodes of a vehicle from a place up to but not including a place go.
-    fn leave(&mut self, _routes: &Routes, v: u32, from: u32, to: u32)
-        requires chain { IsWithin _routes.now.lists (Chain v from to false) }
+    fn leave(&mut self, v: u32, from: u32, to: u32)
         requires room { length self.old.gone < 18 }
-        requires within { IsTurnover _routes.now.lists self.old }
         ensures room { length self.new.come ≤ length self.old.come }
         ensures room_too { length self.new.gone ≤ length self.old.gone + 1 }
-        ensures within { IsTurnover _routes.now.lists self.new }
-        ensures became { Became _routes.now.lists self.old self.new
-            (slice_range (route _routes.now.lists v) from to) [] }
+        ensures within { (lists : List (List ℕ)) → IsWithin lists (Chain v from to false)
+            → IsTurnover lists self.old → IsTurnover lists self.new }
+        ensures became { (lists : List (List ℕ))
+            → Became lists self.old self.new (slice_range (route lists v) from to) [] }
     {
         if from < to {
             let chain = Piece::Chain {

@@ -23,11 +23,11 @@ use Rattle.vr_routes.specs.Pieces.{ListAfter, joined, no_part, part_at, changed}
 use Rattle.vr_routes.specs.Changes.{AreParts}
 use Rattle.vr_routes.specs.Tours.{Tours}
 use Rattle.vr_costfilter.specs.Kept.{AreAllKept}
-use Rattle.vr_costfilter.specs.SortedEnds.{beside, extent_but, IsInRange, IsReach, IsTimedIfUsed}
+use Rattle.vr_costfilter.specs.SortedEnds.{beside, extent_but, AreOrders, IsInRange, IsReach, IsTimedIfUsed}
 use Rattle.vr_costfilter.specs.SortedVehicles.{names}
 use Rattle.vr_costfilter.specs.declared.orders.SortedEnds.{SortedEnds}
 use Rattle.vr_costfilter.proofs.ReachLemmas.{is-not, extent-but-is, reach-all, reach-more, reach-same}
-use Rattle.vr_costfilter.specs.GlobalCosts.{extent_after, global_cost_of, has_global_span, is_some_spanned, orders_at, span_cost_after, spans_cost_after, timing_in, vehicles_of, AreAllOrders, IsRow, AreLike, AreNextRows, AreRanged, AreRowsAfter, IsGlobalCost, KeptSpans, Pays, StandsSpans}
+use Rattle.vr_costfilter.specs.GlobalCosts.{extent_after, global_cost_of, has_global_span, is_some_spanned, orders_at, span_cost_after, spans_cost_after, timing_in, vehicles_of, AreAllOrders, IsRow, AreLike, AreNextRows, AreNextRowsIn, AreRanged, AreRowsAfter, IsGlobalCost, KeptSpans, Pays, StandsSpans}
 use Rattle.vr_costfilter.specs.Known.{IsValidChange}
 use Rattle.vr_parts.proofs.RowLemmas.{rows-push}
 use Rattle.vr_parts.proofs.SumLemmas.{part-list, route-kept}
@@ -123,6 +123,22 @@ module _ (model : Model) (lists : List (List ℕ)) (orders : List SortedEnds) (a
         (reach-same model d lists (changed lists parts) (λ v. not (names (vehicles_of parts) v)) (λ v is. route-kept lists parts lists v (away parts v (is-not (names (vehicles_of parts) v) is)))
         (extent_but (vehicles_of parts) (orders_at orders d)) (extent-but-is model d lists (orders_at orders d) (are.each d low pays) (vehicles_of parts)))
 
+-- the cumuls that the sorted ends of lists and the rows of a change of them tell are in their range
+pub ranged-next : (model : Model) (lists : List (List ℕ)) (parts : List ListAfter) (orders : List SortedEnds) (next : List (List (Option Timing))) → AreNextRows model lists parts orders next → AreRanged model orders next
+ranged-next model lists parts orders next rows = ranged-after model lists orders rows.orders_are parts next rows.rows
+
+-- the same sorted ends and rows in a dimension that pays
+pub rows-in : (model : Model) → IsWellFormed model → (lists : List (List ℕ)) (parts : List ListAfter) (orders : List SortedEnds) (next : List (List (Option Timing))) → AreNextRows model lists parts orders next
+    → (d : ℕ) → d < length model.dimensions → Pays model d → (read : SortedEnds) → read ≡ orders_at orders d → AreNextRowsIn model d lists parts read next
+rows-in model well lists parts orders next rows d low pays read same = record {
+  dimension = omega (arith, well.number_of_dimensions, low);
+  orders_are = subst (AreOrders model d lists) (sym same) (rows.orders_are.each d low pays);
+  few = omega (arith, well.number_of_vehicles.at_most, rows.as_many);
+  parts_are = rows.parts_are;
+  many = rows.rows.many;
+  told = λ k under. ((rows.rows.rows k under).each d low).told pays;
+}
+
 -- what the global spans cost where the extents are those of lists
 cost-told : (model : Model) (lists : List (List ℕ)) (orders : List SortedEnds) (vehicles : List ℕ) (next : List (List (Option Timing)))
     → ((d : ℕ) → d < length model.dimensions → Pays model d → IsReach model d lists (λ v. true) (extent_after d vehicles next (orders_at orders d)))
@@ -201,6 +217,11 @@ ranged-same m n os os' rows rows' model_is orders_are rows_are h =
 pub cost-same : (m n : Model) (os os' : List SortedEnds) (us us' : List ℕ) (rows rows' : List (List (Option Timing))) → n ≡ m → os' ≡ os → us' ≡ us → rows' ≡ rows → spans_cost_after n os' us' rows' ≡ spans_cost_after m os us rows
 cost-same m n os os' us us' rows rows' model_is orders_are vehicles_are rows_are =
     ap (λ x. spans_cost_after x os' us' rows') model_is ∙ ap (λ x. spans_cost_after m x us' rows') orders_are ∙ ap (λ x. spans_cost_after m os x rows') vehicles_are ∙ ap (λ x. spans_cost_after m os us x) rows_are
+
+-- and the rows of the lists after a change
+pub rows-same : (m n : Model) (lists : List (List ℕ)) (parts : List ListAfter) (os os' : List SortedEnds) (rows rows' : List (List (Option Timing))) → n ≡ m → os' ≡ os → rows' ≡ rows → AreNextRows m lists parts os rows → AreNextRows n lists parts os' rows'
+rows-same m n lists parts os os' rows rows' model_is orders_are rows_are h =
+    subst (λ (x : Model). AreNextRows x lists parts os' rows') (sym model_is) (subst (λ x. AreNextRows m lists parts x rows') (sym orders_are) (subst (λ x. AreNextRows m lists parts os x) (sym rows_are) h))
 
 -- its rows of the lists after a change are of these orders, where it is like one that stands at the lists before
 pub rows-like : (before later : KeptSpans) (tours : Tours) (parts : List ListAfter) → IsValidChange (StandsSpans before) before.model tours parts → AreLike before later → AreRowsAfter later.model tours.lists parts (length parts) later.next

@@ -9,6 +9,8 @@ use Rattle.vr_plan.specs.declared.tables.Table.{Table}
 use Rattle.vr_plan.proofs.TableLemmas.{table_at}
 use Rattle.vr_routes.specs.Pieces.{ListAfter, changed}
 use Rattle.vr_routes.specs.Tours.{Tours}
+use Rattle.vr_earliest.specs.declared.earlies.Early.{Early}
+use Rattle.vr_costfilter.specs.EarlyParts.{AreEarlyInRange, AreEarlyParts}
 use Rattle.vr_costfilter.specs.GlobalCosts.{KeptSpans, StandsSpans}
 use Rattle.vr_costfilter.specs.Known.{AreCumulsAt, IsValidChange}
 use Rattle.vr_costfilter.specs.LookedUp.{IsLookedUp}
@@ -44,6 +46,15 @@ still-valid {before} {later} {model} {other} {tours} {parts} h same stands = rec
   stands = stands;
   made = h.made;
   valid = subst (λ m. IsTrue (is_valid m (changed tours.lists parts))) (sym same) h.valid;
+}
+
+-- what is told of the lists after a change of lists is in its range
+pub early-range : (model : Model) (lists : List (List ℕ)) (parts : List ListAfter) (rows : List (List Early)) → AreEarlyParts model lists parts rows → AreEarlyInRange model parts rows
+early-range model lists parts rows h = record {
+  well_formed = h.well_formed;
+  few = h.earlies.few;
+  known = λ k other low. (let v : (slice_index_or parts k other).vehicle < length lists = h.parts_are.each_vehicle k other low in omega (arith, v, h.as_many));
+  range = λ d low paid k under. (let e = h.earlies.each d low paid k under in record { last = e.last_range; span = e.span_range });
 }
 
 -- ---- cumuls of lists at which a part of the cost stands

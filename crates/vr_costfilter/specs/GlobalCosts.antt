@@ -15,7 +15,9 @@ use Rattle.vr_plan.specs.declared.extents.Extent.{Extent}
 use Rattle.vr_plan.specs.declared.timings.Timing.{Timing}
 use Rattle.vr_costfilter.specs.Kept.{AreAllKept}
 use Rattle.vr_costfilter.specs.declared.kept.KeptList.{KeptList}
-use Rattle.vr_routes.specs.Changes.{AreParts}
+use Rattle.vr_earliest.specs.Earlies.{AreEarlies}
+use Rattle.vr_earliest.specs.declared.earlies.Early.{Early}
+use Rattle.vr_routes.specs.Changes.{AreParts, IsMadeOn}
 use Rattle.vr_routes.specs.Tours.{Tours}
 use Rattle.vr_routes.specs.Pieces.{ListAfter, changed, joined, part_at}
 use Rattle.vr_costfilter.specs.SortedEnds.{beside, extent_but, AreInRange, AreOrders, IsInRange, IsTimedIfUsed}
@@ -129,6 +131,13 @@ pub record StandsSpans (kept : KeptSpans) (tours : Tours) : Type 0 where
   pub cost : kept.cost ≡ global_cost_of kept.model tours.lists
   pub range : IsGlobalCost kept.cost
   pub cumuls : AreAllKept kept.model tours.lists kept.cumuls
+
+-- a change was made on routes whose global spans are kept, and these rows tell of the lists after it
+pub record AreSpansTold (kept : KeptSpans) (rows : List (List Early)) (parts : List ListAfter) (tours : Tours) : Type 0
+  where
+    pub stands : StandsSpans kept tours
+    pub made : IsMadeOn tours parts
+    pub earlies : AreEarlies kept.model tours.lists parts rows
 
 -- the vehicles of parts
 abbrev pub vehicles_of : List ListAfter → List ℕ

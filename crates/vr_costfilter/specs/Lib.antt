@@ -18,6 +18,7 @@ pub mod Asked
 pub mod ValidParts
 pub mod PartsAfter
 pub mod EarlyParts
+pub mod EarlyChanges
 pub mod Led
 pub mod Tours
 pub mod LookedUp

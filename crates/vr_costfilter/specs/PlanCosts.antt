@@ -12,9 +12,12 @@ use Rattle.vr_model.specs.declared.records.Model.{Model}
 use Rattle.vr_plan.specs.Bounds.{IsAround}
 use Rattle.vr_plan.specs.Paying.{is_free}
 use Rattle.vr_plan.specs.Timings.{soft_with, span_with}
+use Rattle.vr_earliest.specs.Earlies.{AreEarlies}
 use Rattle.vr_earliest.specs.Ways.{least_span}
+use Rattle.vr_earliest.specs.declared.earlies.Early.{Early}
 use Rattle.vr_costfilter.specs.Kept.{AreAllKept}
 use Rattle.vr_costfilter.specs.declared.kept.KeptList.{KeptList}
+use Rattle.vr_routes.specs.Changes.{IsMadeOn}
 use Rattle.vr_routes.specs.Tours.{Tours}
 use Rattle.vr_routes.specs.Pieces.{ListAfter, part_at, joined}
 use Rattle.vr_parts.specs.Sums.{part_less}
@@ -91,6 +94,13 @@ pub record StandsPlans (kept : KeptPlans) (tours : Tours) : Type 0 where
   pub costs : (v : ℕ) → v < length tours.lists → number_at kept.costs v ≡ plans_cost kept.model v (route tours.lists v)
   pub range : (v : ℕ) → v < length tours.lists → IsPlanCost (number_at kept.costs v)
   pub cumuls : AreAllKept kept.model tours.lists kept.cumuls
+
+-- a change was made on routes of which it is kept what each list costs, and these rows tell of the lists after it
+pub record ArePlansTold (kept : KeptPlans) (rows : List (List Early)) (parts : List ListAfter) (tours : Tours) : Type 0
+  where
+    pub stands : StandsPlans kept tours
+    pub made : IsMadeOn tours parts
+    pub earlies : AreEarlies kept.model tours.lists parts rows
 
 -- these are the costs of the first n lists
 pub record AreCosts (model : Model) (lists : List (List ℕ)) (n : ℕ) (costs : List ℤ) : Type 0 where

@@ -9,7 +9,7 @@ ghost use Rattle.vr_costfilter.specs.Joined.{AreJoined, IsWithin-prop};
 use crate::guides::Guide;
 use crate::kept_ways::KeptWays;
 use crate::led::LedPieces;
-use crate::tight::TightEnds;
+use crate::tight::{TightEnds, ends_by};
 use crate::trails::Trail;
 use vr_earliest::along_pieces;
 use vr_plan::Timing;
@@ -90,6 +90,6 @@ impl<'a, 'm, 's> Asked<'a, 'm, 's> {
         let left = kept.rest(splice.behind);
         let way = along_pieces(self.guide, self.routes, splice.middle, front);
         let whole = self.guide.way_through(way, left);
-        self.guide.ends_by(whole)
+        ends_by(whole)
     }
 }

@@ -4,24 +4,22 @@ ghost use Rattle.std.proofs.Props.{props};
 ghost use Rattle.std.specs.Prelude.{◌≡◌, ◌<◌, length};
 ghost use Rattle.vr_routes.specs.Pieces.{part_at};
 ghost use Rattle.vr_model.specs.tables.WellFormedOnce.{IsWellFormed-prop};
-ghost use Rattle.vr_costfilter.specs.EarlyParts.{AreEarlyParts};
+ghost use Rattle.vr_costfilter.specs.EarlyParts.{AreEarlyInRange};
 ghost use Rattle.vr_costfilter.specs.GlobalCosts.{IsPaidIn};
-ghost use Rattle.vr_costfilter.specs.Joined.{IsWithin-prop};
 
 use vr_earliest::Earlies;
 use vr_model::Model;
-use vr_routes::{Change, Routes};
+use vr_routes::Change;
 
-/// A change of the lists of routes, and what the chosen schedules of the lists after it come to at least.
+/// A change of lists, and what the chosen schedules of the lists after it come to at least.
 #[derive(Drop)]
 pub struct EarlyChange<'a> {
     pub model: &'a Model,
-    pub routes: &'a Routes,
     pub change: &'a Change,
     pub earlies: &'a Earlies,
-    /// That is what they come to at least, of a well formed model.
-    pub ghost sound: { AreEarlyParts model.now routes.now.lists change.now earlies.now } by { Prim.hlevel
-        (props, IsWellFormed-prop, IsWithin-prop) },
+    /// The model is well formed, and what is told is in its range.
+    pub ghost sound: { AreEarlyInRange model.now change.now earlies.now } by { Prim.hlevel
+        (props, IsWellFormed-prop) },
 }
 
 /// The same in a dimension whose global span has a coefficient.

@@ -1,18 +1,18 @@
 //! Global spans.
 
-ghost use Rattle.std.specs.Prelude.{◌≡◌, ◌-ℤ◌, ◌≤ℤ◌, ◌<◌, ◌*◌, false, not, IsTrue};
+ghost use Rattle.std.specs.Prelude.{◌≡◌, ◌-ℤ◌, ◌≤ℤ◌, ◌<◌, ◌*◌, ℕ, List, false, not, IsTrue};
 ghost use Rattle.std.specs.Prelude.{IfOk, OnOk, OnErr, length};
 ghost use Rattle.vr_model.specs.tables.Tables.{visits};
 ghost use Rattle.vr_model.specs.tables.WellFormed.{IsWellFormed};
 ghost use Rattle.vr_model.specs.routes.Rules.{is_valid};
 ghost use Rattle.vr_routes.specs.Pieces.{changed, joined, part_at};
-ghost use Rattle.vr_routes.specs.Changes.{IsMadeOn, NothingReady};
+ghost use Rattle.vr_routes.specs.Changes.{NothingReady};
+ghost use Rattle.vr_routes.specs.Tours.{Tours};
 ghost use Rattle.vr_plan.specs.Bounds.{cumul_cost, IsAround};
-ghost use Rattle.vr_earliest.specs.Earlies.{AreEarlies};
 ghost use Rattle.vr_costfilter.specs.GlobalCosts.{global_cost_of, is_some_spanned, IsRow, AreLike, AreNextRows};
-ghost use Rattle.vr_costfilter.specs.GlobalCosts.{AreRowsAfter};
+ghost use Rattle.vr_costfilter.specs.GlobalCosts.{AreRanged, AreRowsAfter};
 ghost use Rattle.vr_costfilter.specs.Known.{IsValidChange};
-ghost use Rattle.vr_costfilter.specs.GlobalCosts.{AreSpansReady, IsGlobalCost, StandsSpans};
+ghost use Rattle.vr_costfilter.specs.GlobalCosts.{AreSpansReady, AreSpansTold, IsGlobalCost, StandsSpans};
 ghost use Rattle.vr_parts.specs.Parts.{CostAlike};
 ghost use Rattle.vr_costfilter.specs.Spreads.{global_least};
 
@@ -126,22 +126,23 @@ impl<'m> GlobalSpan<'m> {
 
     /// What a change adds at least, where the lists after it are valid: how far its lists and those that stay reach at
     /// least, less what the global spans cost now. The caller hands in what the chosen schedules of the changed lists
-    /// come to at least. No schedule is built.
-    pub fn least(&self, earlies: &Earlies, routes: &Routes, change: &Change) -> i64
-        requires stands { StandsSpans self.now routes.now }
-        requires earlies { AreEarlies self.now.model routes.now.lists change.now earlies.now }
-        requires made { IsMadeOn routes.now change.now }
-        ensures value { result ≡ global_least self.now.model routes.now.lists change.now
-            -ℤ global_cost_of self.now.model routes.now.lists }
-        ensures least { IsTrue (is_valid self.now.model (changed routes.now.lists change.now))
-            → result ≤ℤ (global_cost_of self.now.model (changed routes.now.lists change.now)
-            -ℤ global_cost_of self.now.model routes.now.lists) }
+    /// come to at least. No schedule is built. It holds of any routes at which this stands and on which the change was
+    /// made; there must be some.
+    pub fn least(&self, earlies: &Earlies, change: &Change) -> i64
+        requires { (tours : Tours) × AreSpansTold self.now earlies.now change.now tours }
+        ensures value { (tours : Tours) → AreSpansTold self.now earlies.now change.now tours
+            → result ≡ global_least self.now.model tours.lists change.now
+            -ℤ global_cost_of self.now.model tours.lists }
+        ensures least { (tours : Tours) → AreSpansTold self.now earlies.now change.now tours
+            → IsTrue (is_valid self.now.model (changed tours.lists change.now))
+            → result ≤ℤ (global_cost_of self.now.model (changed tours.lists change.now)
+            -ℤ global_cost_of self.now.model tours.lists) }
         ensures range { IsAround (cumul_cost * 8) result }
     {
         if self.is_idle() {
             return 0;
         }
-        self.rules.least(earlies, &self.orders, routes, change) - self.cost
+        self.rules.least(earlies, &self.orders, change) - self.cost
     }
 
     // What the schedules come to of the list that part `k` of a change gives its vehicle.
@@ -181,14 +182,14 @@ impl<'m> GlobalSpan<'m> {
         Ok(())
     }
 
-    // What the global spans cost after a change whose rows are written.
-    fn cost_after(&self, routes: &Routes, change: &Change) -> i64
-        requires { AreNextRows self.now.model routes.now.lists change.now self.now.orders self.now.next }
-        ensures value { result ≡ global_cost_of self.now.model (changed routes.now.lists change.now) }
+    // What the global spans cost after a change whose rows are written, of any lists that have them.
+    fn cost_after(&self, change: &Change) -> i64
+        requires { AreRanged self.now.model self.now.orders self.now.next }
+        ensures value { (lists : List (List ℕ))
+            → AreNextRows self.now.model lists change.now self.now.orders self.now.next
+            → result ≡ global_cost_of self.now.model (changed lists change.now) }
         ensures range { IsGlobalCost result }
     {
-        // the lists are those of the clauses alone
-        let _routes = routes;
         let vehicles = vehicles_of(change);
         self.rules.cost(&self.orders, &vehicles, &self.next)
     }
@@ -201,14 +202,9 @@ impl<'m> GlobalSpan<'m> {
         ensures like { AreLike self.old self.new }
     {
         self.write_next(routes, change)?;
-        self.next_cost = self.cost_after(routes, change);
-        self.rules.write_orders(
-            &self.orders,
-            routes,
-            change,
-            &self.next,
-            &mut self.next_orders,
-        );
+        self.next_cost = self.cost_after(change);
+        self.rules
+            .write_orders(&self.orders, change, &self.next, &mut self.next_orders);
         self.is_prepared = true;
         Ok(())
     }
@@ -232,7 +228,7 @@ impl<'m> CostPart for GlobalSpan<'m> {
             return Ok(0);
         }
         self.write_next(routes, change)?;
-        Ok(self.cost_after(routes, change) - self.cost)
+        Ok(self.cost_after(change) - self.cost)
     }
 
     fn prepare(&mut self, routes: &Routes, change: &Change) -> Result<(), NoMemory> {

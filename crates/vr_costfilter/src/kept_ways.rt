@@ -13,7 +13,7 @@ ghost use Rattle.vr_costfilter.specs.Ways.{nearest_cumul, tight-more, way_out, w
 use crate::guides::Guide;
 use crate::led::LedList;
 use crate::rests::Rest;
-use crate::tight::{TightEnds, Way};
+use crate::tight::{TightEnds, Way, ends_by};
 use vr_earliest::Walk;
 use vr_model::limits::HORIZON;
 
@@ -85,7 +85,7 @@ impl<'a, 'm> LedList<'a, 'm> {
         let way = kept.way(0);
         let rest = kept.rest(0);
         let whole = self.guide.way_through(way, rest);
-        let ends = self.guide.ends_by(whole);
+        let ends = ends_by(whole);
         TightEnds {
             start: within_horizon(ends.start),
             last: within_horizon(ends.last),

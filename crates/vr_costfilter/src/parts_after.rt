@@ -52,14 +52,14 @@ impl<'a> PartAfter<'a> {
         ensures ends { IsSplice self.now.routes.now.lists (vehicle_after self.now)
             (part_at self.now.change.now self.now.k).pieces result.front result.behind result.middle.now }
     {
-        self.change.splice(self.routes, self.k)
+        self.change.splice(self.k)
     }
 
     /// Whether its list is empty.
     pub fn is_empty(&self) -> bool
         ensures { result ≡ is_empty (list_after self.now) }
     {
-        Piece::nodes_in(self.routes, self.pieces()) == 0
+        Piece::nodes_in(self.pieces()) == 0
     }
 
     /// Writes its list.

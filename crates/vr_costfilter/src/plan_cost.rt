@@ -5,12 +5,13 @@ ghost use Rattle.vr_model.specs.tables.Tables.{visits};
 ghost use Rattle.vr_model.specs.tables.WellFormed.{IsWellFormed};
 ghost use Rattle.vr_model.specs.routes.Rules.{is_valid};
 ghost use Rattle.vr_routes.specs.Pieces.{changed, part_at};
-ghost use Rattle.vr_routes.specs.Changes.{IsMadeOn, NothingReady};
-ghost use Rattle.vr_earliest.specs.Earlies.{AreEarlies};
+ghost use Rattle.vr_routes.specs.Changes.{NothingReady};
+ghost use Rattle.vr_routes.specs.Tours.{Tours};
 ghost use Rattle.vr_parts.specs.Parts.{CostAlike};
 ghost use Rattle.vr_costfilter.specs.PlanCosts.{cost_after, pays_no_plan, soft_and_span, AreNextCosts, ArePlansReady};
 ghost use Rattle.vr_costfilter.specs.Known.{IsValidChange};
-ghost use Rattle.vr_costfilter.specs.PlanCosts.{plans_least, ArePlansLike, IsPlanChange, IsPlanCost, StandsPlans};
+ghost use Rattle.vr_costfilter.specs.PlanCosts.{plans_least, ArePlansLike, ArePlansTold, IsPlanChange, IsPlanCost};
+ghost use Rattle.vr_costfilter.specs.PlanCosts.{StandsPlans};
 
 use crate::dimensions::AllCumuls;
 use crate::schedule_costs::PlanRules;
@@ -101,7 +102,8 @@ impl<'m> PlanCost<'m> {
         })
     }
 
-    /// Whether no stop has a soft upper bound that costs and no span does: all lists cost the same then.
+    /// Whether each span has the coefficient 0 and no stop has a soft upper bound, not one with the coefficient 0
+    /// either: all valid lists cost the same then.
     pub fn is_idle(&self) -> bool
         ensures idle { result ≡ pays_no_plan self.now.model }
         ensures alike { IsTrue result → CostAlike soft_and_span self.now.model }
@@ -111,15 +113,16 @@ impl<'m> PlanCost<'m> {
 
     /// What a change adds at least, where the lists after it are valid: what the spans of the changed lists cost at
     /// least, less what the lists of these vehicles cost now. The caller hands in what the chosen schedules of the
-    /// changed lists come to at least. No schedule is built.
-    pub fn least(&self, earlies: &Earlies, routes: &Routes, change: &Change) -> i64
-        requires stands { StandsPlans self.now routes.now }
-        requires earlies { AreEarlies self.now.model routes.now.lists change.now earlies.now }
-        requires made { IsMadeOn routes.now change.now }
-        ensures value { result ≡ plans_least self.now.model routes.now.lists change.now }
-        ensures least { IsTrue (is_valid self.now.model (changed routes.now.lists change.now))
-            → result ≤ℤ (soft_and_span self.now.model (changed routes.now.lists change.now)
-            -ℤ soft_and_span self.now.model routes.now.lists) }
+    /// changed lists come to at least. No schedule is built. It holds of any routes at which this stands and on which
+    /// the change was made; there must be some.
+    pub fn least(&self, earlies: &Earlies, change: &Change) -> i64
+        requires { (tours : Tours) × ArePlansTold self.now earlies.now change.now tours }
+        ensures value { (tours : Tours) → ArePlansTold self.now earlies.now change.now tours
+            → result ≡ plans_least self.now.model tours.lists change.now }
+        ensures least { (tours : Tours) → ArePlansTold self.now earlies.now change.now tours
+            → IsTrue (is_valid self.now.model (changed tours.lists change.now))
+            → result ≤ℤ (soft_and_span self.now.model (changed tours.lists change.now)
+            -ℤ soft_and_span self.now.model tours.lists) }
         ensures range { IsPlanChange result }
     {
         if self.is_idle() {
@@ -128,7 +131,7 @@ impl<'m> PlanCost<'m> {
         let mut least = 0;
         for k in 0..change.parts() {
             let v = change.vehicle(k);
-            least += self.rules.least(earlies, routes, change, k) - self.costs[v as usize];
+            least += self.rules.least(earlies, change, k) - self.costs[v as usize];
         }
         least
     }

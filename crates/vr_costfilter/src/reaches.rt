@@ -1,14 +1,15 @@
 //! From where to where the chosen schedules of lists reach, and what that costs.
 
-ghost use Rattle.std.specs.Prelude.{◌≡◌, ◌<◌, ◌≤◌, ◌+◌, ◌*ℤ◌, IsTrue, IfOk, IfSome, length, not, take};
+ghost use Rattle.std.specs.Prelude.{◌≡◌, ◌<◌, ◌+◌, ◌*ℤ◌, ℕ, List, [], IsTrue, IfOk, IfSome, OnOk};
+ghost use Rattle.std.specs.Prelude.{length, not, take};
 ghost use Rattle.vr_model.specs.tables.Tables.{dimension_at};
-ghost use Rattle.vr_model.specs.routes.Routes.{route};
 ghost use Rattle.vr_model.specs.routes.Rules.{is_valid};
+ghost use Rattle.vr_model.specs.declared.records.Model.{Model as Defined};
 ghost use Rattle.vr_routes.specs.Pieces.{changed, joined, part_at};
 ghost use Rattle.vr_plan.specs.Bounds.{cumul_cost, IsAround};
 ghost use Rattle.vr_plan.specs.Extents.{length_of, IsExtentInRange};
 ghost use Rattle.vr_plan.specs.Tables.{AreTables};
-ghost use Rattle.vr_costfilter.specs.EarlyParts.{AreEarlyParts};
+ghost use Rattle.vr_costfilter.specs.EarlyParts.{AreEarlyInRange, AreEarlyParts};
 ghost use Rattle.vr_costfilter.specs.LookedUp.{IsLookedUp};
 ghost use Rattle.vr_costfilter.specs.Known.{AreCumulsAt, IsValidChange};
 ghost use Rattle.vr_costfilter.specs.Kept.{AreAllKept};
@@ -126,13 +127,7 @@ impl<'m> SpanRules<'m> {
         let tables = self.lookups.tables();
         let mut orders = self.no_orders(alloc)?;
         for v in 0..routes.vehicles() {
-            let tour = Tour {
-                closed,
-                v,
-                list: routes.list(v),
-            };
-            let row = row_of_list(&tour, tables, timer)?;
-            set_list(closed, &mut orders, routes, v, &row);
+            set_list(closed, tables, &mut orders, routes, v, timer)?;
         }
         Ok(orders)
     }
@@ -178,38 +173,34 @@ impl<'m> SpanRules<'m> {
         cost_of_spans(self.lookups.closed, orders, vehicles, next)
     }
 
-    /// Writes the sorted ends of the lists after a change. It takes no memory.
+    /// Writes the sorted ends of the lists after a change, of any lists that have these sorted ends and rows. It takes
+    /// no memory.
     pub fn write_orders(
         &self,
         orders: &[SortedEnds],
-        routes: &Routes,
         change: &Change,
         next: &[ListTimings],
         out: &mut [SortedEnds],
     )
-        requires rows { AreNextRows self.now routes.now.lists change.now orders.now next.now }
+        requires rows { (lists : List (List ℕ)) × AreNextRows self.now lists change.now orders.now next.now }
         requires room { length out.old ≡ length self.now.dimensions }
-        ensures { AreAllOrders self.now (changed routes.now.lists change.now) out.new }
+        ensures { (lists : List (List ℕ)) → AreNextRows self.now lists change.now orders.now next.now
+            → AreAllOrders self.now (changed lists change.now) out.new }
     {
-        write_all(self.lookups.closed, orders, routes, change, next, out);
+        write_all(self.lookups.closed, orders, change, next, out);
     }
 
-    /// What the global spans cost at least after a change. No schedule is built.
-    pub fn least(
-        &self,
-        earlies: &Earlies,
-        orders: &[SortedEnds],
-        routes: &Routes,
-        change: &Change,
-    ) -> i64
-        requires earlies { AreEarlyParts self.now routes.now.lists change.now earlies.now }
-        requires orders { AreAllOrders self.now routes.now.lists orders.now }
-        ensures value { result ≡ global_least self.now routes.now.lists change.now }
+    /// What the global spans cost at least after a change, of any lists that have these sorted ends and of which
+    /// `earlies` tells. No schedule is built.
+    pub fn least(&self, earlies: &Earlies, orders: &[SortedEnds], change: &Change) -> i64
+        requires earlies { AreEarlyInRange self.now change.now earlies.now }
+        requires orders { AreRanged self.now orders.now [] }
+        ensures value { (lists : List (List ℕ)) → AreEarlyParts self.now lists change.now earlies.now
+            → AreAllOrders self.now lists orders.now → result ≡ global_least self.now lists change.now }
         ensures range { IsGlobalCost result }
     {
         let early = EarlyChange {
             model: self.lookups.closed.model,
-            routes,
             change,
             earlies,
         };
@@ -374,67 +365,70 @@ fn reach(orders: &SortedEnds, vehicles: &[u32], next: &[ListTimings], d: u32) ->
     extent
 }
 
-// Vehicle `v` gets its list, where those before it have theirs, in the dimensions that pay.
+// Vehicle `v` gets its list, whose schedules are chosen here, where those before it have theirs, in the dimensions that
+// pay.
 fn set_list(
     closed: Closed<'_>,
+    tables: &[Table],
     orders: &mut [SortedEnds],
-    _routes: &Routes,
+    routes: &Routes,
     v: u32,
-    row: &ListTimings,
-)
-    requires before { AreAllOrders closed.model.now (take v _routes.now.lists) orders.old }
-    requires few { length _routes.now.lists ≤ 100 }
-    requires vehicle { v < length _routes.now.lists }
-    requires row { IsRow closed.model.now v (route _routes.now.lists v) row.now }
-    ensures { AreAllOrders closed.entry.model.now (take (v + 1) _routes.now.lists) orders.new }
+    timer: &mut Timer,
+) -> Result<(), NoMemory>
+    requires tables { AreTables closed.model.now tables.now }
+    requires valid { IsTrue (is_valid closed.model.now routes.now.lists) }
+    requires vehicle { v < length routes.now.lists }
+    requires before { AreAllOrders closed.model.now (take v routes.now.lists) orders.old }
+    ensures { OnOk result (AreAllOrders closed.entry.model.now (take (v + 1) routes.now.lists) orders.new) }
 {
+    let tour = Tour {
+        closed,
+        v,
+        list: routes.list(v),
+    };
+    let row = row_of_list(&tour, tables, timer)?;
     for d in 0..orders.len() {
         if closed.model.dimensions.get(d).global_span_cost != 0 {
             orders[d].set(v, row[d]);
         }
     }
+    Ok(())
 }
 
-// Writes the sorted ends of the lists after a change in the dimensions that pay.
+// Writes the sorted ends of the lists after a change in the dimensions that pay, of any lists that have these sorted
+// ends and rows.
 fn write_all(
     closed: Closed<'_>,
     orders: &[SortedEnds],
-    routes: &Routes,
     change: &Change,
     next: &[ListTimings],
     out: &mut [SortedEnds],
 )
-    requires rows { AreNextRows closed.model.now routes.now.lists change.now orders.now next.now }
+    requires rows { (lists : List (List ℕ)) × AreNextRows closed.model.now lists change.now orders.now next.now }
     requires room { length out.old ≡ length closed.model.now.dimensions }
-    ensures { AreAllOrders closed.entry.model.now (changed routes.now.lists change.now) out.new }
+    ensures { (lists : List (List ℕ)) → AreNextRows closed.entry.model.now lists change.now orders.now next.now
+        → AreAllOrders closed.entry.model.now (changed lists change.now) out.new }
 {
     for d in 0..orders.len() {
         if closed.model.dimensions.get(d).global_span_cost != 0 {
-            write_in(
-                closed.model,
-                &orders[d],
-                routes,
-                change,
-                next,
-                d as u32,
-                &mut out[d],
-            );
+            write_in(&orders[d], change, next, d as u32, &mut out[d]);
         }
     }
 }
 
-// The same in one dimension.
+// The same in one dimension, of any model and lists that have these sorted ends and rows.
 fn write_in(
-    _model: &RoutingModel,
     orders: &SortedEnds,
-    _routes: &Routes,
     change: &Change,
     next: &[ListTimings],
     d: u32,
     out: &mut SortedEnds,
 )
-    requires { AreNextRowsIn _model.now d _routes.now.lists change.now orders.now next.now }
-    ensures { AreOrders _model.now d (changed _routes.now.lists change.now) out.new }
+    requires { (model : Defined) × (lists : List (List ℕ))
+        × AreNextRowsIn model d lists change.now orders.now next.now }
+    ensures { (model : Defined) (lists : List (List ℕ))
+        → AreNextRowsIn model d lists change.now orders.now next.now
+        → AreOrders model d (changed lists change.now) out.new }
 {
     out.copy_from(orders);
     for k in 0..change.parts() {

@@ -1,6 +1,6 @@
 //! What a list costs by soft upper bounds and spans, at its chosen schedules.
 
-ghost use Rattle.std.specs.Prelude.{◌≡◌, ◌<◌, ◌*◌, ◌+ℤ◌, ◌-ℤ◌, ◌*ℤ◌, IsTrue, IfOk, length};
+ghost use Rattle.std.specs.Prelude.{◌≡◌, ◌<◌, ◌*◌, ◌+ℤ◌, ◌-ℤ◌, ◌*ℤ◌, ℕ, List, IsTrue, IfOk, length};
 ghost use Rattle.std.specs.List.{list_all};
 ghost use Rattle.vr_model.specs.tables.Numbers.{below, number_at, total_by};
 ghost use Rattle.vr_model.specs.tables.Tables.{dimension_at, is_visit};
@@ -13,7 +13,8 @@ ghost use Rattle.vr_plan.specs.Bounds.{cumul_cost, IsAround};
 ghost use Rattle.vr_routes.specs.Changes.{AreParts, IsMadeOn};
 ghost use Rattle.vr_routes.specs.Pieces.{changed, joined, part_at};
 ghost use Rattle.vr_costfilter.specs.Kept.{AreAllKept};
-ghost use Rattle.vr_costfilter.specs.EarlyParts.{AreEarlyParts};
+ghost use Rattle.vr_costfilter.specs.EarlyParts.{AreEarlyInRange, AreEarlyParts};
+ghost use Rattle.vr_costfilter.specs.EarlyChanges.{IsEarlyOf};
 ghost use Rattle.vr_costfilter.specs.LookedUp.{IsLookedUp};
 ghost use Rattle.vr_costfilter.specs.Known.{AreCumulsAt, IsUsedPart, IsValidChange};
 ghost use Rattle.vr_earliest.specs.Ways.{least_span};
@@ -151,20 +152,21 @@ impl<'m> PlanRules<'m> {
         cost_of_part(&part, self.lookups.tables(), cumuls, scratch)
     }
 
-    /// What the spans of the list cost at least that part `k` of a change gives its vehicle. No schedule is built.
-    pub fn least(&self, earlies: &Earlies, routes: &Routes, change: &Change, k: usize) -> i64
-        requires earlies { AreEarlyParts self.now routes.now.lists change.now earlies.now }
+    /// What the spans of the list cost at least that part `k` of a change gives its vehicle, of any lists of which
+    /// `earlies` tells. No schedule is built.
+    pub fn least(&self, earlies: &Earlies, change: &Change, k: usize) -> i64
+        requires earlies { AreEarlyInRange self.now change.now earlies.now }
         requires part { k < length change.now }
-        ensures value { result ≡ spans_least self.now (part_at change.now k).vehicle
-            (joined routes.now.lists (part_at change.now k).pieces) }
+        ensures value { (lists : List (List ℕ)) → AreEarlyParts self.now lists change.now earlies.now
+            → result ≡ spans_least self.now (part_at change.now k).vehicle
+            (joined lists (part_at change.now k).pieces) }
         ensures range { IsAround (cumul_cost * 4) result }
     {
-        if Piece::nodes_in(routes, change.pieces(k)) == 0 {
+        if Piece::nodes_in(change.pieces(k)) == 0 {
             return 0;
         }
         let early = EarlyChange {
             model: self.lookups.closed.model,
-            routes,
             change,
             earlies,
         };
@@ -245,10 +247,10 @@ fn cost_of_plan_after(
 // What the spans of a list that has nodes cost at least.
 fn least_of_spans(early: &EarlyChange, k: usize) -> i64
     requires { k < length early.now.change.now }
-    ensures value { result ≡ total_by (λ d. number_at (dimension_at early.now.model.now d).span_costs
+    ensures value { (lists : List (List ℕ)) → IsEarlyOf early.now lists
+        → result ≡ total_by (λ d. number_at (dimension_at early.now.model.now d).span_costs
         (part_at early.now.change.now k).vehicle *ℤ least_span early.now.model.now d
-        (part_at early.now.change.now k).vehicle
-        (joined early.now.routes.now.lists (part_at early.now.change.now k).pieces))
+        (part_at early.now.change.now k).vehicle (joined lists (part_at early.now.change.now k).pieces))
         (below (length early.now.model.now.dimensions)) }
     ensures range { IsAround (cumul_cost * 4) result }
 {
@@ -263,10 +265,10 @@ fn least_of_spans(early: &EarlyChange, k: usize) -> i64
 fn least_of_span(early: &EarlyChange, k: usize, d: u32) -> i64
     requires part { k < length early.now.change.now }
     requires dimension { d < length early.now.model.now.dimensions }
-    ensures value { result ≡ (number_at (dimension_at early.now.model.now d).span_costs
-        (part_at early.now.change.now k).vehicle
+    ensures value { (lists : List (List ℕ)) → IsEarlyOf early.now lists
+        → result ≡ (number_at (dimension_at early.now.model.now d).span_costs (part_at early.now.change.now k).vehicle
         *ℤ least_span early.now.model.now d (part_at early.now.change.now k).vehicle
-        (joined early.now.routes.now.lists (part_at early.now.change.now k).pieces)) }
+        (joined lists (part_at early.now.change.now k).pieces)) }
     ensures range { IsAround cumul_cost result }
 {
     let v = early.vehicle(k);

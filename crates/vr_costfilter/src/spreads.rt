@@ -1,10 +1,12 @@
-//! What global spans cost at least after a change, known without a schedule of the changed lists.
+//! What global spans cost at least after a change, without a schedule of the changed lists. The answers hold of any
+//! lists that have the sorted ends at hand and of which the rows of earliest ends tell.
 
-ghost use Rattle.std.specs.Prelude.{◌≡◌, ◌<◌, length};
+ghost use Rattle.std.specs.Prelude.{◌≡◌, ◌<◌, ℕ, List, [], length};
 ghost use Rattle.vr_plan.specs.Bounds.{cumul_cost, IsAround};
 ghost use Rattle.vr_routes.specs.Pieces.{part_at};
 ghost use Rattle.vr_costfilter.specs.SortedEnds.{extent_but, AreInRange, AreOrders};
-ghost use Rattle.vr_costfilter.specs.GlobalCosts.{AreAllOrders, IsGlobalCost, Pays};
+ghost use Rattle.vr_costfilter.specs.EarlyChanges.{IsEarlyOf};
+ghost use Rattle.vr_costfilter.specs.GlobalCosts.{AreAllOrders, AreRanged, IsGlobalCost, Pays};
 ghost use Rattle.vr_costfilter.specs.Spreads as spreads;
 ghost use Rattle.vr_costfilter.specs.Spreads.{global_least, global_least_in, spread_of, IsSpreadInRange};
 
@@ -28,8 +30,10 @@ pub struct Spread {
 
 /// What the global spans cost at least after a change.
 pub fn least_of_global_spans(early: &EarlyChange, orders: &[SortedEnds]) -> i64
-    requires { AreAllOrders early.now.model.now early.now.routes.now.lists orders.now }
-    ensures value { result ≡ global_least early.now.model.now early.now.routes.now.lists early.now.change.now }
+    requires { AreRanged early.now.model.now orders.now [] }
+    ensures value { (lists : List (List ℕ)) → IsEarlyOf early.now lists
+        → AreAllOrders early.now.model.now lists orders.now
+        → result ≡ global_least early.now.model.now lists early.now.change.now }
     ensures range { IsGlobalCost result }
 {
     let mut cost = 0;
@@ -42,10 +46,10 @@ pub fn least_of_global_spans(early: &EarlyChange, orders: &[SortedEnds]) -> i64
 // The same in dimension `d`.
 fn least_of_global_span(early: &EarlyChange, orders: &SortedEnds, d: u32) -> i64
     requires dimension { d < length early.now.model.now.dimensions }
-    requires orders { Pays early.now.model.now d
-        → AreOrders early.now.model.now d early.now.routes.now.lists orders.now }
-    ensures value { result
-        ≡ global_least_in early.now.model.now early.now.routes.now.lists early.now.change.now d }
+    requires orders { Pays early.now.model.now d → AreInRange orders.now }
+    ensures value { (lists : List (List ℕ)) → IsEarlyOf early.now lists
+        → (Pays early.now.model.now d → AreOrders early.now.model.now d lists orders.now)
+        → result ≡ global_least_in early.now.model.now lists early.now.change.now d }
     ensures range { IsAround cumul_cost result }
 {
     let coefficient = early.model.dimensions.get(d as usize).global_span_cost;
@@ -59,9 +63,10 @@ fn least_of_global_span(early: &EarlyChange, orders: &SortedEnds, d: u32) -> i64
 
 // How far the lists after a change reach at least.
 fn spread_after(paid: &EarlyIn, orders: &SortedEnds) -> Spread
-    requires { AreOrders paid.now.early.now.model.now paid.now.d paid.now.early.now.routes.now.lists orders.now }
-    ensures value { result ≡ spreads.spread_after paid.now.early.now.model.now paid.now.early.now.routes.now.lists
-        paid.now.early.now.change.now paid.now.d }
+    requires { AreInRange orders.now }
+    ensures value { (lists : List (List ℕ)) → IsEarlyOf paid.now.early.now lists
+        → AreOrders paid.now.early.now.model.now paid.now.d lists orders.now
+        → result ≡ spreads.spread_after paid.now.early.now.model.now lists paid.now.early.now.change.now paid.now.d }
     ensures range { IsSpreadInRange result }
 {
     let change = paid.early.change;
@@ -98,12 +103,13 @@ fn spread_but(orders: &SortedEnds, vehicles: &[u32]) -> Spread
 fn with_changed(paid: &EarlyIn, k: usize, spread: Spread) -> Spread
     requires part { k < length paid.now.early.now.change.now }
     requires range { IsSpreadInRange spread }
-    ensures value { result ≡ spreads.with_changed paid.now.early.now.model.now paid.now.early.now.routes.now.lists
-        paid.now.d spread (part_at paid.now.early.now.change.now k) }
+    ensures value { (lists : List (List ℕ)) → IsEarlyOf paid.now.early.now lists
+        → result ≡ spreads.with_changed paid.now.early.now.model.now lists paid.now.d spread
+        (part_at paid.now.early.now.change.now k) }
     ensures range { IsSpreadInRange result }
 {
     let early = paid.early;
-    if Piece::nodes_in(early.routes, early.change.pieces(k)) == 0 {
+    if Piece::nodes_in(early.change.pieces(k)) == 0 {
         return spread;
     }
     let told = early.earlies.at(paid.d, k);

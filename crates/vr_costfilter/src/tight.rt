@@ -6,6 +6,7 @@
 ghost use Rattle.std.specs.Prelude.{◌≡◌, pos};
 ghost use Rattle.vr_model.specs.tables.Numbers.{horizon};
 ghost use Rattle.vr_model.specs.tables.WellFormed.{IsIn};
+ghost use Rattle.vr_model.specs.declared.records.Model.{Model};
 ghost use Rattle.vr_reach.specs.VisitRuns.{HasCumulEnds};
 ghost use Rattle.vr_costfilter.specs.KeptWays.{HasCumuls};
 ghost use Rattle.vr_costfilter.specs.Guides.{IsStopAt};
@@ -62,19 +63,6 @@ impl<'m> Guide<'m> {
         }
     }
 
-    /// The ends that a whole way tells.
-    #[inline]
-    pub fn ends_by(&self, whole: Way) -> TightEnds
-        requires { IsTightWayOf self.now.model.now 10001 whole }
-        ensures last { result.last ≡ last_by whole }
-        ensures start { result.start ≡ start_by whole }
-    {
-        TightEnds {
-            start: whole.latest.min(whole.time - whole.transits),
-            last: whole.time,
-        }
-    }
-
     /// A way goes on to a node that allows a run of cumuls.
     #[inline(always)]
     pub fn way_on(&self, way: Way, node: u32, allowed: Run) -> Way
@@ -92,6 +80,19 @@ impl<'m> Guide<'m> {
             transits,
             latest: way.latest.min(allowed.hi - transits),
         }
+    }
+}
+
+/// The ends that a whole way tells.
+#[inline]
+pub fn ends_by(whole: Way) -> TightEnds
+    requires { (model : Model) × IsTightWayOf model 10001 whole }
+    ensures last { result.last ≡ last_by whole }
+    ensures start { result.start ≡ start_by whole }
+{
+    TightEnds {
+        start: whole.latest.min(whole.time - whole.transits),
+        last: whole.time,
     }
 }
 

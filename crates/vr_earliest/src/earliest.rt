@@ -79,7 +79,7 @@ impl<'m> Earliest<'m> {
     {
         // that there are eight pieces at most is for the clause alone
         let _few = change.pieces(k);
-        let splice = change.splice(routes, k);
+        let splice = change.splice(k);
         let v = splice.vehicle;
         let guide = Guide::of(Closed { model: self.model }, &self.floors[d as usize], d, v);
         let all = &self.kept[d as usize];

@@ -66,6 +66,11 @@ pub record MayTestPair (pair : PairIn) (s t : ℕ) (probes : Probes) (written : 
       (t + 1) probes
   pub longer : written ≡ placed pair.list.nodes.now (Two pair.pickup pair.delivery s t)
 
+-- the same of a pair with its pickup before some place, its delivery before place t
+pub record MayTestDelivery (pair : PairIn) (t : ℕ) (probes : Probes) (written : List ℕ) : Type 0 where
+  pub s : ℕ
+  pub may_test : MayTestPair pair s t probes written
+
 -- the list is ready, and the least that the delivery of a pair adds before its last places is known
 pub record IsReadyPair (pair : PairIn) (least : List ℤ) : Type 0 where
   pub ready : IsReadyList pair.list pair.list_rows.now

@@ -156,7 +156,7 @@ fn weigh_pair(
     if !improves(best, next) {
         return Ok(best);
     }
-    if may_serve(trying, probes, pair, s, t)? {
+    if may_serve(trying, probes, pair, t)? {
         Ok(Some(next))
     } else {
         Ok(best)

@@ -7,8 +7,8 @@ ghost use Rattle.vr_model.specs.tables.Tables.{is_visit};
 ghost use Rattle.vr_lists.specs.Pairs.{keeps_pairs as keeps_pairs_of};
 ghost use Rattle.vr_model.specs.routes.Rules.{is_route_open};
 ghost use Rattle.vr_first_insert.specs.Placings.{placed};
-ghost use Rattle.vr_first_insert.specs.VehicleLists.{MayTestPair, MayTestVisit};
-ghost use Rattle.vr_first_insert.specs.declared.choice.Placing.TheVariants.{One, Two};
+ghost use Rattle.vr_first_insert.specs.VehicleLists.{MayTestDelivery, MayTestVisit};
+ghost use Rattle.vr_first_insert.specs.declared.choice.Placing.TheVariants.{One};
 ghost use Rattle.vr_first_insert.specs.KeptRows.{list_model};
 
 use crate::list_rows::is_feasible_between;
@@ -79,19 +79,17 @@ pub(crate) fn may_visit(
     Ok(keeps_its_pairs(trying, list))
 }
 
-/// Whether the vehicle of a list may drive it with a pickup before place `s` and its delivery before place `t`, as it
-/// is written, where what the list with the pickup reaches at the node before the delivery is known.
+/// Whether the vehicle of a list may drive it with a pair in it, the delivery before place `t`, as it is written, where
+/// what the list with the pickup reaches at the node before the delivery is known.
 pub(crate) fn may_serve(
     trying: &mut Trying,
     probes: &Probes,
     pair: &PairIn<'_, '_, '_>,
-    s: usize,
     t: usize,
 ) -> Result<bool, NoMemory>
-    requires { MayTestPair pair.now s t probes.now trying.old.longer }
+    requires { MayTestDelivery pair.now t probes.now trying.old.longer }
     ensures open { IfOk result (λ may. may
-        ≡ is_route_open (list_model pair.now.list) pair.now.list.vehicle
-        (placed pair.now.list.nodes.now (Two pair.now.pickup pair.now.delivery s t))) }
+        ≡ is_route_open (list_model pair.now.list) pair.now.list.vehicle trying.old.longer) }
     ensures longer { trying.new.longer ≡ trying.old.longer }
 {
     let list = &pair.list;

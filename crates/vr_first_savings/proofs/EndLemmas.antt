@@ -1,7 +1,8 @@
 -- The ends of routes that stand apart.
 use Rattle.std.proofs.Common.{◌≡◌, ◌∙◌, ◌<◌, ℕ, List, [], length, ap, subst, sym}
-use Rattle.std.specs.Prelude.{map, slice_index_or}
-use Rattle.std.proofs.lemmas.List.{get_or-map}
+use Rattle.std.specs.Prelude.{All, map, slice_index_or}
+use Rattle.std.proofs.lemmas.List.{get_or-map, length-map}
+use Rattle.std.proofs.lemmas.List.Elements.{All-from_get_or, All-map}
 use Rattle.vr_model.specs.declared.records.Model.{Model}
 use Rattle.vr_model.specs.tables.Tables.{no_vehicle, vehicle_at}
 use Rattle.vr_model.specs.tables.WellFormed.{IsWellFormed}
@@ -27,9 +28,12 @@ are_ends model routes i well are low =
     }
 
 -- the ends that code reads
-pub ends_read : (model : Model) (routes : List (List ℕ)) (ends : List EndsOfRoute) (i : ℕ) → ends ≡ map (ends_of model) routes → i < length routes → slice_index_or ends i no_ends ≡ ends_of model (route routes i)
-ends_read model routes ends i are low = ap (λ es. slice_index_or es i no_ends) are ∙ get_or-map (ends_of model) routes i [] no_ends low
+pub ends_read : (model : Model) (routes : List (List ℕ)) (ends : List EndsOfRoute) (i : ℕ) → ends ≡ map (ends_of model) routes → i < length ends → slice_index_or ends i no_ends ≡ ends_of model (route routes i)
+ends_read model routes ends i are low =
+    ap (λ es. slice_index_or es i no_ends) are ∙ get_or-map (ends_of model) routes i [] no_ends (subst (λ n. i < n) (ap length are ∙ length-map routes (ends_of model)) low)
 
--- they are ends
-pub read_are_ends : (model : Model) (routes : List (List ℕ)) (ends : List EndsOfRoute) (i : ℕ) → IsWellFormed model → AreApart model routes → ends ≡ map (ends_of model) routes → i < length routes → AreRouteEnds model (slice_index_or ends i no_ends)
-read_are_ends model routes ends i well apart are low = subst (AreRouteEnds model) (sym (ends_read model routes ends i are low)) (are_ends model routes i well apart low)
+-- those of all routes are ends
+pub all_are_ends : (model : Model) (routes : List (List ℕ)) (ends : List EndsOfRoute) → IsWellFormed model → AreApart model routes → ends ≡ map (ends_of model) routes → All (AreRouteEnds model) ends
+all_are_ends model routes ends well apart are =
+    subst (All (AreRouteEnds model)) (sym are) (All-map (AreRouteEnds model) (ends_of model) routes
+    (All-from_get_or (λ nodes. AreRouteEnds model (ends_of model nodes)) routes [] (λ i low. are_ends model routes i well apart low)))

@@ -1,6 +1,6 @@
 //! The best join of two routes.
 
-ghost use Rattle.std.specs.Prelude.{◌≡◌, ◌<◌, ◌++◌, ◌^◌, IfOk, IfSome, option_map, length, map};
+ghost use Rattle.std.specs.Prelude.{◌≡◌, ◌<◌, ◌++◌, ◌^◌, ℕ, All, IfOk, IfSome, List, option_map, length, map};
 ghost use Rattle.std.specs.Prelude.{neg_ℤ, pos, ◌≤ℤ◌, ◌+ℤ◌, ◌-ℤ◌};
 ghost use Rattle.vr_model.specs.first.Choosing.{least_by};
 ghost use Rattle.vr_model.specs.routes.Routes.{route};
@@ -30,18 +30,12 @@ fn saved(closed: Closed<'_>, front: EndsOfRoute, back: EndsOfRoute) -> i64
 }
 
 // The choice of two routes, whose ends are known.
-fn choice_at(
-    closed: Closed<'_>,
-    routes: &[Seq<u32>],
-    ends: &[EndsOfRoute],
-    i: usize,
-    j: usize,
-) -> JoinChoice
-    requires apart { AreApart closed.model.now routes.now }
-    requires ends { ends.now ≡ map (ends_of closed.model.now) routes.now }
-    requires front { i < length routes.now }
-    requires back { j < length routes.now }
-    ensures { result ≡ choice_at_of closed.entry.model.now routes.now i j }
+fn choice_at(closed: Closed<'_>, ends: &[EndsOfRoute], i: usize, j: usize) -> JoinChoice
+    requires ends { All (AreRouteEnds closed.model.now) ends.now }
+    requires front { i < length ends.now }
+    requires back { j < length ends.now }
+    ensures { (routes : List (List ℕ)) → ends.now ≡ map (ends_of closed.entry.model.now) routes
+        → result ≡ choice_at_of closed.entry.model.now routes i j }
 {
     let front = ends[i];
     let back = ends[j];
@@ -118,7 +112,7 @@ fn best_behind(
 {
     let mut best = best;
     for j in 0..routes.len() {
-        let next = choice_at(lookups.closed, routes, ends, i, j);
+        let next = choice_at(lookups.closed, ends, i, j);
         best = consider(alloc, lookups, routes, next, best, driving)?;
     }
     Ok(best)

@@ -1,6 +1,6 @@
 -- What moves add at least, where arcs and groups alone are paid.
 use Rattle.std.proofs.Common.{◌≡◌, ◌∙◌, ℕ, ◌<◌, Bool, true, false, List, refl, sym, ap, subst, arith}
-use Rattle.std.specs.Prelude.{ℤ, pos, ◌+ℤ◌, ◌-ℤ◌, ◌≤ℤ◌, ◌&&◌, ◌||◌, nat_lt, IsTrue, Option, Some, None, IfSome, count_by}
+use Rattle.std.specs.Prelude.{ℤ, pos, ◌+ℤ◌, ◌-ℤ◌, ◌&&◌, ◌||◌, nat_lt, IsTrue, Option, Some, None, IfSome, count_by}
 use Rattle.std.proofs.lemmas.Int.{ints}
 use Rattle.vr_model.specs.tables.Numbers.{is_same_number, total_by}
 use Rattle.vr_model.specs.tables.WellFormed.{IsWellFormed}
@@ -11,14 +11,12 @@ use Rattle.vr_model.specs.declared.neighbours.Move.{Move}
 use Rattle.vr_model.specs.declared.neighbours.Move.TheVariants.{TwoOpt, OrOpt, Relocate, Exchange, Cross, RelocatePair, PairActive, PairInactive, MakeActive, MakeInactive, SwapActive}
 use Rattle.vr_model.specs.declared.records.Model.{Model}
 use Rattle.vr_model.proofs.routes.CostBounds.{penalties-up_to}
-use Rattle.vr_routes.specs.Judging.{IsDifferenceBound}
 use Rattle.vr_routes.specs.Runs.{with_last}
 use Rattle.vr_known.specs.Blocks.{kind_of}
 use Rattle.vr_usecosts.specs.Groups.{SavesAtMost}
 use Rattle.vr_judge.proofs.PairLemmas.{stay_active}
-use Rattle.vr_arccosts.specs.ArcMoves.{arcs_added}
 use Rattle.vr_arccosts.specs.Runs.{AddsNoLess}
-use Rattle.vr_judge.specs.Costs.{AddArcsAtLeast, AddArcsBut, PaysArcsAndGroups, is_least_by_arcs, pays_arcs_and_groups}
+use Rattle.vr_judge.specs.Costs.{AddArcsBut, PaysArcsAndGroups, is_least_by_arcs, pays_arcs_and_groups}
 
 -- penalties, by which visits are active
 abbrev penalties : Model → (ℕ → Bool) → ℤ
@@ -39,27 +37,6 @@ same_kind (MakeInactive v a) k = refl
 same_kind (SwapActive v a u) k = refl
 
 module _ (model : Model) (pays : PaysArcsAndGroups model) (lists : List (List ℕ)) (valid : IsTrue (is_valid model lists)) where
-  -- the penalties do not fall
-  by_groups : (mv : Move) → (IsTrue (is_valid model (apply model lists mv)) → penalty_part model lists ≤ℤ penalty_part model (apply model lists mv))
-      → IsDifferenceBound model lists mv (arcs_added model lists mv)
-  by_groups mv more after =
-      let later : List (List ℕ) = apply model lists mv in
-      let differ : cost model later -ℤ cost model lists ≡ (arcs_part model later -ℤ arcs_part model lists) +ℤ (penalty_part model later -ℤ penalty_part model lists) = pays lists later valid after in
-      let rise : penalty_part model lists ≤ℤ penalty_part model later = more after in
-      omega (arith, ints, differ, rise)
-
-  -- no penalty is to pay, and none is less than that
-  pub none_to_pay : IsWellFormed model → penalty_part model lists ≡ pos 0 → (kind : ℕ) → AddArcsAtLeast model lists kind
-  none_to_pay well none kind mv same one = by_groups mv λ after.
-      let low = (penalties-up_to model well (apply model lists mv) after).at_least in
-      omega (arith, ints, low, none)
-
-  -- the same visits are active, and so the penalties stay
-  pub same_to_pay : (kind : ℕ) → kind < 6 → AddArcsAtLeast model lists kind
-  same_to_pay kind low mv same one = by_groups mv λ after.
-      let stay : penalty_part model (apply model lists mv) ≡ penalty_part model lists = ap (penalties model) (stay_active model lists mv one (subst (λ k. k < 6) (sym same) low)) in
-      omega (arith, ints, stay)
-
   -- the moves of a run save so much of the penalties at most
   groups_save : (mv : Move) (saved : ℤ) → ((k : ℕ) → SavesAtMost model lists (with_last mv k) saved) → AddArcsBut model lists mv saved
   groups_save mv saved save k one after =
@@ -72,11 +49,18 @@ module _ (model : Model) (pays : PaysArcsAndGroups model) (lists : List (List �
   all_save mv None save = cc
   all_save mv (Some saved) save = groups_save mv saved save
 
--- moves of a kind that add no less than the cost of arcs save nothing beside
-pub none_saved : (model : Model) (lists : List (List ℕ)) (mv : Move) → AddArcsAtLeast model lists (kind_of mv) → AddArcsBut model lists mv (pos 0)
-none_saved model lists mv least k one after =
-    let low = least (with_last mv k) (same_kind mv k) one after in
-    omega (arith, ints, low)
+  -- no penalty is to pay, and none is less than that
+  pub none_to_pay : IsWellFormed model → penalty_part model lists ≡ pos 0 → (mv : Move) → AddArcsBut model lists mv (pos 0)
+  none_to_pay well none mv = groups_save mv (pos 0) λ k one after.
+      let low = (penalties-up_to model well (apply model lists (with_last mv k)) after).at_least in
+      omega (arith, ints, low, none)
+
+  -- the same visits are active, and so the penalties stay
+  pub same_to_pay : (mv : Move) → kind_of mv < 6 → AddArcsBut model lists mv (pos 0)
+  same_to_pay mv low = groups_save mv (pos 0) λ k one after.
+      let other : Move = with_last mv k in
+      let stay : penalty_part model (apply model lists other) ≡ penalty_part model lists = ap (penalties model) (stay_active model lists other one (subst (λ n. n < 6) (sym (same_kind mv k)) low)) in
+      omega (arith, ints, stay)
 
 -- where more than arcs and groups is paid, or where it is not but penalties may fall, a kind adds less than to arcs
 pub unpaid : (model : Model) (lists : List (List ℕ)) (kind : ℕ) → pays_arcs_and_groups model ≡ false → false ≡ is_least_by_arcs model lists kind

@@ -10,7 +10,6 @@ use Rattle.vr_model.specs.declared.records.Model.{Model}
 use Rattle.vr_routes.specs.Judging.{IsDifferenceBound}
 use Rattle.vr_routes.specs.Runs.{with_last}
 use Rattle.vr_routes.specs.Tours.{Tours}
-use Rattle.vr_known.specs.Blocks.{kind_of}
 use Rattle.vr_arccosts.specs.Along.{KeptAlong, StandsAlong}
 use Rattle.vr_arccosts.specs.ArcMoves.{arcs_added}
 use Rattle.vr_usecosts.specs.Fixed.{is_some_fixed, KeptFixed, StandsFixed}
@@ -37,12 +36,6 @@ pays_arcs_and_groups model = (not (is_some_fixed model) && pays_no_plan model) &
 abbrev pub is_least_by_arcs : Model → List (List ℕ) → ℕ → Bool
 is_least_by_arcs model lists kind =
     pays_arcs_and_groups model && (is_same_number (penalty_part model lists) (pos 0) || nat_lt kind 6)
-
--- each move of a kind adds no less to the cost of lists than it adds to the cost of their arcs
-abbrev pub AddArcsAtLeast : Model → List (List ℕ) → ℕ → Type 0
-AddArcsAtLeast model lists kind =
-    (mv : Move) → kind_of mv ≡ kind → IsTrue (is_move model lists mv)
-    → IsDifferenceBound model lists mv (arcs_added model lists mv)
 
 -- each move of a run, whose moves differ in their last number, adds no less to the cost of lists than it adds to the
 -- cost of their arcs, but for what it saves

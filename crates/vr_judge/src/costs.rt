@@ -1,7 +1,7 @@
 //! The parts of the cost together.
 
-ghost use Rattle.std.specs.Prelude.{◌≡◌, ℕ, ◌<◌, ◌≤◌, ◌+ℤ◌, ◌-ℤ◌, ◌≤ℤ◌, true, nat_lt, IsTrue};
-ghost use Rattle.std.specs.Prelude.{IfOk, IfSome, OnOk, OnErr};
+ghost use Rattle.std.specs.Prelude.{◌≡◌, ℕ, ◌<◌, ◌≤◌, ◌+ℤ◌, ◌-ℤ◌, ◌≤ℤ◌, pos, true, nat_lt, IsTrue};
+ghost use Rattle.std.specs.Prelude.{Some, IfOk, IfSome, OnOk, OnErr};
 ghost use Rattle.vr_model.specs.routes.Costs.{cost};
 ghost use Rattle.vr_model.specs.routes.Rules.{is_valid};
 ghost use Rattle.vr_model.specs.tables.Tables.{visits};
@@ -10,9 +10,9 @@ ghost use Rattle.vr_routes.specs.Pieces.{changed};
 ghost use Rattle.vr_routes.specs.Judging.{IsNoLess};
 ghost use Rattle.vr_routes.specs.Runs.{with_last};
 ghost use Rattle.vr_known.specs.Blocks.{kind_of};
-ghost use Rattle.vr_usecosts.specs.Fixed.{StandsFixed};
+ghost use Rattle.vr_usecosts.specs.Fixed.{is_some_fixed};
 ghost use Rattle.vr_parts.specs.Bounds.{IsAddedByChange};
-ghost use Rattle.vr_judge.specs.Costs.{AddArcsAtLeast, AddArcsBut, PaysArcsAndGroups, StandsCosts};
+ghost use Rattle.vr_judge.specs.Costs.{AddArcsBut, PaysArcsAndGroups, StandsCosts};
 ghost use Rattle.vr_judge.specs.Costs.{is_least_by_arcs, pays_arcs_and_groups, AreChangesInRange};
 
 use crate::try_both::try_both;
@@ -60,14 +60,14 @@ impl<'m> Model for Costs<'m> {
 }
 
 // Whether neither fixed costs nor plans nor global spans tell two lists apart.
-fn are_idle(routes: &Routes, fixed: &FixedCost, plans: &PlanCost, spans: &GlobalSpan) -> bool
-    requires fixed { StandsFixed fixed.now routes.now }
+fn are_idle(fixed: &FixedCost, plans: &PlanCost, spans: &GlobalSpan) -> bool
+    requires pays { fixed.now.pays ≡ is_some_fixed fixed.now.model }
     requires plans_model { plans.now.model ≡ fixed.now.model }
     requires spans_model { spans.now.model ≡ fixed.now.model }
     ensures idle { result ≡ pays_arcs_and_groups fixed.now.model }
     ensures alike { IsTrue result → PaysArcsAndGroups fixed.now.model }
 {
-    fixed.is_idle(routes) && plans.is_idle() && spans.is_idle()
+    fixed.is_idle() && plans.is_idle() && spans.is_idle()
 }
 
 // Whether a move leaves each node active that is, and no other: so do those that put visits elsewhere.
@@ -113,19 +113,17 @@ impl<'m> Costs<'m> {
     {
         let model = lookups.closed.model;
         let arcs = ArcCost::open(alloc, model, routes);
-        let fixed = FixedCost::open(model, routes);
         let groups = GroupCost::open(alloc, model, routes);
         let plans = PlanCost::over(alloc, lookups, routes);
         let spans = GlobalSpan::over(alloc, lookups, routes);
         let earliest = Earliest::open(alloc, model, routes);
-        let used = try_both(fixed, groups);
         let driven = try_both(arcs, earliest);
         let scheduled = try_both(plans, spans);
-        let (first, (second, third)) = try_both(used, try_both(driven, scheduled))?;
-        let (fixed, groups) = first;
-        let (arcs, earliest) = second;
-        let (plans, spans) = third;
-        let arcs_and_groups = are_idle(routes, &fixed, &plans, &spans);
+        let (groups, (first, second)) = try_both(groups, try_both(driven, scheduled))?;
+        let (arcs, earliest) = first;
+        let (plans, spans) = second;
+        let fixed = FixedCost::of(model);
+        let arcs_and_groups = are_idle(&fixed, &plans, &spans);
         Ok(Costs {
             model,
             arcs,
@@ -139,37 +137,22 @@ impl<'m> Costs<'m> {
         })
     }
 
-    // Whether no move of the kind of this one adds less to the cost than to the cost of arcs: arcs and groups alone are
-    // paid, and either no penalty is to pay or moves of the kind leave the penalties as they are.
-    #[inline(always)]
-    fn adds_arcs_at_least(&self, _routes: &Routes, mv: Move) -> bool
-        requires stands { StandsCosts self.now _routes.now }
-        ensures known { result ≡ is_least_by_arcs self.now.model _routes.now.lists (kind_of mv) }
-        ensures least { IsTrue result → AddArcsAtLeast self.now.model _routes.now.lists (kind_of mv) }
-    {
-        if !self.arcs_and_groups {
-            return false;
-        }
-        if self.groups.pays_none() {
-            return true;
-        }
-        keeps_activity(mv)
-    }
-
-    // What each move of a run saves at most beside what it adds to the cost of arcs: the penalties of what it puts into
-    // a list, less those of what it takes out. The moves of a run differ in their last number. `None` where it is not
-    // known of all at once.
+    // What each move of a run saves at most beside what it adds to the cost of arcs: 0 where the committed lists have
+    // no penalty to pay, or moves of the kind leave the penalties as they are; else the penalties of what it puts into
+    // a list, less those of what it takes out. The moves of a run differ in their last number. `None` where more is
+    // paid than arcs and penalties, and where it is not known of all at once.
     #[inline(always)]
     fn saved_by_run(&self, routes: &Routes, mv: Move) -> Option<i64>
         requires stands { StandsCosts self.now routes.now }
+        ensures known { is_least_by_arcs self.now.model routes.now.lists (kind_of mv) ≡ true → result ≡ Some (pos 0) }
         ensures least { IfSome result (AddArcsBut self.now.model routes.now.lists mv) }
         ensures range { IfSome result IsAddedByChange }
     {
-        if self.adds_arcs_at_least(routes, mv) {
-            return Some(0);
-        }
         if !self.arcs_and_groups {
             return None;
+        }
+        if self.groups.pays_none() || keeps_activity(mv) {
+            return Some(0);
         }
         self.groups.saved_at_most_by_run(routes, mv)
     }
@@ -231,8 +214,8 @@ impl<'m> Costs<'m> {
         let fixed = self.fixed.added(routes, change);
         let groups = self.groups.least(routes, change);
         self.earliest.write_after(routes, change, &mut self.earlies);
-        let plans = self.plans.least(&self.earlies, routes, change);
-        let spans = self.spans.least(&self.earlies, routes, change);
+        let plans = self.plans.least(&self.earlies, change);
+        let spans = self.spans.least(&self.earlies, change);
         sum(arcs, fixed, groups, plans, spans)
     }
 

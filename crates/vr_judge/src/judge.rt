@@ -73,7 +73,7 @@ impl<'m> FilterJudge<'m> {
         let kept = try_both(costs, held);
         let (filters, kept) = try_both(filters, kept)?;
         let (costs, held) = kept;
-        let judging = Judging::new(lookups.closed.model, routes, held, filters, costs);
+        let judging = Judging::new(lookups.closed.model, held, filters, costs);
         Ok(FilterJudge {
             judging: Box::new(alloc, judging)?,
         })

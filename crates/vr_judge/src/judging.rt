@@ -44,26 +44,23 @@ impl<'m, F: PathFilter + Drop> Model for Judging<'m, F> {
 }
 
 impl<'m, F: PathFilter + Drop> Judging<'m, F> {
-    /// A judge that has committed the lists of these routes, which are valid: `held` is a copy of them, and the filter
-    /// and the costs stand at them.
+    /// A judge that holds these lists, which are valid: the filter and the costs stand at them.
     pub(crate) fn new(
         model: &'m RoutingModel,
-        routes: &Routes,
         held: Routes,
         filter: F,
         costs: Costs<'m>,
     ) -> Judging<'m, F>
-        requires of_model { routes.now.visits ≡ visits model.now }
-        requires valid { IsTrue (is_valid model.now routes.now.lists) }
-        requires copied { held ≡ routes.now }
+        requires of_model { held.visits ≡ visits model.now }
+        requires valid { IsTrue (is_valid model.now held.lists) }
         requires rules { (lists : List (List ℕ)) → F.holds filter lists ≡ keeps_rules model.now lists }
         requires weights { (before later : List (List ℕ))
             → F.weight filter before later ≡ total_weight model.now before later }
-        requires stands { F.stands_at filter routes.now }
+        requires stands { F.stands_at filter held }
         requires costs_model { costs.model ≡ model.now }
-        requires costs_stand { StandsCosts costs routes.now }
+        requires costs_stand { StandsCosts costs held }
         ensures model { result.model ≡ model.now }
-        ensures holds { HoldSame model.now result.lists routes.now }
+        ensures holds { HoldSame model.now result.lists held }
     {
         Judging {
             model,

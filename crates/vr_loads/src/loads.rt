@@ -134,7 +134,7 @@ impl Loads {
         if sum <= self.vehicles[v as usize].room {
             return true;
         }
-        Piece::nodes_in(routes, pieces) == 0
+        Piece::nodes_in(pieces) == 0
     }
 
     // What an evaluator gives for the nodes of a piece, added up: by one subtraction where the sums are kept by it.

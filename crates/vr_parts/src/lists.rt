@@ -57,7 +57,7 @@ pub fn added_by<C: ListCost>(cost: &C, routes: &Routes, change: &Change) -> i64
     for k in 0..change.parts() {
         // That a part has few pieces says that few come between its ends.
         let _few = change.pieces(k);
-        total += cost.list_adds(routes, change.splice(routes, k));
+        total += cost.list_adds(routes, change.splice(k));
     }
     total
 }

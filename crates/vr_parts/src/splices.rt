@@ -19,5 +19,5 @@ pub fn is_left_empty(routes: &Routes, splice: Splice<'_>) -> bool
     if splice.behind < routes.len(splice.vehicle) {
         return false;
     }
-    Piece::nodes_in(routes, splice.middle) == 0
+    Piece::nodes_in(splice.middle) == 0
 }

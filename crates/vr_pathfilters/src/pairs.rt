@@ -96,9 +96,8 @@ fn count_list(lookups: &NodeTables<'_>, v: u32, list: &[u32], turns: &mut Turns)
     requires few { length list.now ≤ 1000 }
     ensures { IsListCounted lookups.now v list.now turns.old.listed turns.new.listed }
 {
-    // what holds of the model is known
-    let _model = lookups.model();
-    if !Turns::are_asked(policy_of(lookups, v)) {
+    let vehicle = lookups.model().vehicles.get(v as usize);
+    if !Turns::are_asked(vehicle.policy) {
         return;
     }
     turns.put(lookups, list);

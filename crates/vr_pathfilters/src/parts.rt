@@ -24,7 +24,7 @@ pub(crate) fn write_between<'a>(
     ensures { IsPartBetween closed.entry.model.now routes.now.lists (part_at change.now k) result.vehicle result.front
         result.behind between.new }
 {
-    let splice = change.splice(routes, k);
+    let splice = change.splice(k);
     routes.join_into(splice.middle, between);
     splice
 }

@@ -36,7 +36,7 @@ impl<'m> ListRule for VehicleRule<'m> {
         if self.lookups.closed.model.allowed.is_empty() {
             return true;
         }
-        let splice = change.splice(routes, k);
+        let splice = change.splice(k);
         pieces_allow(self.lookups.nodes(), routes, splice.vehicle, splice.middle)
     }
 

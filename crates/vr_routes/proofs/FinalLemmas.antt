@@ -9,7 +9,7 @@ use Rattle.vr_model.proofs.routes.Lists.{place_of_held, route_set_other, route_s
 use Rattle.vr_model.specs.routes.Routes.{route, holds}
 use Rattle.vr_routes.specs.Seats.{IsSeat, IsOnce, HaveNodes, MayHave, MayHaveTwo, Seated}
 use Rattle.vr_routes.specs.Pieces.{ListAfter, joined, no_part, IsWithin}
-use Rattle.vr_routes.specs.Changes.{AreParts, MayChange}
+use Rattle.vr_routes.specs.Changes.{MayChange}
 use Rattle.vr_routes.proofs.SeatLemmas.{active_at}
 use Rattle.vr_routes.proofs.TourLemmas.{set_twice}
 use Rattle.vr_model.proofs.moves.Times.{times_set}

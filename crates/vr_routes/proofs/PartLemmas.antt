@@ -5,7 +5,7 @@ use Rattle.std.specs.List.{AllPairs}
 use Rattle.std.proofs.lemmas.Bool.Decides.{eqb_tells}
 use Rattle.vr_model.proofs.routes.Lists.{route_set_other, route_set_same}
 use Rattle.vr_model.specs.routes.Routes.{route}
-use Rattle.vr_routes.specs.Pieces.{ListAfter, joined, with_parts, changed, no_part, part_at}
+use Rattle.vr_routes.specs.Pieces.{HasEnds, ListAfter, joined, with_parts, changed, no_part, part_at}
 use Rattle.vr_routes.specs.Changes.{AreParts}
 
 pub first_part : (f s : ListAfter) (t : Bool) → part_at (f ∷ cond t (s ∷ []) []) 0 ≡ f
@@ -51,6 +51,9 @@ list_of_part old (p ∷ ps) lists apart each (suc k) low =
     (λ i d lt. let n = length-set lists p.vehicle (joined old p.pieces) in let h = each (suc i) d (omega (arith, lt)) in omega (arith, n, h)) k (omega (arith, low))
 
 module _ (lists : List (List ℕ)) (parts : List ListAfter) (are : AreParts lists parts) where
+  pub has_ends : (k : ℕ) → k < length parts → HasEnds (part_at parts k)
+  has_ends k low = let few = (are.each_spliced k no_part low).few in omega (arith, few)
+
   pub part_is : (k : ℕ) → k < length parts → route (changed lists parts) (part_at parts k).vehicle ≡ joined lists (part_at parts k).pieces
   part_is k low = list_of_part lists parts lists are.apart are.each_vehicle k low
 

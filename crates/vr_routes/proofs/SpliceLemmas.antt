@@ -1,5 +1,5 @@
 -- Lists that are written as splices of the lists before them.
-use Rattle.std.proofs.Common.{◌≡◌, ◌∙◌, ℕ, zero, suc, ◌+◌, ◌-◌, ◌<◌, ◌≤◌, false, List, [], ◌∷◌, ◌++◌, length, length-append, take, drop, refl, sym, ap, subst, append_assoc, arith}
+use Rattle.std.proofs.Common.{◌≡◌, ◌∙◌, ℕ, zero, suc, ◌+◌, ◌-◌, ◌<◌, ◌≤◌, false, List, [], ◌∷◌, ◌++◌, length, length-append, take, drop, refl, sym, ap, subst, arith}
 use Rattle.std.specs.Prelude.{All, slice_range}
 use Rattle.std.proofs.lemmas.List.{append-nil}
 use Rattle.std.proofs.lemmas.List.Elements.{All-append, All-nil}
@@ -9,7 +9,7 @@ use Rattle.std.proofs.lemmas.Grind.{flat_map-append}
 use Rattle.vr_model.specs.routes.Routes.{route}
 use Rattle.vr_routes.specs.declared.pieces.Piece.{Piece}
 use Rattle.vr_routes.specs.declared.pieces.Piece.TheVariants.{Chain}
-use Rattle.vr_routes.specs.Pieces.{ListAfter, joined, middle_of, nodes_of, IsWithin, IsSplice, IsSpliced}
+use Rattle.vr_routes.specs.Pieces.{ListAfter, joined, middle_of, nodes_of, IsWithin, IsSplice}
 use Rattle.vr_routes.specs.Changes.{IsAfter, IsPartBegun}
 use Rattle.vr_routes.proofs.PieceLemmas.{slice_to_end}
 

@@ -19,6 +19,10 @@ pub record ListAfter : Type 0 where
 abbrev pub middle_of : List Piece → List Piece
 middle_of pieces = slice_range pieces 1 (length pieces - 1)
 
+-- the pieces of a list have a first one and a last one
+abbrev pub HasEnds : ListAfter → Type 0
+HasEnds part = 2 ≤ length part.pieces
+
 -- the nodes of a piece of these lists
 abbrev pub nodes_of : List (List ℕ) → Piece → List ℕ
 nodes_of lists (Chain v from to reversed) =

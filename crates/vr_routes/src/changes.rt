@@ -1,6 +1,6 @@
 //! What a move changes.
 
-ghost use Rattle.std.specs.Prelude.{◌≡◌, ◌<◌, ◌≤◌, true, false, IsTrue, [], ◌∷◌, length, IfSome, MatchOption};
+ghost use Rattle.std.specs.Prelude.{◌≡◌, ◌<◌, ◌≤◌, ℕ, true, false, IsTrue, List, [], ◌∷◌, length, IfSome, MatchOption};
 ghost use Rattle.vr_model.specs.tables.Tables.{visits};
 ghost use Rattle.vr_model.specs.tables.WellFormed.{IsWellFormed};
 ghost use Rattle.vr_model.specs.moves.MoveTests.{is_move};
@@ -8,7 +8,7 @@ ghost use Rattle.vr_model.specs.declared.records.Model.{Model as Defined};
 ghost use Rattle.vr_model.specs.declared.neighbours.Move.TheVariants.{Relocate, Exchange, Cross};
 ghost use Rattle.vr_model.specs.declared.neighbours.Move.TheVariants.{PairInactive, RelocatePair};
 ghost use Rattle.vr_routes.specs.Places.{AreCuts, AreNodeAndGap, AreTwoNodes};
-ghost use Rattle.vr_routes.specs.Pieces.{changed, no_part, part_at, IsSplice};
+ghost use Rattle.vr_routes.specs.Pieces.{changed, no_part, part_at, HasEnds, IsSplice};
 ghost use Rattle.vr_routes.specs.Changes.{AreParts, IsChange, MayChange};
 
 use crate::conditions::{is_move, pair_served, pair_together};
@@ -258,14 +258,14 @@ impl Change {
         part.pieces()
     }
 
-    /// The list of part `k` as a splice of the list of its vehicle before the change.
+    /// The list of part `k` as a splice of the list that its vehicle had before, in any lists of which these are parts.
     #[inline]
-    pub fn splice(&self, _routes: &Routes, k: usize) -> Splice<'_>
+    pub fn splice(&self, k: usize) -> Splice<'_>
         requires part { k < length self.now }
-        requires parts { AreParts _routes.now.lists self.now }
+        requires ends { HasEnds (part_at self.now k) }
         ensures vehicle { result.vehicle ≡ (part_at self.now k).vehicle }
-        ensures ends { let part = part_at self.now k in
-            IsSplice _routes.now.lists part.vehicle part.pieces result.front result.behind result.middle.now }
+        ensures ends { (lists : List (List ℕ)) → AreParts lists self.now → let part = part_at self.now k in
+            IsSplice lists part.vehicle part.pieces result.front result.behind result.middle.now }
     {
         let part = self.part(k);
         part.splice()

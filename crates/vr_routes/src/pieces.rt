@@ -5,9 +5,8 @@ ghost use Rattle.std.specs.Prelude.{take, drop, slice_range};
 ghost use Rattle.vr_model.specs.routes.Routes.{route};
 ghost use Rattle.vr_routes.specs.Changes.{IsAfter, IsPartBegun};
 ghost use Rattle.vr_routes.specs.Pairs.{is_past};
-ghost use Rattle.vr_routes.specs.Pieces.{IsWithin, joined, middle_of, no_part, nodes_of};
+ghost use Rattle.vr_routes.specs.Pieces.{HasEnds, IsWithin, joined, middle_of, no_part, nodes_of};
 
-use crate::Routes;
 use arrayvec::ArrayVec;
 use std::marker::Model;
 
@@ -33,29 +32,28 @@ impl Default for Piece {
 }
 
 impl Piece {
-    /// How many nodes it has of the lists that it lies within.
+    /// How many nodes it has, in lists that it lies within.
     #[inline]
-    pub fn nodes(&self, _routes: &Routes) -> usize
-        requires within { IsWithin _routes.now.lists self.now }
-        ensures value { result ≡ length (nodes_of _routes.now.lists self.now) }
+    pub fn nodes(&self) -> usize
+        ensures value { (lists : List (List ℕ)) → IsWithin lists self.now → result ≡ length (nodes_of lists self.now) }
         ensures few { result < 4294967296 }
     {
         match *self {
             Piece::Node { .. } => 1,
-            Piece::Chain { from, to, .. } => (to - from) as usize,
+            Piece::Chain { from, to, .. } => to.saturating_sub(from) as usize,
         }
     }
 
-    /// How many nodes several pieces have.
+    /// How many nodes several pieces have, in lists that they lie within.
     #[inline]
-    pub fn nodes_in(routes: &Routes, pieces: &[Piece]) -> usize
-        requires within { All (IsWithin routes.now.lists) pieces.now }
+    pub fn nodes_in(pieces: &[Piece]) -> usize
         requires few { length pieces.now ≤ 8 }
-        ensures { result ≡ length (joined routes.now.lists pieces.now) }
+        ensures { (lists : List (List ℕ)) → All (IsWithin lists) pieces.now
+            → result ≡ length (joined lists pieces.now) }
     {
         let mut nodes = 0;
         for piece in pieces {
-            nodes += piece.nodes(routes);
+            nodes += piece.nodes();
         }
         nodes
     }
@@ -137,7 +135,7 @@ impl Part {
     /// The list as a splice of the one before it.
     #[inline]
     pub fn splice(&self) -> Splice<'_>
-        requires ends { 2 ≤ length self.now.pieces }
+        requires ends { HasEnds self.now }
         ensures vehicle { result.vehicle ≡ self.now.vehicle }
         ensures front { result.front ≡ self.now.front }
         ensures behind { result.behind ≡ self.now.behind }

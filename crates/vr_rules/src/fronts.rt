@@ -96,10 +96,11 @@ fn levels_at_start(alloc: Global, of: &VehicleIn<'_>, breaks: &Breaks) -> Result
     start_levels(alloc, &start, breaks)
 }
 
-// A list, and an item that may stand at its end.
+// A list of a vehicle, and an item that may stand at its end.
 #[derive(Clone, Copy)]
 struct Longer<'m, 'l> {
     closed: Closed<'m>,
+    v: u32,
     list: &'l [u32],
     item: Item,
     ghost visits: { IsTrue (list_all (is_visit_of closed.model.now) list.now) },
@@ -147,30 +148,6 @@ impl Front {
         walk.cross_from(&self.here, arc, next, &self.breaks)
     }
 
-    // Lets a walk go on from a visit behind the list to another.
-    fn go_on(
-        &self,
-        walk: &mut Walk,
-        closed: Closed<'_>,
-        list: &[u32],
-        before: u32,
-        node: u32,
-    ) -> Result<(), NoMemory>
-        requires front { IsFront closed.model.now list.now self.now }
-        requires before { IsTrue (is_visit_of closed.model.now before) }
-        requires visit { IsTrue (is_visit_of closed.model.now node) }
-        requires here { AreReachedBehind closed.model.now self.now.dimension self.now.vehicle
-            (list.now ++ before ∷ []) walk.old }
-        requires form { AreLevels self.now.breaks walk.old }
-        ensures reached { OnOk result (AreReachedBehind closed.entry.model.now self.now.dimension self.now.vehicle
-            (list.now ++ before ∷ node ∷ []) walk.new) }
-        ensures levels { OnOk result (AreLevels self.now.breaks walk.new) }
-    {
-        let arc = hop(closed.model, self.dimension, self.vehicle, before, node);
-        let next = &self.visits[node as usize];
-        walk.cross(arc, next, &self.breaks)
-    }
-
     // Lets a walk stand at the last node of an item behind the list.
     fn walk_item(&self, walk: &mut Walk, longer: &Longer<'_, '_>) -> Result<(), NoMemory>
         requires { IsFront longer.now.closed.model.now longer.now.list.now self.now }
@@ -183,7 +160,9 @@ impl Front {
             Item::Visit(node) => self.leave(walk, closed, list, node),
             Item::PickupAndDelivery(pickup, delivery) => {
                 self.leave(walk, closed, list, pickup)?;
-                self.go_on(walk, closed, list, pickup, delivery)
+                let arc = hop(closed.model, self.dimension, self.vehicle, pickup, delivery);
+                let next = &self.visits[delivery as usize];
+                walk.cross(arc, next, &self.breaks)
             }
         }
     }
@@ -238,12 +217,11 @@ impl Front {
 fn is_feasible_with(
     fronts: &Vec<Front>,
     walk: &mut Walk,
-    v: u32,
     longer: &Longer<'_, '_>,
 ) -> Result<bool, NoMemory>
-    requires fronts { AreFronts longer.now.closed.model.now v longer.now.list.now fronts.now.items }
+    requires fronts { AreFronts longer.now.closed.model.now longer.now.v longer.now.list.now fronts.now.items }
     requires driven { IsDriven longer.now.closed.model.now (longer.now.list.now ++ item_nodes longer.now.item) }
-    ensures { IfOk result (λ answer. answer ≡ is_feasible_in_each longer.now.closed.model.now v
+    ensures { IfOk result (λ answer. answer ≡ is_feasible_in_each longer.now.closed.model.now longer.now.v
         (longer.now.list.now ++ item_nodes longer.now.item)) }
 {
     for d in 0..fronts.len() {
@@ -258,11 +236,10 @@ fn is_feasible_with(
 fn advance_each(
     fronts: &mut Vec<Front>,
     walk: &mut Walk,
-    v: u32,
     longer: &Longer<'_, '_>,
 ) -> Result<(), NoMemory>
-    requires { AreFronts longer.now.closed.model.now v longer.now.list.now fronts.old.items }
-    ensures { OnOk result (AreFronts longer.now.closed.model.now v
+    requires { AreFronts longer.now.closed.model.now longer.now.v longer.now.list.now fronts.old.items }
+    ensures { OnOk result (AreFronts longer.now.closed.model.now longer.now.v
         (longer.now.list.now ++ item_nodes longer.now.item) fronts.new.items) }
 {
     for d in 0..fronts.len() {
@@ -303,10 +280,11 @@ fn go_along(
     for k in 0..list.len() {
         let next = Longer {
             closed,
+            v,
             list: &list[..k],
             item: Item::Visit(list[k]),
         };
-        advance_each(fronts, walk, v, &next)?;
+        advance_each(fronts, walk, &next)?;
     }
     Ok(())
 }
@@ -328,18 +306,18 @@ fn appended(alloc: Global, list: &[u32], item: Item) -> Result<Vec<u32>, NoMemor
 
 // Whether the list with the item at its end serves each pair in order, and keeps the policy of the vehicle. It takes no
 // memory where the model has no pairs.
-fn keeps_pairs_with(room: &mut Room, v: u32, of: &Longer<'_, '_>) -> Result<bool, NoMemory>
-    requires vehicle { v < length of.now.closed.model.now.vehicles }
+fn keeps_pairs_with(room: &mut Room, of: &Longer<'_, '_>) -> Result<bool, NoMemory>
+    requires vehicle { of.now.v < length of.now.closed.model.now.vehicles }
     requires driven { IsDriven of.now.closed.model.now (of.now.list.now ++ item_nodes of.now.item) }
     ensures { IfOk result (λ keeps. keeps
-        ≡ keeps_pairs of.now.closed.model.now v (of.now.list.now ++ item_nodes of.now.item)) }
+        ≡ keeps_pairs of.now.closed.model.now of.now.v (of.now.list.now ++ item_nodes of.now.item)) }
 {
     let model = of.closed.model;
     if model.pairs.is_empty() {
         return Ok(true);
     }
     let longer = appended(room.alloc, of.list, of.item)?;
-    Ok(keeps_pairs(model, v, &longer, &mut room.pairs))
+    Ok(keeps_pairs(model, of.v, &longer, &mut room.pairs))
 }
 
 /// What is written over while items are tried at the end of a list.
@@ -407,13 +385,14 @@ impl Fronts {
         }
         let longer = Longer {
             closed: lookups.closed,
+            v,
             list,
             item,
         };
-        if !is_feasible_with(&self.each, &mut room.walk, v, &longer)? {
+        if !is_feasible_with(&self.each, &mut room.walk, &longer)? {
             return Ok(false);
         }
-        keeps_pairs_with(room, v, &longer)
+        keeps_pairs_with(room, &longer)
     }
 
     /// Moves to the end of the list with an item at its end. After `NoMemory` nothing is said of what is reached.
@@ -429,7 +408,12 @@ impl Fronts {
         requires driven { IsDriven closed.model.now (list.now ++ item_nodes item) }
         ensures { OnOk result (AreFrontsOf closed.entry.model.now v (list.now ++ item_nodes item) self.new) }
     {
-        let longer = Longer { closed, list, item };
-        advance_each(&mut self.each, &mut room.walk, v, &longer)
+        let longer = Longer {
+            closed,
+            v,
+            list,
+            item,
+        };
+        advance_each(&mut self.each, &mut room.walk, &longer)
     }
 }

@@ -58,7 +58,7 @@ fn arcs_added(alloc: Global, at: ValidChange<'_>) -> Result<i64, NoMemory>
 fn fixed_added(at: ValidChange<'_>) -> Result<i64, NoMemory>
     requires made { IsMadeOn at.routes.now at.change.now }
 {
-    let mut part = FixedCost::open(at.closed.model, at.routes)?;
+    let mut part = FixedCost::of(at.closed.model);
     committed(&mut part, at.routes, at.change)
 }
 

@@ -4,14 +4,18 @@ use Rattle.std.specs.Prelude.{All, IsTrue, ◌||◌}
 use Rattle.std.specs.List.{list_any}
 use Rattle.std.proofs.lemmas.List.Elements.{All-weaker}
 use Rattle.vr_model.specs.deciding.Testing.{or_cases}
+use Rattle.vr_model.specs.declared.neighbours.Move.{Move}
+use Rattle.vr_model.specs.moves.MoveTests.{is_move}
+use Rattle.vr_model.specs.routes.Rules.{is_valid}
+use Rattle.vr_model.proofs.moves.KeptLists.{moves_keep_lists}
 use Rattle.vr_model.specs.routes.Routes.{are_lists, holds, is_distinct, route}
 use Rattle.vr_model.specs.tables.Numbers.{below}
 use Rattle.vr_model.specs.tables.Tables.{vehicle_at, visits}
 use Rattle.vr_model.specs.tables.WellFormed.{IsWellFormed}
 use Rattle.vr_model.specs.declared.records.Model.{Model}
-use Rattle.vr_model.proofs.routes.Lists.{place_of_held, route-below, route-distinct}
+use Rattle.vr_model.proofs.routes.Lists.{are-lists, place_of_held, route-below, route-distinct}
 use Rattle.vr_model.proofs.tables.Members.{In}
-use Rattle.vr_routes.specs.Changes.{AreParts}
+use Rattle.vr_routes.specs.Changes.{AreParts, IsChange}
 use Rattle.vr_routes.specs.Pieces.{ListAfter, changed, joined, no_part, part_at}
 use Rattle.vr_routes.proofs.ListsLemmas.{visits_of}
 use Rattle.vr_routes.proofs.PartLemmas.{part_is}
@@ -21,6 +25,11 @@ use Rattle.vr_routes.proofs.TourLemmas.{visit_held}
 use Rattle.vr_tabu.specs.Parts.{IsListChange, OldAndNew, change_of, frees}
 use Rattle.vr_tabu.specs.TabuSearches.{TabuList, is_tabu}
 use Rattle.vr_tabu.proofs.ChangedLemmas.{in_of_held, tabu_by_parts}
+
+-- after the change of a move there are lists of the model still
+pub change_keeps_lists : (model : Model) (lists : List (List ℕ)) (parts : List ListAfter) → IsWellFormed model → IsTrue (is_valid model lists) → (mv : Move) → IsTrue (is_move model lists mv) → IsChange model lists mv parts → IsTrue (are_lists model (changed lists parts))
+change_keeps_lists model lists parts well valid mv is_one change =
+    subst (λ ls. IsTrue (are_lists model ls)) (sym change.lists_are) (moves_keep_lists model well lists mv (are-lists model lists valid) is_one)
 
 module _ (model : Model) (lists : List (List ℕ)) (parts : List ListAfter) (are : AreParts lists parts)
     (before : IsTrue (are_lists model lists)) (later : IsTrue (are_lists model (changed lists parts))) (well : IsWellFormed model) where

@@ -3,11 +3,13 @@
 ghost use Rattle.std.proofs.Props.{props};
 ghost use Rattle.std.specs.Prelude.{◌≡◌, ◌+◌, ◌≤◌, ◌&&◌, int_le, IsTrue, IfOk, IfSome, OnErr};
 ghost use Rattle.vr_model.specs.moves.MoveTests.{is_move};
-ghost use Rattle.vr_model.specs.moves.Moves.{apply, moves};
+ghost use Rattle.vr_model.specs.moves.Moves.{moves};
+ghost use Rattle.vr_model.specs.routes.Routes.{are_lists};
 ghost use Rattle.vr_model.specs.tables.WellFormedOnce.{IsWellFormed-prop};
 ghost use Rattle.vr_descent.specs.Asking.{AsksFor, Keeps};
 ghost use Rattle.vr_known.specs.Passing.{Takes, tries_taken, tries_within};
-ghost use Rattle.vr_routes.specs.Changes.{IsChange};
+ghost use Rattle.vr_routes.specs.Changes.{IsMadeOn};
+ghost use Rattle.vr_routes.specs.Pieces.{changed};
 ghost use Rattle.vr_tabu.specs.Rounds.{IsCeiling, IsJudgeOf, IsDifferenceKnown, IsPassedInRound};
 ghost use Rattle.vr_tabu.specs.Rounds.{aspiration, better_with};
 ghost use Rattle.vr_tabu.specs.Rounds.{bound_of, end_with, is_no_less, move_of, tabu_round_end, tries_of};
@@ -237,7 +239,7 @@ impl<'a> Round<'a> {
                 if is_no_less(self.bound(best), difference) {
                     return Ok(best);
                 }
-                if self.is_forbidden(mv, difference, change, after) {
+                if self.is_forbidden(difference, change, after) {
                     return Ok(best);
                 }
                 Ok(Some(Candidate { mv, difference }))
@@ -245,12 +247,12 @@ impl<'a> Round<'a> {
         }
     }
 
-    // Whether a move is tabu, told by its change.
-    fn is_tabu(&self, _mv: Move, change: &Change, after: &mut NewList) -> bool
-        requires mv { IsTrue (is_move self.now.model.now self.now.routes.now.lists _mv) }
-        requires change { IsChange self.now.model.now self.now.routes.now.lists _mv change.now }
+    // Whether a change is tabu.
+    fn is_tabu(&self, change: &Change, after: &mut NewList) -> bool
+        requires made { IsMadeOn self.now.routes.now change.now }
+        requires lists { IsTrue (are_lists self.now.model.now (changed self.now.routes.now.lists change.now)) }
         ensures { result ≡ is_tabu self.now.model.now (tabus_of self.now.state.now.tabus) self.now.routes.now.lists
-            (apply self.now.model.now self.now.routes.now.lists _mv) }
+            (changed self.now.routes.now.lists change.now) }
     {
         let closed = Closed { model: self.model };
         let lists = WholeChange {
@@ -261,21 +263,21 @@ impl<'a> Round<'a> {
         self.state.tabus.is_tabu(lists, after)
     }
 
-    // Whether a move that makes a difference is tabu and leads to lists that cost no less than the best before. Where
+    // Whether a change that makes a difference is tabu and leads to lists that cost no less than the best before. Where
     // they cost less, whether it is tabu is not asked.
     #[inline]
-    fn is_forbidden(&self, mv: Move, difference: i64, change: &Change, after: &mut NewList) -> bool
-        requires mv { IsTrue (is_move self.now.model.now self.now.routes.now.lists mv) }
-        requires change { IsChange self.now.model.now self.now.routes.now.lists mv change.now }
+    fn is_forbidden(&self, difference: i64, change: &Change, after: &mut NewList) -> bool
+        requires made { IsMadeOn self.now.routes.now change.now }
+        requires lists { IsTrue (are_lists self.now.model.now (changed self.now.routes.now.lists change.now)) }
         ensures { result ≡ (int_le (aspiration self.now.model.now self.now.state.now.best.routes.lists
             self.now.routes.now.lists) difference && is_tabu self.now.model.now
             (tabus_of self.now.state.now.tabus) self.now.routes.now.lists
-            (apply self.now.model.now self.now.routes.now.lists mv)) }
+            (changed self.now.routes.now.lists change.now)) }
     {
         if difference < self.aspiration() {
             return false;
         }
-        self.is_tabu(mv, change, after)
+        self.is_tabu(change, after)
     }
 }
 

@@ -170,7 +170,7 @@ impl State {
         match ended {
             RoundEnd::Best { length, candidate } => {
                 self.forbid(closed, routes, candidate.mv, bounds.tenure);
-                self.take(closed, judge, routes, watch, length, candidate)?;
+                self.take(judge, routes, watch, length, candidate)?;
                 Ok(None)
             }
             RoundEnd::Stuck { length } => {
@@ -212,36 +212,36 @@ impl State {
     // judge hold the same lists all the same.
     fn take<J: Judge>(
         &mut self,
-        closed: Closed<'_>,
         judge: &mut J,
         routes: &mut Routes,
         watch: &mut Vec<Box<dyn Watch>>,
         length: u64,
         candidate: Candidate,
     ) -> Result<(), NoMemory>
-        requires judge_model { J.model judge.old ≡ closed.model.now }
-        requires holds { HoldSame closed.model.now (J.committed judge.old) routes.old }
-        requires mv { IsTrue (is_move closed.model.now routes.old.lists candidate.mv) }
-        requires valid { IsTrue (is_valid closed.model.now (apply closed.model.now routes.old.lists candidate.mv)) }
-        requires cost { self.old.at.cost ≡ cost closed.model.now routes.old.lists }
-        requires known { IsDifferenceKnown closed.model.now routes.old.lists candidate }
+        requires well_formed { IsWellFormed (J.model judge.old) }
+        requires holds { HoldSame (J.model judge.old) (J.committed judge.old) routes.old }
+        requires mv { IsTrue (is_move (J.model judge.old) routes.old.lists candidate.mv) }
+        requires valid { IsTrue (is_valid (J.model judge.old)
+            (apply (J.model judge.old) routes.old.lists candidate.mv)) }
+        requires cost { self.old.at.cost ≡ cost (J.model judge.old) routes.old.lists }
+        requires known { IsDifferenceKnown (J.model judge.old) routes.old.lists candidate }
         requires tries { self.old.at.used + length < 2 ^ 64 }
         requires found { self.old.at.found + 1 < 2 ^ 64 }
-        requires best { IsBest closed.model.now routes.old.visits self.old.best }
-        ensures at { OnOk result (self.new.at ≡ after_move closed.entry.model.now routes.old.lists candidate.mv length
+        requires best { IsBest (J.model judge.old) routes.old.visits self.old.best }
+        ensures at { OnOk result (self.new.at ≡ after_move (J.model judge.old) routes.old.lists candidate.mv length
             self.old.at) }
         ensures best { OnOk result (self.new.best ≡ kept self.old.best routes.new
-            (cost closed.entry.model.now routes.new.lists)) }
+            (cost (J.model judge.old) routes.new.lists)) }
         ensures tabus { self.new.tabus ≡ self.old.tabus }
-        ensures routes { OnOk result (routes.new ≡ moved closed.entry.model.now routes.old candidate.mv) }
-        ensures holds { HoldSame closed.entry.model.now (J.committed judge.new) routes.new }
-        ensures judge_model { J.model judge.new ≡ closed.entry.model.now }
+        ensures routes { OnOk result (routes.new ≡ moved (J.model judge.old) routes.old candidate.mv) }
+        ensures holds { HoldSame (J.model judge.old) (J.committed judge.new) routes.new }
+        ensures judge_model { J.model judge.new ≡ J.model judge.old }
         ensures asked { J.asked judge.new ≡ J.asked judge.old }
         ensures looked { J.looked judge.new ≡ J.looked judge.old }
         ensures told { OnOk result (Reported (λ w later. after w later) watch.old.items watch.new.items
-            (move_event closed.entry.model.now routes.old.lists candidate.mv (self.old.at.used + length) ∷ [])) }
+            (move_event (J.model judge.old) routes.old.lists candidate.mv (self.old.at.used + length) ∷ [])) }
         ensures told_in_part { OnErr result (ReportedInPart (λ w later. after w later) watch.old.items watch.new.items
-            (move_event closed.entry.model.now routes.old.lists candidate.mv (self.old.at.used + length) ∷ [])) }
+            (move_event (J.model judge.old) routes.old.lists candidate.mv (self.old.at.used + length) ∷ [])) }
     {
         judge.commit(routes, candidate.mv)?;
         self.follow(routes, length, candidate.difference);

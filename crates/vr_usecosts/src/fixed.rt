@@ -1,6 +1,6 @@
 //! The fixed costs of used vehicles.
 
-ghost use Rattle.std.specs.Prelude.{◌≡◌, ◌<◌, IsTrue, IfOk, ℕ, List, nat_lt, not, length};
+ghost use Rattle.std.specs.Prelude.{◌≡◌, ◌<◌, IsTrue, ℕ, List, nat_lt, not, length};
 ghost use Rattle.vr_model.specs.routes.Costs.{fixed_part};
 ghost use Rattle.vr_model.specs.tables.Tables.{visits};
 ghost use Rattle.vr_model.specs.routes.Rules.{is_valid};
@@ -8,10 +8,11 @@ ghost use Rattle.vr_model.specs.tables.WellFormed.{IsWellFormed};
 ghost use Rattle.vr_parts.specs.Parts.{CostAlike};
 ghost use Rattle.vr_usecosts.specs.Fixed as fixed_costs;
 ghost use Rattle.vr_usecosts.specs.Fixed.{fixed_with, StandsFixed};
+ghost use Rattle.vr_routes.specs.Tours.{Tours};
 ghost use Rattle.vr_balance.specs.Sums.{IsUpTo};
 
 use std::marker::Model;
-use vr_model::{Model as RoutingModel, NoMemory};
+use vr_model::Model as RoutingModel;
 use vr_parts::{InfallibleCost, ListCost, added_by, is_left_empty};
 use vr_routes::{Change, Routes, Splice};
 
@@ -43,16 +44,17 @@ fn is_some_fixed(model: &RoutingModel) -> bool
 }
 
 impl<'m> FixedCost<'m> {
-    /// The fixed costs of the lists of routes.
-    pub fn open(model: &'m RoutingModel, routes: &Routes) -> Result<FixedCost<'m>, NoMemory>
+    /// The fixed costs of a model's vehicles. Nothing of the lists is kept: they stand at any valid lists of the model.
+    pub fn of(model: &'m RoutingModel) -> FixedCost<'m>
         requires well_formed { IsWellFormed model.now }
-        requires of_model { routes.now.visits ≡ visits model.now }
-        requires valid { IsTrue (is_valid model.now routes.now.lists) }
-        ensures model { IfOk result (λ part. part.model ≡ model.now) }
-        ensures stands { IfOk result (λ part. StandsFixed part routes.now) }
+        ensures model { result.model ≡ model.now }
+        ensures stands { (tours : Tours) → tours.visits ≡ visits model.now
+            → IsTrue (is_valid model.now tours.lists) → StandsFixed result tours }
     {
-        let pays = is_some_fixed(model);
-        Ok(FixedCost { model, pays })
+        FixedCost {
+            model,
+            pays: is_some_fixed(model),
+        }
     }
 }
 
@@ -72,8 +74,8 @@ impl<'m> ListCost for FixedCost<'m> {
 
 impl<'m> FixedCost<'m> {
     /// Whether no vehicle has a fixed cost: all lists cost the same then.
-    pub fn is_idle(&self, _routes: &Routes) -> bool
-        requires stands { StandsFixed self.now _routes.now }
+    pub fn is_idle(&self) -> bool
+        requires pays { self.now.pays ≡ fixed_costs.is_some_fixed self.now.model }
         ensures idle { result ≡ not (fixed_costs.is_some_fixed self.now.model) }
         ensures alike { IsTrue result → CostAlike fixed_part self.now.model }
     {

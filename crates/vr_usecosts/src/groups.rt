@@ -1,7 +1,7 @@
 //! The penalties of groups.
 
 ghost use Rattle.std.specs.Prelude.{◌≡◌, ◌≢◌, ◌<◌, ◌≤◌, ◌-ℤ◌, ◌*ℤ◌, ◌≤ℤ◌, ℕ, ℤ, not, pos};
-ghost use Rattle.std.specs.Prelude.{All, IsTrue, IfOk, IfSome, length};
+ghost use Rattle.std.specs.Prelude.{All, IsTrue, IfOk, IfSome, List, length};
 ghost use Rattle.vr_model.specs.tables.Numbers.{is_same_number, number_at, total_by};
 ghost use Rattle.vr_model.specs.tables.Tables.{visits};
 ghost use Rattle.vr_model.specs.tables.Limits.{greatest_cost};
@@ -263,8 +263,9 @@ impl<'m> GroupCost<'m> {
     }
 
     /// Whether no group has a penalty: all lists cost the same then.
-    pub fn is_idle(&self, _routes: &Routes) -> bool
-        requires stands { StandsGroups self.now _routes.now }
+    pub fn is_idle(&self) -> bool
+        requires well_formed { IsWellFormed self.now.model }
+        requires pays { self.now.pays ≡ penalties_of.is_some_paid self.now.model }
         ensures idle { result ≡ not (penalties_of.is_some_paid self.now.model) }
         ensures alike { IsTrue result → CostAlike penalty_part self.now.model }
     {
@@ -305,15 +306,16 @@ impl<'m> GroupCost<'m> {
     /// that is put into a list. The moves of a run differ in their last number. `None` of moves of other kinds
     /// (that it is given of these alone is not promised).
     #[inline]
-    pub fn saved_by_run(&self, routes: &Routes, mv: Move) -> Option<i64>
-        requires stands { StandsGroups self.now routes.now }
-        ensures exact { IfSome result (λ saved. (k : ℕ)
-            → Saves self.now.model routes.now.lists (with_last mv k) saved) }
+    pub fn saved_by_run(&self, mv: Move) -> Option<i64>
+        requires well_formed { IsWellFormed self.now.model }
+        requires saved { AreSaved self.now.model self.now.saved }
+        ensures exact { IfSome result (λ saved. (lists : List (List ℕ)) → IsTrue (is_valid self.now.model lists)
+            → (k : ℕ) → Saves self.now.model lists (with_last mv k) saved) }
         ensures range { IfSome result IsAddedByChange }
     {
         match mv {
-            Move::MakeActive { u, .. } => Some(self.saved_by_visit(routes, u)),
-            Move::PairActive { p, .. } => self.saved_by_pair(routes, p),
+            Move::MakeActive { u, .. } => Some(self.saved_by_visit(u)),
+            Move::PairActive { p, .. } => self.saved_by_pair(p),
             _ => None,
         }
     }
@@ -330,7 +332,7 @@ impl<'m> GroupCost<'m> {
     {
         match mv {
             Move::SwapActive { v, a, .. } => self.saved_by_newcomer(routes, v, a),
-            _ => self.saved_by_run(routes, mv),
+            _ => self.saved_by_run(mv),
         }
     }
 
@@ -352,9 +354,11 @@ impl<'m> GroupCost<'m> {
 
     // What a visit saves that is put into a list.
     #[inline]
-    fn saved_by_visit(&self, _routes: &Routes, u: u32) -> i64
-        requires stands { StandsGroups self.now _routes.now }
-        ensures exact { (w t : ℕ) → Saves self.now.model _routes.now.lists (MakeActive u w t) result }
+    fn saved_by_visit(&self, u: u32) -> i64
+        requires well_formed { IsWellFormed self.now.model }
+        requires saved { AreSaved self.now.model self.now.saved }
+        ensures exact { (lists : List (List ℕ)) → IsTrue (is_valid self.now.model lists)
+            → (w t : ℕ) → Saves self.now.model lists (MakeActive u w t) result }
         ensures range { IsAddedByChange result }
     {
         saved_at(&self.saved, u)
@@ -362,10 +366,11 @@ impl<'m> GroupCost<'m> {
 
     // What a pair saves that is put into a list; `None` where there is no such pair.
     #[inline]
-    fn saved_by_pair(&self, _routes: &Routes, p: u32) -> Option<i64>
-        requires stands { StandsGroups self.now _routes.now }
-        ensures exact { IfSome result (λ saved. (w s t : ℕ)
-            → Saves self.now.model _routes.now.lists (PairActive p w s t) saved) }
+    fn saved_by_pair(&self, p: u32) -> Option<i64>
+        requires well_formed { IsWellFormed self.now.model }
+        requires saved { AreSaved self.now.model self.now.saved }
+        ensures exact { IfSome result (λ saved. (lists : List (List ℕ)) → IsTrue (is_valid self.now.model lists)
+            → (w s t : ℕ) → Saves self.now.model lists (PairActive p w s t) saved) }
         ensures range { IfSome result IsAddedByChange }
     {
         if p as usize >= self.model.pairs.len() {

@@ -7,6 +7,7 @@ use Rattle.vr_plan.specs.Bounds.{cumul_cost}
 use Rattle.vr_plan.proofs.BoundLemmas.{read-around}
 use Rattle.vr_plan.proofs.ExtentLemmas.{times-none}
 use Rattle.vr_costfilter.specs.declared.spreads.Spread.{Spread}
+use Rattle.vr_costfilter.specs.GlobalCosts.{Pays}
 use Rattle.vr_costfilter.specs.Spreads.{spread_after}
 use Rattle.vr_costfilter.proofs.SpreadLemmas.{read-span}
 use Rattle.vr_costfilter.proofs.spreads.least_of_global_span.Goals as goal
@@ -34,13 +35,13 @@ times-requires-clause-range c =
     }
 
 pub returns-then-coefficient-eq0-clause-value : goal.returns-then-coefficient-eq0-clause-value
-returns-then-coefficient-eq0-clause-value c =
-    let s = spread_after c.args.early.now.model.now c.args.early.now.routes.now.lists c.args.early.now.change.now c.args.d in
+returns-then-coefficient-eq0-clause-value c lists are orders =
+    let s = spread_after c.args.early.now.model.now lists c.args.early.now.change.now c.args.d in
     let is = ap (λ x. x.global_span_cost) (c.get.ensures.value no_dimension) in
     sym (times-none (dimension_at c.args.early.now.model.now c.args.d).global_span_cost (int_max (s.last -ℤ s.start) s.span) (omega (arith, ints, is, c.if-coefficient-eq0.true)))
 
 pub returns-clause-value : goal.returns-clause-value
-returns-clause-value c =
+returns-clause-value c lists are orders =
     let model = c.args.early.now.model.now in
     let d = c.args.d in
     let s = c.spread_after-spread.result in
@@ -51,10 +52,11 @@ returns-clause-value c =
     let is : c.max.result ≡ int_max (s.last -ℤ s.start) s.span = c.max.ensures.value ∙ ap₂ (λ x y. int_max x y) less (read-span s.span e.range.span) in
     let max : to_z w64 (of_z w64 c.max.result) ≡ c.max.result = omega (arith, ints, c.max.type_inv) in
     let same = ap (λ x. x.global_span_cost) (c.get.ensures.value no_dimension) in
+    let pays : Pays model d = λ none. absurd (omega (arith, ints, same, c.if-coefficient-eq0.false, none)) in
     let r = (c.args.early.now.sound.well_formed.each_dimension d no_dimension c.requires.dimension).global_span_cost_in_range in
     let coefficient : to_z w64 (of_z w64 c.get.result.now.global_span_cost) ≡ (dimension_at model d).global_span_cost = omega (arith, ints, same, r.at_least, r.at_most) in
     read-around c.times.result cumul_cost c.times.ensures.range (omega arith) ∙ c.times.ensures.value
-    ∙ ap₂ (λ x y. x *ℤ y) coefficient (max ∙ is ∙ ap (λ (t : Spread). int_max (t.last -ℤ t.start) t.span) e.value)
+    ∙ ap₂ (λ x y. x *ℤ y) coefficient (max ∙ is ∙ ap (λ (t : Spread). int_max (t.last -ℤ t.start) t.span) (e.value lists are (orders pays)))
 
 pub invariant_of-paid : goal.invariant_of-paid
 invariant_of-paid c =

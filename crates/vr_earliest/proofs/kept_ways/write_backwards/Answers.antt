@@ -1,4 +1,4 @@
-use Rattle.std.proofs.Common.{◌<◌, ◌-◌, sym, arith, drop, length}
+use Rattle.std.proofs.Common.{◌-◌, sym, arith, drop, length}
 use Rattle.std.specs.Prelude.{slice_index_or}
 use Rattle.vr_earliest.specs.Entries.{back_from}
 use Rattle.vr_earliest.proofs.KeptLemmas.{come-on, rest-next}

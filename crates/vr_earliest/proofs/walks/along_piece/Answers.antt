@@ -1,4 +1,4 @@
-use Rattle.std.proofs.Common.{subst, arith, ◌≤◌}
+use Rattle.std.proofs.Common.{subst, arith}
 use Rattle.std.specs.Prelude.{All}
 use Rattle.vr_routes.specs.Pieces.{nodes_of}
 use Rattle.vr_earliest.proofs.walks.along_piece.Goals as goal

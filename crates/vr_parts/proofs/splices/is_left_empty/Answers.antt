@@ -23,8 +23,8 @@ returns-then-splice-len c =
     let n = c.len.ensures.value in
     sym (some-where (spliced c.args.routes.now.lists s.vehicle s.front s.behind s.middle.now) (λ none. absurd (omega (arith, many, some, n, none))))
 
-pub nodes_in-requires-clause-few : goal.nodes_in-requires-clause-few
-nodes_in-requires-clause-few c = let few = c.requires.few in omega (arith, few)
+pub nodes_in-requires : goal.nodes_in-requires
+nodes_in-requires c = record { few = (let few = c.requires.few in omega (arith, few)) }
 
 pub returns : goal.returns
 returns c =
@@ -35,6 +35,6 @@ returns c =
     let front = c.if-splice-gt0.false in
     let behind = c.if-splice-len.false in
     let n = c.len.ensures.value in
-    let e = c.nodes_in.ensures in
+    let e = c.nodes_in.ensures c.args.routes.now.lists may.within in
     let same : c.nodes_in.result ≡ length list = omega (arith, many, may.high, front, behind, n, e) in
     ap (λ k. k == 0) same ∙ empty_by_length list

@@ -5,7 +5,6 @@ use Rattle.vr_model.specs.moves.Moves.{without_pair, changes_the_list}
 use Rattle.vr_model.specs.moves.MoveTests.{may_put_pair}
 use Rattle.vr_model.specs.declared.records.Pair.{Pair}
 use Rattle.vr_model.proofs.tables.Tests.{test_of_lt}
-use Rattle.vr_routes.specs.Pairs.{ArePairPlaces}
 use Rattle.vr_routes.proofs.ElsewhereLemmas.{elsewhere_tells, may_put, served_tells}
 use Rattle.vr_routes.proofs.conditions.is_put_elsewhere.Goals as goal
 

@@ -8,13 +8,13 @@ use Rattle.vr_rules.proofs.fronts.advance_each.Goals as goal
 
 pub advance-requires : goal.advance-requires
 advance-requires c = record {
-  front = (subst (λ front. IsFrontOf c.args.longer.now.closed.model.now c.loop-d.d c.args.v c.args.longer.now.list.now front) (sym c.index_mut.ensures.value) (c.loop-d.invariant.left c.loop-d.d c.index_mut.result.now (omega arith) (omega (arith, c.loop-d.invariant.long)))).front_of_list;
+  front = (subst (λ front. IsFrontOf c.args.longer.now.closed.model.now c.loop-d.d c.args.longer.now.v c.args.longer.now.list.now front) (sym c.index_mut.ensures.value) (c.loop-d.invariant.left c.loop-d.d c.index_mut.result.now (omega arith) (omega (arith, c.loop-d.invariant.long)))).front_of_list;
 }
 
 pub loop-d-preserved : goal.loop-d-preserved
 loop-d-preserved c =
     let model = c.args.longer.now.closed.model.now in
-    let v = c.args.v in
+    let v = c.args.longer.now.v in
     let list = c.args.longer.now.list.now in
     let m = c.loop-d.invariant in
     let fronts = c.loop-d.fronts.items in

@@ -13,7 +13,7 @@ returns-then-place-from-clause-became c f =
     let here : sum_by f (nodes_of lists c.args.piece) ≡ sum_by f (slice_range (route lists c.args.v) chain.from chain.to) =
     ap (λ p. sum_by f (nodes_of lists p)) chain.is ∙ (sum-chain f lists chain.vehicle chain.from chain.to chain.reversed ∙ ap (λ v. sum_by f (slice_range (route lists v) chain.from chain.to)) c.if-vehicle-v.true) in
     let both = sum-between f (route lists c.args.v) c.args.place chain.from chain.to c.if-place-from.true within.1 in
-    let gone = c.leave.ensures.became f in
+    let gone = c.leave.ensures.became lists f in
     omega (arith, here, both, gone)
 
 pub returns-else-vehicle-v-clause-became : goal.returns-else-vehicle-v-clause-became
@@ -23,5 +23,5 @@ returns-else-vehicle-v-clause-became c f =
     let here : sum_by f (nodes_of lists c.args.piece) ≡ sum_by f (slice_range (route lists chain.vehicle) chain.from chain.to) =
     ap (λ p. sum_by f (nodes_of lists p)) chain.is ∙ sum-chain f lists chain.vehicle chain.from chain.to chain.reversed in
     let none = sum-nothing f (route lists c.args.v) c.args.place c.args.place (omega arith) in
-    let come = c.bring.ensures.became f in
+    let come = c.bring.ensures.became lists f in
     omega (arith, here, none, come)

@@ -1,9 +1,8 @@
-use Rattle.std.proofs.Common.{ℕ, List, sym, subst}
+use Rattle.std.proofs.Common.{sym, subst}
 use Rattle.vr_balance.specs.Balances.{IsTurnover}
 use Rattle.vr_balance.proofs.balance.Balance.bring.Goals as goal
 
 pub returns-then-from-to-clause-within : goal.returns-then-from-to-clause-within
-returns-then-from-to-clause-within c =
-    let lists : List (List ℕ) = c.args._routes.now.lists in
-    let before = subst (IsTurnover lists) (sym c.self.view_is) c.requires.within in
-    record { come = c.enter.ensures.within lists c.requires.chain before.come; gone = c.enter.ensures.others_within lists before.gone; apart = c.enter.ensures.apart before.apart }
+returns-then-from-to-clause-within c lists chain turnover =
+    let before = subst (IsTurnover lists) (sym c.self.view_is) turnover in
+    record { come = c.enter.ensures.within lists chain before.come; gone = c.enter.ensures.others_within lists before.gone; apart = c.enter.ensures.apart before.apart }

@@ -46,7 +46,7 @@ way_through-whole-requires-clause-rest c =
 pub ends_by-requires : goal.ends_by-requires
 ends_by-requires c =
     let it : Around c.args.self.now c.args.kept.now = record { are = c.requires.runs; joins = c.args.self.now.sound.spliced.joins; tour = c.args.self.now.sound.used.tour; few = c.args.self.now.sound.few; feasible = c.requires.feasible; is = c.requires.kept } in
-    whole-small it c.along_pieces-way.result c.way_through-whole.result c.rest-left.result c.args.self.now.sound.spliced.high c.along_pieces-way.ensures.range c.rest-left.ensures c.way_through-whole.ensures
+    (c.args.self.now.guide.now.model.now, whole-small it c.along_pieces-way.result c.way_through-whole.result c.rest-left.result c.args.self.now.sound.spliced.high c.along_pieces-way.ensures.range c.rest-left.ensures c.way_through-whole.ensures)
 
 pub returns-clause-last : goal.returns-clause-last
 returns-clause-last c =

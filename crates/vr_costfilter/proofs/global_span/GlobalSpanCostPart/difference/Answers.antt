@@ -2,8 +2,8 @@ use Rattle.std.proofs.Common.{◌∙◌, ℕ, List, ap, sym, subst, arith}
 use Rattle.std.proofs.lemmas.Int.{ints}
 use Rattle.vr_routes.specs.Pieces.{changed}
 use Rattle.vr_model.specs.declared.records.Model.{Model}
-use Rattle.vr_costfilter.specs.GlobalCosts.{global_cost_of, IsGlobalCost}
-use Rattle.vr_costfilter.proofs.GlobalLemmas.{rows-like, stands-like}
+use Rattle.vr_costfilter.specs.GlobalCosts.{global_cost_of, IsGlobalCost, KeptSpans}
+use Rattle.vr_costfilter.proofs.GlobalLemmas.{ranged-next, rows-like, stands-like}
 use Rattle.vr_costfilter.proofs.global_span.GlobalSpanCostPart.difference.Goals as goal
 
 pub returns-then-is_idle-clause-exact : goal.returns-then-is_idle-clause-exact
@@ -17,14 +17,18 @@ returns-in_err-write_next-clause-stands c = stands-like c.args.self.now c.write_
 
 pub cost_after-requires : goal.cost_after-requires
 cost_after-requires c =
-    rows-like c.args.self.now c.write_next.new.self c.args.routes.now c.args.change.now (record { stands = c.requires.stands; made = c.requires.made; valid = c.requires.valid }) c.in_ok-write_next.ensures.like c.in_ok-write_next.ensures.next
+    let later : KeptSpans = c.write_next.new.self in
+    let parts = c.args.change.now in
+    let rows = rows-like c.args.self.now later c.args.routes.now parts (record { stands = c.requires.stands; made = c.requires.made; valid = c.requires.valid }) c.in_ok-write_next.ensures.like c.in_ok-write_next.ensures.next in
+    ranged-next later.model c.args.routes.now.lists parts later.orders later.next rows
 
 pub returns-clause-exact : goal.returns-clause-exact
 returns-clause-exact c =
     let lists : List (List ℕ) = changed c.args.routes.now.lists c.args.change.now in
     let like = c.in_ok-write_next.ensures.like in
     let view = c.self.view_is in
-    let after = c.cost_after.ensures.value ∙ ap (λ (m : Model). global_cost_of m lists) like.model in
+    let rows = rows-like c.args.self.now c.write_next.new.self c.args.routes.now c.args.change.now (record { stands = c.requires.stands; made = c.requires.made; valid = c.requires.valid }) like c.in_ok-write_next.ensures.next in
+    let after = c.cost_after.ensures.value c.args.routes.now.lists rows ∙ ap (λ (m : Model). global_cost_of m lists) like.model in
     let before = ap (λ s. s.cost) view ∙ like.cost ∙ c.requires.stands.cost in
     let a = c.cost_after.ensures.range in
     let b = subst IsGlobalCost (sym (ap (λ s. s.cost) view ∙ like.cost)) c.requires.stands.range in

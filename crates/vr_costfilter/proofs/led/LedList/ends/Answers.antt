@@ -56,7 +56,7 @@ way_through-whole-requires-clause-rest c = let l = c.args.self.now in rest-small
 pub ends_by-ends-requires : goal.ends_by-ends-requires
 ends_by-ends-requires c =
     let l = c.args.self.now in
-    whole-small l.guide.now l.list.now l.sound.few l.sound.visits c.args.kept.now c.requires c.way-way.result c.rest-rest.result c.way-way.ensures c.rest-rest.ensures c.way_through-whole.result c.way_through-whole.ensures
+    (l.guide.now.model.now, whole-small l.guide.now l.list.now l.sound.few l.sound.visits c.args.kept.now c.requires c.way-way.result c.rest-rest.result c.way-way.ensures c.rest-rest.ensures c.way_through-whole.result c.way_through-whole.ensures)
 
 pub returns : goal.returns
 returns c =

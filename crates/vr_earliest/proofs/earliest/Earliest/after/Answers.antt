@@ -2,6 +2,7 @@ use Rattle.std.proofs.Common.{◌≡◌, ◌∙◌, ◌≤◌, ℕ, List, length
 use Rattle.std.specs.Prelude.{slice_index_or}
 use Rattle.vr_model.specs.tables.WellFormed.{IsWellFormed}
 use Rattle.vr_routes.specs.Pieces.{joined, part_at}
+use Rattle.vr_routes.proofs.PartLemmas.{has_ends}
 use Rattle.vr_parts.proofs.PartLemmas.{small}
 use Rattle.vr_earliest.specs.Earlies.{IsEarly}
 use Rattle.vr_earliest.specs.Kept.{KeptEarly, KeptWays}
@@ -10,8 +11,8 @@ use Rattle.vr_earliest.proofs.WayLemmas.{by-guide}
 use Rattle.vr_earliest.proofs.earliest.Earliest.after.Goals.{After-all}
 use Rattle.vr_earliest.proofs.earliest.Earliest.after.Goals as goal
 
-pub splice-splice-requires-clause-parts : goal.splice-splice-requires-clause-parts
-splice-splice-requires-clause-parts c = c.requires.may.parts_are
+pub splice-splice-requires-clause-ends : goal.splice-splice-requires-clause-ends
+splice-splice-requires-clause-ends c = has_ends c.args.routes.now.lists c.args.change.now c.requires.may.parts_are c.args.k c.requires.part
 
 pub of-guide-requires-clause-vehicle : goal.of-guide-requires-clause-vehicle
 of-guide-requires-clause-vehicle c =
@@ -39,7 +40,7 @@ around c one read =
     let are = c.index-all.ensures ∙ ap (λ (s : KeptEarly). slice_index_or s.kept c.args.d all) c.self.view_is in
     let is = read ∙ ap (λ (l : List KeptWays). slice_index_or l c.splice-splice.result.vehicle one) c.all.view_is in
     let model = g.model ∙ ap (λ (s : KeptEarly). s.model) c.self.view_is in
-    kept-around c.requires.may c.args.k c.requires.part c.splice-splice.ensures.vehicle c.of-guide.result all one model g.dimension g.vehicle are is c.splice-splice.ensures.ends
+    kept-around c.requires.may c.args.k c.requires.part c.splice-splice.ensures.vehicle c.of-guide.result all one model g.dimension g.vehicle are is (c.splice-splice.ensures.ends c.args.routes.now.lists c.requires.may.parts_are)
 
 pub way-requires : goal.way-requires
 way-requires c = omega (arith, front-kept (around (goal.at.way-requires c).After-all c.index-kept.result.now c.index-kept.ensures))

@@ -41,7 +41,7 @@ pub returns : goal.returns
 returns c =
     let list : List ℕ = joined c.args.routes.now.lists c.args.pieces.now in
     let kept = kept-both c.args.model.now c.args.d c.args.routes.now.lists c.args.self.now c.self.inside.vehicles.items c.args.v c.index.result.now c.index-2.result.now c.requires.carried c.requires.vehicle c.self.view_is c.index.ensures c.index-2.ensures in
-    ap (λ n. n == 0) c.nodes_in.ensures ∙ empty_by_length list
+    ap (λ n. n == 0) (c.nodes_in.ensures c.args.routes.now.lists c.requires.within) ∙ empty_by_length list
     ∙ sym (carries-nothing c.args.model.now c.args.d c.args.v list c.index.result.now.evaluator (to_z w64 c.loop-k.sum-bits) c.index-2.result.now.room kept.0 kept.1
     (c.loop-k.invariant.sum ∙ ap (λ l. total_by (value_of c.args.model.now c.args.d c.index.result.now.evaluator) (joined c.args.routes.now.lists l)) (take_all c.loop-k.k c.args.pieces.now c.loop-k-test.false))
     (let t = c.if-sum-index.false in omega (arith, ints, t)))

@@ -7,6 +7,7 @@ use Rattle.vr_model.specs.declared.records.Model.{Model}
 use Rattle.vr_model.specs.routes.Routes.{route}
 use Rattle.vr_model.specs.routes.Rules.{allows_vehicle, row_allows_vehicle}
 use Rattle.vr_model.proofs.tables.Tests.{list_all-true}
+use Rattle.vr_routes.proofs.PartLemmas.{has_ends}
 use Rattle.vr_routes.specs.Pieces.{joined, part_at}
 use Rattle.vr_pathfilters.specs.Vehicles.{are_allowed_pieces, is_allowed_list}
 use Rattle.vr_pathfilters.proofs.PartEnds.{part_vehicle}
@@ -26,8 +27,8 @@ returns-then-is_empty-clause-answer c =
     let none = sym c.is_empty.ensures ∙ c.if-is_empty.true in
     allowing_all part.vehicle model.allowed (joined c.args.routes.now.lists part.pieces) (eqb-true (length model.allowed) 0 none)
 
-pub splice-splice-requires-clause-parts : goal.splice-splice-requires-clause-parts
-splice-splice-requires-clause-parts c = c.requires.made.makes.parts_are
+pub splice-splice-requires-clause-ends : goal.splice-splice-requires-clause-ends
+splice-splice-requires-clause-ends c = has_ends c.args.routes.now.lists c.args.change.now c.requires.made.makes.parts_are c.args.k c.requires.part
 
 pub pieces_allow-requires : goal.pieces_allow-requires
 pieces_allow-requires c =
@@ -36,7 +37,7 @@ pieces_allow-requires c =
     let low : v < length lists = part_vehicle c.requires.made.makes.parts_are c.args.k c.requires.part c.splice-splice.ensures.vehicle in
     record {
       rule = subst (λ m. IsTrue (is_allowed_list m v (route lists v))) (sym c.nodes.ensures) (rule_at (is_allowed_list c.args.self.now.lookups.closed.model.now) lists c.requires.before v low);
-      within = c.splice-splice.ensures.ends.within;
+      within = (c.splice-splice.ensures.ends c.args.routes.now.lists c.requires.made.makes.parts_are).within;
     }
 
 pub returns-clause-answer : goal.returns-clause-answer
@@ -52,4 +53,4 @@ returns-clause-answer c =
     ∙ (ap (λ w. are_allowed_pieces model lists w ends.result.middle.now) ends.ensures.vehicle
     ∙ (sym (all-joined (allows_vehicle model v) lists ends.result.middle.now)
     ∙ (sym (all-spliced (allows_vehicle model v) (route lists v) (joined lists ends.result.middle.now) ends.result.front ends.result.behind (rule_at (is_allowed_list model) lists c.requires.before v low))
-    ∙ sym (ap (list_all (allows_vehicle model v)) ends.ensures.ends.joins)))))
+    ∙ sym (ap (list_all (allows_vehicle model v)) (ends.ensures.ends lists c.requires.made.makes.parts_are).joins)))))

@@ -1,9 +1,8 @@
-use Rattle.std.proofs.Common.{◌≡◌, ◌∙◌, true, ℕ, List, refl, sym, ap, subst, arith}
+use Rattle.std.proofs.Common.{ℕ, List, refl, sym, ap, subst, arith}
 use Rattle.vr_model.specs.routes.Routes.{route}
 use Rattle.vr_model.specs.moves.Moves.{with_route, with_pair}
-use Rattle.vr_model.specs.moves.MoveTests.{is_move}
 use Rattle.vr_model.specs.declared.records.Pair.{Pair}
-use Rattle.vr_routes.specs.Changes.{IsAfter, IsChange}
+use Rattle.vr_routes.specs.Changes.{IsAfter}
 use Rattle.vr_routes.proofs.PieceLemmas.{removed_is, inserted_is, replaced_is}
 use Rattle.vr_routes.proofs.FactLemmas.{of_two_opt, of_or_opt, of_relocate, of_exchange, of_cross, of_make_inactive, of_make_active, of_swap_active, of_pair_active}
 use Rattle.vr_routes.proofs.ChangeLemmas.{one_part, read_as, change_as}

@@ -1,4 +1,4 @@
-use Rattle.std.proofs.Common.{◌≡◌, ◌∙◌, Bool, true, false, ap, sym, subst, arith, w64, to_z, of_z}
+use Rattle.std.proofs.Common.{◌≡◌, ◌∙◌, Bool, true, false, ap, ap₂, sym, subst, arith, w64, to_z, of_z}
 use Rattle.std.proofs.lemmas.Int.{ints}
 use Rattle.std.specs.Prelude.{int_le, ◌&&◌}
 use Rattle.vr_model.specs.declared.records.Model.{Model}
@@ -9,6 +9,7 @@ use Rattle.vr_tabu.specs.Rounds.{aspiration, bound_of, is_no_less}
 use Rattle.vr_tabu.specs.TabuSearches.{is_tabu}
 use Rattle.vr_tabu.specs.Tabus.{tabus_of}
 use Rattle.vr_tabu.proofs.CandidateLemmas.{dearer, difference_known, fits_change, kept_out, least_itself, no_better_by, refused, taken}
+use Rattle.vr_tabu.proofs.PartFacts.{change_keeps_lists}
 use Rattle.vr_tabu.proofs.rounds.Round.try_move.Given.{Over}
 use Rattle.vr_tabu.proofs.rounds.Round.try_move.Goals.{After-is_forbidden, After-is_no_less-in-Difference, In-Difference}
 use Rattle.vr_tabu.proofs.rounds.Round.try_move.Goals as goal
@@ -26,7 +27,14 @@ no_less g c as_is b is = ap (is_no_less (bound_of c.args.best c.args.self.now.ce
 
 -- whether it is forbidden
 forbidden : (g : Over) (c : After-is_forbidden g) → to_z w64 (of_z w64 c.in-Difference.difference) ≡ c.in-Difference.difference → (b : Bool) → c.is_forbidden.result ≡ b → (int_le (aspiration c.args.self.now.model.now c.args.self.now.state.now.best.routes.lists c.args.self.now.routes.now.lists) c.in-Difference.difference && is_tabu c.args.self.now.model.now (tabus_of c.args.self.now.state.now.tabus) c.args.self.now.routes.now.lists (apply c.args.self.now.model.now c.args.self.now.routes.now.lists c.args.mv)) ≡ b
-forbidden g c as_is b is = ap (λ d. int_le (aspiration c.args.self.now.model.now c.args.self.now.state.now.best.routes.lists c.args.self.now.routes.now.lists) d && is_tabu c.args.self.now.model.now (tabus_of c.args.self.now.state.now.tabus) c.args.self.now.routes.now.lists (apply c.args.self.now.model.now c.args.self.now.routes.now.lists c.args.mv)) (sym as_is) ∙ (sym c.is_forbidden.ensures ∙ is)
+forbidden g c as_is b is =
+    ap₂ (λ d after. int_le (aspiration c.args.self.now.model.now c.args.self.now.state.now.best.routes.lists c.args.self.now.routes.now.lists) d && is_tabu c.args.self.now.model.now (tabus_of c.args.self.now.state.now.tabus) c.args.self.now.routes.now.lists after) (sym as_is) (sym c.write.ensures.lists_are)
+    ∙ (sym c.is_forbidden.ensures ∙ is)
+
+pub is_forbidden-requires-clause-lists : goal.is_forbidden-requires-clause-lists
+is_forbidden-requires-clause-lists g c =
+    let known = c.args.self.now.known in
+    change_keeps_lists c.args.self.now.model.now c.args.self.now.routes.now.lists c.write.new.out known.well_formed known.valid c.args.mv c.requires.mv c.write.ensures
 
 pub returns-then-is_no_less-clause-best : goal.returns-then-is_no_less-clause-best
 returns-then-is_no_less-clause-best g c =

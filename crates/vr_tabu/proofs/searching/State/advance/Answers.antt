@@ -1,6 +1,11 @@
-use Rattle.std.proofs.Common.{◌≡◌, ◌∙◌, ◌+◌, ◌-◌, [], ◌∷◌, refl, sym, ap, subst, arith}
+use Rattle.std.proofs.Common.{◌≡◌, ◌∙◌, ◌+◌, ◌-◌, [], ◌∷◌, refl, sym, ap, ap₂, subst, arith}
 use Rattle.vr_model.specs.moves.Moves.{apply}
+use Rattle.std.specs.Prelude.{IsTrue}
+use Rattle.vr_model.specs.moves.MoveTests.{is_move}
 use Rattle.vr_model.specs.routes.Costs.{cost}
+use Rattle.vr_model.specs.routes.Rules.{is_valid}
+use Rattle.vr_routes.specs.Judging.{cost_change}
+use Rattle.vr_descent.specs.declared.progress.Progress.{Progress}
 use Rattle.vr_model.specs.search.Outcomes.{cheaper}
 use Rattle.vr_model.proofs.tables.Refusals.{on_err}
 use Rattle.vr_model.proofs.tables.Tests.{apart}
@@ -11,13 +16,13 @@ use Rattle.vr_descent.proofs.IncumbentLemmas.{kept_lists}
 use Rattle.vr_watch.specs.Told.{Reported, ReportedInPart}
 use Rattle.vr_watch.proofs.ToldLemmas.{none_behind, told_nothing}
 use Rattle.vr_tabu.specs.Rounds.{tries_of}
-use Rattle.vr_tabu.specs.Standing.{next_of}
+use Rattle.vr_tabu.specs.Standing.{next_events, next_of}
 use Rattle.vr_tabu.specs.Tabus.{tabus_of}
 use Rattle.vr_tabu.specs.TabuSearches.TabuRound.{Best}
 use Rattle.vr_tabu.proofs.AdvanceLemmas.{after_best, after_cut, after_stuck, events_are, of_best, of_cut, of_stuck}
 use Rattle.vr_tabu.proofs.SearchLemmas.{IsLeastCandidate, best_where}
 use Rattle.vr_tabu.proofs.searching.State.advance.Given.{Over}
-use Rattle.vr_tabu.proofs.searching.State.advance.Goals.{In-Best}
+use Rattle.vr_tabu.proofs.searching.State.advance.Goals.{After-forbid, In-Best, In_ok-take-in-Best}
 use Rattle.vr_tabu.proofs.searching.State.advance.Goals as goal
 
 -- the best candidate is that of the round, and it is the least
@@ -37,20 +42,43 @@ forbid-requires-clause-mv g c =
 
 pub take-requires-clause-mv : goal.take-requires-clause-mv
 take-requires-clause-mv g c =
-    (least g (goal.at.take-requires-clause-mv g c).In-Best).is_one
+    let same = c.in_ok-ended.ensures.keeps.model ∙ c.requires.judge_model in
+    subst (λ m. IsTrue (is_move m c.args.routes.now.lists c.in-Best.candidate.mv)) (sym same) (least g (goal.at.take-requires-clause-mv g c).In-Best).is_one
 
 pub take-requires-clause-valid : goal.take-requires-clause-valid
 take-requires-clause-valid g c =
-    (least g (goal.at.take-requires-clause-valid g c).In-Best).valid
+    let same = c.in_ok-ended.ensures.keeps.model ∙ c.requires.judge_model in
+    subst (λ m. IsTrue (is_valid m (apply m c.args.routes.now.lists c.in-Best.candidate.mv))) (sym same) (least g (goal.at.take-requires-clause-valid g c).In-Best).valid
+
+pub take-requires-clause-known : goal.take-requires-clause-known
+take-requires-clause-known g c =
+    let same = c.in_ok-ended.ensures.keeps.model ∙ c.requires.judge_model in
+    (of_best c.args.closed.model.now c.args.routes.now.lists (next_of c.args.closed.model.now c.args.bounds c.args.routes.now.lists c.args.self.now) c.in-Best.length c.in-Best.candidate (sym c.in-Best.is ∙ c.in_ok-ended.ensures.ends)).1
+    ∙ ap (λ m. cost_change m c.args.routes.now.lists c.in-Best.candidate.mv) (sym same)
+
+-- what is told of the move are the events of the round
+event : (g : Over) (c : After-forbid g) → next_of c.args.closed.model.now c.args.bounds c.args.routes.now.lists c.args.self.now ≡ Best c.in-Best.length c.in-Best.candidate.mv
+    → move_event (g.J.Judge.model c.run_round.new.judge) c.args.routes.now.lists c.in-Best.candidate.mv (c.forbid.new.self.at.used + c.in-Best.length) ∷ [] ≡ next_events c.args.closed.model.now c.args.bounds c.args.routes.now.lists c.args.self.now
+event g c is =
+    ap₂ (λ m (p : Progress). move_event m c.args.routes.now.lists c.in-Best.candidate.mv (p.used + c.in-Best.length) ∷ []) (c.in_ok-ended.ensures.keeps.model ∙ c.requires.judge_model) c.forbid.ensures.at
+    ∙ events_are c.args.closed.model.now c.args.bounds c.args.routes.now.lists c.args.self.now (Best c.in-Best.length c.in-Best.candidate.mv) is
+
+-- where the search stands then
+stands : (g : Over) (c : In_ok-take-in-Best g) → c.take.new.self.at ≡ after_move c.args.closed.model.now c.args.routes.now.lists c.in-Best.candidate.mv c.in-Best.length c.args.self.now.at
+stands g c =
+    let same = c.in_ok-ended.ensures.keeps.model ∙ c.requires.judge_model in
+    c.in_ok-take-in-Best.ensures.at ∙ ap₂ (λ m at. after_move m c.args.routes.now.lists c.in-Best.candidate.mv c.in-Best.length at) same c.forbid.ensures.at
 
 pub returns-in_err-take-in-Best-clause-told_in_part : goal.returns-in_err-take-in-Best-clause-told_in_part
 returns-in_err-take-in-Best-clause-told_in_part g c =
+    let at = goal.at.returns-in_err-take-in-Best-clause-told_in_part g c in
     on_err c.from_residual-in_err-take-in-Best.result
-    (subst (λ es. ReportedInPart (λ w. (goal.Watch-dyn g (w.vtable, w.value)).after w.value) c.args.watch.now.items c.take.new.watch.items es) (ap (λ p. move_event c.args.closed.model.now c.args.routes.now.lists c.in-Best.candidate.mv (p.used + c.in-Best.length) ∷ []) c.forbid.ensures.at ∙ events_are c.args.closed.model.now c.args.bounds c.args.routes.now.lists c.args.self.now _ (best g (goal.at.returns-in_err-take-in-Best-clause-told_in_part g c).In-Best)) c.in_err-take-in-Best.ensures.told_in_part)
+    (subst (λ es. ReportedInPart (λ w. (goal.Watch-dyn g (w.vtable, w.value)).after w.value) c.args.watch.now.items c.take.new.watch.items es) (event g at.After-forbid (best g at.In-Best)) c.in_err-take-in-Best.ensures.told_in_part)
 
 pub returns-in_ok-take-in-Best-clause-told : goal.returns-in_ok-take-in-Best-clause-told
 returns-in_ok-take-in-Best-clause-told g c =
-    subst (λ es. Reported (λ w. (goal.Watch-dyn g (w.vtable, w.value)).after w.value) c.args.watch.now.items c.take.new.watch.items es) (ap (λ p. move_event c.args.closed.model.now c.args.routes.now.lists c.in-Best.candidate.mv (p.used + c.in-Best.length) ∷ []) c.forbid.ensures.at ∙ events_are c.args.closed.model.now c.args.bounds c.args.routes.now.lists c.args.self.now _ (best g (goal.at.returns-in_ok-take-in-Best-clause-told g c).In-Best)) c.in_ok-take-in-Best.ensures.told
+    let at = goal.at.returns-in_ok-take-in-Best-clause-told g c in
+    subst (λ es. Reported (λ w. (goal.Watch-dyn g (w.vtable, w.value)).after w.value) c.args.watch.now.items c.take.new.watch.items es) (event g at.After-forbid (best g at.In-Best)) c.in_ok-take-in-Best.ensures.told
 
 pub returns-in_ok-take-in-Best-clause-outcome : goal.returns-in_ok-take-in-Best-clause-outcome
 returns-in_ok-take-in-Best-clause-outcome g c =
@@ -60,14 +88,15 @@ returns-in_ok-take-in-Best-clause-outcome g c =
     let mv = c.in-Best.candidate.mv in
     let new = c.take.new.self in
     let taken = c.in_ok-take-in-Best.ensures in
-    let lists_new : c.take.new.routes.lists ≡ apply model lists mv = ap (λ r. r.lists) taken.routes in
+    let same = c.in_ok-ended.ensures.keeps.model ∙ c.requires.judge_model in
+    let lists_new : c.take.new.routes.lists ≡ apply model lists mv = ap (λ r. r.lists) taken.routes ∙ ap (λ m. apply m lists mv) same in
     let tabus_new = ap tabus_of taken.tabus ∙ c.forbid.ensures.next in
-    let best_new : new.best ≡ kept state.best c.take.new.routes (cost model c.take.new.routes.lists) = taken.best ∙ ap (λ b. kept b c.take.new.routes (cost model c.take.new.routes.lists)) c.forbid.ensures.best in
+    let best_new : new.best ≡ kept state.best c.take.new.routes (cost model c.take.new.routes.lists) = taken.best ∙ ap₂ (λ m b. kept b c.take.new.routes (cost m c.take.new.routes.lists)) same c.forbid.ensures.best in
     let kept_new : new.best.routes.lists ≡ cheaper model state.best.routes.lists (apply model lists mv)
     = ap (λ b. b.routes.lists) best_new
     ∙ (kept_lists model state.best c.take.new.routes (cost model c.take.new.routes.lists) c.requires.stands.going.best.costs refl ∙ ap (cheaper model state.best.routes.lists) lists_new) in
-    let at_new = taken.at ∙ ap (after_move model lists mv c.in-Best.length) c.forbid.ensures.at in
-    after_best model c.args.bounds lists state (apart c.args.self.now.at.found c.args.bounds.limit.solutions c.requires.more) c.in-Best.length mv (best g (goal.at.returns-in_ok-take-in-Best-clause-outcome g c).In-Best) new c.take.new.routes.lists tabus_new lists_new kept_new at_new
+    let at = goal.at.returns-in_ok-take-in-Best-clause-outcome g c in
+    after_best model c.args.bounds lists state (apart c.args.self.now.at.found c.args.bounds.limit.solutions c.requires.more) c.in-Best.length mv (best g at.In-Best) new c.take.new.routes.lists tabus_new lists_new kept_new (stands g at.In_ok-take-in-Best)
 
 pub returns-in-Stuck-clause-outcome : goal.returns-in-Stuck-clause-outcome
 returns-in-Stuck-clause-outcome g c =
@@ -93,7 +122,7 @@ pub returns-in_ok-take-in-Best-clause-asked : goal.returns-in_ok-take-in-Best-cl
 returns-in_ok-take-in-Best-clause-asked g c =
     let taken = c.in_ok-take-in-Best.ensures in
     let tries = ap (tries_of (c.args.bounds.limit.tries - c.args.self.now.at.used)) c.in-Best.is in
-    let used = ap (λ p. p.used) (taken.at ∙ ap (after_move c.args.closed.model.now c.args.routes.now.lists c.in-Best.candidate.mv c.in-Best.length) c.forbid.ensures.at) in
+    let used = ap (λ p. p.used) (stands g (goal.at.returns-in_ok-take-in-Best-clause-asked g c).In_ok-take-in-Best) in
     on_same _ _ _ _ _ (on_by _ _ _ _ _ c.in_ok-ended.ensures.asked (omega (arith, tries, used))) taken.asked taken.looked
 
 pub returns-in-Stuck-clause-asked : goal.returns-in-Stuck-clause-asked

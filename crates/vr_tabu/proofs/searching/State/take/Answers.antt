@@ -5,12 +5,10 @@ use Rattle.vr_descent.specs.declared.progress.Progress.{Progress}
 use Rattle.std.specs.Prelude.{IsTrue}
 use Rattle.vr_model.specs.routes.Costs.{cost}
 use Rattle.vr_model.specs.routes.Rules.{is_valid}
-use Rattle.vr_model.specs.declared.records.Model.{Model}
 use Rattle.vr_model.specs.moves.Moves.{apply}
 use Rattle.vr_model.specs.declared.search.Kind.TheVariants as kind
 use Rattle.vr_model.proofs.routes.CostFits.{costs_are_bounded}
 use Rattle.vr_model.proofs.tables.Refusals.{on_err}
-use Rattle.vr_routes.specs.Judging.{moved}
 use Rattle.vr_watch.specs.Told.{Reported, ReportedInPart}
 use Rattle.vr_watch.proofs.ToldLemmas.{none_behind, told_nothing}
 use Rattle.vr_descent.specs.Incumbents.{kept}
@@ -20,18 +18,18 @@ use Rattle.vr_tabu.proofs.searching.State.take.Goals.{After-event, After-follow}
 use Rattle.vr_tabu.proofs.searching.State.take.Goals as goal
 
 -- the cost of the lists after the move
-sum : (g : Over) (c : After-follow g) → c.args.self.now.at.cost +ℤ to_z w64 (of_z w64 c.args.candidate.difference) ≡ cost c.args.closed.model.now (apply c.args.closed.model.now c.args.routes.now.lists c.args.candidate.mv)
+sum : (g : Over) (c : After-follow g) → c.args.self.now.at.cost +ℤ to_z w64 (of_z w64 c.args.candidate.difference) ≡ cost (g.J.Judge.model c.args.judge.now) (apply (g.J.Judge.model c.args.judge.now) c.args.routes.now.lists c.args.candidate.mv)
 sum g c =
-    let fits = costs_are_bounded c.args.closed.model.now c.args.closed.well_formed _ c.requires.valid in
-    let before = costs_are_bounded c.args.closed.model.now c.args.closed.well_formed _ c.requires.holds.valid in
+    let fits = costs_are_bounded (g.J.Judge.model c.args.judge.now) c.requires.well_formed _ c.requires.valid in
+    let before = costs_are_bounded (g.J.Judge.model c.args.judge.now) c.requires.well_formed _ c.requires.holds.valid in
     omega (arith, ints, c.requires.cost, c.requires.known, fits.least, fits.greatest, before.least, before.greatest)
 
 -- where the search stands after it
-made : (g : Over) (c : After-follow g) → c.follow.new.self.at ≡ after_move c.args.closed.model.now c.args.routes.now.lists c.args.candidate.mv c.args.length c.args.self.now.at
+made : (g : Over) (c : After-follow g) → c.follow.new.self.at ≡ after_move (g.J.Judge.model c.args.judge.now) c.args.routes.now.lists c.args.candidate.mv c.args.length c.args.self.now.at
 made g c = c.follow.ensures.at ∙ ap {B = Progress} (λ k. record { used = c.args.self.now.at.used + c.args.length; found = c.args.self.now.at.found + 1; cost = k }) (sum g c)
 
 -- the event of it
-tells : (g : Over) (c : After-event g) → c.follow.new.self.at ≡ after_move c.args.closed.model.now c.args.routes.now.lists c.args.candidate.mv c.args.length c.args.self.now.at → c.event.result ≡ move_event c.args.closed.model.now c.args.routes.now.lists c.args.candidate.mv (c.args.self.now.at.used + c.args.length)
+tells : (g : Over) (c : After-event g) → c.follow.new.self.at ≡ after_move (g.J.Judge.model c.args.judge.now) c.args.routes.now.lists c.args.candidate.mv c.args.length c.args.self.now.at → c.event.result ≡ move_event (g.J.Judge.model c.args.judge.now) c.args.routes.now.lists c.args.candidate.mv (c.args.self.now.at.used + c.args.length)
 tells g c at = c.event.ensures ∙ ap (λ (p : Progress). record { tries = p.used; kind = kind.Move; cost = p.cost }) at
 
 pub returns-in_err-commit-clause-told_in_part : goal.returns-in_err-commit-clause-told_in_part
@@ -40,8 +38,8 @@ returns-in_err-commit-clause-told_in_part g c = on_err c.from_residual.result
 
 pub follow-requires-clause-cost : goal.follow-requires-clause-cost
 follow-requires-clause-cost g c =
-    let fits = costs_are_bounded c.args.closed.model.now c.args.closed.well_formed _ c.requires.valid in
-    let before = costs_are_bounded c.args.closed.model.now c.args.closed.well_formed _ c.requires.holds.valid in
+    let fits = costs_are_bounded (g.J.Judge.model c.args.judge.now) c.requires.well_formed _ c.requires.valid in
+    let before = costs_are_bounded (g.J.Judge.model c.args.judge.now) c.requires.well_formed _ c.requires.holds.valid in
     record {
       at_least = omega (arith, ints, c.requires.cost, c.requires.known, fits.least, fits.greatest, before.least, before.greatest);
       at_most = omega (arith, ints, c.requires.cost, c.requires.known, fits.least, fits.greatest, before.least, before.greatest);
@@ -52,8 +50,8 @@ follow-requires-clause-visits g c = c.requires.best.same_visits ∙ sym (ap (λ 
 
 pub follow-requires-clause-many : goal.follow-requires-clause-many
 follow-requires-clause-many g c =
-    as_many c.args.closed.model.now c.args.self.now.best.routes.lists c.commit.new.routes.lists c.requires.best.valid
-    (subst (λ r. IsTrue (is_valid c.args.closed.model.now r.lists)) (sym c.in_ok-commit.ensures.routes) (subst (λ (m : Model). IsTrue (is_valid c.args.closed.model.now (apply m c.args.routes.now.lists c.args.candidate.mv))) (sym c.requires.judge_model) c.requires.valid))
+    as_many (g.J.Judge.model c.args.judge.now) c.args.self.now.best.routes.lists c.commit.new.routes.lists c.requires.best.valid
+    (subst (λ r. IsTrue (is_valid (g.J.Judge.model c.args.judge.now) r.lists)) (sym c.in_ok-commit.ensures.routes) c.requires.valid)
 
 pub returns-in_err-note_all-clause-told_in_part : goal.returns-in_err-note_all-clause-told_in_part
 returns-in_err-note_all-clause-told_in_part g c =
@@ -66,8 +64,7 @@ returns-clause-at g c =
 
 pub returns-clause-best : goal.returns-clause-best
 returns-clause-best g c =
-    let routes : c.commit.new.routes ≡ moved c.args.closed.model.now c.args.routes.now c.args.candidate.mv = c.in_ok-commit.ensures.routes ∙ ap (λ (m : Model). moved m c.args.routes.now c.args.candidate.mv) c.requires.judge_model in
-    c.follow.ensures.best ∙ ap (kept c.args.self.now.best c.commit.new.routes) (sum g (goal.at.returns-clause-best g c).After-follow ∙ sym (ap (λ r. cost c.args.closed.model.now r.lists) routes))
+    c.follow.ensures.best ∙ ap (kept c.args.self.now.best c.commit.new.routes) (sum g (goal.at.returns-clause-best g c).After-follow ∙ sym (ap (λ r. cost (g.J.Judge.model c.args.judge.now) r.lists) c.in_ok-commit.ensures.routes))
 
 pub returns-clause-told : goal.returns-clause-told
 returns-clause-told g c =
