@@ -1,4 +1,4 @@
--- A walk goes through a chain of a list at one go, on or back.
+-- A walk goes through a chain of a list at one go, forward or back.
 use Rattle.std.proofs.Common.{◌≡◌, ◌∙◌, ℕ, suc, ◌+◌, ◌-◌, ◌*◌, ◌^◌, ◌<◌, ◌≤◌, List, [], ◌∷◌, ◌++◌, length, take, drop, reverse, get_or, refl, sym, ap, ap₂, subst, to_z, of_z, arith}
 use Rattle.std.specs.Int.{w128}
 use Rattle.std.specs.Prelude.{ℤ, pos, ◌+ℤ◌, ◌*ℤ◌, ◌≤ℤ◌, All, slice_range}
@@ -159,9 +159,9 @@ module _ (model : Model) (p : Penalties) (v w : ℕ) (same : (vehicle_at model v
   abbrev low : ℕ
   low = get_or list from 0
 
-  pub kept-on : (total : ℤ) → total ≡ along (arc_weight model p) v (last_of start (take (from + 1) (list ++ end ∷ []))) (slice_range (list ++ end ∷ []) (from + 1) to)
+  pub kept-forward : (total : ℤ) → total ≡ along (arc_weight model p) v (last_of start (take (from + 1) (list ++ end ∷ []))) (slice_range (list ++ end ∷ []) (from + 1) to)
       → AreJump model p w (slice_range list from to) (get_or list from 0) (get_or list (to - 1) 0) (to - from - 1) total
-  kept-on total is = record {
+  kept-forward total is = record {
     others = xs;
     is = chain-first list from to order high;
     many = sym (chain-many list from to order high);

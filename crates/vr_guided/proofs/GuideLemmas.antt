@@ -1,5 +1,6 @@
 -- Changes of an augmented cost.
-use Rattle.std.proofs.Common.{◌≡◌, ◌∙◌, ◌≤◌, ℕ, zero, suc, false, List, refl, sym, ap, ap₂, subst, arith}
+use Rattle.std.proofs.Common.{◌≡◌, ◌∙◌, ◌≤◌, ◌^◌, ℕ, zero, suc, false, List, to_z, of_z, refl, sym, ap, ap₂, subst, arith}
+use Rattle.std.specs.Int.{w128}
 use Rattle.std.specs.Prelude.{ℤ, pos, negsuc, neg_ℤ, ◌+ℤ◌, ◌-ℤ◌, ◌*ℤ◌, ◌≤ℤ◌, int_lt, unsigned_abs, IsTrue}
 use Rattle.std.proofs.lemmas.Int.{ints}
 use Rattle.std.proofs.Math.IntN.{zero-*ℤ, suc_ℤ-*ℤ, pred_ℤ-*ℤ, *ℤ-zero}
@@ -105,11 +106,14 @@ pub at_most : (n : ℕ) (z : ℤ) → unsigned_abs z ≤ n → z ≤ℤ pos n
 at_most n (pos m) h = omega (arith, ints, h)
 at_most n (negsuc m) h = omega (arith, ints, h)
 
--- a move is taken where the weighed changes are a gain, with its difference as it is read
-pub taken_where : (model : Model) (lambda : Lambda) (penalties : Penalties) (lists : List (List ℕ)) (mv : Move) (difference read : ℤ) → read ≡ difference → difference ≡ cost_change model lists mv
-    → is_gain lambda read (penalised_change model penalties lists mv) ≡ makes_less model lambda penalties lists mv difference
-taken_where model lambda penalties lists mv difference read same is =
-    ap (λ d. is_gain lambda d (penalised_change model penalties lists mv)) same ∙ makes_less_where model lambda penalties lists mv difference (penalised_change model penalties lists mv) is refl
+-- what its change makes of the penalised arc costs, told in 128 bits, is what the move makes of them
+pub change_read : (model : Model) (penalties : Penalties) (lists : List (List ℕ)) (mv : Move) {parts : List ListAfter} (told : ℤ) → IsChange model lists mv parts → unsigned_abs told ≤ 2 ^ 100
+    → told ≡ penalised model penalties (changed lists parts) -ℤ penalised model penalties lists → to_z w128 (of_z w128 told) ≡ penalised_change model penalties lists mv
+change_read model penalties lists mv told change few is =
+    let low = at_least (2 ^ 100) told few in
+    let high = at_most (2 ^ 100) told few in
+    let as_read : to_z w128 (of_z w128 told) ≡ told = omega (arith, ints, low, high) in
+    as_read ∙ (is ∙ ap (λ ls. penalised model penalties ls -ℤ penalised model penalties lists) change.lists_are)
 
 -- after a change that a move makes the lists are those of the model
 pub lists_after : (model : Model) → IsWellFormed model → (lists : List (List ℕ)) (mv : Move) {parts : List ListAfter} → IsTrue (is_valid model lists) → IsTrue (is_move model lists mv) → IsChange model lists mv parts → IsTrue (are_lists model (changed lists parts))

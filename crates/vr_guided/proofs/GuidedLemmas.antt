@@ -120,14 +120,14 @@ module _ (model : Model) (limit : Limit) (lambda : Lambda) (penalties : Penaltie
 
   module _ {W : Type 0} (after : W → List Event → List ℕ) (whole : Outcome) (a b c : List W) (more : (found == limit.solutions) ≡ false)
       (goes : Goes after whole (guided_from_here model limit lambda penalties lists best used found) a b) where
-    on : Goes after whole (behind told_by (left_after model limit lambda penalties lists best used found scan)) a b
-    on = goes_as after whole _ _ a b (on_scan model limit lambda penalties lists best used found more) goes
+    goes_on : Goes after whole (behind told_by (left_after model limit lambda penalties lists best used found scan)) a b
+    goes_on = goes_as after whole _ _ a b (on_scan model limit lambda penalties lists best used found more) goes
 
     pub after_scan : Reported after b c told_by → Goes after whole (left_after model limit lambda penalties lists best used found scan) a c
-    after_scan told = goes_more after whole _ told_by a b c on told
+    after_scan told = goes_more after whole _ told_by a b c goes_on told
 
     pub scan_in_part : ReportedInPart after b c told_by → ReportedInPart after a c whole.events
-    scan_in_part told = breaks_off after whole _ told_by a b c on told
+    scan_in_part told = breaks_off after whole _ told_by a b c goes_on told
 
 pub few_more : (p : Penalties) (used more : ℕ) → used ≤ more → AtMost used p → AtMost more p
 few_more p used more low few = record { each = λ origin target. (let k = few.each origin target in omega (arith, k, low)) }

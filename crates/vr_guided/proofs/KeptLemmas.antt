@@ -18,7 +18,7 @@ use Rattle.vr_guided.specs.Sums.{AreArcSums, weight_by}
 use Rattle.vr_guided.specs.Walks.{stretch_weight}
 use Rattle.vr_balance.specs.Sums.{last_of, line_nodes}
 use Rattle.vr_guided.specs.declared.route_sums.RouteSums.{RouteSums}
-use Rattle.vr_guided.proofs.ChainLemmas.{AreJump, all-reversed, jump-first, jump-last, jump-range, kept-back, kept-on, total-read}
+use Rattle.vr_guided.proofs.ChainLemmas.{AreJump, all-reversed, jump-first, jump-last, jump-range, kept-back, kept-forward, total-read}
 use Rattle.vr_guided.proofs.ListLemmas.{list_below, list_short}
 use Rattle.vr_guided.proofs.StretchLemmas.{stretch-range, stretch-value}
 
@@ -69,20 +69,20 @@ module _ {model : Model} {p : Penalties} {lists : List (List ℕ)} {route_sums :
   long : (sums : List ℤ) → length sums ≡ suc (length (line_nodes model v (route lists v))) → length sums ≡ length (route lists v) + 2
   long sums many = let n = length-append (route lists v) (end ∷ []) in omega (arith, many, n)
 
-  pub on_long : length both.on ≡ length (route lists v) + 2
-  on_long = long both.on here.on.many
+  pub forward_long : length both.forward ≡ length (route lists v) + 2
+  forward_long = long both.forward here.forward.many
 
   pub back_long : length both.back ≡ length (route lists v) + 2
   back_long = long both.back here.back.many
 
   -- a stretch of the list
   pub kept_stretch : IsWellFormed model → AtMost 1000000000 p → IsTrue (is_valid model lists) → (front behind : ℕ) → front ≤ behind → behind ≤ length (route lists v)
-      → {total : ℤ} → IsBetween (weight_by model p false) v start (line_nodes model v (route lists v)) front (behind + 1) both.on total
+      → {total : ℤ} → IsBetween (weight_by model p false) v start (line_nodes model v (route lists v)) front (behind + 1) both.forward total
       → IsStretch model p v (route lists v) front behind total
   kept_stretch well few valid front behind order high {total} sum = record {
     range = range;
     read = (let low = range.at_least in let most = range.at_most in omega (arith, ints, low, most));
-    value = stretch-value model well p few v owner (route lists v) below short front behind order high total (sum here.on);
+    value = stretch-value model well p few v owner (route lists v) below short front behind order high total (sum here.forward);
   }
     where
       below : All (λ node. node < model.nodes) (route lists v)
@@ -92,7 +92,7 @@ module _ {model : Model} {p : Penalties} {lists : List (List ℕ)} {route_sums :
       short = list_short model lists valid well v refl
 
       range : IsIn (pos 0) (pos (1001 * 2 ^ 70)) total
-      range = stretch-range model well p few v owner (route lists v) below short front behind order high total (sum here.on)
+      range = stretch-range model well p few v owner (route lists v) below short front behind order high total (sum here.forward)
 
   module _ (well : IsWellFormed model) (few : AtMost 1000000000 p) (valid : IsTrue (is_valid model lists)) (w : ℕ) (known : w < length model.vehicles)
       (same : (vehicle_at model v).costs ≡ (vehicle_at model w).costs) {list : List ℕ} (is : list ≡ route lists v) (from to : ℕ) (order : from < to) (place : to ≤ length (route lists v)) where
@@ -105,13 +105,13 @@ module _ {model : Model} {p : Penalties} {lists : List (List ℕ)} {route_sums :
     chain : All (λ node. node < model.nodes) (slice_range list from to)
     chain = All-take (λ node. node < model.nodes) (to - from) (drop from list) (All-drop (λ node. node < model.nodes) from list (list_below model lists valid v is))
 
-    -- a chain of the list that is taken on
-    pub kept_on : {total : ℤ} → IsBetween (weight_by model p false) v start (list ++ end ∷ []) (from + 1) to both.on total
+    -- a chain of the list that is taken forward
+    pub kept_forward : {total : ℤ} → IsBetween (weight_by model p false) v start (list ++ end ∷ []) (from + 1) to both.forward total
         → IsKept model p w (slice_range list from to) (get_or list from 0) (get_or list (to - 1) 0) (to - from - 1) total
-    kept_on {total} sum =
-        let sums = subst (λ l. AreArcSums (weight_by model p false) v start (l ++ end ∷ []) both.on) (sym is) here.on in
+    kept_forward {total} sum =
+        let sums = subst (λ l. AreArcSums (weight_by model p false) v start (l ++ end ∷ []) both.forward) (sym is) here.forward in
         kept model well p few w known (slice_range list from to) (get_or list from 0) (get_or list (to - 1) 0) (to - from - 1) total
-        (kept-on model p v w same list from to order high total (sum sums)) chain (omega (arith, high, short))
+        (kept-forward model p v w same list from to order high total (sum sums)) chain (omega (arith, high, short))
 
     -- and one that is taken back
     pub kept_back : {total : ℤ} → IsBetween (weight_by model p true) v start (list ++ end ∷ []) (from + 1) to both.back total

@@ -8,14 +8,14 @@ use Rattle.vr_guided.specs.Sums.{AreArcSums, weight_by}
 use Rattle.vr_balance.specs.Sums.{line_nodes}
 use Rattle.vr_guided.specs.declared.route_sums.RouteSums.{RouteSums}
 
--- the sums of vehicle v with a list, on and back
+-- the sums of vehicle v with a list, forward and back
 pub record AreRouteSums (model : Model) (p : Penalties) (v : ℕ) (list : List ℕ) (both : RouteSums) : Type 0 where
-  pub on : AreArcSums (weight_by model p false) v (vehicle_at model v).start (line_nodes model v list) both.on
+  pub forward : AreArcSums (weight_by model p false) v (vehicle_at model v).start (line_nodes model v list) both.forward
   pub back : AreArcSums (weight_by model p true) v (vehicle_at model v).start (line_nodes model v list) both.back
 
 -- no sums
 abbrev pub no_route_sums : RouteSums
-no_route_sums = record { on = []; back = [] }
+no_route_sums = record { forward = []; back = [] }
 
 -- the sums of each vehicle with its list
 pub record AreAllRouteSums (model : Model) (p : Penalties) (lists : List (List ℕ)) (all : List RouteSums) : Type 0 where

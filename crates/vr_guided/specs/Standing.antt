@@ -12,8 +12,8 @@ use Rattle.vr_routes.specs.Tours.{Tours}
 use Rattle.vr_guided.specs.Counts.{AtMost, counted}
 use Rattle.vr_guided.specs.declared.searching.State.{State}
 
--- the limits of a search are in their ranges
-pub record AreLimits (limit : Limit) (lambda : Lambda) : Type 0 where
+-- the parameters of a search are in their ranges
+pub record AreParameters (limit : Limit) (lambda : Lambda) : Type 0 where
   pub tries : limit.tries ≤ 1000000000
   pub solutions : limit.solutions ≤ 1000000000
   pub p_from_one : pos 1 ≤ℤ lambda.p

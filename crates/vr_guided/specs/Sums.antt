@@ -16,7 +16,7 @@ weight_back model p arc = arc_weight model p (record {
   target = arc.origin;
 })
 
--- what an arc adds that is taken on, or back
+-- what an arc adds that is taken forward, or back
 abbrev pub weight_by : Model → Penalties → Bool → UsedArc → ℤ
 weight_by model p back = cond back (weight_back model p) (arc_weight model p)
 

@@ -53,13 +53,14 @@ fn node_from(list: &[u32], place: u32, end: u32) -> u32
 #[derive(Clone, Copy)]
 pub struct WeighedRoutes<'m, 'p, 's, 'r> {
     /// By which the arcs are weighed.
-    pub on: Weights<'m, 'p>,
+    pub weights: Weights<'m, 'p>,
     pub routes: &'r Routes,
     pub route_sums: &'s AllRouteSums,
     /// The lists are valid.
-    pub ghost valid: { IsTrue (is_valid on.closed.model.now routes.now.lists) },
+    pub ghost valid: { IsTrue (is_valid weights.closed.model.now routes.now.lists) },
     /// The sums are those of these lists.
-    pub ghost sums: { AreAllRouteSums on.closed.model.now (counted on.penalties.now) routes.now.lists route_sums.now },
+    pub ghost sums: { AreAllRouteSums weights.closed.model.now (counted weights.penalties.now) routes.now.lists
+        route_sums.now },
 }
 
 /// A change of such routes.
@@ -70,7 +71,7 @@ pub struct WeighedChange<'m, 'p, 's, 'r, 'c> {
     /// Its parts are parts of the lists.
     pub ghost parts: { AreParts of.routes.now.lists change.now } by { Prim.hlevel (props, IsWithin-prop) },
     /// After it the lists are those of the model.
-    pub ghost after: { IsTrue (are_lists of.on.closed.model.now (changed of.routes.now.lists change.now)) },
+    pub ghost after: { IsTrue (are_lists of.weights.closed.model.now (changed of.routes.now.lists change.now)) },
 }
 
 impl<'m, 'p, 's, 'r, 'c> WeighedChange<'m, 'p, 's, 'r, 'c> {
@@ -78,12 +79,12 @@ impl<'m, 'p, 's, 'r, 'c> WeighedChange<'m, 'p, 's, 'r, 'c> {
     pub fn difference(&self) -> i128
         ensures bound { unsigned_abs result ≤ 2 ^ 100 }
         ensures value { result
-            ≡ penalised self.now.of.on.closed.model.now (counted self.now.of.on.penalties.now)
+            ≡ penalised self.now.of.weights.closed.model.now (counted self.now.of.weights.penalties.now)
             (changed self.now.of.routes.now.lists self.now.change.now)
-            -ℤ penalised self.now.of.on.closed.model.now (counted self.now.of.on.penalties.now)
+            -ℤ penalised self.now.of.weights.closed.model.now (counted self.now.of.weights.penalties.now)
             self.now.of.routes.now.lists }
     {
-        if !self.of.on.penalties.is_any() {
+        if !self.of.weights.penalties.is_any() {
             return 0;
         }
         let parts = self.change.parts();
@@ -99,12 +100,12 @@ impl<'m, 'p, 's, 'r, 'c> WeighedChange<'m, 'p, 's, 'r, 'c> {
     pub fn saved_at_most(&self) -> i128
         ensures low { pos 0 ≤ℤ result }
         ensures high { result ≤ℤ pos (2 ^ 90) }
-        ensures most { (penalised self.now.of.on.closed.model.now (counted self.now.of.on.penalties.now)
+        ensures most { (penalised self.now.of.weights.closed.model.now (counted self.now.of.weights.penalties.now)
             self.now.of.routes.now.lists
-            -ℤ penalised self.now.of.on.closed.model.now (counted self.now.of.on.penalties.now)
+            -ℤ penalised self.now.of.weights.closed.model.now (counted self.now.of.weights.penalties.now)
             (changed self.now.of.routes.now.lists self.now.change.now)) ≤ℤ result }
     {
-        if !self.of.on.penalties.is_any() {
+        if !self.of.weights.penalties.is_any() {
             return 0;
         }
         let parts = self.change.parts();
@@ -120,12 +121,12 @@ impl<'m, 'p, 's, 'r, 'c> WeighedChange<'m, 'p, 's, 'r, 'c> {
     fn splice(&self, k: usize) -> Splice<'_>
         requires { k < length self.now.change.now }
         ensures vehicle { result.vehicle ≡ (part_at self.now.change.now k).vehicle }
-        ensures part { IsPart self.now.of.on.closed.model.now self.now.of.routes.now.lists result.vehicle
+        ensures part { IsPart self.now.of.weights.closed.model.now self.now.of.routes.now.lists result.vehicle
             (part_at self.now.change.now k).pieces }
         ensures ends { IsSplice self.now.of.routes.now.lists result.vehicle (part_at self.now.change.now k).pieces
             result.front result.behind result.middle.now }
     {
-        self.change.splice(self.of.routes, k)
+        self.change.splice(k)
     }
 
     // What part `k` takes of the penalised arc costs at most.
@@ -134,14 +135,15 @@ impl<'m, 'p, 's, 'r, 'c> WeighedChange<'m, 'p, 's, 'r, 'c> {
         requires { k < length self.now.change.now }
         ensures low { pos 0 ≤ℤ result }
         ensures high { result ≤ℤ pos (1001 * 2 ^ 70) }
-        ensures most { pos 0 ≤ℤ (weight_change self.now.of.on.closed.model.now (counted self.now.of.on.penalties.now)
-            self.now.of.routes.now.lists (part_at self.now.change.now k) +ℤ result) }
+        ensures most { pos 0 ≤ℤ (weight_change self.now.of.weights.closed.model.now
+            (counted self.now.of.weights.penalties.now) self.now.of.routes.now.lists (part_at self.now.change.now k)
+            +ℤ result) }
     {
         let of = self.of;
         let splice = self.splice(k);
         let stretches = Stretches {
             arcs: VehicleWeights {
-                on: of.on,
+                weights: of.weights,
                 vehicle: splice.vehicle,
             },
             routes: of.routes,
@@ -154,13 +156,13 @@ impl<'m, 'p, 's, 'r, 'c> WeighedChange<'m, 'p, 's, 'r, 'c> {
     fn change_of_part(&self, k: usize) -> i128
         requires { k < length self.now.change.now }
         ensures range { IsIn (negsuc (2 ^ 90)) (pos (2 ^ 90)) result }
-        ensures value { result ≡ weight_change self.now.of.on.closed.model.now
-            (counted self.now.of.on.penalties.now) self.now.of.routes.now.lists (part_at self.now.change.now k) }
+        ensures value { result ≡ weight_change self.now.of.weights.closed.model.now
+            (counted self.now.of.weights.penalties.now) self.now.of.routes.now.lists (part_at self.now.change.now k) }
     {
         let of = self.of;
         let splice = self.splice(k);
         let arcs = VehicleWeights {
-            on: of.on,
+            weights: of.weights,
             vehicle: splice.vehicle,
         };
         let stretches = Stretches {
@@ -190,10 +192,10 @@ impl<'m, 'p, 's, 'r> WeighedRoutes<'m, 'p, 's, 'r> {
         requires second { touched.second < length self.now.routes.now.lists }
         ensures low { pos 0 ≤ℤ result }
         ensures high { result ≤ℤ pos (2 ^ 90) }
-        ensures most { touched_weight self.now.on.closed.model.now (counted self.now.on.penalties.now)
+        ensures most { touched_weight self.now.weights.closed.model.now (counted self.now.weights.penalties.now)
             self.now.routes.now.lists touched ≤ℤ result }
     {
-        if !self.on.penalties.is_any() {
+        if !self.weights.penalties.is_any() {
             return 0;
         }
         let first = self.saved_by_list(touched.first);
@@ -209,12 +211,12 @@ impl<'m, 'p, 's, 'r> WeighedRoutes<'m, 'p, 's, 'r> {
         requires { v < length self.now.routes.now.lists }
         ensures low { pos 0 ≤ℤ result }
         ensures high { result ≤ℤ pos (1001 * 2 ^ 70) }
-        ensures most { route_weight self.now.on.closed.model.now (counted self.now.on.penalties.now) v
+        ensures most { route_weight self.now.weights.closed.model.now (counted self.now.weights.penalties.now) v
             (route self.now.routes.now.lists v) ≤ℤ result }
     {
         let stretches = Stretches {
             arcs: VehicleWeights {
-                on: self.on,
+                weights: self.weights,
                 vehicle: v,
             },
             routes: self.routes,

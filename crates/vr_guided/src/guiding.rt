@@ -5,12 +5,10 @@ ghost use Rattle.std.specs.Prelude.{length, unsigned_abs};
 ghost use Rattle.vr_guided.specs.Bounding.{IsLambda};
 ghost use Rattle.vr_guided.specs.Counts.{counted};
 ghost use Rattle.vr_guided.specs.RouteSums.{AreAllRouteSums};
-ghost use Rattle.vr_guided.specs.Guides.{is_gain, makes_less, penalised_change};
+ghost use Rattle.vr_guided.specs.Guides.{is_gain, makes_less};
 ghost use Rattle.vr_guided.specs.Savings.{touched_weight};
-ghost use Rattle.vr_model.specs.moves.MoveTests.{is_move};
 ghost use Rattle.vr_model.specs.routes.Rules.{is_valid};
 ghost use Rattle.vr_model.specs.tables.WellFormed.{IsIn};
-ghost use Rattle.vr_routes.specs.Changes.{IsChange};
 
 use crate::changing::{WeighedChange, WeighedRoutes};
 use crate::route_sums::AllRouteSums;
@@ -40,12 +38,18 @@ impl<'m, 'p, 's> Accept for Guiding<'m, 'p, 's> {
     fn accepts(&self, routes: &Routes, mv: Move, difference: i64) -> bool {
         let mut change = Change::blank();
         Change::write(self.weights.closed.model, routes, mv, &mut change);
-        self.gains_by(routes, mv, &change, difference)
+        self.accepts_change(routes, mv, &change, difference)
     }
 
     #[inline]
-    fn accepts_change(&self, routes: &Routes, mv: Move, change: &Change, difference: i64) -> bool {
-        self.gains_by(routes, mv, change, difference)
+    fn accepts_change(&self, routes: &Routes, _mv: Move, change: &Change, difference: i64) -> bool {
+        let of = WeighedRoutes {
+            weights: self.weights,
+            routes,
+            route_sums: self.route_sums,
+        };
+        let weighed = WeighedChange { of, change };
+        self.gains(difference, weighed.difference())
     }
 
     #[inline]
@@ -66,7 +70,7 @@ impl<'m, 'p, 's> Accept for Guiding<'m, 'p, 's> {
 
     fn may_accept(&self, routes: &Routes, _mv: Move, change: &Change, least: i64) -> bool {
         let of = WeighedRoutes {
-            on: self.weights,
+            weights: self.weights,
             routes,
             route_sums: self.route_sums,
         };
@@ -75,7 +79,7 @@ impl<'m, 'p, 's> Accept for Guiding<'m, 'p, 's> {
         if self.is_no_gain(least, saved) {
             return false;
         }
-        self.gains_by(routes, _mv, change, least)
+        self.gains(least, weighed.difference())
     }
 }
 
@@ -94,7 +98,7 @@ impl<'m, 'p, 's> Guiding<'m, 'p, 's> {
             routes.now.lists touched ≤ℤ result }
     {
         let weighed = WeighedRoutes {
-            on: self.weights,
+            weights: self.weights,
             routes,
             route_sums: self.route_sums,
         };
@@ -142,28 +146,6 @@ impl<'m, 'p, 's> Guiding<'m, 'p, 's> {
             return difference >= 0;
         }
         !self.gains(difference, -saved)
-    }
-
-    // Whether a move makes the augmented cost less where it makes this difference in cost, told by its change.
-    #[inline]
-    fn gains_by(&self, routes: &Routes, _mv: Move, change: &Change, difference: i64) -> bool
-        requires stands { AreAllRouteSums self.now.weights.closed.model.now (counted self.now.weights.penalties.now)
-            routes.now.lists self.now.route_sums.now }
-        requires valid { IsTrue (is_valid self.now.weights.closed.model.now routes.now.lists) }
-        requires mv { IsTrue (is_move self.now.weights.closed.model.now routes.now.lists _mv) }
-        requires change { IsChange self.now.weights.closed.model.now routes.now.lists _mv change.now }
-        ensures { result ≡ is_gain self.now.lambda difference (penalised_change self.now.weights.closed.model.now
-            (counted self.now.weights.penalties.now) routes.now.lists _mv) }
-    {
-        let weighed = WeighedChange {
-            of: WeighedRoutes {
-                on: self.weights,
-                routes,
-                route_sums: self.route_sums,
-            },
-            change,
-        };
-        self.gains(difference, weighed.difference())
     }
 
     // Whether this difference in cost, with this change of the penalised arc costs, makes the augmented cost less.

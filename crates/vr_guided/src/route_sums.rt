@@ -14,11 +14,11 @@ use vr_known::Touched;
 use vr_model::{Model as RoutingModel, Move, NoMemory};
 use vr_routes::Routes;
 
-/// What the arcs of one vehicle add up to before each stop, taken on and back.
+/// What the arcs of one vehicle add up to before each stop, taken forward and back.
 #[derive(Drop)]
 pub struct RouteSums {
     /// Along its list from the start.
-    pub on: Sums,
+    pub forward: Sums,
     /// Along it from the end backwards.
     pub back: Sums,
 }
@@ -27,17 +27,17 @@ impl RouteSums {
     // Of no list.
     fn new() -> RouteSums {
         RouteSums {
-            on: Sums::new(),
+            forward: Sums::new(),
             back: Sums::new(),
         }
     }
 
     // Becomes that of a vehicle with a list.
     fn write(&mut self, list: &ListWeights<'_, '_, '_>)
-        ensures { AreRouteSums list.now.arcs.on.closed.model.now (counted list.now.arcs.on.penalties.now)
+        ensures { AreRouteSums list.now.arcs.weights.closed.model.now (counted list.now.arcs.weights.penalties.now)
             list.now.arcs.vehicle list.now.nodes.now self.new }
     {
-        self.on.write(list, false);
+        self.forward.write(list, false);
         self.back.write(list, true);
     }
 }
@@ -90,7 +90,7 @@ impl AllRouteSums {
     {
         if (v as usize) < weights.closed.model.vehicles.len() {
             let arcs = VehicleWeights {
-                on: weights,
+                weights,
                 vehicle: v,
             };
             let list = ListWeights {

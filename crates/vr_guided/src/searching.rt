@@ -3,7 +3,7 @@
 ghost use Rattle.std.specs.Prelude.{◌≡◌, ◌==◌, ◌||◌, not, ◌≤ℤ◌, pos, IsTrue, IfOk, OnOk, OnErr};
 ghost use Rattle.vr_descent.specs.Asking.{AsksFor, AsksOn};
 ghost use Rattle.vr_descent.specs.Ending.{CanBegin, HasEnded, HasStopped};
-ghost use Rattle.vr_guided.specs.Standing.{AreLimits, IsGuidedBegun, GuidedStands, guided_from_state};
+ghost use Rattle.vr_guided.specs.Standing.{AreParameters, IsGuidedBegun, GuidedStands, guided_from_state};
 ghost use Rattle.vr_model.specs.search.GuidedSearches.{guided, has_costly_arc};
 ghost use Rattle.vr_model.specs.routes.Rules.{is_valid};
 ghost use Rattle.vr_model.specs.tables.WellFormed.{IsWellFormed};
@@ -85,8 +85,8 @@ pub fn guide<J: Judge, L: Ledger>(
     };
     note_all(watch, at.event(Kind::First))?;
     let mut state = State::open(alloc, closed, routes, at)?;
-    let bounds = Bounds { limit, lambda };
-    let end = improve(closed, judge, routes, bounds, &mut state, watch, steps)?;
+    let parameters = Parameters { limit, lambda };
+    let end = improve(closed, judge, routes, parameters, &mut state, watch, steps)?;
     Ok(Guided {
         report: state.at.report(end),
         best: state.best.routes,
@@ -130,7 +130,7 @@ impl State {
 
 // How far guided search may go, and what penalised costs weigh beside others.
 #[derive(Clone, Copy)]
-struct Bounds {
+struct Parameters {
     limit: Limit,
     lambda: Lambda,
 }
@@ -140,43 +140,44 @@ fn improve<J: Judge, L: Ledger>(
     closed: Closed<'_>,
     judge: &mut J,
     routes: &mut Routes,
-    bounds: Bounds,
+    parameters: Parameters,
     state: &mut State,
     watch: &mut Vec<Box<dyn Watch>>,
     steps: &mut Steps<L>,
 ) -> Result<End, NoMemory>
     requires judge_model { J.model judge.old ≡ closed.model.now }
-    requires limits { AreLimits bounds.limit bounds.lambda }
-    requires stands { GuidedStands closed.model.now bounds.limit (J.committed judge.old) routes.old state.old }
+    requires parameters { AreParameters parameters.limit parameters.lambda }
+    requires stands { GuidedStands closed.model.now parameters.limit (J.committed judge.old) routes.old state.old }
     ensures stopped { IfOk result (HasStopped (λ w later. after w later)
-        (guided_from_state closed.entry.model.now bounds.limit bounds.lambda routes.old.lists state.old)
+        (guided_from_state closed.entry.model.now parameters.limit parameters.lambda routes.old.lists state.old)
         routes.new.lists state.new.at state.new.best watch.old.items watch.new.items) }
     ensures asked { OnOk result (AsksOn J.asked J.looked judge.old judge.new state.old.at.used state.new.at.used) }
-    ensures stands { OnOk result (GuidedStands closed.entry.model.now bounds.limit
+    ensures stands { OnOk result (GuidedStands closed.entry.model.now parameters.limit
         (J.committed judge.new) routes.new state.new) }
     ensures no_dearer { OnOk result (state.new.best.cost ≤ℤ state.old.best.cost) }
 
     ensures judge_model { J.model judge.new ≡ closed.entry.model.now }
     ensures holds { HoldSame closed.entry.model.now (J.committed judge.new) routes.new }
     ensures told_in_part { OnErr result (ReportedInPart (λ w later. after w later) watch.old.items watch.new.items
-        (guided_from_state closed.entry.model.now bounds.limit bounds.lambda routes.old.lists state.old).events) }
+        (guided_from_state closed.entry.model.now parameters.limit parameters.lambda routes.old.lists
+        state.old).events) }
     ensures asked_at_most { OnErr result (AsksOn J.asked J.looked judge.old judge.new state.old.at.used
-        bounds.limit.tries) }
+        parameters.limit.tries) }
 {
     let mut known = Known::of(closed.model);
     let penalties = &state.penalties;
     let before = Weights { closed, penalties };
     state.route_sums.write(before, routes);
-    'scans: while state.at.found != bounds.limit.solutions {
+    'scans: while state.at.found != parameters.limit.solutions {
         let penalties = &state.penalties;
         let weights = Weights { closed, penalties };
         let guiding = Guiding {
             weights,
-            lambda: bounds.lambda,
+            lambda: parameters.lambda,
             route_sums: &state.route_sums,
         };
         let model = closed.model;
-        let limit = bounds.limit;
+        let limit = parameters.limit;
         let ended = state.at.advance(
             model, judge, routes, &guiding, limit, watch, steps, &mut known,
         )?;

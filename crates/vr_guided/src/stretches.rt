@@ -26,10 +26,10 @@ pub struct Stretches<'m, 'p, 's, 'r> {
     pub routes: &'r Routes,
     pub route_sums: &'s AllRouteSums,
     /// The lists are valid.
-    pub ghost valid: { IsTrue (is_valid arcs.on.closed.model.now routes.now.lists) },
+    pub ghost valid: { IsTrue (is_valid arcs.weights.closed.model.now routes.now.lists) },
     /// The sums are those of these lists.
-    pub ghost sums: { AreAllRouteSums arcs.on.closed.model.now (counted arcs.on.penalties.now) routes.now.lists
-        route_sums.now },
+    pub ghost sums: { AreAllRouteSums arcs.weights.closed.model.now (counted arcs.weights.penalties.now)
+        routes.now.lists route_sums.now },
 }
 
 /// How many nodes a stretch has, and what its arcs add.
@@ -50,28 +50,28 @@ impl<'m, 'p, 's, 'r> Stretches<'m, 'p, 's, 'r> {
         ensures high { result ≤ℤ pos (1001 * 2 ^ 70) }
         ensures total { (next : ℕ) (others : List ℕ)
             → drop behind (route self.now.routes.now.lists self.now.arcs.vehicle)
-            ++ (vehicle_at self.now.arcs.on.closed.model.now self.now.arcs.vehicle).end ∷ [] ≡ next ∷ others
-            → result ≡ stretch_weight self.now.arcs.on.closed.model.now (counted self.now.arcs.on.penalties.now)
-            self.now.arcs.vehicle
-            (last_of (vehicle_at self.now.arcs.on.closed.model.now self.now.arcs.vehicle).start
+            ++ (vehicle_at self.now.arcs.weights.closed.model.now self.now.arcs.vehicle).end ∷ [] ≡ next ∷ others
+            → result ≡ stretch_weight self.now.arcs.weights.closed.model.now
+            (counted self.now.arcs.weights.penalties.now) self.now.arcs.vehicle
+            (last_of (vehicle_at self.now.arcs.weights.closed.model.now self.now.arcs.vehicle).start
             (take front (route self.now.routes.now.lists self.now.arcs.vehicle)))
             (slice_range (route self.now.routes.now.lists self.now.arcs.vehicle) front behind) next }
     {
         let sums = self.route_sums.of(self.arcs.vehicle);
-        sums.on.between(front as usize, behind as usize + 1)
+        sums.forward.between(front as usize, behind as usize + 1)
     }
 
     /// What the arcs of the vehicle add from a node through the nodes of pieces to a last one.
     pub fn new_stretch(&self, start: u32, pieces: &[Piece], next: u32) -> Stretch
-        requires start { start < self.now.arcs.on.closed.model.now.nodes }
-        requires next { next < self.now.arcs.on.closed.model.now.nodes }
-        requires pieces { AreBelow self.now.arcs.on.closed.model.now.nodes self.now.routes.now.lists pieces.now }
+        requires start { start < self.now.arcs.weights.closed.model.now.nodes }
+        requires next { next < self.now.arcs.weights.closed.model.now.nodes }
+        requires pieces { AreBelow self.now.arcs.weights.closed.model.now.nodes self.now.routes.now.lists pieces.now }
         requires short { length (joined self.now.routes.now.lists pieces.now) ≤ 1000 }
         ensures low { pos 0 ≤ℤ result.total }
         ensures high { result.total ≤ℤ pos (1001 * 2 ^ 70) }
         ensures nodes { result.nodes ≡ length (joined self.now.routes.now.lists pieces.now) }
         ensures total { result.total
-            ≡ stretch_weight self.now.arcs.on.closed.model.now (counted self.now.arcs.on.penalties.now)
+            ≡ stretch_weight self.now.arcs.weights.closed.model.now (counted self.now.arcs.weights.penalties.now)
             self.now.arcs.vehicle start (joined self.now.routes.now.lists pieces.now) next }
     {
         let mut walk = Walk::begin(start);
@@ -86,13 +86,13 @@ impl<'m, 'p, 's, 'r> Stretches<'m, 'p, 's, 'r> {
 
     // A walk goes on through the nodes of pieces.
     fn along_pieces(&self, walk: &mut Walk, pieces: &[Piece])
-        requires pieces { AreBelow self.now.arcs.on.closed.model.now.nodes self.now.routes.now.lists pieces.now }
-        requires sound { IsSoundWalk self.now.arcs.on.closed.model.now.nodes walk.old }
+        requires pieces { AreBelow self.now.arcs.weights.closed.model.now.nodes self.now.routes.now.lists pieces.now }
+        requires sound { IsSoundWalk self.now.arcs.weights.closed.model.now.nodes walk.old }
         requires room { walk.old.arcs + length (joined self.now.routes.now.lists pieces.now) ≤ 100000 }
         ensures value { walk.new
-            ≡ walked self.now.arcs.on.closed.model.now (counted self.now.arcs.on.penalties.now)
+            ≡ walked self.now.arcs.weights.closed.model.now (counted self.now.arcs.weights.penalties.now)
             self.now.arcs.vehicle walk.old (joined self.now.routes.now.lists pieces.now) }
-        ensures sound { IsSoundWalk self.now.arcs.on.closed.model.now.nodes walk.new }
+        ensures sound { IsSoundWalk self.now.arcs.weights.closed.model.now.nodes walk.new }
     {
         for piece in pieces {
             self.along_piece(walk, piece);
@@ -102,14 +102,14 @@ impl<'m, 'p, 's, 'r> Stretches<'m, 'p, 's, 'r> {
     // A walk goes on through the nodes of a piece.
     fn along_piece(&self, walk: &mut Walk, piece: &Piece)
         requires within { IsWithin self.now.routes.now.lists piece.now }
-        requires nodes { All (λ node. node < self.now.arcs.on.closed.model.now.nodes)
+        requires nodes { All (λ node. node < self.now.arcs.weights.closed.model.now.nodes)
             (nodes_of self.now.routes.now.lists piece.now) }
-        requires sound { IsSoundWalk self.now.arcs.on.closed.model.now.nodes walk.old }
+        requires sound { IsSoundWalk self.now.arcs.weights.closed.model.now.nodes walk.old }
         requires room { walk.old.arcs + length (nodes_of self.now.routes.now.lists piece.now) ≤ 100000 }
         ensures value { walk.new
-            ≡ walked self.now.arcs.on.closed.model.now (counted self.now.arcs.on.penalties.now)
+            ≡ walked self.now.arcs.weights.closed.model.now (counted self.now.arcs.weights.penalties.now)
             self.now.arcs.vehicle walk.old (nodes_of self.now.routes.now.lists piece.now) }
-        ensures sound { IsSoundWalk self.now.arcs.on.closed.model.now.nodes walk.new }
+        ensures sound { IsSoundWalk self.now.arcs.weights.closed.model.now.nodes walk.new }
     {
         match *piece {
             Piece::Chain {
@@ -136,17 +136,17 @@ impl<'m, 'p, 's, 'r> Stretches<'m, 'p, 's, 'r> {
 
     // A walk goes on through a chain of a list, by the sums of its vehicle, which has the same arc costs.
     fn along_kept(&self, walk: &mut Walk, v: u32, from: u32, to: u32, reversed: bool)
-        requires owner { v < length self.now.arcs.on.closed.model.now.vehicles }
-        requires same { (vehicle_at self.now.arcs.on.closed.model.now v).costs
-            ≡ (vehicle_at self.now.arcs.on.closed.model.now self.now.arcs.vehicle).costs }
+        requires owner { v < length self.now.arcs.weights.closed.model.now.vehicles }
+        requires same { (vehicle_at self.now.arcs.weights.closed.model.now v).costs
+            ≡ (vehicle_at self.now.arcs.weights.closed.model.now self.now.arcs.vehicle).costs }
         requires order { from < to }
         requires place { to ≤ length (route self.now.routes.now.lists v) }
-        requires sound { IsSoundWalk self.now.arcs.on.closed.model.now.nodes walk.old }
+        requires sound { IsSoundWalk self.now.arcs.weights.closed.model.now.nodes walk.old }
         requires room { walk.old.arcs + (to - from) ≤ 100000 }
         ensures value { walk.new
-            ≡ walked self.now.arcs.on.closed.model.now (counted self.now.arcs.on.penalties.now)
+            ≡ walked self.now.arcs.weights.closed.model.now (counted self.now.arcs.weights.penalties.now)
             self.now.arcs.vehicle walk.old (nodes_of self.now.routes.now.lists (Chain v from to reversed)) }
-        ensures sound { IsSoundWalk self.now.arcs.on.closed.model.now.nodes walk.new }
+        ensures sound { IsSoundWalk self.now.arcs.weights.closed.model.now.nodes walk.new }
     {
         let list = self.routes.list(v);
         let sums = self.route_sums.of(v);
@@ -157,7 +157,7 @@ impl<'m, 'p, 's, 'r> Stretches<'m, 'p, 's, 'r> {
             let total = sums.back.between(from as usize + 1, to as usize);
             self.arcs.jump(walk, high, low, arcs, total);
         } else {
-            let total = sums.on.between(from as usize + 1, to as usize);
+            let total = sums.forward.between(from as usize + 1, to as usize);
             self.arcs.jump(walk, low, high, arcs, total);
         }
     }

@@ -42,11 +42,12 @@ impl Sums {
         }
     }
 
-    /// Writes the sums of a vehicle with a list, of arcs that are taken on, or back.
+    /// Writes the sums of a vehicle with a list, of arcs that are taken forward, or back.
     pub fn write(&mut self, list: &ListWeights<'_, '_, '_>, back: bool)
-        ensures { AreArcSums (weight_by list.now.arcs.on.closed.model.now (counted list.now.arcs.on.penalties.now) back)
-            list.now.arcs.vehicle (vehicle_at list.now.arcs.on.closed.model.now list.now.arcs.vehicle).start
-            (line_nodes list.now.arcs.on.closed.model.now list.now.arcs.vehicle list.now.nodes.now) self.new }
+        ensures { AreArcSums (weight_by list.now.arcs.weights.closed.model.now
+            (counted list.now.arcs.weights.penalties.now) back) list.now.arcs.vehicle
+            (vehicle_at list.now.arcs.weights.closed.model.now list.now.arcs.vehicle).start
+            (line_nodes list.now.arcs.weights.closed.model.now list.now.arcs.vehicle list.now.nodes.now) self.new }
     {
         let arcs = list.arcs;
         let nodes = list.nodes;

@@ -37,12 +37,13 @@ impl<'m, 'p> VehicleWeights<'m, 'p> {
     /// A walk goes on to a node.
     #[inline]
     pub fn step(&self, walk: &mut Walk, node: u32)
-        requires node { node < self.now.on.closed.model.now.nodes }
-        requires sound { IsSoundWalk self.now.on.closed.model.now.nodes walk.old }
+        requires node { node < self.now.weights.closed.model.now.nodes }
+        requires sound { IsSoundWalk self.now.weights.closed.model.now.nodes walk.old }
         requires room { walk.old.arcs ≤ 100000 }
         ensures value { walk.new
-            ≡ stepped self.now.on.closed.model.now (counted self.now.on.penalties.now) self.now.vehicle walk.old node }
-        ensures sound { IsSoundWalk self.now.on.closed.model.now.nodes walk.new }
+            ≡ stepped self.now.weights.closed.model.now (counted self.now.weights.penalties.now) self.now.vehicle
+            walk.old node }
+        ensures sound { IsSoundWalk self.now.weights.closed.model.now.nodes walk.new }
     {
         let weight = self.weight(walk.at, node);
         walk.at = node;
@@ -52,13 +53,13 @@ impl<'m, 'p> VehicleWeights<'m, 'p> {
 
     /// A walk goes on through nodes.
     pub fn along(&self, walk: &mut Walk, nodes: &[u32])
-        requires nodes { All (λ node. node < self.now.on.closed.model.now.nodes) nodes.now }
-        requires sound { IsSoundWalk self.now.on.closed.model.now.nodes walk.old }
+        requires nodes { All (λ node. node < self.now.weights.closed.model.now.nodes) nodes.now }
+        requires sound { IsSoundWalk self.now.weights.closed.model.now.nodes walk.old }
         requires room { walk.old.arcs + length nodes.now ≤ 100000 }
         ensures value { walk.new
-            ≡ walked self.now.on.closed.model.now (counted self.now.on.penalties.now) self.now.vehicle walk.old
-            nodes.now }
-        ensures sound { IsSoundWalk self.now.on.closed.model.now.nodes walk.new }
+            ≡ walked self.now.weights.closed.model.now (counted self.now.weights.penalties.now) self.now.vehicle
+            walk.old nodes.now }
+        ensures sound { IsSoundWalk self.now.weights.closed.model.now.nodes walk.new }
     {
         for &node in nodes {
             self.step(walk, node);
@@ -67,13 +68,13 @@ impl<'m, 'p> VehicleWeights<'m, 'p> {
 
     /// A walk goes on through nodes in reverse order.
     pub fn along_back(&self, walk: &mut Walk, nodes: &[u32])
-        requires nodes { All (λ node. node < self.now.on.closed.model.now.nodes) nodes.now }
-        requires sound { IsSoundWalk self.now.on.closed.model.now.nodes walk.old }
+        requires nodes { All (λ node. node < self.now.weights.closed.model.now.nodes) nodes.now }
+        requires sound { IsSoundWalk self.now.weights.closed.model.now.nodes walk.old }
         requires room { walk.old.arcs + length nodes.now ≤ 100000 }
         ensures value { walk.new
-            ≡ walked self.now.on.closed.model.now (counted self.now.on.penalties.now) self.now.vehicle walk.old
-            (reverse nodes.now) }
-        ensures sound { IsSoundWalk self.now.on.closed.model.now.nodes walk.new }
+            ≡ walked self.now.weights.closed.model.now (counted self.now.weights.penalties.now) self.now.vehicle
+            walk.old (reverse nodes.now) }
+        ensures sound { IsSoundWalk self.now.weights.closed.model.now.nodes walk.new }
     {
         let mut place = nodes.len();
         while place > 0 {
@@ -85,17 +86,17 @@ impl<'m, 'p> VehicleWeights<'m, 'p> {
     /// A walk goes on at one go: to a first node, and on by so many arcs, which add up to `total`, to a last one.
     #[inline]
     pub fn jump(&self, walk: &mut Walk, first: u32, last: u32, arcs: u32, total: i128)
-        requires first { first < self.now.on.closed.model.now.nodes }
-        requires last { last < self.now.on.closed.model.now.nodes }
-        requires sound { IsSoundWalk self.now.on.closed.model.now.nodes walk.old }
+        requires first { first < self.now.weights.closed.model.now.nodes }
+        requires last { last < self.now.weights.closed.model.now.nodes }
+        requires sound { IsSoundWalk self.now.weights.closed.model.now.nodes walk.old }
         requires room { walk.old.arcs + arcs < 100000 }
         requires total { IsIn (pos 0) (pos (arcs * 2 ^ 70)) total }
         ensures value { (nodes : List ℕ) → arcs ≡ length nodes → last ≡ last_of first nodes
-            → total ≡ total_by (arc_weight self.now.on.closed.model.now (counted self.now.on.penalties.now))
+            → total ≡ total_by (arc_weight self.now.weights.closed.model.now (counted self.now.weights.penalties.now))
             (arcs_from self.now.vehicle first nodes)
-            → walk.new ≡ walked self.now.on.closed.model.now (counted self.now.on.penalties.now) self.now.vehicle
-            walk.old (first ∷ nodes) }
-        ensures sound { IsSoundWalk self.now.on.closed.model.now.nodes walk.new }
+            → walk.new ≡ walked self.now.weights.closed.model.now (counted self.now.weights.penalties.now)
+            self.now.vehicle walk.old (first ∷ nodes) }
+        ensures sound { IsSoundWalk self.now.weights.closed.model.now.nodes walk.new }
     {
         self.step(walk, first);
         walk.at = last;

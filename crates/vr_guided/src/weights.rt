@@ -26,10 +26,10 @@ pub struct Weights<'m, 'p> {
 #[derive(Clone, Copy)]
 pub struct VehicleWeights<'m, 'p> {
     /// Those of all vehicles.
-    pub on: Weights<'m, 'p>,
+    pub weights: Weights<'m, 'p>,
     pub vehicle: u32,
     /// The model has it.
-    pub ghost there: { vehicle < length on.closed.model.now.vehicles },
+    pub ghost there: { vehicle < length weights.closed.model.now.vehicles },
 }
 
 /// The nodes where a vehicle starts and ends.
@@ -45,19 +45,19 @@ pub struct ListWeights<'m, 'p, 'r> {
     pub arcs: VehicleWeights<'m, 'p>,
     pub nodes: &'r [u32],
     /// The model has the nodes, and they are few.
-    pub ghost few: { AreFewNodes arcs.on.closed.model.now nodes.now },
+    pub ghost few: { AreFewNodes arcs.weights.closed.model.now nodes.now },
 }
 
 impl<'m, 'p> VehicleWeights<'m, 'p> {
     /// Where the vehicle starts and ends.
     #[inline]
     pub fn ends(&self) -> VehicleEnds
-        ensures start { result.start ≡ (vehicle_at self.now.on.closed.model.now self.now.vehicle).start }
-        ensures end { result.end ≡ (vehicle_at self.now.on.closed.model.now self.now.vehicle).end }
-        ensures start_below { result.start < self.now.on.closed.model.now.nodes }
-        ensures end_below { result.end < self.now.on.closed.model.now.nodes }
+        ensures start { result.start ≡ (vehicle_at self.now.weights.closed.model.now self.now.vehicle).start }
+        ensures end { result.end ≡ (vehicle_at self.now.weights.closed.model.now self.now.vehicle).end }
+        ensures start_below { result.start < self.now.weights.closed.model.now.nodes }
+        ensures end_below { result.end < self.now.weights.closed.model.now.nodes }
     {
-        let model = self.on.closed.model;
+        let model = self.weights.closed.model;
         let vehicle = model.vehicles.get(self.vehicle as usize);
         VehicleEnds {
             start: vehicle.start,
@@ -68,40 +68,39 @@ impl<'m, 'p> VehicleWeights<'m, 'p> {
     /// Whether another vehicle has the same arc costs.
     #[inline]
     pub fn has_costs_of(&self, v: u32) -> bool
-        requires { v < length self.now.on.closed.model.now.vehicles }
-        ensures { result ≡ true → (vehicle_at self.now.on.closed.model.now v).costs
-            ≡ (vehicle_at self.now.on.closed.model.now self.now.vehicle).costs }
+        requires { v < length self.now.weights.closed.model.now.vehicles }
+        ensures { result ≡ true → (vehicle_at self.now.weights.closed.model.now v).costs
+            ≡ (vehicle_at self.now.weights.closed.model.now self.now.vehicle).costs }
     {
-        let vehicles = &self.on.closed.model.vehicles;
+        let vehicles = &self.weights.closed.model.vehicles;
         vehicles.get(v as usize).costs == vehicles.get(self.vehicle as usize).costs
     }
 
     /// What an arc adds: its cost times its penalty. Most arcs have none, and then the cost is not looked up.
     #[inline]
     pub fn weight(&self, origin: u32, target: u32) -> i128
-        requires origin { origin < self.now.on.closed.model.now.nodes }
-        requires target { target < self.now.on.closed.model.now.nodes }
-        ensures value { result ≡ arc_weight self.now.on.closed.model.now (counted self.now.on.penalties.now)
+        requires origin { origin < self.now.weights.closed.model.now.nodes }
+        requires target { target < self.now.weights.closed.model.now.nodes }
+        ensures value { result ≡ arc_weight self.now.weights.closed.model.now (counted self.now.weights.penalties.now)
             (record { vehicle = self.now.vehicle; origin = origin; target = target }) }
         ensures low { pos 0 ≤ℤ result }
         ensures high { result ≤ℤ pos (2 ^ 70) }
     {
-        let penalty = self.on.penalties.at(origin, target);
+        let penalty = self.weights.penalties.at(origin, target);
         if penalty == 0 {
             return 0;
         }
-        times(
-            penalty,
-            self.on.closed.model.arc_cost(self.vehicle, origin, target),
-        )
+        let model = self.weights.closed.model;
+        times(penalty, model.arc_cost(self.vehicle, origin, target))
     }
 
-    /// What an arc adds that is taken on, or back from its target to its origin.
+    /// What an arc adds that is taken forward, or back from its target to its origin.
     #[inline]
     pub fn weight_by(&self, origin: u32, target: u32, back: bool) -> i128
-        requires origin { origin < self.now.on.closed.model.now.nodes }
-        requires target { target < self.now.on.closed.model.now.nodes }
-        ensures value { result ≡ weight_by self.now.on.closed.model.now (counted self.now.on.penalties.now) back
+        requires origin { origin < self.now.weights.closed.model.now.nodes }
+        requires target { target < self.now.weights.closed.model.now.nodes }
+        ensures value { result ≡ weight_by self.now.weights.closed.model.now
+            (counted self.now.weights.penalties.now) back
             (record { vehicle = self.now.vehicle; origin = origin; target = target }) }
         ensures range { IsIn (pos 0) (pos (2 ^ 70)) result }
     {
@@ -118,12 +117,14 @@ impl<'m, 'p> VehicleWeights<'m, 'p> {
         ensures low { pos 0 ≤ℤ result }
         ensures high { result ≤ℤ pos (2 ^ 70) }
         ensures value { result
-            ≡ unused_weight self.now.on.closed.model.now (counted self.now.on.penalties.now) self.now.vehicle len }
+            ≡ unused_weight self.now.weights.closed.model.now (counted self.now.weights.penalties.now) self.now.vehicle
+            len }
     {
         if len > 0 {
             return 0;
         }
-        let vehicle = self.on.closed.model.vehicles.get(self.vehicle as usize);
+        let model = self.weights.closed.model;
+        let vehicle = model.vehicles.get(self.vehicle as usize);
         self.weight(vehicle.start, vehicle.end)
     }
 }

@@ -37,8 +37,8 @@ pub returns-in_err-state-clause-told_in_part : goal.returns-in_err-state-clause-
 returns-in_err-state-clause-told_in_part g c =
     on_err c.from_residual-in_err-state.result (goes_nowhere (λ w. (goal.Watch-dyn g (w.vtable, w.value)).after w.value) (guided c.args.model.now c.args.routes.now.lists c.args.limit c.args.lambda) (rest c.args.model.now c.args.limit c.args.lambda c.args.routes.now.lists) _ _ (noted g (goal.at.returns-in_err-state-clause-told_in_part g c).In_ok-note_all))
 
-pub improve-requires-clause-limits : goal.improve-requires-clause-limits
-improve-requires-clause-limits g c =
+pub improve-requires-clause-parameters : goal.improve-requires-clause-parameters
+improve-requires-clause-parameters g c =
     record {
       tries = c.requires.begins.limit.tries;
       solutions = c.requires.begins.limit.solutions;

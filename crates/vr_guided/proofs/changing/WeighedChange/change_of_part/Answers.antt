@@ -15,18 +15,18 @@ pub new_stretch-new-requires-clause-start : goal.new_stretch-new-requires-clause
 new_stretch-new-requires-clause-start c =
     let it = c.args.self.now.of in
     let part = c.splice-splice.ensures.part in
-    c.node_before-start.ensures.below it.on.closed.model.now.nodes c.ends-own.ensures.start_below (subst (λ xs. All (λ node. node < it.on.closed.model.now.nodes) xs) (sym c.list-list.ensures.value) part.old_nodes)
+    c.node_before-start.ensures.below it.weights.closed.model.now.nodes c.ends-own.ensures.start_below (subst (λ xs. All (λ node. node < it.weights.closed.model.now.nodes) xs) (sym c.list-list.ensures.value) part.old_nodes)
 
 pub new_stretch-new-requires-clause-next : goal.new_stretch-new-requires-clause-next
 new_stretch-new-requires-clause-next c =
     let it = c.args.self.now.of in
     let part = c.splice-splice.ensures.part in
-    c.node_from-next.ensures.below it.on.closed.model.now.nodes c.ends-own.ensures.end_below (subst (λ xs. All (λ node. node < it.on.closed.model.now.nodes) xs) (sym c.list-list.ensures.value) part.old_nodes)
+    c.node_from-next.ensures.below it.weights.closed.model.now.nodes c.ends-own.ensures.end_below (subst (λ xs. All (λ node. node < it.weights.closed.model.now.nodes) xs) (sym c.list-list.ensures.value) part.old_nodes)
 
 pub new_stretch-new-requires-clause-pieces : goal.new_stretch-new-requires-clause-pieces
 new_stretch-new-requires-clause-pieces c =
     let it = c.args.self.now.of in
-    let n = it.on.closed.model.now.nodes in
+    let n = it.weights.closed.model.now.nodes in
     let lists = it.routes.now.lists in
     let splice = c.splice-splice in
     let part = splice.ensures.part in
@@ -51,8 +51,8 @@ returns-clause-range c =
 pub returns-clause-value : goal.returns-clause-value
 returns-clause-value c =
     let it = c.args.self.now.of in
-    let m = it.on.closed.model.now in
-    let p = counted it.on.penalties.now in
+    let m = it.weights.closed.model.now in
+    let p = counted it.weights.penalties.now in
     let lists = it.routes.now.lists in
     let splice = c.splice-splice in
     let part = splice.ensures.part in

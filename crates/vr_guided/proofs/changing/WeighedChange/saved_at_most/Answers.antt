@@ -21,14 +21,14 @@ saved_by_part-requires c = second_there _ _ c.parts-parts.ensures.value c.parts-
 pub returns-then-not-is_any-clause-most : goal.returns-then-not-is_any-clause-most
 returns-then-not-is_any-clause-most c =
     let it = c.args.self.now.of in
-    let none = unchanged it.on.closed.model.now (counted it.on.penalties.now) it.routes.now.lists (changed it.routes.now.lists c.args.self.now.change.now) (c.is_any.ensures c.if-not-is_any.true) in
+    let none = unchanged it.weights.closed.model.now (counted it.weights.penalties.now) it.routes.now.lists (changed it.routes.now.lists c.args.self.now.change.now) (c.is_any.ensures c.if-not-is_any.true) in
     omega (arith, ints, none)
 
 pub returns-then-parts-eq1-clause-most : goal.returns-then-parts-eq1-clause-most
 returns-then-parts-eq1-clause-most c =
     let it = c.args.self.now.of in
-    let m = it.on.closed.model.now in
-    let p = counted it.on.penalties.now in
+    let m = it.weights.closed.model.now in
+    let p = counted it.weights.penalties.now in
     let lists = it.routes.now.lists in
     let parts = c.args.self.now.change.now in
     let first = c.saved_by_part-first.ensures in
@@ -39,8 +39,8 @@ returns-then-parts-eq1-clause-most c =
 pub returns-clause-most : goal.returns-clause-most
 returns-clause-most c =
     let it = c.args.self.now.of in
-    let m = it.on.closed.model.now in
-    let p = counted it.on.penalties.now in
+    let m = it.weights.closed.model.now in
+    let p = counted it.weights.penalties.now in
     let lists = it.routes.now.lists in
     let parts = c.args.self.now.change.now in
     let first = c.saved_by_part-first.ensures in

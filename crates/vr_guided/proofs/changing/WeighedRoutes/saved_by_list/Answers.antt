@@ -15,15 +15,15 @@ use Rattle.vr_guided.proofs.changing.WeighedRoutes.saved_by_list.Goals as goal
 pub invariant_of-stretches : goal.invariant_of-stretches
 invariant_of-stretches c = record {
   there = (
-      let many = list_of_each c.args.self.now.on.closed.model.now c.args.self.now.routes.now.lists c.args.self.now.valid in
+      let many = list_of_each c.args.self.now.weights.closed.model.now c.args.self.now.routes.now.lists c.args.self.now.valid in
       let low = c.requires in
       omega (arith, many, low));
 }
 
 pub returns-clause-most : goal.returns-clause-most
 returns-clause-most c =
-    let m = c.args.self.now.on.closed.model.now in
-    let p = counted c.args.self.now.on.penalties.now in
+    let m = c.args.self.now.weights.closed.model.now in
+    let p = counted c.args.self.now.weights.penalties.now in
     let v = c.args.v in
     let list : List ℕ = route c.args.self.now.routes.now.lists v in
     let start = (vehicle_at m v).start in
@@ -37,5 +37,5 @@ returns-clause-most c =
     let middle : slice_range list 0 n ≡ list = between_from_start list n ∙ take_all n list (omega (arith, is)) in
     let total : c.old_stretch.result ≡ stretch_weight m p v start list last = o.total last [] behind ∙ ap (λ xs. stretch_weight m p v start xs last) middle in
     let same : to_z w128 (of_z w128 c.old_stretch.result) ≡ c.old_stretch.result = omega (arith, ints, o.low, o.high) in
-    let most = whole_most m c.args.self.now.on.closed.well_formed p c.args.self.now.on.few v (omega (arith, many, low)) list in
+    let most = whole_most m c.args.self.now.weights.closed.well_formed p c.args.self.now.weights.few v (omega (arith, many, low)) list in
     subst (λ z. route_weight m p v list ≤ℤ z) (sym (same ∙ total)) most

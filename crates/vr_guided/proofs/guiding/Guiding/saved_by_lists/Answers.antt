@@ -8,7 +8,7 @@ use Rattle.vr_guided.proofs.guiding.Guiding.saved_by_lists.Goals as goal
 
 pub returns-clause-most : goal.returns-clause-most
 returns-clause-most c =
-    let on = c.args.self.now.weights in
+    let weights = c.args.self.now.weights in
     let s = c.saved_by_lists.ensures in
     let same : to_z w128 (of_z w128 c.saved_by_lists.result) ≡ c.saved_by_lists.result = omega (arith, ints, s.low, s.high) in
-    subst (λ z. touched_weight on.closed.model.now (counted on.penalties.now) c.args.routes.now.lists c.args.touched ≤ℤ z) (sym same) s.most
+    subst (λ z. touched_weight weights.closed.model.now (counted weights.penalties.now) c.args.routes.now.lists c.args.touched ≤ℤ z) (sym same) s.most

@@ -1,4 +1,4 @@
-use Rattle.std.proofs.Common.{◌≡◌, ◌∙◌, ap, sym, subst, arith, false, w64, to_z, of_z}
+use Rattle.std.proofs.Common.{◌≡◌, ◌∙◌, ap₂, sym, subst, arith, false, w64, to_z, of_z}
 use Rattle.std.specs.Int.{w128}
 use Rattle.std.specs.Prelude.{ℤ, pos, ◌+ℤ◌, ◌-ℤ◌, ◌≤ℤ◌}
 use Rattle.std.proofs.lemmas.Int.{ints}
@@ -6,7 +6,7 @@ use Rattle.vr_model.specs.moves.Moves.{apply}
 use Rattle.vr_model.specs.search.GuidedSearches.{penalised}
 use Rattle.vr_guided.specs.Counts.{counted}
 use Rattle.vr_guided.specs.Guides.{is_gain, penalised_change}
-use Rattle.vr_guided.proofs.GuideLemmas.{lists_after, none_saved, passed_over}
+use Rattle.vr_guided.proofs.GuideLemmas.{change_read, lists_after, none_saved, passed_over}
 use Rattle.vr_guided.proofs.guiding.GuidingAccept.may_accept.Goals as goal
 
 -- what is taken at most, told of the change
@@ -43,7 +43,9 @@ returns c = record {
       let at = c.args.self.now in
       let model = at.weights.closed.model.now in
       let p = counted at.weights.penalties.now in
+      let lists = c.args.routes.now.lists in
       let same : to_z w64 (of_z w64 c.args.least) ≡ c.args.least = omega (arith, ints, c.ranges.least) in
-      let none = sym (c.gains_by.ensures ∙ ap (λ d. is_gain at.lambda d (penalised_change model p c.args.routes.now.lists c.args._mv)) same) ∙ refused in
-      passed_over model at.lambda p c.args.routes.now.lists c.args._mv c.args.least at.sound.q_in_range.at_least none low);
+      let change = change_read model p lists c.args._mv c.difference.result c.requires.change c.difference.ensures.bound c.difference.ensures.value in
+      let none = sym (c.gains.ensures ∙ ap₂ (is_gain at.lambda) same change) ∙ refused in
+      passed_over model at.lambda p lists c.args._mv c.args.least at.sound.q_in_range.at_least none low);
 }

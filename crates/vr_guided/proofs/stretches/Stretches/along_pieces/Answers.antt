@@ -12,7 +12,7 @@ use Rattle.vr_guided.proofs.stretches.Stretches.along_pieces.Goals as goal
 pub along_piece-requires-clause-nodes : goal.along_piece-requires-clause-nodes
 along_piece-requires-clause-nodes c =
     let onward = pieces_onward c.args.self.now.routes.now.lists c.args.pieces.now c.loop-piece.piece-index (Chain 0 0 0 false) c.loop-piece-test.true in
-    all_left (λ node. node < c.args.self.now.arcs.on.closed.model.now.nodes) _ (joined c.args.self.now.routes.now.lists (drop (c.loop-piece.piece-index + 1) c.args.pieces.now)) (subst (λ xs. All (λ node. node < c.args.self.now.arcs.on.closed.model.now.nodes) xs) onward c.loop-piece.invariant.nodes)
+    all_left (λ node. node < c.args.self.now.arcs.weights.closed.model.now.nodes) _ (joined c.args.self.now.routes.now.lists (drop (c.loop-piece.piece-index + 1) c.args.pieces.now)) (subst (λ xs. All (λ node. node < c.args.self.now.arcs.weights.closed.model.now.nodes) xs) onward c.loop-piece.invariant.nodes)
 
 pub along_piece-requires-clause-room : goal.along_piece-requires-clause-room
 along_piece-requires-clause-room c =
@@ -22,8 +22,8 @@ along_piece-requires-clause-room c =
 
 pub loop-piece-preserved : goal.loop-piece-preserved
 loop-piece-preserved c =
-    let m = c.args.self.now.arcs.on.closed.model.now in
-    let p = counted c.args.self.now.arcs.on.penalties.now in
+    let m = c.args.self.now.arcs.weights.closed.model.now in
+    let p = counted c.args.self.now.arcs.weights.penalties.now in
     let v = c.args.self.now.arcs.vehicle in
     let lists = c.args.self.now.routes.now.lists in
     let walk = c.loop-piece.walk in
@@ -37,5 +37,5 @@ loop-piece-preserved c =
       goes = ap (λ w. walked m p v w rest) c.along_piece.ensures.value ∙ (sym (walked_more m p v walk here rest) ∙ (sym (ap (walked m p v walk) onward) ∙ inv.goes));
       sound = c.along_piece.ensures.sound;
       room = omega (arith, arcs, sum, inv.room);
-      nodes = all_right (λ node. node < c.args.self.now.arcs.on.closed.model.now.nodes) here rest (subst (λ xs. All (λ node. node < c.args.self.now.arcs.on.closed.model.now.nodes) xs) onward inv.nodes);
+      nodes = all_right (λ node. node < c.args.self.now.arcs.weights.closed.model.now.nodes) here rest (subst (λ xs. All (λ node. node < c.args.self.now.arcs.weights.closed.model.now.nodes) xs) onward inv.nodes);
     }

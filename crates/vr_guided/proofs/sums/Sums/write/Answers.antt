@@ -13,8 +13,8 @@ use Rattle.vr_guided.proofs.sums.Sums.write.Goals as goal
 pub loop-node-init : goal.loop-node-init
 loop-node-init c =
     let arcs = c.args.list.now.arcs in
-    let f = weight_by arcs.on.closed.model.now (counted arcs.on.penalties.now) c.args.back in
-    let start = (vehicle_at arcs.on.closed.model.now arcs.vehicle).start in
+    let f = weight_by arcs.weights.closed.model.now (counted arcs.weights.penalties.now) c.args.back in
+    let start = (vehicle_at arcs.weights.closed.model.now arcs.vehicle).start in
     record {
       sums = subst (AreArcSums f arcs.vehicle start []) (sym c.begin.ensures) (sums-begin f arcs.vehicle start);
       at = c.ends-ends.ensures.start;
@@ -23,13 +23,13 @@ loop-node-init c =
 
 pub loop-node-preserved : goal.loop-node-preserved
 loop-node-preserved c =
-    let f = weight_by c.args.list.now.arcs.on.closed.model.now (counted c.args.list.now.arcs.on.penalties.now) c.args.back in
+    let f = weight_by c.args.list.now.arcs.weights.closed.model.now (counted c.args.list.now.arcs.weights.penalties.now) c.args.back in
     let inv = c.loop-node.invariant in
     let k = c.loop-node.node-index in
     let list : List ℕ = c.args.list.now.nodes.now in
     let low : k < length list = c.loop-node-test.true in
     let node = slice_index_or list k 0 in
-    let start = (vehicle_at c.args.list.now.arcs.on.closed.model.now c.args.list.now.arcs.vehicle).start in
+    let start = (vehicle_at c.args.list.now.arcs.weights.closed.model.now c.args.list.now.arcs.vehicle).start in
     let more : take (k + 1) list ≡ take k list ++ node ∷ [] = take_more list k 0 low in
     let w_low = c.weight_by.ensures.range.at_least in
     let w_high = c.weight_by.ensures.range.at_most in
@@ -43,11 +43,11 @@ loop-node-preserved c =
 
 pub returns : goal.returns
 returns c =
-    let f = weight_by c.args.list.now.arcs.on.closed.model.now (counted c.args.list.now.arcs.on.penalties.now) c.args.back in
+    let f = weight_by c.args.list.now.arcs.weights.closed.model.now (counted c.args.list.now.arcs.weights.penalties.now) c.args.back in
     let inv = c.loop-node.invariant in
     let list : List ℕ = c.args.list.now.nodes.now in
     let arcs = c.args.list.now.arcs in
-    let ends = vehicle_at arcs.on.closed.model.now arcs.vehicle in
+    let ends = vehicle_at arcs.weights.closed.model.now arcs.vehicle in
     let w_low = c.weight_by-2.ensures.range.at_least in
     let w_high = c.weight_by-2.ensures.range.at_most in
     let same : to_z w128 (of_z w128 c.weight_by-2.result) ≡ c.weight_by-2.result = omega (arith, ints, w_low, w_high) in

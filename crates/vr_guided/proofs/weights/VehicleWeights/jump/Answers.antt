@@ -11,8 +11,8 @@ use Rattle.vr_guided.proofs.weights.VehicleWeights.jump.Goals as goal
 
 pub returns-clause-value : goal.returns-clause-value
 returns-clause-value c nodes many ends sum =
-    let m = c.args.self.now.on.closed.model.now in
-    let p = counted c.args.self.now.on.penalties.now in
+    let m = c.args.self.now.weights.closed.model.now in
+    let p = counted c.args.self.now.weights.penalties.now in
     let v = c.args.self.now.vehicle in
     let first = c.args.first in
     let s = c.step.new.walk in
