@@ -1,5 +1,5 @@
 -- The printed plans are schedules of their lines, where the rules on plans find nothing.
-use Rattle.std.proofs.Common.{◌≡◌, ℕ, zero, suc, ◌-◌, ◌<◌, true, false, List, [], ◌∷◌, length, map, refl, sym, subst, ap, ◌∙◌, arith}
+use Rattle.std.proofs.Common.{◌≡◌, ℕ, ◌-◌, ◌<◌, true, false, List, [], ◌∷◌, length, sym, subst, ap, ◌∙◌, arith}
 use Rattle.std.specs.Prelude.{IsTrue, None, slice_index_or, pos}
 use Rattle.std.specs.List.{list_all}
 use Rattle.std.proofs.Math.ListN.{get_or-map}
@@ -22,7 +22,6 @@ use Rattle.vr_check.specs.Plans.{cumul_broken_at, cumul_broken, is_right_slack, 
 use Rattle.vr_check.specs.declared.plans.PlanRule.{PlanRule}
 use Rattle.vr_check.specs.declared.plans.PlanRule.TheVariants as plan
 use Rattle.vr_printed.specs.declared.printed.PrintedRoute.{PrintedRoute}
-use Rattle.vr_printed.specs.declared.printed.PrintedPlan.{PrintedPlan}
 use Rattle.vr_check.proofs.Nothing.{at_none, is_right}
 use Rattle.vr_check.proofs.Lines.{line_arcs, line_stops}
 use Rattle.vr_printed.proofs.Shaped.{lengths_of, plans_there, visits_long, route_shaped}

@@ -1,5 +1,5 @@
 -- A line of which each number is looked up where it is asked for.
-use Rattle.std.specs.Prelude.{ℕ, ◌+◌, ◌==◌, ◌&&◌, ◌||◌, not, Bool, ℤ, pos, List, length}
+use Rattle.std.specs.Prelude.{ℕ, ◌+◌, ◌==◌, ◌||◌, not, Bool, ℤ, pos, List, length}
 use Rattle.std.specs.Prelude.{slice_index_or, Option, None}
 use Rattle.vr_model.specs.tables.Numbers.{number_at, is_same_number}
 use Rattle.vr_model.specs.tables.Tables.{dimension_at}

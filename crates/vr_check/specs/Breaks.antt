@@ -9,7 +9,7 @@ use Rattle.vr_check.specs.declared.breaks.Taken.{Taken}
 
 -- the plan
 abbrev pub plan_of_taken : Taken → Plan
-plan_of_taken it = plan_of it.plan.now
+plan_of_taken it = plan_of it.of.plan.now
 
 -- break i lies inside some arc
 abbrev pub is_inside_some : Line → Plan → ℕ → Bool

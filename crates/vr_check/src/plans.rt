@@ -36,15 +36,15 @@ fn refused_cumul(of: &LinePlan<'_>) -> Option<Spot>
     None
 }
 
-// A slack.
-fn slack_at(plan: &PrintedPlan, k: usize) -> i64
+/// The slack of arc `k` of a printed plan.
+pub(crate) fn slack_at(plan: &PrintedPlan, k: usize) -> i64
     requires { k < length plan.now.slacks }
     ensures { result ≡ slack (plan_of plan.now) k }
 {
     *plan.slacks.get(k)
 }
 
-/// A cumul.
+/// The cumul of stop `k` of a printed plan.
 pub(crate) fn cumul_at(plan: &PrintedPlan, k: usize) -> i64
     requires { k < length plan.now.cumuls }
     ensures { result ≡ cumul (plan_of plan.now) k }
