@@ -1,11 +1,15 @@
-//! Runs of moves: the first of them that may add less than a bound to arc costs.
+//! Runs of moves: the first of them that may add less than a bound to arc costs. Two moves of a run are asked about by
+//! themselves: neighbours that change places, and fronts that do where a list is left empty.
 
-ghost use Rattle.std.specs.Prelude.{◌≡◌, ℕ, ◌+◌, ◌<◌, ◌≤◌, ◌≤ℤ◌, IfSome, IsTrue, length};
+ghost use Rattle.std.specs.Prelude.{◌≡◌, ℕ, ◌+◌, ◌<◌, ◌≤◌, ◌≤ℤ◌, IfSome, IsTrue, false, length, true};
 ghost use Rattle.vr_model.specs.routes.Routes.{route};
+ghost use Rattle.vr_model.specs.moves.MoveTests.{is_move};
 ghost use Rattle.vr_model.specs.declared.neighbours.Move.TheVariants.{Cross, Exchange, OrOpt, Relocate, TwoOpt};
 ghost use Rattle.vr_routes.specs.Runs.{with_last};
+ghost use Rattle.vr_routes.specs.declared.pieces.Piece.TheVariants.{Chain};
 ghost use Rattle.vr_arccosts.specs.Along.{StandsAlong};
-ghost use Rattle.vr_parts.specs.Bounds.{IsAddedByChange};
+ghost use Rattle.vr_arccosts.specs.ArcMoves.{arcs_added};
+ghost use Rattle.vr_parts.specs.Bounds.{IsAddedByChange, IsAddedByList};
 ghost use Rattle.vr_arccosts.specs.Runs.{AddsNoLess, left_added};
 
 use crate::ArcCost;
@@ -13,7 +17,7 @@ use crate::committed::Committed;
 use crate::crosses::CrossRun;
 use crate::gaps::{Asked, Ends, Put, first_around, first_gap, first_swap, first_turn};
 use vr_model::Move;
-use vr_routes::Routes;
+use vr_routes::{Piece, Routes};
 
 impl<'m> ArcCost<'m> {
     /// Goes over a run of moves of the committed lists, which differ in their last number: those of the numbers from
@@ -174,6 +178,24 @@ impl<'a, 'm> Committed<'a, 'm> {
         self.first_apart(v, a, w, asked.starting(a + 2))
     }
 
+    // What a visit and the one behind it add that take each other's place.
+    #[inline(always)]
+    fn neighbours_exchanged(self, v: u32, a: u32) -> i64
+        requires is_one { is_move self.kept.now.model self.routes.now.lists (Exchange v a v (a + 1)) ≡ true }
+        ensures exact { result
+            ≡ arcs_added self.entry.kept.now.model self.entry.routes.now.lists (Exchange v a v (a + 1)) }
+        ensures range { IsAddedByList result }
+    {
+        // they are a stretch of two that is turned
+        let turned = Piece::Chain {
+            vehicle: v,
+            from: a,
+            to: a + 2,
+            reversed: true,
+        };
+        self.kept.between_adds(self.routes, v, a, a + 2, &[turned])
+    }
+
     // The same run, where the visits do not stand side by side.
     #[inline(always)]
     fn first_apart(self, v: u32, a: u32, w: u32, asked: Asked) -> u32
@@ -231,5 +253,30 @@ impl<'a, 'm> Committed<'a, 'm> {
             asked: asked.starting(1),
         };
         behind.first()
+    }
+
+    /// What the fronts of two lists add that change vehicles.
+    #[inline(always)]
+    pub(crate) fn crossed(self, v: u32, a: u32, w: u32, b: u32) -> i64
+        requires is_one { is_move self.kept.now.model self.routes.now.lists (Cross v a w b) ≡ true }
+        ensures exact { result ≡ arcs_added self.entry.kept.now.model self.entry.routes.now.lists (Cross v a w b) }
+        ensures range { IsAddedByChange result }
+    {
+        let one = self.kept.between_adds(self.routes, v, 0, a, &[front(w, b)]);
+        let other = self.kept.between_adds(self.routes, w, 0, b, &[front(v, a)]);
+        one + other
+    }
+}
+
+// The front of the list of a vehicle, up to a place, as a piece.
+#[inline]
+fn front(vehicle: u32, to: u32) -> Piece
+    ensures { result ≡ Chain vehicle 0 to false }
+{
+    Piece::Chain {
+        vehicle,
+        from: 0,
+        to,
+        reversed: false,
     }
 }
