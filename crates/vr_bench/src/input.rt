@@ -81,8 +81,7 @@ fn first(alloc: Global, closed: Closed<'_>) -> Result<Option<Routes>, NoMemory>
     ensures valid { IfOk result (λ found. IfSome found
         (λ routes. IsTrue (is_valid closed.entry.model.now routes.lists))) }
 {
-    let routes = vr_first_arc::first(alloc, closed.model)?;
-    Ok(routes)
+    vr_first_arc::first(alloc, closed.model)
 }
 
 // Does a work on the first solution of a model.

@@ -22,8 +22,7 @@ fn first_line(alloc: Global, closed: Closed<'_>, routes: &Routes) -> Result<Line
     if closed.model.dimensions.len() == 0 || routes.len(0) == 0 {
         return Err(Stop::NoRoute);
     }
-    let line = Line::build(alloc, closed.model, 0, 0, routes.list(0))?;
-    Ok(line)
+    Ok(Line::build(alloc, closed.model, 0, 0, routes.list(0))?)
 }
 
 // How many cumuls the earliest schedule of a line has.

@@ -36,8 +36,7 @@ const DRIVEN: [(&str, &str, &[u32], bool); 8] = [
 fn drives(alloc: Global, closed: Closed<'_>, routes: &Routes) -> Result<bool, NoMemory>
     requires lists { IsTrue (are_lists closed.model.now routes.now.lists) }
 {
-    let answer = route_open(alloc, closed.model, 0, routes.list(0))?;
-    Ok(answer)
+    route_open(alloc, closed.model, 0, routes.list(0))
 }
 
 // Whether the answer to whether the one vehicle may drive a list is this one.
@@ -58,8 +57,7 @@ fn paired(alloc: Global, policy: &str) -> Result<Model, Fail>
     ensures { IfOk result IsWellFormed }
 {
     let text = PAIRED.replace(alloc, "POLICY", policy)?;
-    let model = read_model_text(alloc, text.as_str()).ok_or("pairs")?;
-    Ok(model)
+    Ok(read_model_text(alloc, text.as_str()).ok_or("pairs")?)
 }
 
 // One of the lists above.

@@ -97,8 +97,7 @@ impl Chooser {
         let line = sound.line;
         self.sweep.backward(alloc, line)?;
         self.cumuls.truncate(0);
-        let goes = settle(sound, &self.sweep, &mut self.scratch, &mut self.cumuls)?;
-        Ok(goes)
+        settle(sound, &self.sweep, &mut self.scratch, &mut self.cumuls)
     }
 
     /// The cumuls that are kept. It takes no memory.

@@ -102,8 +102,7 @@ fn all_make_in(alloc: Global, closed: Closed<'_>) -> Result<(), Fail> {
 fn model(alloc: Global) -> Result<Model, Fail>
     ensures { IfOk result IsWellFormed }
 {
-    let model = read_model_text(alloc, TEXT).ok_or("no model")?;
-    Ok(model)
+    Ok(read_model_text(alloc, TEXT).ok_or("no model")?)
 }
 
 #[test]

@@ -64,8 +64,7 @@ impl<J: Judge> Judge for Counting<J> {
         steps: &mut Steps<L>,
     ) -> Result<Verdict, NoMemory> {
         self.count = self.count.saturating_add(1);
-        let verdict = self.judge.judge(routes, mv, steps)?;
-        Ok(verdict)
+        self.judge.judge(routes, mv, steps)
     }
 
     fn judge_change<L: Ledger>(
@@ -76,8 +75,7 @@ impl<J: Judge> Judge for Counting<J> {
         steps: &mut Steps<L>,
     ) -> Result<Verdict, NoMemory> {
         self.count = self.count.saturating_add(1);
-        let verdict = self.judge.judge_change(routes, mv, change, steps)?;
-        Ok(verdict)
+        self.judge.judge_change(routes, mv, change, steps)
     }
 
     fn least_difference(&mut self, routes: &Routes, mv: Move, change: &Change) -> i64 {
@@ -98,8 +96,7 @@ impl<J: Judge> Judge for Counting<J> {
     }
 
     fn commit(&mut self, routes: &mut Routes, mv: Move) -> Result<(), NoMemory> {
-        self.judge.commit(routes, mv)?;
-        Ok(())
+        self.judge.commit(routes, mv)
     }
 }
 

@@ -40,8 +40,7 @@ impl Rebuild for Inserting {
 
     fn rebuild(&mut self, model: &Model, routes: &Routes) -> Result<Routes, NoMemory> {
         self.count = self.count.saturating_add(1);
-        let after = rebuild(self.alloc, model, routes)?;
-        Ok(after)
+        rebuild(self.alloc, model, routes)
     }
 
     fn know(&mut self, _lookups: &Lookups<'_>) -> Result<(), NoMemory> {

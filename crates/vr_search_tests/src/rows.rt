@@ -102,6 +102,5 @@ pub(crate) fn stays_valid(
 {
     let mut after = routes.copy(alloc)?;
     after.commit(change);
-    let stays = valid(alloc, closed.model, &after)?;
-    Ok(stays)
+    valid(alloc, closed.model, &after)
 }

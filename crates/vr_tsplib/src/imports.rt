@@ -21,10 +21,7 @@ fn model(alloc: Global, vehicles: u32, state: &State) -> Result<Value, ReadFail>
     ensures { Answers (seen view result) (model_of_lines vehicles state.now) }
 {
     match complete(state) {
-        Ok(problem) => {
-            let tree = tree(alloc, vehicles, state, problem)?;
-            Ok(tree)
-        }
+        Ok(problem) => Ok(tree(alloc, vehicles, state, problem)?),
         Err(flaw) => Err(refusal(alloc, LineFail::Flawed(flaw), 0)),
     }
 }

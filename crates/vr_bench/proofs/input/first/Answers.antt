@@ -1,5 +1,6 @@
 use Rattle.std.proofs.Common.{◌≡◌, ◌∙◌, Bool, true, false, cond, List, ℕ, Option, Some, None, refl, ap}
 use Rattle.std.specs.Prelude.{IsTrue, IfSome}
+use Rattle.std.proofs.lemmas.Result.{IfOk-weaker}
 use Rattle.vr_model.specs.first.PathCheapestArc.{path_cheapest_arc}
 use Rattle.vr_model.specs.routes.Rules.{is_valid}
 use Rattle.vr_model.specs.declared.records.Model.{Model}
@@ -15,4 +16,7 @@ valid_where_given model lists true is (Some routes) given = let same : routes.li
 valid_where_given model lists false is (Some routes) given = absurd cc
 
 pub returns-clause-valid : goal.returns-clause-valid
-returns-clause-valid c = valid_where_given c.args.closed.model.now (path_cheapest_arc c.args.closed.model.now) (is_valid c.args.closed.model.now (path_cheapest_arc c.args.closed.model.now)) refl c.in_ok-routes.routes c.in_ok-routes.ensures.first
+returns-clause-valid c =
+    let model = c.args.closed.model.now in
+    IfOk-weaker c.first.result _ (λ found. IfSome found (λ routes. IsTrue (is_valid model routes.lists)))
+    (λ found given. valid_where_given model (path_cheapest_arc model) (is_valid model (path_cheapest_arc model)) refl found given) c.first.ensures.first

@@ -1,5 +1,6 @@
 use Rattle.std.proofs.Common.{◌≡◌, ◌∙◌, ℕ, List, ap, sym, subst}
 use Rattle.std.specs.Prelude.{IsTrue}
+use Rattle.std.proofs.lemmas.Result.{IfOk-weaker}
 use Rattle.vr_model.specs.moves.Moves.{apply}
 use Rattle.vr_model.specs.routes.Routes.{are_lists}
 use Rattle.vr_model.specs.routes.Rules.{is_valid}
@@ -18,4 +19,6 @@ valid-requires-clause-lists c =
 
 pub returns : goal.returns
 returns c =
-    c.in_ok-stays.ensures ∙ ap (is_valid c.args.closed.model.now) (c.commit.ensures.lists ∙ ap (λ (r : Tours). changed r.lists c.args.change.now) c.in_ok-after.ensures)
+    let model = c.args.closed.model.now in
+    let after = c.commit.ensures.lists ∙ ap (λ (r : Tours). changed r.lists c.args.change.now) c.in_ok-after.ensures in
+    IfOk-weaker c.valid.result _ (λ stays. stays ≡ is_valid model (changed c.args.routes.now.lists c.args.change.now)) (λ _ same. same ∙ ap (is_valid model) after) c.valid.ensures
