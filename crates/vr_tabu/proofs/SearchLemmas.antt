@@ -22,7 +22,7 @@ use Rattle.vr_descent.specs.Incumbents.{kept}
 use Rattle.vr_descent.specs.Searching.{behind, standing}
 use Rattle.vr_tabu.specs.TabuSearches.{TabuList, TabuRound, is_candidate, least_candidate, next_round, none_tabu, round_of, round_with, tabu_from, tabu_on, tabu_search}
 use Rattle.vr_tabu.specs.TabuSearches.TabuRound.{Best, Stuck, Cut}
-use Rattle.vr_tabu.specs.declared.searching.Bounds.{Bounds}
+use Rattle.vr_tabu.specs.declared.searching.Parameters.{Parameters}
 
 -- valid lists of a model are as many as others
 pub as_many : (model : Model) (xs ys : List (List ℕ)) → IsTrue (is_valid model xs) → IsTrue (is_valid model ys) → length xs ≡ length ys
@@ -148,48 +148,48 @@ module _ (model : Model) (limit : Limit) (tenure : ℕ) where
 
 -- ---- the search from where it stands
 
-module _ (model : Model) (bounds : Bounds) where
-  pub at_start : (lists : List (List ℕ)) → tabu_search model lists bounds.limit bounds.tenure ≡ with_event (event_at model (begun lists) kind.First) (tabu_from_here model bounds none_tabu lists lists 0 1)
+module _ (model : Model) (parameters : Parameters) where
+  pub at_start : (lists : List (List ℕ)) → tabu_search model lists parameters.limit parameters.tenure ≡ with_event (event_at model (begun lists) kind.First) (tabu_from_here model parameters none_tabu lists lists 0 1)
   unfolding tabu_search
-  at_start lists = let all : bounds.limit.tries ≡ bounds.limit.tries - 0 = omega arith in
-      ap (λ tries. with_event (event_at model (begun lists) kind.First) (tabu_from model bounds.limit bounds.tenure (suc tries) none_tabu (begun lists))) all
+  at_start lists = let all : parameters.limit.tries ≡ parameters.limit.tries - 0 = omega arith in
+      ap (λ tries. with_event (event_at model (begun lists) kind.First) (tabu_from model parameters.limit parameters.tenure (suc tries) none_tabu (begun lists))) all
 
   module _ (tabus : TabuList) (lists best : List (List ℕ)) (used found : ℕ) where
     -- enough solutions were found
-    pub enough : (found == bounds.limit.solutions) ≡ true → tabu_from_here model bounds tabus lists best used found ≡ ended (standing lists best used found) Solutions
-    enough e = from_enough model bounds.limit bounds.tenure (bounds.limit.tries - used) tabus (standing lists best used found) e
+    pub enough : (found == parameters.limit.solutions) ≡ true → tabu_from_here model parameters tabus lists best used found ≡ ended (standing lists best used found) Solutions
+    enough e = from_enough model parameters.limit parameters.tenure (parameters.limit.tries - used) tabus (standing lists best used found) e
 
     -- fewer rounds do as well after some tries
-    fewer : (next : TabuList) (k : ℕ) → 1 ≤ k → k ≤ bounds.limit.tries - used → (after kept : List (List ℕ)) (now : ℕ)
-        → tabu_from model bounds.limit bounds.tenure (bounds.limit.tries - used) next (standing after kept (used + k) now) ≡ tabu_from_here model bounds next after kept (used + k) now
-    fewer next k one low after kept now = let rounds = suc (bounds.limit.tries - (used + k)) in let more = (bounds.limit.tries - used) - suc (bounds.limit.tries - (used + k)) in
-        let sum : bounds.limit.tries - used ≡ rounds + more = omega (arith, one, low) in
-        ap (λ m. tabu_from model bounds.limit bounds.tenure m next (standing after kept (used + k) now)) sum
-        ∙ bound_unmet model bounds.limit bounds.tenure rounds more next (standing after kept (used + k) now) (omega arith)
+    fewer : (next : TabuList) (k : ℕ) → 1 ≤ k → k ≤ parameters.limit.tries - used → (after kept : List (List ℕ)) (now : ℕ)
+        → tabu_from model parameters.limit parameters.tenure (parameters.limit.tries - used) next (standing after kept (used + k) now) ≡ tabu_from_here model parameters next after kept (used + k) now
+    fewer next k one low after kept now = let rounds = suc (parameters.limit.tries - (used + k)) in let more = (parameters.limit.tries - used) - suc (parameters.limit.tries - (used + k)) in
+        let sum : parameters.limit.tries - used ≡ rounds + more = omega (arith, one, low) in
+        ap (λ m. tabu_from model parameters.limit parameters.tenure m next (standing after kept (used + k) now)) sum
+        ∙ bound_unmet model parameters.limit parameters.tenure rounds more next (standing after kept (used + k) now) (omega arith)
 
     -- what is left of the search after a round
     abbrev pub left_after : TabuRound → Outcome
     left_after (Best k mv) =
-        tabu_from_here model bounds (next_round model bounds.tenure lists (apply model lists mv) tabus) (apply model lists mv) (cheaper model best (apply model lists mv)) (used + k) (found + 1)
+        tabu_from_here model parameters (next_round model parameters.tenure lists (apply model lists mv) tabus) (apply model lists mv) (cheaper model best (apply model lists mv)) (used + k) (found + 1)
     left_after (Stuck k) = ended (tried (standing lists best used found) k) Optimum
-    left_after Cut = ended (tried (standing lists best used found) (bounds.limit.tries - used)) Tries
+    left_after Cut = ended (tried (standing lists best used found) (parameters.limit.tries - used)) Tries
 
     -- the search is the events of a round, and what is left after it
-    pub on_round : (found == bounds.limit.solutions) ≡ false → (r : TabuRound) → round_of model tabus best lists (bounds.limit.tries - used) ≡ r
-        → tabu_from_here model bounds tabus lists best used found ≡ behind (events_of model (standing lists best used found) r) (left_after r)
-    on_round e r h = from_round model bounds.limit bounds.tenure (bounds.limit.tries - used) tabus (standing lists best used found) e
-        ∙ (ap (tabu_on model bounds.limit bounds.tenure (tabu_from model bounds.limit bounds.tenure (bounds.limit.tries - used)) tabus (standing lists best used found)) h ∙ go r h)
+    pub on_round : (found == parameters.limit.solutions) ≡ false → (r : TabuRound) → round_of model tabus best lists (parameters.limit.tries - used) ≡ r
+        → tabu_from_here model parameters tabus lists best used found ≡ behind (events_of model (standing lists best used found) r) (left_after r)
+    on_round e r h = from_round model parameters.limit parameters.tenure (parameters.limit.tries - used) tabus (standing lists best used found) e
+        ∙ (ap (tabu_on model parameters.limit parameters.tenure (tabu_from model parameters.limit parameters.tenure (parameters.limit.tries - used)) tabus (standing lists best used found)) h ∙ go r h)
       where
         one_more : (k : ℕ) → suc k ≡ k + 1
         one_more k = omega arith
 
-        go : (r : TabuRound) → round_of model tabus best lists (bounds.limit.tries - used) ≡ r
-            → tabu_on model bounds.limit bounds.tenure (tabu_from model bounds.limit bounds.tenure (bounds.limit.tries - used)) tabus (standing lists best used found) r
+        go : (r : TabuRound) → round_of model tabus best lists (parameters.limit.tries - used) ≡ r
+            → tabu_on model parameters.limit parameters.tenure (tabu_from model parameters.limit parameters.tenure (parameters.limit.tries - used)) tabus (standing lists best used found) r
             ≡ behind (events_of model (standing lists best used found) r) (left_after r)
-        go (Best k mv) h = let known = best_where model tabus best lists (bounds.limit.tries - used) k mv h in
-            let next = next_round model bounds.tenure lists (apply model lists mv) tabus in
+        go (Best k mv) h = let known = best_where model tabus best lists (parameters.limit.tries - used) k mv h in
+            let next = next_round model parameters.tenure lists (apply model lists mv) tabus in
             ap (with_event (event_at model (accepted model (standing lists best used found) k mv) kind.Move))
-            (ap (λ m. tabu_from model bounds.limit bounds.tenure (bounds.limit.tries - used) next (standing (apply model lists mv) (cheaper model best (apply model lists mv)) (used + k) m)) (one_more found)
+            (ap (λ m. tabu_from model parameters.limit parameters.tenure (parameters.limit.tries - used) next (standing (apply model lists mv) (cheaper model best (apply model lists mv)) (used + k) m)) (one_more found)
             ∙ fewer next k known.from_one known.within (apply model lists mv) (cheaper model best (apply model lists mv)) (found + 1))
         go (Stuck k) h = refl
         go Cut h = refl

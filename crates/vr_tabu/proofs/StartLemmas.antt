@@ -7,29 +7,29 @@ use Rattle.vr_routes.specs.Tours.{Tours}
 use Rattle.vr_descent.proofs.Beginnings.{at_first, under_way}
 use Rattle.vr_tabu.specs.Standing.{IsTabuBegun, TabuStands, tabu_from_here, tabu_from_state}
 use Rattle.vr_tabu.specs.TabuSearches.{none_tabu}
-use Rattle.vr_tabu.specs.declared.searching.Bounds.{Bounds}
+use Rattle.vr_tabu.specs.declared.searching.Parameters.{Parameters}
 use Rattle.vr_tabu.specs.declared.searching.State.{State}
 
-module _ (model : Model) (bounds : Bounds) (lists : List (List ℕ)) where
+module _ (model : Model) (parameters : Parameters) (lists : List (List ℕ)) where
   -- what is left of the search behind its first event
   abbrev pub rest : Outcome
-  rest = tabu_from_here model bounds none_tabu lists lists 0 1
+  rest = tabu_from_here model parameters none_tabu lists lists 0 1
 
 -- a state that begins stands where the search begins
-module _ (model : Model) (bounds : Bounds) (routes : Tours) (state : State) (begins : IsTabuBegun model routes (at_first model routes.lists) state) where
-  pub begun_stands : (committed : List (List ℕ)) → HoldSame model committed routes → 1 ≤ bounds.limit.solutions → TabuStands model bounds committed routes state
+module _ (model : Model) (parameters : Parameters) (routes : Tours) (state : State) (begins : IsTabuBegun model routes (at_first model routes.lists) state) where
+  pub begun_stands : (committed : List (List ℕ)) → HoldSame model committed routes → 1 ≤ parameters.limit.solutions → TabuStands model parameters committed routes state
   begun_stands committed holds some =
       let found = ap (λ p. p.found) begins.at_is in
       let round = ap (λ t. t.round) begins.none in
       record {
-        going = under_way model bounds.limit routes state.at state.best committed begins.at_is begins.best_is holds some;
+        going = under_way model parameters.limit routes state.at state.best committed begins.at_is begins.best_is holds some;
         round = omega (arith, found, round);
         covers = begins.covers;
       }
 
   -- what is left from there is what is left behind the first event
-  pub rest_is : tabu_from_state model bounds routes.lists state ≡ rest model bounds routes.lists
+  pub rest_is : tabu_from_state model parameters routes.lists state ≡ rest model parameters routes.lists
   rest_is =
-      ap (λ t. tabu_from_here model bounds t routes.lists state.best.routes.lists state.at.used state.at.found) begins.none
-      ∙ (ap (λ b. tabu_from_here model bounds none_tabu routes.lists b.routes.lists state.at.used state.at.found) begins.best_is
-      ∙ ap (λ p. tabu_from_here model bounds none_tabu routes.lists routes.lists p.used p.found) begins.at_is)
+      ap (λ t. tabu_from_here model parameters t routes.lists state.best.routes.lists state.at.used state.at.found) begins.none
+      ∙ (ap (λ b. tabu_from_here model parameters none_tabu routes.lists b.routes.lists state.at.used state.at.found) begins.best_is
+      ∙ ap (λ p. tabu_from_here model parameters none_tabu routes.lists routes.lists p.used p.found) begins.at_is)

@@ -17,13 +17,13 @@ use Rattle.vr_tabu.specs.TabuSearches.{TabuList, TabuRound, none_tabu, round_of,
 use Rattle.vr_tabu.specs.TabuSearches.TabuRound.{Best, Stuck, Cut}
 use Rattle.vr_tabu.specs.Tabus.{tabus_of}
 use Rattle.vr_tabu.specs.declared.searching.State.{State}
-use Rattle.vr_tabu.specs.declared.searching.Bounds.{Bounds}
+use Rattle.vr_tabu.specs.declared.searching.Parameters.{Parameters}
 
--- the bounds of a search are in their ranges
-pub record AreBounds (bounds : Bounds) : Type 0 where
-  pub tries : bounds.limit.tries ≤ 1000000000
-  pub solutions : bounds.limit.solutions ≤ 1000000000
-  pub tenure : bounds.tenure ≤ 1000
+-- the parameters of a search are in their ranges
+pub record AreTabuParameters (parameters : Parameters) : Type 0 where
+  pub tries : parameters.limit.tries ≤ 1000000000
+  pub solutions : parameters.limit.solutions ≤ 1000000000
+  pub tenure : parameters.tenure ≤ 1000
 
 -- what tabu search begins with: these routes are the best, they cost what is known there, and no visit is tabu
 pub record IsTabuBegun (model : Model) (routes : Tours) (at : Progress) (state : State) : Type 0 where
@@ -41,27 +41,27 @@ pub record IsKnownState (model : Model) (routes : Tours) (state : State) : Type 
   pub best : IsBest model routes.visits state.best
 
 -- the search is under way, the rounds are counted, and it is known of each node how long it is tabu
-pub record TabuStands (model : Model) (bounds : Bounds) (committed : List (List ℕ)) (routes : Tours) (state : State) :
-    Type 0 where
-  pub going : IsUnderWay model bounds.limit committed routes state.at state.best
+pub record TabuStands (model : Model) (parameters : Parameters) (committed : List (List ℕ)) (routes : Tours)
+    (state : State) : Type 0 where
+  pub going : IsUnderWay model parameters.limit committed routes state.at state.best
   pub round : suc state.tabus.round ≤ state.at.found
   pub covers : length state.tabus.until.items ≡ model.nodes
 
 -- tabu search from there, by one round more than there are tries left
-abbrev pub tabu_from_here : Model → Bounds → TabuList → List (List ℕ) → List (List ℕ) → ℕ → ℕ → Outcome
-tabu_from_here model bounds tabus lists best used found =
-    tabu_from model bounds.limit bounds.tenure (suc (bounds.limit.tries - used)) tabus
+abbrev pub tabu_from_here : Model → Parameters → TabuList → List (List ℕ) → List (List ℕ) → ℕ → ℕ → Outcome
+tabu_from_here model parameters tabus lists best used found =
+    tabu_from model parameters.limit parameters.tenure (suc (parameters.limit.tries - used)) tabus
     (standing lists best used found)
 
 -- the same from where the code stands
-abbrev pub tabu_from_state : Model → Bounds → List (List ℕ) → State → Outcome
-tabu_from_state model bounds lists state =
-    tabu_from_here model bounds (tabus_of state.tabus) lists state.best.routes.lists state.at.used state.at.found
+abbrev pub tabu_from_state : Model → Parameters → List (List ℕ) → State → Outcome
+tabu_from_state model parameters lists state =
+    tabu_from_here model parameters (tabus_of state.tabus) lists state.best.routes.lists state.at.used state.at.found
 
 -- the round of the search from where the code stands
-abbrev pub next_of : Model → Bounds → List (List ℕ) → State → TabuRound
-next_of model bounds lists state =
-    round_of model (tabus_of state.tabus) state.best.routes.lists lists (bounds.limit.tries - state.at.used)
+abbrev pub next_of : Model → Parameters → List (List ℕ) → State → TabuRound
+next_of model parameters lists state =
+    round_of model (tabus_of state.tabus) state.best.routes.lists lists (parameters.limit.tries - state.at.used)
 
 -- the events of a round
 abbrev pub events_of : Model → SearchState → TabuRound → List Event
@@ -70,13 +70,13 @@ events_of model state (Stuck n) = []
 events_of model state Cut = []
 
 -- the events of the round from where the code stands
-abbrev pub next_events : Model → Bounds → List (List ℕ) → State → List Event
-next_events model bounds lists state =
+abbrev pub next_events : Model → Parameters → List (List ℕ) → State → List Event
+next_events model parameters lists state =
     events_of model (standing lists state.best.routes.lists state.at.used state.at.found)
-    (next_of model bounds lists state)
+    (next_of model parameters lists state)
 
 -- what is left of the search where the code stands: it goes on, or it has ended
-abbrev pub left_of : Model → Bounds → List (List ℕ) → State → Option End → Outcome
-left_of model bounds lists state None = tabu_from_state model bounds lists state
-left_of model bounds lists state (Some stop) =
+abbrev pub left_of : Model → Parameters → List (List ℕ) → State → Option End → Outcome
+left_of model parameters lists state None = tabu_from_state model parameters lists state
+left_of model parameters lists state (Some stop) =
     ended (standing lists state.best.routes.lists state.at.used state.at.found) stop

@@ -14,7 +14,7 @@ ghost use Rattle.vr_descent.specs.Searching.{after_move, move_event, behind};
 ghost use Rattle.vr_routes.specs.Judging.{HoldSame, moved};
 ghost use Rattle.vr_watch.specs.Told.{Reported, ReportedInPart};
 ghost use Rattle.vr_tabu.specs.Rounds.{IsJudgeOf, IsDifferenceKnown, tabu_round_end, tries_of};
-ghost use Rattle.vr_tabu.specs.Standing.{AreBounds, IsTabuBegun, IsKnownState, TabuStands};
+ghost use Rattle.vr_tabu.specs.Standing.{AreTabuParameters, IsTabuBegun, IsKnownState, TabuStands};
 ghost use Rattle.vr_descent.specs.Incumbents.{IsBest, kept};
 ghost use Rattle.vr_tabu.specs.Standing.{tabu_from_state, left_of, next_events};
 ghost use Rattle.vr_tabu.specs.TabuSearches.{next_round, round_of, tabu_search};
@@ -40,7 +40,7 @@ pub struct TabuAnswer {
 
 /// How far tabu search may go, and for how many rounds visits are tabu.
 #[derive(Clone, Copy)]
-pub struct Bounds {
+pub struct Parameters {
     pub limit: Limit,
     pub tenure: u32,
 }
@@ -92,14 +92,14 @@ pub fn tabu<J: Judge, L: Ledger>(
         found: 1,
         cost: first_cost,
     };
-    let bounds = Bounds { limit, tenure };
+    let parameters = Parameters { limit, tenure };
     note_all(watch, at.event(Kind::First))?;
     let mut state = State::open(alloc, model, routes, at)?;
     let end = search(
         Closed { model },
         judge,
         routes,
-        bounds,
+        parameters,
         &mut state,
         watch,
         steps,
@@ -139,21 +139,22 @@ impl State {
         closed: Closed<'_>,
         judge: &mut J,
         routes: &mut Routes,
-        bounds: Bounds,
+        parameters: Parameters,
         watch: &mut Vec<Box<dyn Watch>>,
         steps: &mut Steps<L>,
     ) -> Result<Option<End>, NoMemory>
         requires judge_model { J.model judge.old ≡ closed.model.now }
-        requires bounds { AreBounds bounds }
-        requires stands { TabuStands closed.model.now bounds (J.committed judge.old) routes.old self.old }
-        requires more { self.old.at.found ≢ bounds.limit.solutions }
-        ensures outcome { IfOk result (λ stop. tabu_from_state closed.entry.model.now bounds routes.old.lists self.old
-            ≡ behind (next_events closed.entry.model.now bounds routes.old.lists self.old)
-            (left_of closed.entry.model.now bounds routes.new.lists self.new stop)) }
+        requires parameters { AreTabuParameters parameters }
+        requires stands { TabuStands closed.model.now parameters (J.committed judge.old) routes.old self.old }
+        requires more { self.old.at.found ≢ parameters.limit.solutions }
+        ensures outcome { IfOk result (λ stop.
+            tabu_from_state closed.entry.model.now parameters routes.old.lists self.old
+            ≡ behind (next_events closed.entry.model.now parameters routes.old.lists self.old)
+            (left_of closed.entry.model.now parameters routes.new.lists self.new stop)) }
         ensures told { OnOk result (Reported (λ w later. after w later) watch.old.items watch.new.items
-            (next_events closed.entry.model.now bounds routes.old.lists self.old)) }
+            (next_events closed.entry.model.now parameters routes.old.lists self.old)) }
         ensures asked { OnOk result (AsksOn J.asked J.looked judge.old judge.new self.old.at.used self.new.at.used) }
-        ensures stands { OnOk result (TabuStands closed.entry.model.now bounds
+        ensures stands { OnOk result (TabuStands closed.entry.model.now parameters
             (J.committed judge.new) routes.new self.new) }
         ensures no_dearer { OnOk result (self.new.best.cost ≤ℤ self.old.best.cost) }
         ensures further { IfOk result (λ stop. stop ≡ None → self.old.at.used < self.new.at.used) }
@@ -161,15 +162,15 @@ impl State {
         ensures judge_model { J.model judge.new ≡ closed.entry.model.now }
         ensures holds { HoldSame closed.entry.model.now (J.committed judge.new) routes.new }
         ensures told_in_part { OnErr result (ReportedInPart (λ w later. after w later) watch.old.items watch.new.items
-            (next_events closed.entry.model.now bounds routes.old.lists self.old)) }
+            (next_events closed.entry.model.now parameters routes.old.lists self.old)) }
         ensures asked_at_most { OnErr result (AsksOn J.asked J.looked judge.old judge.new self.old.at.used
-            bounds.limit.tries) }
+            parameters.limit.tries) }
     {
-        let rest = bounds.limit.tries - self.at.used;
+        let rest = parameters.limit.tries - self.at.used;
         let ended = run_round(closed.model, judge, routes, self, rest, steps)?;
         match ended {
             RoundEnd::Best { length, candidate } => {
-                self.forbid(closed, routes, candidate.mv, bounds.tenure);
+                self.forbid(closed, routes, candidate.mv, parameters.tenure);
                 self.take(judge, routes, watch, length, candidate)?;
                 Ok(None)
             }
@@ -178,7 +179,7 @@ impl State {
                 Ok(Some(End::Optimum))
             }
             RoundEnd::Cut => {
-                self.at.used = bounds.limit.tries;
+                self.at.used = parameters.limit.tries;
                 Ok(Some(End::Tries))
             }
         }
@@ -298,31 +299,31 @@ fn search<J: Judge, L: Ledger>(
     closed: Closed<'_>,
     judge: &mut J,
     routes: &mut Routes,
-    bounds: Bounds,
+    parameters: Parameters,
     state: &mut State,
     watch: &mut Vec<Box<dyn Watch>>,
     steps: &mut Steps<L>,
 ) -> Result<End, NoMemory>
     requires judge_model { J.model judge.old ≡ closed.model.now }
-    requires bounds { AreBounds bounds }
-    requires stands { TabuStands closed.model.now bounds (J.committed judge.old) routes.old state.old }
+    requires parameters { AreTabuParameters parameters }
+    requires stands { TabuStands closed.model.now parameters (J.committed judge.old) routes.old state.old }
     ensures stopped { IfOk result (HasStopped (λ w later. after w later)
-        (tabu_from_state closed.entry.model.now bounds routes.old.lists state.old) routes.new.lists state.new.at
+        (tabu_from_state closed.entry.model.now parameters routes.old.lists state.old) routes.new.lists state.new.at
         state.new.best watch.old.items watch.new.items) }
     ensures asked { OnOk result (AsksOn J.asked J.looked judge.old judge.new state.old.at.used state.new.at.used) }
-    ensures stands { OnOk result (TabuStands closed.entry.model.now bounds (J.committed judge.new) routes.new
+    ensures stands { OnOk result (TabuStands closed.entry.model.now parameters (J.committed judge.new) routes.new
         state.new) }
     ensures no_dearer { OnOk result (state.new.best.cost ≤ℤ state.old.best.cost) }
 
     ensures judge_model { J.model judge.new ≡ closed.entry.model.now }
     ensures holds { HoldSame closed.entry.model.now (J.committed judge.new) routes.new }
     ensures told_in_part { OnErr result (ReportedInPart (λ w later. after w later) watch.old.items watch.new.items
-        (tabu_from_state closed.entry.model.now bounds routes.old.lists state.old).events) }
+        (tabu_from_state closed.entry.model.now parameters routes.old.lists state.old).events) }
     ensures asked_at_most { OnErr result (AsksOn J.asked J.looked judge.old judge.new state.old.at.used
-        bounds.limit.tries) }
+        parameters.limit.tries) }
 {
-    'rounds: while state.at.found != bounds.limit.solutions {
-        let stop = state.advance(closed, judge, routes, bounds, watch, steps)?;
+    'rounds: while state.at.found != parameters.limit.solutions {
+        let stop = state.advance(closed, judge, routes, parameters, watch, steps)?;
         if let Some(end) = stop {
             return Ok(end);
         }

@@ -9,11 +9,11 @@ use Rattle.vr_tabu.proofs.searching.search.Given as goal
 abbrev pub invariant-rounds : goal.invariant-rounds
 invariant-rounds g l = record {
   model : g.J.Judge.model l.judge ≡ l.closed.model.now;
-  stands : TabuStands l.closed.model.now l.bounds (g.J.Judge.committed l.judge) l.routes l.state;
+  stands : TabuStands l.closed.model.now l.parameters (g.J.Judge.committed l.judge) l.routes l.state;
   asked : AsksOn g.J.Judge.asked g.J.Judge.looked l.fn.judge l.judge l.fn.state.at.used l.state.at.used;
   no_dearer : l.state.best.cost ≤ℤ l.fn.state.best.cost;
-  goes : Goes (λ w. (goal.Watch-dyn g (w.vtable, w.value)).after w.value) (tabu_from_state l.closed.model.now l.bounds l.fn.routes.lists l.fn.state) (tabu_from_state l.closed.model.now l.bounds l.routes.lists l.state) l.fn.watch.items l.watch.items;
+  goes : Goes (λ w. (goal.Watch-dyn g (w.vtable, w.value)).after w.value) (tabu_from_state l.closed.model.now l.parameters l.fn.routes.lists l.fn.state) (tabu_from_state l.closed.model.now l.parameters l.routes.lists l.state) l.fn.watch.items l.watch.items;
 }
 
 abbrev pub decreases-rounds : goal.decreases-rounds
-decreases-rounds g l = l.bounds.limit.tries - l.state.at.used
+decreases-rounds g l = l.parameters.limit.tries - l.state.at.used

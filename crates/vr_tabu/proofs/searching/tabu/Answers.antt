@@ -9,14 +9,14 @@ use Rattle.vr_descent.proofs.GoingOn.{Goes, breaks_within, goes_nowhere}
 use Rattle.vr_model.specs.declared.search.Limit.{Limit}
 use Rattle.vr_tabu.specs.Standing.{IsTabuBegun, tabu_from_state}
 use Rattle.vr_tabu.specs.TabuSearches.{tabu_search}
-use Rattle.vr_tabu.specs.declared.searching.Bounds.{Bounds}
+use Rattle.vr_tabu.specs.declared.searching.Parameters.{Parameters}
 use Rattle.vr_tabu.proofs.SearchLemmas.{at_start}
 use Rattle.vr_tabu.proofs.StartLemmas.{begun_stands, rest, rest_is}
 use Rattle.vr_tabu.proofs.searching.tabu.Given.{Over}
 use Rattle.vr_tabu.proofs.searching.tabu.Goals.{In_ok-note_all, In_ok-state}
 use Rattle.vr_tabu.proofs.searching.tabu.Goals as goal
 
-abbrev within : Limit → ℕ → Bounds
+abbrev within : Limit → ℕ → Parameters
 within limit tenure = record { limit = limit; tenure = tenure }
 
 -- the first event was told
@@ -42,8 +42,8 @@ pub returns-in_err-state-clause-told_in_part : goal.returns-in_err-state-clause-
 returns-in_err-state-clause-told_in_part g c =
     on_err c.from_residual-in_err-state.result (goes_nowhere (λ w. (goal.Watch-dyn g (w.vtable, w.value)).after w.value) (tabu_search c.args.model.now c.args.routes.now.lists c.args.limit c.args.tenure) (rest c.args.model.now (within c.args.limit c.args.tenure) c.args.routes.now.lists) _ _ (noted g (goal.at.returns-in_err-state-clause-told_in_part g c).In_ok-note_all))
 
-pub search-requires-clause-bounds : goal.search-requires-clause-bounds
-search-requires-clause-bounds g c =
+pub search-requires-clause-parameters : goal.search-requires-clause-parameters
+search-requires-clause-parameters g c =
     record { tries = c.requires.begins.limit.tries; solutions = c.requires.begins.limit.solutions; tenure = c.requires.tenure_to_1000 }
 
 pub search-requires-clause-stands : goal.search-requires-clause-stands

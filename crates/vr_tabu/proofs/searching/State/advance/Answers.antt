@@ -26,11 +26,11 @@ use Rattle.vr_tabu.proofs.searching.State.advance.Goals.{After-forbid, In-Best, 
 use Rattle.vr_tabu.proofs.searching.State.advance.Goals as goal
 
 -- the best candidate is that of the round, and it is the least
-best : (g : Over) (c : In-Best g) → (next_of c.args.closed.model.now c.args.bounds c.args.routes.now.lists c.args.self.now) ≡ Best c.in-Best.length c.in-Best.candidate.mv
-best g c = (of_best c.args.closed.model.now c.args.routes.now.lists (next_of c.args.closed.model.now c.args.bounds c.args.routes.now.lists c.args.self.now) c.in-Best.length c.in-Best.candidate (sym c.in-Best.is ∙ c.in_ok-ended.ensures.ends)).0
+best : (g : Over) (c : In-Best g) → (next_of c.args.closed.model.now c.args.parameters c.args.routes.now.lists c.args.self.now) ≡ Best c.in-Best.length c.in-Best.candidate.mv
+best g c = (of_best c.args.closed.model.now c.args.routes.now.lists (next_of c.args.closed.model.now c.args.parameters c.args.routes.now.lists c.args.self.now) c.in-Best.length c.in-Best.candidate (sym c.in-Best.is ∙ c.in_ok-ended.ensures.ends)).0
 
-least : (g : Over) (c : In-Best g) → IsLeastCandidate c.args.closed.model.now (tabus_of c.args.self.now.tabus) c.args.self.now.best.routes.lists c.args.routes.now.lists (c.args.bounds.limit.tries - c.args.self.now.at.used) c.in-Best.length c.in-Best.candidate.mv
-least g c = best_where c.args.closed.model.now (tabus_of c.args.self.now.tabus) c.args.self.now.best.routes.lists c.args.routes.now.lists (c.args.bounds.limit.tries - c.args.self.now.at.used) c.in-Best.length c.in-Best.candidate.mv (best g c)
+least : (g : Over) (c : In-Best g) → IsLeastCandidate c.args.closed.model.now (tabus_of c.args.self.now.tabus) c.args.self.now.best.routes.lists c.args.routes.now.lists (c.args.parameters.limit.tries - c.args.self.now.at.used) c.in-Best.length c.in-Best.candidate.mv
+least g c = best_where c.args.closed.model.now (tabus_of c.args.self.now.tabus) c.args.self.now.best.routes.lists c.args.routes.now.lists (c.args.parameters.limit.tries - c.args.self.now.at.used) c.in-Best.length c.in-Best.candidate.mv (best g c)
 
 pub returns-in_err-ended-clause-told_in_part : goal.returns-in_err-ended-clause-told_in_part
 returns-in_err-ended-clause-told_in_part g c =
@@ -53,15 +53,15 @@ take-requires-clause-valid g c =
 pub take-requires-clause-known : goal.take-requires-clause-known
 take-requires-clause-known g c =
     let same = c.in_ok-ended.ensures.keeps.model ∙ c.requires.judge_model in
-    (of_best c.args.closed.model.now c.args.routes.now.lists (next_of c.args.closed.model.now c.args.bounds c.args.routes.now.lists c.args.self.now) c.in-Best.length c.in-Best.candidate (sym c.in-Best.is ∙ c.in_ok-ended.ensures.ends)).1
+    (of_best c.args.closed.model.now c.args.routes.now.lists (next_of c.args.closed.model.now c.args.parameters c.args.routes.now.lists c.args.self.now) c.in-Best.length c.in-Best.candidate (sym c.in-Best.is ∙ c.in_ok-ended.ensures.ends)).1
     ∙ ap (λ m. cost_change m c.args.routes.now.lists c.in-Best.candidate.mv) (sym same)
 
 -- what is told of the move are the events of the round
-event : (g : Over) (c : After-forbid g) → next_of c.args.closed.model.now c.args.bounds c.args.routes.now.lists c.args.self.now ≡ Best c.in-Best.length c.in-Best.candidate.mv
-    → move_event (g.J.Judge.model c.run_round.new.judge) c.args.routes.now.lists c.in-Best.candidate.mv (c.forbid.new.self.at.used + c.in-Best.length) ∷ [] ≡ next_events c.args.closed.model.now c.args.bounds c.args.routes.now.lists c.args.self.now
+event : (g : Over) (c : After-forbid g) → next_of c.args.closed.model.now c.args.parameters c.args.routes.now.lists c.args.self.now ≡ Best c.in-Best.length c.in-Best.candidate.mv
+    → move_event (g.J.Judge.model c.run_round.new.judge) c.args.routes.now.lists c.in-Best.candidate.mv (c.forbid.new.self.at.used + c.in-Best.length) ∷ [] ≡ next_events c.args.closed.model.now c.args.parameters c.args.routes.now.lists c.args.self.now
 event g c is =
     ap₂ (λ m (p : Progress). move_event m c.args.routes.now.lists c.in-Best.candidate.mv (p.used + c.in-Best.length) ∷ []) (c.in_ok-ended.ensures.keeps.model ∙ c.requires.judge_model) c.forbid.ensures.at
-    ∙ events_are c.args.closed.model.now c.args.bounds c.args.routes.now.lists c.args.self.now (Best c.in-Best.length c.in-Best.candidate.mv) is
+    ∙ events_are c.args.closed.model.now c.args.parameters c.args.routes.now.lists c.args.self.now (Best c.in-Best.length c.in-Best.candidate.mv) is
 
 -- where the search stands then
 stands : (g : Over) (c : In_ok-take-in-Best g) → c.take.new.self.at ≡ after_move c.args.closed.model.now c.args.routes.now.lists c.in-Best.candidate.mv c.in-Best.length c.args.self.now.at
@@ -96,15 +96,15 @@ returns-in_ok-take-in-Best-clause-outcome g c =
     = ap (λ b. b.routes.lists) best_new
     ∙ (kept_lists model state.best c.take.new.routes (cost model c.take.new.routes.lists) c.requires.stands.going.best.costs refl ∙ ap (cheaper model state.best.routes.lists) lists_new) in
     let at = goal.at.returns-in_ok-take-in-Best-clause-outcome g c in
-    after_best model c.args.bounds lists state (apart c.args.self.now.at.found c.args.bounds.limit.solutions c.requires.more) c.in-Best.length mv (best g at.In-Best) new c.take.new.routes.lists tabus_new lists_new kept_new (stands g at.In_ok-take-in-Best)
+    after_best model c.args.parameters lists state (apart c.args.self.now.at.found c.args.parameters.limit.solutions c.requires.more) c.in-Best.length mv (best g at.In-Best) new c.take.new.routes.lists tabus_new lists_new kept_new (stands g at.In_ok-take-in-Best)
 
 pub returns-in-Stuck-clause-outcome : goal.returns-in-Stuck-clause-outcome
 returns-in-Stuck-clause-outcome g c =
-    after_stuck c.args.closed.model.now c.args.bounds c.args.routes.now.lists c.args.self.now (apart c.args.self.now.at.found c.args.bounds.limit.solutions c.requires.more) c.in-Stuck.length (of_stuck c.args.closed.model.now c.args.routes.now.lists (next_of c.args.closed.model.now c.args.bounds c.args.routes.now.lists c.args.self.now) c.in-Stuck.length (sym c.in-Stuck.is ∙ c.in_ok-ended.ensures.ends))
+    after_stuck c.args.closed.model.now c.args.parameters c.args.routes.now.lists c.args.self.now (apart c.args.self.now.at.found c.args.parameters.limit.solutions c.requires.more) c.in-Stuck.length (of_stuck c.args.closed.model.now c.args.routes.now.lists (next_of c.args.closed.model.now c.args.parameters c.args.routes.now.lists c.args.self.now) c.in-Stuck.length (sym c.in-Stuck.is ∙ c.in_ok-ended.ensures.ends))
 
 pub returns-in-Cut-clause-outcome : goal.returns-in-Cut-clause-outcome
 returns-in-Cut-clause-outcome g c =
-    after_cut c.args.closed.model.now c.args.bounds c.args.routes.now.lists c.args.self.now (apart c.args.self.now.at.found c.args.bounds.limit.solutions c.requires.more) (of_cut c.args.closed.model.now c.args.routes.now.lists (next_of c.args.closed.model.now c.args.bounds c.args.routes.now.lists c.args.self.now) (sym c.in-Cut.is ∙ c.in_ok-ended.ensures.ends)) c.requires.stands.going.used
+    after_cut c.args.closed.model.now c.args.parameters c.args.routes.now.lists c.args.self.now (apart c.args.self.now.at.found c.args.parameters.limit.solutions c.requires.more) (of_cut c.args.closed.model.now c.args.routes.now.lists (next_of c.args.closed.model.now c.args.parameters c.args.routes.now.lists c.args.self.now) (sym c.in-Cut.is ∙ c.in_ok-ended.ensures.ends)) c.requires.stands.going.used
 
 -- ---- how often the judge was asked
 
@@ -115,20 +115,20 @@ returns-in_err-ended-clause-asked_at_most g c =
 pub returns-in_err-take-in-Best-clause-asked_at_most : goal.returns-in_err-take-in-Best-clause-asked_at_most
 returns-in_err-take-in-Best-clause-asked_at_most g c =
     let within = (least g (goal.at.returns-in_err-take-in-Best-clause-asked_at_most g c).In-Best).within in
-    let tries = ap (tries_of (c.args.bounds.limit.tries - c.args.self.now.at.used)) c.in-Best.is in
+    let tries = ap (tries_of (c.args.parameters.limit.tries - c.args.self.now.at.used)) c.in-Best.is in
     on_err c.from_residual-in_err-take-in-Best.result (on_same _ _ _ _ _ (on_by _ _ _ _ _ c.in_ok-ended.ensures.asked (omega (arith, tries, within, c.requires.stands.going.used))) c.in_err-take-in-Best.ensures.asked c.in_err-take-in-Best.ensures.looked)
 
 pub returns-in_ok-take-in-Best-clause-asked : goal.returns-in_ok-take-in-Best-clause-asked
 returns-in_ok-take-in-Best-clause-asked g c =
     let taken = c.in_ok-take-in-Best.ensures in
-    let tries = ap (tries_of (c.args.bounds.limit.tries - c.args.self.now.at.used)) c.in-Best.is in
+    let tries = ap (tries_of (c.args.parameters.limit.tries - c.args.self.now.at.used)) c.in-Best.is in
     let used = ap (λ p. p.used) (stands g (goal.at.returns-in_ok-take-in-Best-clause-asked g c).In_ok-take-in-Best) in
     on_same _ _ _ _ _ (on_by _ _ _ _ _ c.in_ok-ended.ensures.asked (omega (arith, tries, used))) taken.asked taken.looked
 
 pub returns-in-Stuck-clause-asked : goal.returns-in-Stuck-clause-asked
 returns-in-Stuck-clause-asked g c =
-    on_by _ _ _ _ _ c.in_ok-ended.ensures.asked (omega (arith, ap (tries_of (c.args.bounds.limit.tries - c.args.self.now.at.used)) c.in-Stuck.is))
+    on_by _ _ _ _ _ c.in_ok-ended.ensures.asked (omega (arith, ap (tries_of (c.args.parameters.limit.tries - c.args.self.now.at.used)) c.in-Stuck.is))
 
 pub returns-in-Cut-clause-asked : goal.returns-in-Cut-clause-asked
 returns-in-Cut-clause-asked g c =
-    on_by _ _ _ _ _ c.in_ok-ended.ensures.asked (omega (arith, c.requires.stands.going.used, ap (tries_of (c.args.bounds.limit.tries - c.args.self.now.at.used)) c.in-Cut.is))
+    on_by _ _ _ _ _ c.in_ok-ended.ensures.asked (omega (arith, c.requires.stands.going.used, ap (tries_of (c.args.parameters.limit.tries - c.args.self.now.at.used)) c.in-Cut.is))
