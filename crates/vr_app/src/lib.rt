@@ -29,7 +29,7 @@
 //!     run_watched          vr_cli: the watchers, a tally and a trace
 //!     run_with             vr_cli: what is written is the reply with what these watchers report
 //!     run                  reply: lends the watchers, and drops them at the end
-//!     run_watched          reply: what is written, and the status
+//!     run_lent             reply: what is written, and the status
 //!     respond              reply: what the words ask for
 //!     respond_to_input     reply: the bytes of the source
 //!     answer_input         solving: the value in them; they are let go
@@ -48,6 +48,10 @@
 //!     guide, improve       vr_guided: rounds of scans, and penalties between them
 //!     advance, scan        vr_descent: one scan: the moves of the lists, one after another
 //!     try_move             vr_descent: asks the judge, a `vr_judge::FilterJudge`, about a move
+//!
+//! The way back from there to the printed line: `improve` gives the best routes and a report of the search, a `Best`;
+//! `line_from` has `vr_print::solution_line_over` find the schedules of these routes and print them; `answer_over` puts
+//! the reports of watchers behind the line, by `logs`; and `run_lent` writes the text of the answer to the sink.
 #![tactic(auto)]
 
 mod answer;

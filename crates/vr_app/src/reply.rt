@@ -118,7 +118,7 @@ fn respond<S: Source>(
 }
 
 // The same as `run`, by watchers that are lent. Each clause of `run` follows from those here.
-fn run_watched<S: Source, K: Sink>(
+fn run_lent<S: Source, K: Sink>(
     alloc: Global,
     words: &[String],
     source: &mut S,
@@ -236,5 +236,5 @@ pub fn run<S: Source, K: Sink>(
     ensures untouched { ReadsNothing (bytes_of words.now) → source.new ≡ source.old }
 {
     let mut watch = watch;
-    run_watched(alloc, words, source, sink, &mut watch)
+    run_lent(alloc, words, source, sink, &mut watch)
 }

@@ -1,6 +1,6 @@
 //! The search of a mode: what it makes of a first solution, by the judge that is chosen here.
 
-ghost use Rattle.std.specs.Prelude.{◌≡◌, ◌<◌, [], IfOk, IsTrue, OnOk};
+ghost use Rattle.std.specs.Prelude.{◌≡◌, ◌<◌, IfOk, IsTrue, OnOk};
 ghost use Rattle.vr_app.specs.Endings.{IsBestOfOutcome};
 ghost use Rattle.vr_app.specs.Found as found;
 ghost use Rattle.vr_app.specs.Improved as how;

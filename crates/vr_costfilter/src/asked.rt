@@ -1,7 +1,6 @@
 //! Lists that come in the place of others, of which it is asked what their chosen schedules come to.
 
 ghost use Rattle.std.proofs.Props.{props};
-ghost use Rattle.std.specs.Prelude.{◌≡◌};
 ghost use Rattle.vr_model.specs.schedules.Schedules.{IsFeasible};
 ghost use Rattle.vr_model.specs.schedules.Tight.{IsLatestStart, IsLeastEnd};
 ghost use Rattle.vr_costfilter.specs.Joined.{AreJoined, IsWithin-prop};

@@ -1,19 +1,18 @@
 //! What a change makes of a list whose steps and stages are kept. It is walked back along what the change puts in, and
 //! in front of that until a floor is as kept; then along this, and behind it until a cumul is as kept.
 
-ghost use Rattle.std.specs.Prelude.{◌*◌, ◌-ℤ◌, pos};
-ghost use Rattle.std.specs.Prelude.{◌≡◌, ◌<◌, ◌≤◌, ◌+◌, All, IfSome, IsTrue, List, Some, drop, length};
-ghost use Rattle.std.specs.Prelude.{◌↔◌, is_some, option_map, slice_index_or, take};
+ghost use Rattle.std.specs.Prelude.{◌-ℤ◌, pos};
+ghost use Rattle.std.specs.Prelude.{◌≡◌, ◌<◌, ◌≤◌, ◌+◌, IfSome, IsTrue, Some, drop, length};
+ghost use Rattle.std.specs.Prelude.{◌↔◌, option_map, slice_index_or, take};
 ghost use Rattle.vr_model.specs.schedules.Lines.{Line};
 ghost use Rattle.vr_model.specs.schedules.Schedules.{IsFeasible};
-ghost use Rattle.vr_model.specs.tables.Tables.{is_visit};
 ghost use Rattle.vr_model.specs.tables.Numbers.{horizon};
 ghost use Rattle.vr_model.specs.tables.WellFormed.{IsIn, WherePresent};
 ghost use Rattle.vr_costfilter.specs.Asked.{old_list, ChoiceAllows, IsNewTimingFound};
 ghost use Rattle.vr_costfilter.specs.GuideRuns.{runs_of};
-ghost use Rattle.vr_costfilter.specs.Floors.{end_step, first_step_or, first_step, IsStep, IsVisitStep};
+ghost use Rattle.vr_costfilter.specs.Floors.{end_step, first_step, IsStep};
 ghost use Rattle.vr_costfilter.specs.Runs.{only as only_of, start_run, starting, AllowsRuns};
-ghost use Rattle.vr_costfilter.specs.Steps.{steps_of, AreAllStages, AreKnownSteps, AreStepsFrom};
+ghost use Rattle.vr_costfilter.specs.Steps.{steps_of, AreKnownSteps, AreStepsFrom};
 ghost use Rattle.vr_costfilter.specs.Steps.{AreMet};
 ghost use Rattle.vr_costfilter.specs.Steps.{first_led, reached, HasLed, HasPaced, HasSetOut, HasStages, IsLead};
 ghost use Rattle.vr_costfilter.specs.Stages.{along, paid_more, setting_out, stage_at_start, along_to_end, IsAtStart};

@@ -4,7 +4,6 @@ ghost use Rattle.std.specs.Prelude.{◌≡◌, ◌<◌, List, IfOk, IsTrue, OnOk
 ghost use Rattle.vr_model.specs.first.CheapestInsertion.{rebuilt};
 ghost use Rattle.vr_model.specs.first.Items.{items as items_of};
 ghost use Rattle.vr_model.specs.moves.Moves.{with_route};
-ghost use Rattle.vr_model.specs.routes.Routes.{route};
 ghost use Rattle.vr_rules.specs.declared.items.Candidate.{Candidate as AnyCandidate};
 ghost use Rattle.vr_rules.specs.Placing.{AreBuilt};
 ghost use Rattle.vr_first_insert.specs.Asking.{items_model, MayTakeOver};

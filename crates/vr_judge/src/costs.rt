@@ -101,6 +101,8 @@ fn sum(arcs: i64, fixed: i64, groups: i64, plans: i64, spans: i64) -> i64
 
 impl<'m> Costs<'m> {
     /// What valid routes of a model cost, over what was looked up of it. The only refusal is want of memory.
+    // Inlined into `FilterJudge::over`, whose values are large too, it would have them moved about once more.
+    #[inline(never)]
     pub fn over(
         alloc: Global,
         lookups: &Lookups<'m>,

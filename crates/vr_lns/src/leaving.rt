@@ -38,7 +38,6 @@ fn is_in_chain(cut: &CutOf<'_, '_, '_>, node: u32) -> bool
     ensures { result ≡ holds (cut_chain cut.now.most cut.now.routes.now.lists cut.now.at) node }
 {
     let (routes, at) = (cut.routes, cut.at);
-    routes.know_once();
     let length = routes.len(at.vehicle);
     let end = (at.place + cut.most).min(length);
     match routes.seat(node) {

@@ -4,7 +4,6 @@ ghost use Rattle.std.specs.Prelude.{◌≡◌, ◌+◌, ◌≤◌, IsTrue, IfOk,
 ghost use Rattle.vr_descent.specs.Ending.{HasEnded, IsSearchLimit};
 ghost use Rattle.vr_lns.specs.Ending.{SearchEndsAs};
 ghost use Rattle.vr_lns.specs.PathLns.{path_lns};
-ghost use Rattle.vr_lns.specs.Standing.{HoldValid};
 ghost use Rattle.vr_model.specs.routes.Rules.{is_valid};
 ghost use Rattle.vr_model.specs.tables.Tables.{visits};
 ghost use Rattle.vr_model.specs.tables.WellFormed.{IsWellFormed};

@@ -3,7 +3,7 @@ use Rattle.vr_app.proofs.RunLemmas as run
 use Rattle.vr_app.proofs.reply.run.Goals as goal
 
 pub returns-clause-reply : goal.returns-clause-reply
-returns-clause-reply g c = let ran = c.run_watched.ensures.ran in record {
+returns-clause-reply g c = let ran = c.run_lent.ensures.ran in record {
   read = run.replies ran;
   unread = run.unread ran;
   front = run.front ran;
@@ -11,13 +11,13 @@ returns-clause-reply g c = let ran = c.run_watched.ensures.ran in record {
 }
 
 pub returns-clause-complete : goal.returns-clause-complete
-returns-clause-complete g c = let ran = c.run_watched.ensures.ran in record {
+returns-clause-complete g c = let ran = c.run_lent.ensures.ran in record {
   read = λ reads bytes known short calm quiet. run.complete ran bytes known calm quiet;
   unread = run.complete_unread ran;
 }
 
 pub returns-clause-solving : goal.returns-clause-solving
-returns-clause-solving g c = let ran = c.run_watched.ensures.ran in record {
+returns-clause-solving g c = let ran = c.run_lent.ensures.ran in record {
   done = λ settled solves bytes known. (run.classifies-first ran settled solves bytes known).done;
   solution = run.solution ran;
   none_found = λ settled solves bytes known. (run.classifies-first ran settled solves bytes known).undone;
@@ -26,7 +26,7 @@ returns-clause-solving g c = let ran = c.run_watched.ensures.ran in record {
 }
 
 pub returns-clause-checking : goal.returns-clause-checking
-returns-clause-checking g c = let ran = c.run_watched.ensures.ran in record {
+returns-clause-checking g c = let ran = c.run_lent.ensures.ran in record {
   met = λ settled checks bytes known. (run.classifies-met ran settled checks bytes known).done;
   kept = run.kept ran;
   spans = run.spans ran;
@@ -38,7 +38,7 @@ returns-clause-checking g c = let ran = c.run_watched.ensures.ran in record {
 }
 
 pub returns-clause-importing : goal.returns-clause-importing
-returns-clause-importing g c = let ran = c.run_watched.ensures.ran in record {
+returns-clause-importing g c = let ran = c.run_lent.ensures.ran in record {
   imported = λ settled vehicles imports bytes known. (run.classifies-file ran settled vehicles imports bytes known).done;
   model = run.model ran;
   flawed = λ settled vehicles imports bytes known. (run.classifies-file ran settled vehicles imports bytes known).flawed;
@@ -46,7 +46,7 @@ returns-clause-importing g c = let ran = c.run_watched.ensures.ran in record {
 }
 
 pub returns-clause-cause : goal.returns-clause-cause
-returns-clause-cause g c = let ran = c.run_watched.ensures.ran in record {
+returns-clause-cause g c = let ran = c.run_lent.ensures.ran in record {
   too_long = λ settled reads bytes known. (run.classifies-text ran settled reads bytes known).too_long;
   not_json = λ settled reads bytes known. (run.classifies-text ran settled reads bytes known).not_json;
   usage = run.usage ran;
@@ -55,15 +55,15 @@ returns-clause-cause g c = let ran = c.run_watched.ensures.ran in record {
 }
 
 pub returns-clause-failed : goal.returns-clause-failed
-returns-clause-failed g c = let ran = c.run_watched.ensures.ran in record {
+returns-clause-failed g c = let ran = c.run_lent.ensures.ran in record {
   read_fault = λ e. (run.is_failed ran e).1.0;
   reads = λ e. (run.is_failed ran e).1.1;
   write_fault = run.write_fault ran;
 }
 
 pub returns-clause-unwritten : goal.returns-clause-unwritten
-returns-clause-unwritten g c (inl e) = (run.is_failed c.run_watched.ensures.ran e).0.same
-returns-clause-unwritten g c (inr e) = (run.is_starved c.run_watched.ensures.ran e).same
+returns-clause-unwritten g c (inl e) = (run.is_failed c.run_lent.ensures.ran e).0.same
+returns-clause-unwritten g c (inr e) = (run.is_starved c.run_lent.ensures.ran e).same
 
 pub returns-clause-emptied : goal.returns-clause-emptied
-returns-clause-emptied g c = run.emptied c.run_watched.ensures.ran
+returns-clause-emptied g c = run.emptied c.run_lent.ensures.ran

@@ -1,7 +1,7 @@
 use Rattle.std.proofs.Common.{inl, inr, subst}
 use Rattle.vr_io.specs.Edges.{Took}
 use Rattle.vr_io.specs.Whole.{TookFront}
-use Rattle.vr_app.proofs.reply.run_watched.Goals as goal
+use Rattle.vr_app.proofs.reply.run_lent.Goals as goal
 
 pub returns-in-Ok-write_all-clause-ran : goal.returns-in-Ok-write_all-clause-ran
 returns-in-Ok-write_all-clause-ran g c =
