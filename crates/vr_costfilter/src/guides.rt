@@ -6,14 +6,14 @@
 //! 4000 is above all of these.
 
 ghost use Rattle.std.proofs.Props.{props};
-ghost use Rattle.std.specs.Prelude.{◌≡◌, ◌<◌, ◌≤◌, ◌+◌, ◌*◌, All, IfSome, IsTrue, Some, cond, is_some, length, reverse};
-ghost use Rattle.std.specs.Prelude.{ℕ, List, [], ◌∷◌, slice_index_or, pos, ◌+ℤ◌, ◌≤ℤ◌};
+ghost use Rattle.std.specs.Prelude.{◌≡◌, ◌<◌, ◌≤◌, ◌+◌, All, IfSome, IsTrue, Some, is_some, length, reverse};
+ghost use Rattle.std.specs.Prelude.{ℕ, List, [], ◌∷◌, neg_ℤ, pos, ◌≤ℤ◌, ◌^◌};
 ghost use Rattle.std.specs.Option.{option_copied};
 ghost use Rattle.vr_model.specs.tables.Numbers.{horizon};
-ghost use Rattle.vr_model.specs.tables.Tables.{dimension_at, is_visit, row_of as row_of_key, transit, vehicle_at};
+ghost use Rattle.vr_model.specs.tables.Tables.{dimension_at, is_visit};
+ghost use Rattle.vr_model.specs.tables.Tables.{transit as transit_of, vehicle_at};
 ghost use Rattle.vr_model.specs.tables.WellFormed.{IsIn, IsStopRow, WherePresent};
 ghost use Rattle.vr_model.specs.tables.WellFormedOnce.{IsWellFormed-prop};
-ghost use Rattle.vr_plan.specs.Bounds.{cumul_cost};
 ghost use Rattle.vr_reach.specs.VisitRuns.{have_stops_one_run, HasCumulEnds};
 ghost use Rattle.vr_costfilter.specs.Floors.{before as before_by, end_step as end_step_by, stop_floor as floor_by};
 ghost use Rattle.vr_costfilter.specs.Floors.{IsStep, IsVisitStep, WentBack};
@@ -25,7 +25,7 @@ ghost use Rattle.vr_costfilter.specs.Stages.{to_end as to_end_by, to_visit as to
 use crate::trails::{Step, Trail};
 use vr_model::{Closed, Evaluator, Model, StopRow};
 use vr_plan::{Table, row_cost, row_of};
-use vr_reach::{Ahead, earliest_behind, single_runs, slack_of};
+use vr_reach::{Ahead, StopsFor, earliest_behind, single_runs, slack_of};
 use vr_spans::Run;
 
 /// How far a vehicle has come: the node of the stop where it is, its cumul there, and what the soft upper bounds of the
@@ -75,7 +75,12 @@ impl<'m> Guide<'m> {
         ensures known { is_some result ≡ have_stops_one_run closed.entry.model.now d v }
     {
         let model = closed.model;
-        let runs = single_runs(model, d, v, &table.stops)?;
+        let runs = single_runs(&StopsFor {
+            closed,
+            d,
+            v,
+            of_dimension: &table.stops,
+        })?;
         Some(Guide {
             model,
             table,
@@ -87,6 +92,18 @@ impl<'m> Guide<'m> {
             visits: runs.visits,
             finish: runs.finish,
         })
+    }
+
+    // The transit from one node to another.
+    #[inline(always)]
+    pub(crate) fn transit(&self, from: u32, to: u32) -> i64
+        requires from { from < self.now.model.now.nodes }
+        requires to { to < self.now.model.now.nodes }
+        ensures value { result ≡ transit_of self.now.model.now self.now.d self.now.v from to }
+        ensures least { neg_ℤ (pos (2 ^ 31)) ≤ℤ result }
+        ensures greatest { result ≤ℤ pos (2 ^ 31) }
+    {
+        self.model.transit_by(self.evaluator, from, to)
     }
 
     /// The step to the end.
@@ -162,9 +179,7 @@ impl<'m> Guide<'m> {
         ensures value { result ≡ floor_by self.now.model.now self.now.d self.now.v node allowed next }
         ensures range { IfSome result (IsIn (pos 0) horizon) }
     {
-        let transit = self
-            .model
-            .transit_by(self.d, self.v, self.evaluator, node, next.node);
+        let transit = self.transit(node, next.node);
         let floor = (next.floor - transit - self.slack).max(allowed.lo);
         if floor > allowed.hi {
             return None;
@@ -245,15 +260,13 @@ impl<'m> Guide<'m> {
         requires stage { IsStageOf self.now.model.now 4000 stage }
         requires stop { IsStopAt self.now.model.now node allowed }
         requires row { WherePresent IsStopRow (option_copied row) }
-        ensures value { result ≡ go_on_by (transit self.now.model.now self.now.d self.now.v stage.at node)
+        ensures value { result ≡ go_on_by (transit_of self.now.model.now self.now.d self.now.v stage.at node)
             (dimension_at self.now.model.now self.now.d).slack_max node allowed (option_copied row.entry) stage }
         ensures at { IfSome result (λ next. next.at ≡ node) }
         ensures range { IfSome result (λ next. (n : ℕ) → IsStageOf self.now.model.now n stage
             → IsStageOf self.now.model.now (n + 1) next) }
     {
-        let transit = self
-            .model
-            .transit_by(self.d, self.v, self.evaluator, stage.at, node);
+        let transit = self.transit(stage.at, node);
         let cumul = earliest_behind(stage.cumul, transit, self.slack, allowed)?;
         let cost = row_cost(row, cumul);
         Some(Stage {

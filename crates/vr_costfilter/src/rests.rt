@@ -30,9 +30,7 @@ impl<'m> Guide<'m> {
         ensures { result ≡ rest_by (transit_of self.now.model.now self.now.d self.now.v node rest.at) node allowed
             rest }
     {
-        let transit = self
-            .model
-            .transit_by(self.d, self.v, self.evaluator, node, rest.at);
+        let transit = self.transit(node, rest.at);
         let transits = transit + rest.transits;
         Rest {
             at: node,
@@ -49,9 +47,7 @@ impl<'m> Guide<'m> {
         requires rest { IsTightRestOf self.now.model.now 1000 rest }
         ensures { result ≡ through_rest self.now.model.now self.now.d self.now.v way rest }
     {
-        let transit = self
-            .model
-            .transit_by(self.d, self.v, self.evaluator, way.at, rest.at);
+        let transit = self.transit(way.at, rest.at);
         let left = transit + rest.transits;
         Way {
             at: self.finish.node,

@@ -70,9 +70,7 @@ impl<'m> Guide<'m> {
         requires way { IsTightWayOf self.now.model.now 10000 way }
         ensures { result ≡ way_on_by self.now.model.now self.now.d self.now.v way node allowed }
     {
-        let transit = self
-            .model
-            .transit_by(self.d, self.v, self.evaluator, way.at, node);
+        let transit = self.transit(way.at, node);
         let transits = way.transits + transit;
         Way {
             at: node,

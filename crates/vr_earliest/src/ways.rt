@@ -122,8 +122,7 @@ impl<'m> Guide<'m> {
         ensures least { neg_ℤ (pos (2 ^ 31)) ≤ℤ result }
         ensures greatest { result ≤ℤ pos (2 ^ 31) }
     {
-        self.model
-            .transit_by(self.d, self.v, self.evaluator, from, to)
+        self.model.transit_by(self.evaluator, from, to)
     }
 }
 

@@ -1,14 +1,15 @@
 //! What a model and its rows say of nodes, arcs and vehicles. Each look-up stands at the smallest
 //! record that answers it.
 
-ghost use Rattle.std.specs.Prelude.{◌≡◌, ◌<◌, ◌^◌, ◌*◌, ◌+◌, ◌==◌, ◌||◌, ◌⊎◌, length, pos, neg_ℤ, ◌≤ℤ◌, find, Some};
+ghost use Rattle.std.specs.Prelude.{ℕ, ◌≡◌, ◌<◌, ◌^◌, ◌*◌, ◌+◌, ◌==◌, ◌||◌, ◌⊎◌, length, pos, neg_ℤ, ◌≤ℤ◌, find, Some};
 ghost use Rattle.std.specs.List.{All};
 ghost use Rattle.std.specs.Option.{option_copied, option_map};
 ghost use Rattle.vr_model.specs.tables.Numbers.{number_at};
 ghost use Rattle.vr_model.specs.tables.Tables.{arc_cost, breaks_of as breaks_of_vehicle, dimension_at, evaluated};
 ghost use Rattle.vr_model.specs.tables.Tables.{evaluator_of as evaluator_of_vehicle, is_terminal, is_visit};
 ghost use Rattle.vr_model.specs.tables.Tables.{matrix_part, row_of, transit};
-ghost use Rattle.vr_model.specs.tables.WellFormed.{IsEvaluator, IsIn, IsMatrix, IsStopRow, IsWellFormed, WherePresent};
+ghost use Rattle.vr_model.specs.tables.WellFormed.{IsEvaluator, IsEvaluatorFor, IsIn, IsMatrix, IsStopRow};
+ghost use Rattle.vr_model.specs.tables.WellFormed.{IsWellFormed, WherePresent};
 ghost use Rattle.vr_model.specs.tables.Limits.{least_value, greatest_cost, greatest_value};
 ghost use Rattle.vr_model.specs.routes.Rules.{allows_vehicle as allows_vehicle_of};
 
@@ -32,7 +33,9 @@ impl Evaluator {
     #[inline]
     pub fn value(&self, node: u32) -> i64
         requires { (length self.now.values ≡ 0) ⊎ (node < length self.now.values) }
-        ensures { result ≡ number_at self.now.values node }
+        ensures value { result ≡ number_at self.now.values node }
+        ensures in_range { All (IsIn least_value greatest_value) self.now.values
+            → IsIn least_value greatest_value result }
     {
         if self.values.is_empty() {
             0
@@ -51,18 +54,7 @@ impl Evaluator {
         requires target { j < model.now.nodes }
         ensures { result ≡ evaluated model.now self.now i j }
     {
-        model.matrix_part(self.matrix, i, j) + self.value_in_range(model, i)
-    }
-
-    /// The value of a node, in its range.
-    #[inline]
-    fn value_in_range(&self, model: &Model, node: u32) -> i64
-        requires evaluator { IsEvaluator model.now self.now }
-        requires node { node < model.now.nodes }
-        ensures value { result ≡ number_at self.now.values node }
-        ensures in_range { IsIn least_value greatest_value result }
-    {
-        self.value(node)
+        model.matrix_part(self.matrix, i, j) + self.value(i)
     }
 }
 
@@ -142,19 +134,19 @@ impl Model {
         ensures greatest { result ≤ℤ pos (2 ^ 31) }
     {
         let evaluator = self.dimensions.get(d as usize).evaluator_of(v);
-        self.transit_by(d, v, evaluator, i, j)
+        self.transit_by(evaluator, i, j)
     }
 
-    /// The same by the evaluator of vehicle `v` in dimension `d`, which the caller has looked up.
+    /// The transit from node `i` to node `j` of whichever vehicle has this evaluator in some dimension, in
+    /// `-2^31..=2^31`, where the caller has looked the evaluator up.
     #[inline]
-    pub fn transit_by(&self, d: u32, v: u32, evaluator: &Evaluator, i: u32, j: u32) -> i64
+    pub fn transit_by(&self, evaluator: &Evaluator, i: u32, j: u32) -> i64
         requires well_formed { IsWellFormed self.now }
-        requires dimension { d < length self.now.dimensions }
-        requires vehicle { v < length self.now.vehicles }
-        requires evaluator { evaluator.now ≡ evaluator_of_vehicle (dimension_at self.now d) v }
+        requires evaluator { (d : _) × (v : _) × IsEvaluatorFor self.now d v evaluator.now }
         requires origin { i < self.now.nodes }
         requires target { j < self.now.nodes }
-        ensures value { result ≡ transit self.now d v i j }
+        ensures value { (d v : ℕ) → evaluator.now ≡ evaluator_of_vehicle (dimension_at self.now d) v
+            → result ≡ transit self.now d v i j }
         ensures least { neg_ℤ (pos (2 ^ 31)) ≤ℤ result }
         ensures greatest { result ≤ℤ pos (2 ^ 31) }
     {

@@ -385,7 +385,7 @@ fn part_passes<L: Ledger, M: Ledger>(
         tries.new ≤ tries.old + list_tries at.now.closed.model.now at.now.d part.vehicle
         (route at.now.routes.now.lists part.vehicle) (joined at.now.routes.now.lists part.pieces) }
 {
-    let ends = write_between(at.closed, at.routes, change, k, &mut room.list);
+    let ends = write_between(at.routes, change, k, &mut room.list);
     let v = ends.vehicle;
     let stops = StopsFor {
         closed: at.closed,

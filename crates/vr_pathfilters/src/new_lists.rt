@@ -169,18 +169,11 @@ impl<'r, 'n> NewList<'r, 'n> {
 
     // Whether the pair that a node is in comes in turn.
     #[inline]
-    fn comes_in_turn(
-        &self,
-        lookups: &NodeTables<'_>,
-        policy: Policy,
-        counted: &NewCounts<'_, '_>,
-        node: u32,
-    ) -> bool
-        requires same_model { counted.now.model ≡ lookups.now }
-        requires same_list { replaced_list counted.now ≡ self.now }
-        ensures { result ≡ comes_in_turn lookups.now policy self.now node }
+    fn comes_in_turn(&self, policy: Policy, counted: &NewCounts<'_, '_>, node: u32) -> bool
+        requires { replaced_list counted.now ≡ self.now }
+        ensures { result ≡ comes_in_turn counted.now.model policy self.now node }
     {
-        match lookups.pair_of(node) {
+        match counted.pair_of(node) {
             None => true,
             Some(pair) => {
                 counted.are_in_turn(policy, self.place(pair.pickup), self.place(pair.delivery))
@@ -191,17 +184,15 @@ impl<'r, 'n> NewList<'r, 'n> {
     /// Whether the pairs that some nodes are in come in turn, where the list is counted.
     pub(crate) fn come_in_turn(
         &self,
-        lookups: &NodeTables<'_>,
         policy: Policy,
         counted: &NewCounts<'_, '_>,
         nodes: &[u32],
     ) -> bool
-        requires same_model { counted.now.model ≡ lookups.now }
-        requires same_list { replaced_list counted.now ≡ self.now }
-        ensures { result ≡ list_all (comes_in_turn lookups.now policy self.now) nodes.now }
+        requires { replaced_list counted.now ≡ self.now }
+        ensures { result ≡ list_all (comes_in_turn counted.now.model policy self.now) nodes.now }
     {
         nodes
             .iter()
-            .all(|&node| self.comes_in_turn(lookups, policy, counted, node))
+            .all(|&node| self.comes_in_turn(policy, counted, node))
     }
 }

@@ -78,7 +78,7 @@ fn takes_turns(lookups: &NodeTables<'_>, turns: &Turns, policy: Policy, ends: &B
     let old = ends.routes.list(ends.v);
     let counted = NewCounts::of(lookups, turns, old, ends.front, ends.behind, ends.middle);
     let new = NewList { ends: *ends };
-    new.come_in_turn(lookups, policy, &counted, ends.middle)
+    new.come_in_turn(policy, &counted, ends.middle)
 }
 
 // The policy of a vehicle.
@@ -120,14 +120,10 @@ impl PairTables {
             (joined routes.now.lists (part_at change.now k).pieces) }
         ensures listed { self.new.turns.listed ≡ self.old.turns.listed }
     {
-        let closed = Closed {
-            model: lookups.model(),
-        };
-        if closed.model.pairs.is_empty() {
+        if lookups.model().pairs.is_empty() {
             return true;
         }
-        routes.know_once();
-        let ends = write_between(closed, routes, change, k, &mut self.list);
+        let ends = write_between(routes, change, k, &mut self.list);
         mark(self.list.as_slice(), &mut self.marks);
         let between = Between {
             routes,

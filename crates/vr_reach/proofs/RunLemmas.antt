@@ -19,12 +19,14 @@ use Rattle.vr_steps.specs.Reached.{RunsAreCounted}
 use Rattle.vr_steps.specs.Stops.{allowed_by}
 use Rattle.vr_steps.specs.declared.stops.StopName.TheVariants.{Visit}
 use Rattle.vr_reach.specs.declared.stops.Stops.{Stops}
+use Rattle.vr_reach.specs.declared.stops.StopsFor.{StopsFor}
 use Rattle.vr_reach.specs.Stops.{AreStops}
 use Rattle.vr_reach.specs.Singles.{IsOnlyRun}
+use Rattle.vr_reach.specs.VehicleStops.{AreStopsFor}
 use Rattle.vr_reach.specs.VisitRuns.{have_visits_one_run, is_one_run, is_single, AreKnownRuns, IsRunFor, IsRunOf, AreRunsOfSets, AreVisitRuns}
 use Rattle.vr_reach.specs.VisitSets.{IsSetOf, IsTableOf, AreVisitSets}
 use Rattle.vr_model.proofs.tables.Tests.{all-from_list_all, clash, fails}
-use Rattle.vr_reach.proofs.Tables.{each_push, table_here}
+use Rattle.vr_reach.proofs.Tables.{each_push, table_here, table_there}
 
 -- the only run of a set
 pub only_run : (set : List Run) (run : Run) → length set ≡ 1 → slice_get set 0 ≡ Some run → IsNormal set → IsRunOf set run
@@ -94,6 +96,14 @@ runs_here model d v k stops are is runs found =
     let low : k < length sets.tables = (let same = are.visits.tables.one_of_each in let there = is.there in omega (arith, same, there)) in
     visit_runs model d v (get_or sets.tables k []) runs (table_here model d v k sets are.visits.tables is) (subst (λ some. IfSome some (AreRunsOfSets (get_or sets.tables k []))) found (are.runs.each k low).runs)
 
+-- there are its runs, or it is known that some set is of more than one
+pub runs_there : (model : Model) (d v : ℕ) (stops : Stops) → AreStops model d stops → v < length model.vehicles → get_or stops.visits.table_of v 0 < length stops.runs
+runs_there model d v stops are low = let there = table_there model d v stops.visits are.visits low in let same = are.runs.one_of_each in omega (arith, there, same)
+
+-- the same for one of the vehicles
+pub runs_for : {stops : StopsFor} → AreStopsFor stops → get_or stops.of_dimension.now.visits.table_of stops.v 0 < length stops.of_dimension.now.runs
+runs_for {stops} known = runs_there stops.closed.model.now stops.d stops.v stops.of_dimension.now known.are known.vehicle
+
 pub none_of : {A : Type 0} (xs : List A) → is_empty xs ≡ true → xs ≡ []
 none_of [] none = refl
 none_of (x ∷ xs) none = absurd (false≢true none)
@@ -107,6 +117,17 @@ first_fails a b c d is = ap (λ x. x && b && c && d) is
 pub second_fails : (a b c d : Bool) → false ≡ b → false ≡ (a && b && c && d)
 second_fails true b c d is = ap (λ x. x && c && d) is
 second_fails false b c d is = refl
+
+pub third_fails : (a b c d : Bool) → false ≡ c → false ≡ (a && b && c && d)
+third_fails true true c d is = ap (λ x. x && d) is
+third_fails true false c d is = refl
+third_fails false b c d is = refl
+
+pub fourth_fails : (a b c d : Bool) → false ≡ d → false ≡ (a && b && c && d)
+fourth_fails true true true d is = is
+fourth_fails true true false d is = refl
+fourth_fails true false c d is = refl
+fourth_fails false b c d is = refl
 
 -- ---- which sets are of no more than one run
 

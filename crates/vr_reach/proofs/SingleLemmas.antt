@@ -189,10 +189,10 @@ pub tick_more : (start total here rest now new left : ℕ) → now + left ≤ st
 tick_more start total here rest now new left a b c d = omega (arith, a, b, c, d)
 
 -- the same, of the arc of a run
-pub arc_counted : RunsAreCounted → ReachedAsTested → (L : Line) (k last b : ℕ) (run : Run) → k < last → IsCumulRun run → IsReachedRun L k b run → b ≡ 0 → (start total now new : ℕ) → now + steps_between L k last ≤ start + total → new ≡ now + 1 → new + steps_between L (k + 1) last ≤ start + total
-arc_counted counted tested L k last b run low cumul is none start total now new before tick =
+pub arc_counted : RunsAreCounted → ReachedAsTested → (L : Line) (k last : ℕ) (run : Run) → k < last → IsCumulRun run → IsReachedRun L k 0 run → (start total now new : ℕ) → now + steps_between L k last ≤ start + total → new ≡ now + 1 → new + steps_between L (k + 1) last ≤ start + total
+arc_counted counted tested L k last run low cumul is start total now new before tick =
     tick_more start total (arc_steps L k) (steps_between L (k + 1) last) now new (steps_between L k last) before (first_arc L k last low)
-    (one_step counted tested L k run cumul (subst (λ a. IsReachedRun L k a run) none is)) tick
+    (one_step counted tested L k run cumul is) tick
 
 -- a run of what is allowed, behind an arc
 pub cumuls_behind : (run allowed new : Run) (t s : ℤ) → HasCumulEnds allowed → new.lo ≡ int_max (run.lo +ℤ t) allowed.lo → new.hi ≡ int_min (run.hi +ℤ (t +ℤ s)) allowed.hi → new.lo ≤ℤ new.hi → IsCumulRun new

@@ -11,9 +11,11 @@ use Rattle.vr_model.specs.declared.records.Dimension.{Dimension}
 use Rattle.vr_model.specs.declared.records.Model.{Model}
 use Rattle.vr_reach.specs.declared.ends.Ends.{Ends}
 use Rattle.vr_reach.specs.declared.stops.Stops.{Stops}
+use Rattle.vr_reach.specs.declared.stops.StopsFor.{StopsFor}
 use Rattle.vr_reach.specs.declared.visits.VisitSets.{VisitSets}
 use Rattle.vr_reach.specs.Stops.{AreEndsOf, AreStops}
-use Rattle.vr_reach.specs.VisitSets.{capacity_of, AreSetsUnder, AreTablesUnder, AreVisitSets, IsTableOf}
+use Rattle.vr_reach.specs.VehicleStops.{AreStopsFor}
+use Rattle.vr_reach.specs.VisitSets.{capacity_of, AreSets, AreSetsUnder, AreTablesUnder, AreVisitSets, IsTableOf}
 
 -- what holds of each entry at its place holds with one entry more
 pub each_push : {A : Type 0} (P : ℕ → A → Type 0) (xs : List A) (x : A) → ((k : ℕ) (d : A) → k < length xs → P k (get_or xs k d)) → P (length xs) x → (k : ℕ) (d : A) → k < length (xs ++ x ∷ []) → P k (get_or (xs ++ x ∷ []) k d)
@@ -25,6 +27,14 @@ each_push P (y ∷ ys) x each last (suc k) d lt = each_push (λ j. P (suc j)) ys
 -- the ends of a vehicle, as code reads them
 pub ends_here : (model : Model) (d v : ℕ) (stops : Stops) → AreStops model d stops → v < length model.vehicles → (ends : Ends) → ends ≡ get_or stops.ends.items v ends → AreEndsOf model d v ends
 ends_here model d v stops are low ends is = subst (AreEndsOf model d v) (sym is) (are.ends v ends (let n = are.ends_of_each in omega (arith, low, n)))
+
+-- the same for one of the vehicles
+pub ends_for : {stops : StopsFor} {ends : Ends} → AreStopsFor stops → ends ≡ get_or stops.of_dimension.now.ends.items stops.v ends → AreEndsOf stops.closed.model.now stops.d stops.v ends
+ends_for {stops} {ends} known is = ends_here stops.closed.model.now stops.d stops.v stops.of_dimension.now known.are known.vehicle ends is
+
+-- it has a number of a table
+pub has_table : {stops : StopsFor} → AreStopsFor stops → stops.v < length stops.of_dimension.now.visits.table_of
+has_table known = let n = known.are.visits.one_of_each in let low = known.vehicle in omega (arith, n, low)
 
 -- a capacity more leaves the places of the others
 pub table_stays : (model : Model) (d w k : ℕ) (capacities : List ℤ) (capacity : ℤ) → IsTableOf model d w capacities k → IsTableOf model d w (capacities ++ capacity ∷ []) k
@@ -60,6 +70,10 @@ tables_more model d v capacities tables capacity sets are is new = record {
 -- the table of a vehicle has what visits allow it
 pub table_here : (model : Model) (d v k : ℕ) (sets : VisitSets) → AreTablesUnder model d sets.capacities sets.tables → IsTableOf model d v sets.capacities k → AreVisitSets model d v (get_or sets.tables k [])
 table_here model d v k sets are is = subst (λ c. AreSetsUnder model d c (get_or sets.tables k [])) is.same (are.each k (let same = are.one_of_each in let low = is.there in omega (arith, same, low)))
+
+-- there is the table of a vehicle
+pub table_there : (model : Model) (d v : ℕ) (sets : VisitSets) → AreSets model d (length model.vehicles) sets → v < length model.vehicles → get_or sets.table_of v 0 < length sets.tables
+table_there model d v sets are low = let there = (are.each v low).there in let same = are.tables.one_of_each in omega (arith, there, same)
 
 -- one entry more of the first of a whole
 pub push_taken : {A : Type 0} (whole made : List A) (k : ℕ) (x d : A) → k < length whole → made ≡ take k whole → x ≡ get_or whole k d → made ++ x ∷ [] ≡ take (k + 1) whole

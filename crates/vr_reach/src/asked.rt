@@ -19,10 +19,7 @@ pub(crate) fn asked_of<'m, 'l, 's>(
     ensures { IsAskedOf stops.now list.now result }
 {
     let ends = &stops.of_dimension.ends[stops.v as usize];
-    let visits = stops
-        .of_dimension
-        .visits
-        .of(stops.closed.model, stops.d, stops.v);
+    let visits = stops.of_dimension.visits.of(stops.v);
     let of = Driven {
         closed: stops.closed,
         d: stops.d,

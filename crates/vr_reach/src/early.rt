@@ -10,7 +10,6 @@ ghost use Rattle.vr_steps.specs.declared.stops.StopName.TheVariants.{Start};
 ghost use Rattle.vr_reach.specs.Early.{has_cumul_behind, AreChosen, AreEarly, AreFoundInTurn, CanBeFoundInTurn};
 ghost use Rattle.vr_reach.specs.Early.{IsEarliestBehind};
 ghost use Rattle.vr_reach.specs.Lists.{IsUsed};
-ghost use Rattle.vr_reach.specs.Stops.{AreStops};
 ghost use Rattle.vr_reach.specs.VehicleStops.{line_for, line_of, AreStopsFor};
 ghost use Rattle.vr_reach.specs.VisitRuns.{have_stops_one_run, AreVisitRuns, HasCumulEnds, IsFinish, IsRunFor};
 
@@ -19,9 +18,8 @@ use crate::run_walks::RunLine;
 use crate::runs::run_of;
 use crate::single::{Ahead, finish_of, slack_of, stop_ahead};
 use crate::spliced::Spliced;
-use crate::stops::{Stops, StopsFor, node_at};
+use crate::stops::{StopsFor, node_at};
 use arrayvec::ArrayVec;
-use vr_model::Model;
 use vr_spans::Run;
 
 /// The cumuls of the stops of one list.
@@ -38,24 +36,26 @@ pub struct StopRuns<'a> {
     pub finish: Ahead,
 }
 
-/// The run of cumuls that each stop of vehicle `v` allows, nothing exactly where it has breaks or some stop allows more
+/// The run of cumuls that each stop of a vehicle allows, nothing exactly where it has breaks or some stop allows more
 /// than one.
-pub fn single_runs<'a>(model: &Model, d: u32, v: u32, stops: &'a Stops) -> Option<StopRuns<'a>>
-    requires vehicle { v < length model.now.vehicles }
-    requires stops { AreStops model.now d stops.now }
-    ensures no_breaks { IfSome result (λ runs. breaks_of (dimension_at model.now d) v ≡ []) }
-    ensures start { IfSome result (λ runs. IsRunFor (allowed_by model.now d v Start) runs.start) }
-    ensures visits { IfSome result (λ runs. AreVisitRuns model.now d v runs.visits.now) }
-    ensures finish { IfSome result (λ runs. IsFinish model.now d v runs.finish) }
-    ensures known { is_some result ≡ have_stops_one_run model.now d v }
+pub fn single_runs<'s>(stops: &StopsFor<'_, 's>) -> Option<StopRuns<'s>>
+    requires { AreStopsFor stops.now }
+    ensures no_breaks { IfSome result (λ runs.
+        breaks_of (dimension_at stops.now.closed.model.now stops.now.d) stops.now.v ≡ []) }
+    ensures start { IfSome result (λ runs.
+        IsRunFor (allowed_by stops.now.closed.model.now stops.now.d stops.now.v Start) runs.start) }
+    ensures visits { IfSome result (λ runs. AreVisitRuns stops.now.closed.model.now stops.now.d stops.now.v
+        runs.visits.now) }
+    ensures finish { IfSome result (λ runs. IsFinish stops.now.closed.model.now stops.now.d stops.now.v runs.finish) }
+    ensures known { is_some result ≡ have_stops_one_run stops.now.closed.model.now stops.now.d stops.now.v }
 {
-    let ends = &stops.ends[v as usize];
+    let ends = &stops.of_dimension.ends[stops.v as usize];
     if !ends.has_no_breaks() {
         return None;
     }
     let start = run_of(&ends.start_set)?;
-    let finish = finish_of(model, d, v, ends)?;
-    let visits = stops.runs_of(model, d, v)?;
+    let finish = finish_of(stops.closed.model, stops.v, ends)?;
+    let visits = stops.runs()?;
     Some(StopRuns {
         start,
         visits,
@@ -76,7 +76,7 @@ pub fn write_earliest(stops: &StopsFor, list: &[u32], cumuls: &mut Cumuls) -> bo
     ensures range { IsTrue result → All (IsIn (pos 0) horizon) cumuls.new.items }
 {
     let (closed, d, v) = (stops.closed, stops.d, stops.v);
-    match single_runs(closed.model, d, v, stops.of_dimension) {
+    match single_runs(stops) {
         Some(runs) => {
             if runs.start.lo > runs.start.hi {
                 return false;
@@ -118,10 +118,7 @@ fn drive(line: &RunLine, start: Run, cumuls: &mut Cumuls) -> bool
     let n = of.list.len();
     for k in 0..n + 1 {
         let ahead = stop_ahead(line, k);
-        let transit = of
-            .closed
-            .model
-            .transit_by(of.d, of.v, line.evaluator, origin, ahead.node);
+        let transit = line.transit(origin, ahead.node);
         match earliest_behind(cumul, transit, line.slack, ahead.allowed) {
             Some(next) => cumul = next,
             None => return false,

@@ -30,7 +30,7 @@ pub(crate) fn told_without_breaks<L: Ledger>(walk: &RunWalk, tries: &mut Steps<L
         + tries_between (line_along walk.now) walk.now.begin walk.now.last }
 {
     let begun = run_at(walk.from, 0)?;
-    let run = carry_run(walk, 0, begun, tries);
+    let run = carry_run(walk, begun, tries);
     let all = walk.to.len() - 1;
     if !shares_with(run, walk.to.level(all)) {
         return Some(false);
@@ -72,6 +72,6 @@ fn goes_with<L: Ledger>(walk: &RunWalk, taken: usize, tries: &mut Steps<L>) -> b
     let Some(begun) = run_at(walk.from, taken) else {
         return false;
     };
-    let run = carry_run(walk, taken, begun, tries);
+    let run = carry_run(walk, begun, tries);
     shares_with(run, walk.to.level(taken))
 }

@@ -1,9 +1,9 @@
 //! What a walk of one run asks.
 
 ghost use Rattle.std.proofs.Props.{props};
-ghost use Rattle.std.specs.Prelude.{◌≡◌, ◌<◌, ◌≤◌, suc, length, pos};
+ghost use Rattle.std.specs.Prelude.{◌≡◌, ◌<◌, ◌≤◌, ◌≤ℤ◌, ◌^◌, suc, length, neg_ℤ, pos};
 ghost use Rattle.vr_model.specs.tables.Numbers.{horizon};
-ghost use Rattle.vr_model.specs.tables.Tables.{dimension_at, evaluator_of};
+ghost use Rattle.vr_model.specs.tables.Tables.{dimension_at, evaluator_of, transit as transit_of};
 ghost use Rattle.vr_model.specs.tables.WellFormed.{IsIn};
 ghost use Rattle.vr_reach.specs.Tested.{IsReachedBy, IsReachingBy};
 ghost use Rattle.vr_reach.specs.VehicleStops.{line_of};
@@ -35,6 +35,20 @@ pub(crate) struct RunLine<'m, 'l, 's> {
     pub ghost runs_are: { AreVisitRuns of.closed.model.now of.d of.v visits.now } by { Prim.hlevel props },
     // The end is its end.
     pub ghost finish_is: { IsFinish of.closed.model.now of.d of.v finish } by { Prim.hlevel props },
+}
+
+impl RunLine<'_, '_, '_> {
+    // The transit from one node to another.
+    #[inline(always)]
+    pub(crate) fn transit(&self, from: u32, to: u32) -> i64
+        requires from { from < self.now.of.closed.model.now.nodes }
+        requires to { to < self.now.of.closed.model.now.nodes }
+        ensures value { result ≡ transit_of self.now.of.closed.model.now self.now.of.d self.now.of.v from to }
+        ensures least { neg_ℤ (pos (2 ^ 31)) ≤ℤ result }
+        ensures greatest { result ≤ℤ pos (2 ^ 31) }
+    {
+        self.of.closed.model.transit_by(self.evaluator, from, to)
+    }
 }
 
 // A leg of such a list: two stops, the levels at which the first is reached, and those from which the end is reached at

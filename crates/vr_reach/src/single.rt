@@ -1,7 +1,7 @@
 //! Walks that carry one run of cumuls from stop to stop.
 
 ghost use Rattle.std.specs.Prelude.{◌≡◌, ◌+◌, ◌-◌, ◌<◌, ◌≤◌, ◌^◌, All, IfSome, is_some, length};
-ghost use Rattle.std.specs.Prelude.{IsTrue, ◌↔◌, ℤ, pos, neg_ℤ, ◌+ℤ◌, ◌≤ℤ◌};
+ghost use Rattle.std.specs.Prelude.{IsTrue, ◌↔◌, ℕ, ℤ, pos, neg_ℤ, ◌+ℤ◌, ◌≤ℤ◌};
 ghost use Rattle.std.specs.Int.{int_max, int_min};
 ghost use Rattle.vr_model.specs.schedules.Choices.{is_feasible};
 ghost use Rattle.vr_model.specs.schedules.Weights.{walk_weight};
@@ -16,7 +16,7 @@ ghost use Rattle.vr_reach.specs.Alone.{Follows, IsLedToWithoutBreaks};
 ghost use Rattle.vr_reach.specs.Counts.{steps_between};
 ghost use Rattle.vr_reach.specs.Lists.{node_at_stop};
 ghost use Rattle.vr_reach.specs.Singles.{are_runs, is_run, IsOnlyRun, IsReachedRun};
-ghost use Rattle.vr_reach.specs.RunWalks.{line_along, AreRunsBetween, IsStandAt};
+ghost use Rattle.vr_reach.specs.RunWalks.{line_along, AreRunsBetween};
 ghost use Rattle.vr_steps.specs.Samples.{IsCumulRun};
 ghost use Rattle.vr_reach.specs.Stops.{AreEndSets};
 ghost use Rattle.vr_reach.specs.VehicleStops.{line_of};
@@ -83,12 +83,12 @@ pub(crate) fn run_at(levels: &Levels, b: usize) -> Option<Run>
     Some(set.run(0))
 }
 
-// The end of vehicle `v`, nothing where it allows more than one run.
-pub(crate) fn finish_of(model: &Model, d: u32, v: u32, ends: &Ends) -> Option<Ahead>
+// The end of vehicle `v`, of which `ends` are the ends, nothing where it allows more than one run.
+pub(crate) fn finish_of(model: &Model, v: u32, ends: &Ends) -> Option<Ahead>
     requires vehicle { v < length model.now.vehicles }
-    requires ends { AreEndSets model.now d v ends.now }
-    ensures finish { IfSome result (IsFinish model.now d v) }
-    ensures known { is_some result ≡ is_one_run (allowed_by model.now d v End) }
+    ensures finish { (d : ℕ) → AreEndSets model.now d v ends.now → IfSome result (IsFinish model.now d v) }
+    ensures known { (d : ℕ) → AreEndSets model.now d v ends.now
+        → is_some result ≡ is_one_run (allowed_by model.now d v End) }
 {
     let allowed = run_of(&ends.end_set)?;
     let node = model.vehicles.get(v as usize).end;
@@ -106,7 +106,7 @@ pub(crate) fn walk_by_runs<L: Ledger>(
     ensures exact { result ≡ is_feasible (line_along walk.now) }
     ensures count { steps.new ≤ steps.old + walk_weight (line_along walk.now) walk.now.begin walk.now.last }
 {
-    let run = carry_run(walk, 0, between.from, steps);
+    let run = carry_run(walk, between.from, steps);
     if run.lo > run.hi {
         return false;
     }
@@ -116,23 +116,19 @@ pub(crate) fn walk_by_runs<L: Ledger>(
     share(run, between.to)
 }
 
-// The run that is reached at the last stop of a leg by a walk without breaks from its first one, where this run is all
-// that is reached with `taken` breaks taken. It has no number where nothing is reached on the way; then the walk stops
-// there. It counts a step for each arc.
-pub(crate) fn carry_run<L: Ledger>(
-    walk: &RunWalk,
-    taken: usize,
-    from: Run,
-    steps: &mut Steps<L>,
-) -> Run
-    requires breaks { taken ≤ length (line_along walk.now).breaks }
-    requires from { IsOnlyRun (level_at walk.now.from.now taken) from }
+// The run at the last stop of a leg, where a walk without breaks begins with run `from` at its first stop. Where `from`
+// is all that is reached there with so many breaks taken, this run is what is reached with as many. It has no number
+// where nothing is reached on the way; then the walk stops there. It counts a step for each arc.
+pub(crate) fn carry_run<L: Ledger>(walk: &RunWalk, from: Run, steps: &mut Steps<L>) -> Run
+    requires { IsCumulRun from }
     ensures cumuls { result.lo ≤ℤ result.hi → IsCumulRun result }
-    ensures reached { IsReachedRun (line_along walk.now) walk.now.last taken result }
+    ensures reached { (taken : ℕ) → taken ≤ length (line_along walk.now).breaks
+        → IsOnlyRun (level_at walk.now.from.now taken) from
+        → IsReachedRun (line_along walk.now) walk.now.last taken result }
     ensures led { (y : ℤ) → IsTrue (in_run result y) ↔ IsLedToWithoutBreaks (line_along walk.now) (in_run from)
         walk.now.begin (walk.now.last - walk.now.begin) y }
-    ensures count { taken ≡ 0 → steps.new
-        ≤ steps.old + steps_between (line_along walk.now) walk.now.begin walk.now.last }
+    ensures count { IsOnlyRun (level_at walk.now.from.now 0) from
+        → steps.new ≤ steps.old + steps_between (line_along walk.now) walk.now.begin walk.now.last }
     ensures arcs { steps.new ≤ steps.old + (walk.now.last - walk.now.begin) }
 {
     let line = &walk.line;
@@ -142,7 +138,7 @@ pub(crate) fn carry_run<L: Ledger>(
     };
     for k in walk.begin..walk.last {
         steps.tick();
-        here = cross_by_run(line, k, taken, here);
+        here = cross_by_run(line, k, here);
         if here.run.lo > here.run.hi {
             return here.run;
         }
@@ -173,21 +169,22 @@ pub(crate) fn stop_ahead(line: &RunLine, k: usize) -> Ahead
 // The stop behind the arc from stop `k`, and the run that is reached there without a break on the way. It has no number
 // where none is.
 #[inline]
-fn cross_by_run(line: &RunLine, k: usize, taken: usize, here: Stand) -> Stand
+fn cross_by_run(line: &RunLine, k: usize, here: Stand) -> Stand
     requires arc { k ≤ length line.now.of.list.now }
-    requires breaks { taken ≤ length (line_of line.now.of).breaks }
-    requires here { IsStandAt line.now k taken here }
-    ensures stands { result.run.lo ≤ℤ result.run.hi → IsStandAt line.now (k + 1) taken result }
-    ensures reached { IsReachedRun (line_of line.now.of) (k + 1) taken result.run }
+    requires node { here.node ≡ node_at_stop line.now.of.closed.model.now line.now.of.v line.now.of.list.now k }
+    requires below { here.node < line.now.of.closed.model.now.nodes }
+    requires cumuls { IsCumulRun here.run }
+    ensures node { result.node ≡ node_at_stop line.now.of.closed.model.now line.now.of.v line.now.of.list.now (k + 1) }
+    ensures below { result.node < line.now.of.closed.model.now.nodes }
+    ensures cumuls { result.run.lo ≤ℤ result.run.hi → IsCumulRun result.run }
+    ensures reached { (taken : ℕ) → taken ≤ length (line_of line.now.of).breaks
+        → IsReachedRun (line_of line.now.of) k taken here.run
+        → IsReachedRun (line_of line.now.of) (k + 1) taken result.run }
     ensures led { (y : ℤ) → IsTrue (in_run result.run y)
         ↔ ((x : ℤ) × IsTrue (in_run here.run x) × Follows (line_of line.now.of) k x y) }
 {
-    let of = &line.of;
     let ahead = stop_ahead(line, k);
-    let transit = of
-        .closed
-        .model
-        .transit_by(of.d, of.v, line.evaluator, here.node, ahead.node);
+    let transit = line.transit(here.node, ahead.node);
     let run = run_behind(here.run, transit, line.slack, ahead.allowed);
     Stand {
         node: ahead.node,

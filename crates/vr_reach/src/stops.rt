@@ -1,7 +1,8 @@
 //! What the stops of one dimension ask.
 
 ghost use Rattle.std.proofs.Props.{props};
-ghost use Rattle.std.specs.Prelude.{◌≡◌, suc, ◌<◌, ◌≤◌, length, IfOk, IfSome, is_some};
+ghost use Rattle.std.specs.Prelude.{◌≡◌, ℕ, suc, ◌<◌, ◌≤◌, length, slice_index_or, IfOk, IfSome, is_some};
+ghost use Rattle.vr_model.specs.declared.records.Model.{Model as Defined};
 ghost use Rattle.vr_steps.specs.Arcs.{IsSoundHop};
 ghost use Rattle.vr_steps.specs.Reached.{hop_at, IsAllowedSet};
 ghost use Rattle.vr_reach.specs.Lists.{node_at_stop};
@@ -16,7 +17,7 @@ use crate::ends::{Ends, ends_of_each};
 use crate::runs::run_tables;
 use crate::visits::VisitSets;
 use std::alloc::Global;
-use vr_model::{Closed, Model, NoMemory, Seq};
+use vr_model::{Closed, NoMemory, Seq};
 use vr_spans::{Run, Spans};
 use vr_steps::{Hop, hop};
 
@@ -44,11 +45,13 @@ impl Stops {
 
     // The run that each visit allows vehicle `v`, nothing where some visit allows more than one.
     #[inline]
-    pub(crate) fn runs_of(&self, model: &Model, d: u32, v: u32) -> Option<&[Run]>
-        requires stops { AreStops model.now d self.now }
-        requires vehicle { v < length model.now.vehicles }
-        ensures runs { IfSome result (λ runs. AreVisitRuns model.now d v runs.now) }
-        ensures known { is_some result ≡ have_visits_one_run model.now d v }
+    pub(crate) fn runs_of(&self, v: u32) -> Option<&[Run]>
+        requires vehicle { v < length self.now.visits.table_of }
+        requires table { slice_index_or self.now.visits.table_of v 0 < length self.now.runs }
+        ensures runs { (model : Defined) (d : ℕ) → AreStops model d self.now
+            → IfSome result (λ runs. AreVisitRuns model d v runs.now) }
+        ensures known { (model : Defined) (d : ℕ) → AreStops model d self.now
+            → is_some result ≡ have_visits_one_run model d v }
     {
         let k = *self.visits.table_of.get(v as usize);
         match self.runs.get(k) {
@@ -76,9 +79,10 @@ impl<'s> StopsFor<'_, 's> {
     #[inline]
     pub(crate) fn runs(&self) -> Option<&'s [Run]>
         requires { AreStopsFor self.now }
-        ensures { IfSome result (λ runs. AreVisitRuns self.now.closed.model.now self.now.d self.now.v runs.now) }
+        ensures runs { IfSome result (λ runs. AreVisitRuns self.now.closed.model.now self.now.d self.now.v runs.now) }
+        ensures known { is_some result ≡ have_visits_one_run self.now.closed.model.now self.now.d self.now.v }
     {
-        self.of_dimension.runs_of(self.closed.model, self.d, self.v)
+        self.of_dimension.runs_of(self.v)
     }
 }
 

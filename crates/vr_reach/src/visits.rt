@@ -1,12 +1,13 @@
 //! What visits allow, in a table for each capacity.
 
-ghost use Rattle.std.specs.Prelude.{◌≡◌, ◌≢◌, ◌+◌, ◌<◌, ◌≤◌, ℕ, length, IfOk, OnOk};
+ghost use Rattle.std.specs.Prelude.{◌≡◌, ◌≢◌, ◌+◌, ◌<◌, ◌≤◌, ℕ, length, slice_index_or, IfOk, OnOk};
+ghost use Rattle.vr_model.specs.declared.records.Model.{Model as Defined};
 ghost use Rattle.vr_model.specs.tables.Numbers.{number_at};
 ghost use Rattle.vr_reach.specs.VisitSets.{capacity_of, AreSets, AreTablesUnder, AreVisitSets, IsSetOfNode, IsTableOf};
 
 use crate::driven::VehicleIn;
 use std::alloc::Global;
-use vr_model::{Closed, Model, NoMemory, Seq};
+use vr_model::{Closed, NoMemory, Seq};
 use vr_spans::Spans;
 use vr_steps::{StopName, allowed_at};
 
@@ -54,10 +55,11 @@ impl VisitSets {
 
     // What visits allow vehicle `v`.
     #[inline]
-    pub(crate) fn of(&self, model: &Model, d: u32, v: u32) -> &[Spans]
-        requires sets { AreSets model.now d (length model.now.vehicles) self.now }
-        requires vehicle { v < length model.now.vehicles }
-        ensures { AreVisitSets model.now d v result.now }
+    pub(crate) fn of(&self, v: u32) -> &[Spans]
+        requires vehicle { v < length self.now.table_of }
+        requires table { slice_index_or self.now.table_of v 0 < length self.now.tables }
+        ensures { (model : Defined) (d : ℕ) → AreSets model d (length model.vehicles) self.now
+            → AreVisitSets model d v result.now }
     {
         let k = *self.table_of.get(v as usize);
         self.tables.get(k).as_slice()

@@ -64,7 +64,7 @@ fn told_by_runs<L: Ledger, M: Ledger>(
 {
     let visits = leg.runs?;
     let (closed, d, v) = (leg.stops.of.closed, leg.stops.of.d, leg.stops.of.v);
-    let finish = finish_of(closed.model, d, v, leg.stops.ends)?;
+    let finish = finish_of(closed.model, v, leg.stops.ends)?;
     let line = RunLine {
         of: leg.stops.of,
         evaluator: closed.model.dimensions.get(d as usize).evaluator_of(v),

@@ -1,7 +1,7 @@
 //! Kept cumuls: what a change makes of a list is told by them, whatever slacks may be, so that no schedule is looked
 //! for; so it is by what is kept once a change is committed. The schedules of tight vehicles are told too.
 
-ghost use Rattle.std.specs.Prelude.{◌≡◌, ◌<◌, IsTrue, OnOk, length};
+ghost use Rattle.std.specs.Prelude.{◌≡◌, ◌<◌, IsTrue, OnOk};
 ghost use Rattle.vr_costfilter.specs.Kept.{AreAllKept};
 ghost use Rattle.vr_model.specs.routes.Rules.{is_valid};
 ghost use Rattle.vr_model.specs.tables.Tables.{visits};
@@ -69,7 +69,7 @@ fn tells_of(
     let Some(change) = Change::of(closed.model, routes, mv) else {
         return Ok(false);
     };
-    if !stays_valid(alloc, closed, routes, mv, &change)? {
+    if !stays_valid(alloc, closed, routes, &change)? {
         return Ok(false);
     }
     let told = is_told(closed, tables, kept, routes, &change);

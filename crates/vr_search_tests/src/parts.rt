@@ -99,7 +99,7 @@ pub(crate) fn adds(
     let Some(change) = Change::of(closed.model, routes, mv) else {
         return Ok(false);
     };
-    if !stays_valid(alloc, closed, routes, mv, &change)? {
+    if !stays_valid(alloc, closed, routes, &change)? {
         return Ok(false);
     }
     let at = ValidChange {

@@ -91,12 +91,11 @@ pub(crate) fn stays_valid(
     alloc: Global,
     closed: Closed<'_>,
     routes: &Routes,
-    mv: Move,
     change: &Change,
 ) -> Result<bool, NoMemory>
     requires valid { IsTrue (is_valid closed.model.now routes.now.lists) }
-    requires is_one { is_move closed.model.now routes.now.lists mv ≡ true }
-    requires change { IsChange closed.model.now routes.now.lists mv change.now }
+    requires moved { (mv : _) × (is_move closed.model.now routes.now.lists mv ≡ true)
+        × IsChange closed.model.now routes.now.lists mv change.now }
     requires made { IsMadeOn routes.now change.now }
     ensures { IfOk result (λ stays. stays ≡ is_valid closed.entry.model.now (changed routes.now.lists change.now)) }
 {

@@ -8,7 +8,7 @@ use Rattle.vr_model.specs.tables.Limits.{greatest_cost, least_value, greatest_va
 use Rattle.vr_model.specs.tables.Limits.{greatest_lambda, most_nodes, most_vehicles, most_matrices, most_dimensions}
 use Rattle.vr_model.specs.tables.Limits.{most_evaluators, most_breaks, most_forbidden, most_groups, most_pairs}
 use Rattle.vr_model.specs.tables.Limits.{most_name_bytes, most_tries, most_neighbourhoods, most_cut, most_tenure}
-use Rattle.vr_model.specs.tables.Tables.{dimension_at, is_visit}
+use Rattle.vr_model.specs.tables.Tables.{dimension_at, evaluator_of, is_visit}
 use Rattle.vr_model.specs.routes.Routes.{is_same, is_distinct}
 use Rattle.vr_model.specs.tables.ModelRules.{has_negative_cost, has_large_entry, goes_back, cannot_save}
 use Rattle.vr_model.specs.declared.records.Model.{Model}
@@ -60,6 +60,12 @@ pub record IsEvaluator (model : Model) (evaluator : Evaluator) : Type 0 where
   pub matrix_in_range : WherePresent (λ m. m < length model.matrices) evaluator.matrix
   pub values_of_all : (length evaluator.values ≡ 0) ⊎ (length evaluator.values ≡ model.nodes)
   pub values_in_range : All (IsIn least_value greatest_value) evaluator.values
+
+-- the evaluator of a vehicle in a dimension
+pub record IsEvaluatorFor (model : Model) (d v : ℕ) (evaluator : Evaluator) : Type 0 where
+  pub dimension : d < length model.dimensions
+  pub vehicle : v < length model.vehicles
+  pub is : evaluator ≡ evaluator_of (dimension_at model d) v
 
 -- an interval of cumuls: a window, or a forbidden one
 pub record IsInterval (interval : Interval) : Type 0 where

@@ -1,6 +1,7 @@
 //! How many pickups and deliveries stand in a list up to each of its nodes.
 
 ghost use Rattle.std.specs.Prelude.{◌≡◌, ◌<◌, ◌≤◌, ℕ, false, length, take};
+ghost use Rattle.vr_model.specs.declared.records.Model.{Model};
 ghost use Rattle.vr_model.specs.routes.Routes.{holds};
 ghost use Rattle.vr_pathfilters.specs.Counted.{AreCounted, CanBeCounted, pair_counts, count_of as count_of_node};
 ghost use Rattle.vr_pathfilters.specs.Counted.{no_counts};
@@ -79,18 +80,13 @@ fn count_of(table: &[Counts], node: u32) -> Counts
     Counts::none()
 }
 
-/// What is counted of the nodes of a list before a place, of all of them at its end and past it. The contract asks of
-/// which model; the answer comes of the table alone.
+/// What is counted of the nodes of a list before a place, of all of them at its end and past it.
 #[inline]
-pub(crate) fn counts_before(
-    lookups: &NodeTables<'_>,
-    list: &[u32],
-    table: &[Counts],
-    place: usize,
-) -> Counts
-    requires counted { AreCounted lookups.now list.now table.now }
+pub(crate) fn counts_before(list: &[u32], table: &[Counts], place: usize) -> Counts
+    requires counted { (model : _) × AreCounted model list.now table.now }
     requires few { length list.now ≤ 1000 }
-    ensures value { result ≡ pair_counts lookups.now (take place list.now) }
+    ensures value { (model : Model) → AreCounted model list.now table.now
+        → result ≡ pair_counts model (take place list.now) }
     ensures pickups { result.pickups ≤ 1000 }
     ensures deliveries { result.deliveries ≤ 1000 }
 {

@@ -1,6 +1,7 @@
 //! What is counted in a list with other nodes in the place of a stretch, and whether its pairs come in turn.
 
 ghost use Rattle.std.specs.Prelude.{◌≡◌, ◌+◌, ◌<◌, ◌≤◌, ◌^◌, length, take};
+ghost use Rattle.vr_model.specs.first.Items.{pair_of as pair_of_node};
 ghost use Rattle.vr_reach.specs.Spliced.{AreSeams, spliced};
 ghost use Rattle.vr_pathfilters.specs.Counted.{pair_counts, AreCounted, IsOfThreeLists};
 ghost use Rattle.vr_pathfilters.specs.Turns.{are_in_turn as are_in_turn_in};
@@ -10,13 +11,13 @@ use super::counts::{Counts, counts_before};
 use super::turns::Turns;
 use std::marker::Model;
 use vr_lists::NodeTables;
-use vr_model::Policy;
+use vr_model::{Pair, Policy};
 
 /// A list with other nodes in the place of a stretch, whose pickups and deliveries are counted. Contracts see the
 /// model, the list before, the stretch and the nodes.
 #[derive(Drop)]
 pub struct NewCounts<'a, 'm> {
-    // whose pairs are counted: contracts see it, and the answers come of the counts alone
+    // what is looked up once of the nodes of the model
     lookups: &'a NodeTables<'m>,
     turns: &'a Turns,
     old: &'a [u32],
@@ -81,6 +82,14 @@ impl<'a, 'm> NewCounts<'a, 'm> {
         }
     }
 
+    /// The pair that a node is in.
+    #[inline]
+    pub fn pair_of(&self, node: u32) -> Option<Pair>
+        ensures { result ≡ pair_of_node self.now.model node }
+    {
+        self.lookups.pair_of(node)
+    }
+
     // What is counted before a place of the list before.
     #[inline]
     fn listed(&self, place: usize) -> Counts
@@ -88,7 +97,7 @@ impl<'a, 'm> NewCounts<'a, 'm> {
         ensures pickups { result.pickups ≤ 1000 }
         ensures deliveries { result.deliveries ≤ 1000 }
     {
-        counts_before(self.lookups, self.old, &self.turns.listed, place)
+        counts_before(self.old, &self.turns.listed, place)
     }
 
     // What is counted before a place of the nodes between.
@@ -98,7 +107,7 @@ impl<'a, 'm> NewCounts<'a, 'm> {
         ensures pickups { result.pickups ≤ 1000 }
         ensures deliveries { result.deliveries ≤ 1000 }
     {
-        counts_before(self.lookups, self.middle, &self.turns.between, place)
+        counts_before(self.middle, &self.turns.between, place)
     }
 
     // What is counted before a place of the list. It looks at four nodes at most.

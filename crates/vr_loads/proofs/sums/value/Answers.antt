@@ -11,7 +11,7 @@ pub returns-clause-range : goal.returns-clause-range
 returns-clause-range c =
     let s = (small c.args.model.now c.args.d c.requires.load c.args.evaluator c.requires.evaluator).each c.args.node in
     let same : c.value.result ≡ value_of c.args.model.now c.args.d c.args.evaluator c.args.node =
-    c.value.ensures
+    c.value.ensures.value
     ∙ (ap (λ e. number_at e.values c.args.node) (sym (c.get.ensures.value no_evaluator))
     ∙ ap (λ x. number_at (slice_index_or x.evaluators c.args.evaluator no_evaluator).values c.args.node) (sym (c.get-dimension.ensures.value no_dimension))) in
     record { low = omega (arith, ints, s.low, s.high, same); high = omega (arith, ints, s.low, s.high, same) }

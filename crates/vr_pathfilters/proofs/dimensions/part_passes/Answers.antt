@@ -22,11 +22,14 @@ counted told start {model} {lists} {part} {v} {front} {behind} {new} {list} {bet
     subst (λ n. new ≤ start + n)
     (ap₂ (λ l s. told v l (spliced l front behind s)) old same ∙ (ap (told v (route lists v)) is.whole ∙ ap (λ w. told w (route lists w) (joined lists part.pieces)) is.same))
 
+pub write_between-ends-requires-clause-tours : goal.write_between-ends-requires-clause-tours
+write_between-ends-requires-clause-tours g c = let closed = c.args.at.now.closed in (closed.model.now, closed.well_formed, c.requires.stands.tours_are)
+
 pub passes_along-requires-clause-known : goal.passes_along-requires-clause-known
 passes_along-requires-clause-known g c =
     let m = c.args.at.now.closed.model.now in
     let v = c.write_between-ends.result.vehicle in
-    let known : v < length c.args.known.now = omega (arith, c.write_between-ends.ensures.vehicle, c.requires.stands.tours_are.list_of_each, (c.requires.stands.rows_are refl).known_of_each) in
+    let known : v < length c.args.known.now = omega (arith, (c.write_between-ends.ensures c.args.at.now.closed.model.now c.args.at.now.closed.well_formed c.requires.stands.tours_are).vehicle, c.requires.stands.tours_are.list_of_each, (c.requires.stands.rows_are refl).known_of_each) in
     let here = (c.requires.stands.rows_are refl).known_are v c.index-known-v.result known in
     subst (λ l. AreRowsIfUsed m c.args.at.now.d v l c.index-known-v.result) (sym c.list.ensures.value)
     (subst (AreRowsIfUsed m c.args.at.now.d v (route c.args.at.now.routes.now.lists v)) (sym c.index-known-v.is) here)
@@ -35,33 +38,34 @@ pub passes_along-requires-clause-passed : goal.passes_along-requires-clause-pass
 passes_along-requires-clause-passed g c =
     let feasible = is_feasible_list c.args.at.now.closed.model.now c.args.at.now.d in
     let v = c.write_between-ends.result.vehicle in
-    subst (λ l. IsTrue (feasible v l)) (sym c.list.ensures.value) (rule_at feasible c.args.at.now.routes.now.lists c.requires.stands.rule v c.write_between-ends.ensures.vehicle)
+    subst (λ l. IsTrue (feasible v l)) (sym c.list.ensures.value) (rule_at feasible c.args.at.now.routes.now.lists c.requires.stands.rule v (c.write_between-ends.ensures c.args.at.now.closed.model.now c.args.at.now.closed.well_formed c.requires.stands.tours_are).vehicle)
 
 pub passes_along-requires-clause-old_tour : goal.passes_along-requires-clause-old_tour
 passes_along-requires-clause-old_tour g c =
     let m = c.args.at.now.closed.model.now in
-    subst (IsTour m) (sym c.list.ensures.value) (tour_of m c.args.at.now.routes.now c.requires.stands.tours_are c.write_between-ends.result.vehicle c.write_between-ends.ensures.vehicle)
+    subst (IsTour m) (sym c.list.ensures.value) (tour_of m c.args.at.now.routes.now c.requires.stands.tours_are c.write_between-ends.result.vehicle (c.write_between-ends.ensures c.args.at.now.closed.model.now c.args.at.now.closed.well_formed c.requires.stands.tours_are).vehicle)
 
 pub passes_along-requires-clause-seams : goal.passes_along-requires-clause-seams
 passes_along-requires-clause-seams g c =
     let ends = c.write_between-ends in
-    subst (λ l. AreSeams (length l) ends.result.front ends.result.behind) (sym c.list.ensures.value) ends.ensures.seams
+    subst (λ l. AreSeams (length l) ends.result.front ends.result.behind) (sym c.list.ensures.value) (ends.ensures c.args.at.now.closed.model.now c.args.at.now.closed.well_formed c.requires.stands.tours_are).seams
 
 pub passes_along-requires-clause-tour : goal.passes_along-requires-clause-tour
 passes_along-requires-clause-tour g c =
     let ends = c.write_between-ends in
     subst (λ l. IsTour c.args.at.now.closed.model.now (spliced l ends.result.front ends.result.behind c.as_slice.result.now)) (sym c.list.ensures.value)
-    (part_seen ends.ensures c.as_slice.ensures.value).tour
+    (part_seen (ends.ensures c.args.at.now.closed.model.now c.args.at.now.closed.well_formed c.requires.stands.tours_are) c.as_slice.ensures.value).tour
 
 pub returns-clause-answer : goal.returns-clause-answer
 returns-clause-answer g c =
     let feasible = is_feasible_list c.args.at.now.closed.model.now c.args.at.now.d in
     let ends = c.write_between-ends in
+    let part = ends.ensures c.args.at.now.closed.model.now c.args.at.now.closed.well_formed c.requires.stands.tours_are in
     IfOk-weaker c.passes_along.result _ _ (λ passed is. is ∙ (ap₂ (λ l s. feasible ends.result.vehicle (spliced l ends.result.front ends.result.behind s)) c.list.ensures.value c.as_slice.ensures.value
-    ∙ ap₂ feasible ends.ensures.same ends.ensures.whole)) c.passes_along.ensures.exact
+    ∙ ap₂ feasible part.same part.whole)) c.passes_along.ensures.exact
 
 pub returns-clause-count : goal.returns-clause-count
-returns-clause-count g c = counted (list_weight c.args.at.now.closed.model.now c.args.at.now.d) c.args.steps.now c.write_between-ends.ensures c.list.ensures.value c.as_slice.ensures.value c.passes_along.ensures.count
+returns-clause-count g c = counted (list_weight c.args.at.now.closed.model.now c.args.at.now.d) c.args.steps.now (c.write_between-ends.ensures c.args.at.now.closed.model.now c.args.at.now.closed.well_formed c.requires.stands.tours_are) c.list.ensures.value c.as_slice.ensures.value c.passes_along.ensures.count
 
 pub returns-clause-tries : goal.returns-clause-tries
-returns-clause-tries g c = counted (list_tries c.args.at.now.closed.model.now c.args.at.now.d) c.args.tries.now c.write_between-ends.ensures c.list.ensures.value c.as_slice.ensures.value c.passes_along.ensures.tries
+returns-clause-tries g c = counted (list_tries c.args.at.now.closed.model.now c.args.at.now.d) c.args.tries.now (c.write_between-ends.ensures c.args.at.now.closed.model.now c.args.at.now.closed.well_formed c.requires.stands.tours_are) c.list.ensures.value c.as_slice.ensures.value c.passes_along.ensures.tries

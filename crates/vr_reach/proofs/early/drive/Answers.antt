@@ -38,17 +38,17 @@ loop-k-preserved c =
     let is = cumul_read next range in
     let old : List ℤ = c.loop-k.cumuls.items in
     let ahead = c.stop_ahead-ahead.ensures in
-    let t = c.transit_by-transit.ensures in
+    let t = c.transit-transit.ensures in
     let least = t.least in
     let greatest = t.greatest in
-    let way : to_z w64 (of_z w64 c.transit_by-transit.result) ≡ c.transit_by-transit.result = omega (arith, ints, least, greatest) in
+    let way : to_z w64 (of_z w64 c.transit-transit.result) ≡ c.transit-transit.result = omega (arith, ints, least, greatest) in
     let slack = cumul_read line.slack line.slack_range in
     let more = c.push-in-loop-k.ensures.items ∙ ap (λ x. old ++ x ∷ []) is in
     record {
       early = subst (AreEarly (line_of of) (k + 1)) (sym more) (step_list of.closed.model.now of.d of.v of.list.now k old low i.early c.stop_ahead-ahead.result.allowed ahead.allowed
-          c.loop-k.origin c.stop_ahead-ahead.result.node i.origin ahead.node (to_z w64 c.loop-k.cumul-bits) (to_z w64 (of_z w64 c.transit_by-transit.result)) (to_z w64 (of_z w64 line.slack)) next i.cumul (way ∙ t.value) (slack ∙ line.slack_is) c.in-Some.ensures.exact);
+          c.loop-k.origin c.stop_ahead-ahead.result.node i.origin ahead.node (to_z w64 c.loop-k.cumul-bits) (to_z w64 (of_z w64 c.transit-transit.result)) (to_z w64 (of_z w64 line.slack)) next i.cumul (way ∙ t.value) (slack ∙ line.slack_is) c.in-Some.ensures.exact);
       found = subst (AreFoundInTurn (line_of of) (k + 1)) (sym more) (found_next of.closed.model.now of.d of.v of.list.now k old low i.found c.stop_ahead-ahead.result.allowed ahead.allowed
-          c.loop-k.origin c.stop_ahead-ahead.result.node i.origin ahead.node (to_z w64 c.loop-k.cumul-bits) (to_z w64 (of_z w64 c.transit_by-transit.result)) (to_z w64 (of_z w64 line.slack)) i.cumul (way ∙ t.value) (slack ∙ line.slack_is) next c.in-Some.ensures.exact);
+          c.loop-k.origin c.stop_ahead-ahead.result.node i.origin ahead.node (to_z w64 c.loop-k.cumul-bits) (to_z w64 (of_z w64 c.transit-transit.result)) (to_z w64 (of_z w64 line.slack)) i.cumul (way ∙ t.value) (slack ∙ line.slack_is) next c.in-Some.ensures.exact);
       cumul = is ∙ sym (ap (λ xs. number_at xs (k + 1)) more ∙ at_new old next (k + 1) (let n = i.early.many in omega (arith, n)));
       range = subst (IsIn (pos 0) horizon) (sym is) range;
       origin = ahead.node;
@@ -63,14 +63,14 @@ returns-in-None-clause-found c =
     let i = c.loop-k.invariant in
     let low : k ≤ length of.list.now = (let t = c.loop-k-test.true in omega (arith, t, c.len-n.ensures.value)) in
     let ahead = c.stop_ahead-ahead.ensures in
-    let least = c.transit_by-transit.ensures.least in
-    let greatest = c.transit_by-transit.ensures.greatest in
-    let way : to_z w64 (of_z w64 c.transit_by-transit.result) ≡ c.transit_by-transit.result = omega (arith, ints, least, greatest) in
+    let least = c.transit-transit.ensures.least in
+    let greatest = c.transit-transit.ensures.greatest in
+    let way : to_z w64 (of_z w64 c.transit-transit.result) ≡ c.transit-transit.result = omega (arith, ints, least, greatest) in
     let slack = cumul_read line.slack line.slack_range in
-    let none : has_cumul_behind (to_z w64 c.loop-k.cumul-bits) (to_z w64 (of_z w64 c.transit_by-transit.result)) (to_z w64 (of_z w64 line.slack)) c.stop_ahead-ahead.result.allowed ≡ false = sym c.earliest_behind.ensures.known ∙ ap is_some c.in-None.is in (
+    let none : has_cumul_behind (to_z w64 c.loop-k.cumul-bits) (to_z w64 (of_z w64 c.transit-transit.result)) (to_z w64 (of_z w64 line.slack)) c.stop_ahead-ahead.result.allowed ≡ false = sym c.earliest_behind.ensures.known ∙ ap is_some c.in-None.is in (
       λ t. absurd (false≢true t),
       λ m. absurd (found_none of.closed.model.now of.d of.v of.list.now k c.loop-k.cumuls.items low i.found c.stop_ahead-ahead.result.allowed ahead.allowed
-          c.loop-k.origin c.stop_ahead-ahead.result.node i.origin ahead.node (to_z w64 c.loop-k.cumul-bits) (to_z w64 (of_z w64 c.transit_by-transit.result)) (to_z w64 (of_z w64 line.slack)) i.cumul (way ∙ c.transit_by-transit.ensures.value) (slack ∙ line.slack_is) none m.0 m.1),
+          c.loop-k.origin c.stop_ahead-ahead.result.node i.origin ahead.node (to_z w64 c.loop-k.cumul-bits) (to_z w64 (of_z w64 c.transit-transit.result)) (to_z w64 (of_z w64 line.slack)) i.cumul (way ∙ c.transit-transit.ensures.value) (slack ∙ line.slack_is) none m.0 m.1),
     )
 
 pub returns-in-None-clause-early : goal.returns-in-None-clause-early

@@ -10,13 +10,16 @@ use Rattle.vr_reach.specs.RunWalks.{line_along}
 use Rattle.vr_reach.proofs.DrivenLemmas.{sound_of, walk_to, walk_within}
 use Rattle.vr_reach.proofs.probing.goes_with.Goals as goal
 
+pub carry_run-run-requires : goal.carry_run-run-requires
+carry_run-run-requires g c = c.in-Some.ensures.run.cumuls
+
 pub returns-clause-goes : goal.returns-clause-goes
 returns-clause-goes g c = λ goes.
     let L = line_along c.args.walk.now in
     let run = c.carry_run-run.result in
     let shared = subst (ShareANumber (run ∷ [])) (sym (level_is c.args.walk.now.to.now c.args.taken c.level.result.now c.level.ensures)) (c.shares_with.ensures.0 goes) in
     accepted feasible_where_levels_meet L (sound_of c.args.walk.now.line.of)
-    c.args.walk.now.last (walk_within c.args.walk.now) c.args.walk.now.to.now (walk_to c.args.walk.now) c.args.taken c.requires run c.carry_run-run.ensures.reached shared
+    c.args.walk.now.last (walk_within c.args.walk.now) c.args.walk.now.to.now (walk_to c.args.walk.now) c.args.taken c.requires run (c.carry_run-run.ensures.reached c.args.taken c.requires c.in-Some.ensures.run) shared
 
 pub returns-in_default-clause-exact : goal.returns-in_default-clause-exact
 returns-in_default-clause-exact g c = (λ t. absurd (false≢true t), λ goes. absurd (false≢true (sym (ap is_some c.in_default.is) ∙ c.run_at.ensures.known ∙ goes.one)))

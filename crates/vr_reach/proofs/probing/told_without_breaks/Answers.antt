@@ -16,6 +16,9 @@ use Rattle.vr_reach.specs.RunWalks.{line_along}
 use Rattle.vr_reach.proofs.DrivenLemmas.{sound_of, walk_to, walk_within}
 use Rattle.vr_reach.proofs.probing.told_without_breaks.Goals as goal
 
+pub carry_run-run-requires : goal.carry_run-run-requires
+carry_run-run-requires g c = c.in_ok-begun.ensures.run.cumuls
+
 pub returns-then-not-shares_with-clause-told : goal.returns-then-not-shares_with-clause-told
 returns-then-not-shares_with-clause-told g c =
     let L = line_along c.args.walk.now in
@@ -26,7 +29,7 @@ returns-then-not-shares_with-clause-told g c =
       λ t. absurd (cc),
       λ feasible. absurd (
           refused feasible_where_levels_meet L (sound_of c.args.walk.now.line.of)
-          c.args.walk.now.last (walk_within c.args.walk.now) c.args.walk.now.to.now (walk_to c.args.walk.now) run c.carry_run-run.ensures.reached
+          c.args.walk.now.last (walk_within c.args.walk.now) c.args.walk.now.to.now (walk_to c.args.walk.now) run (c.carry_run-run.ensures.reached 0 (omega arith) c.in_ok-begun.ensures.run)
           (λ shared. let served = c.shares_with.ensures.1 (subst (ShareANumber (run ∷ [])) there shared) in clash c.shares_with.result served c.if-not-shares_with.true) feasible),
     )
 
@@ -38,7 +41,7 @@ returns-then-shares_with-clause-told g c =
     feasible_as_tested chosen_where_feasible L true (
       λ t.
           accepted feasible_where_levels_meet L (sound_of c.args.walk.now.line.of)
-          c.args.walk.now.last (walk_within c.args.walk.now) c.args.walk.now.to.now (walk_to c.args.walk.now) 0 (omega arith) run c.carry_run-run.ensures.reached shared,
+          c.args.walk.now.last (walk_within c.args.walk.now) c.args.walk.now.to.now (walk_to c.args.walk.now) 0 (omega arith) run (c.carry_run-run.ensures.reached 0 (omega arith) c.in_ok-begun.ensures.run) shared,
       λ feasible. refl,
     )
 
@@ -74,7 +77,7 @@ returns-clause-untold g c = λ none tried.
     let alone = alone_where L c.args.walk.now.from.now to c.args.walk.now.begin c.args.walk.now.last 0 c.in_ok-begun.begun run (sym c.in_ok-begun.ensures.known) c.in_ok-begun.ensures.run c.carry_run-run.ensures.led in
     record {
       cumul = shared.0;
-      reached = c.carry_run-run.ensures.reached.reached shared.0 (alone_in run shared.0 shared.1);
+      reached = (c.carry_run-run.ensures.reached 0 (omega arith) c.in_ok-begun.ensures.run).reached shared.0 (alone_in run shared.0 shared.1);
       reaches = (walk_to c.args.walk.now (length L.breaks) (omega arith) shared.0).0 shared.2;
       none = λ b few goes. elim (cases_lt 0 b) [
         | inl some ↦ false≢true (sym c.if-goes_with_some.false ∙ c.goes_with_some.ensures.exact.1 (b, omega (arith, some), few, goes))
@@ -95,7 +98,7 @@ returns-then-not-shares_with-clause-known g c = λ _.
     let there = ap (level_at to) all ∙ level_is to (c.len-all.result - 1) c.level.result.now c.level.ensures in (
       sym c.in_ok-begun.ensures.known,
       λ untold.
-          let reached = in_alone run untold.cumul (c.carry_run-run.ensures.reached.all refl untold.cumul untold.reached) in
+          let reached = in_alone run untold.cumul ((c.carry_run-run.ensures.reached 0 (omega arith) c.in_ok-begun.ensures.run).all refl untold.cumul untold.reached) in
           let reaches = (walk_to c.args.walk.now (length L.breaks) (omega arith) untold.cumul).1 untold.reaches in
           let served = c.shares_with.ensures.1 (subst (ShareANumber (run ∷ [])) there (untold.cumul, reached, reaches)) in
           clash c.shares_with.result served c.if-not-shares_with.true,

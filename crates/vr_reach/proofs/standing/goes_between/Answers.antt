@@ -21,7 +21,7 @@ pub invariant_of-leg : goal.invariant_of-leg
 invariant_of-leg c =
     let apart = c.requires.shared.apart in
     record {
-      runs_are = asked_so c.whole-whole.ensures c.asked_of-asked.ensures (λ m d v l. IfSome c.runs-runs.result (λ found. AreVisitRuns m d v found.now)) c.runs-runs.ensures;
+      runs_are = asked_so c.whole-whole.ensures c.asked_of-asked.ensures (λ m d v l. IfSome c.runs-runs.result (λ found. AreVisitRuns m d v found.now)) c.runs-runs.ensures.runs;
       order = omega (arith, apart);
       within = asked_so c.whole-whole.ensures c.asked_of-asked.ensures (λ m d v l. length c.args.new.now - c.args.shared.back + 1 ≤ suc (length l)) (omega arith);
       begun = begun_as_asked c.whole-whole.ensures c.asked_of-asked.ensures c.args.shared.front c.levels_before-from.result.now (left_at c.args.stops.now.closed.model.now c.args.stops.now.d c.args.stops.now.v c.args.known.now.list.now c.args.new.now c.asked_of-asked.result.ends.now c.asked_of-asked.ensures.ends_are c.args.known.now.rows.now c.requires.known c.requires.used c.args.shared.front c.requires.shared.front c.levels_before-from.result.now c.levels_before-from.ensures.start c.levels_before-from.ensures.row);

@@ -18,7 +18,7 @@ pub invariant_of-leg : goal.invariant_of-leg
 invariant_of-leg c =
     let apart = c.requires.apart in
     record {
-      runs_are = asked_so c.whole-whole.ensures c.asked_of-asked.ensures (λ m d v l. IfSome c.runs-runs.result (λ found. AreVisitRuns m d v found.now)) c.runs-runs.ensures;
+      runs_are = asked_so c.whole-whole.ensures c.asked_of-asked.ensures (λ m d v l. IfSome c.runs-runs.result (λ found. AreVisitRuns m d v found.now)) c.runs-runs.ensures.runs;
       order = omega (arith, apart);
       within = asked_so c.whole-whole.ensures c.asked_of-asked.ensures (λ m d v l. length c.args.new.now - c.args.back + 1 ≤ suc (length l)) (omega arith);
       begun = begun_as_asked c.whole-whole.ensures c.asked_of-asked.ensures c.args.k c.args.here.now c.requires.here;

@@ -18,7 +18,7 @@ invariant_of-leg c =
     let are = c.asked_of-asked.ensures.ends_are in
     let last : suc (length c.args.list.now) ≡ length c.args.list.now + 1 = omega arith in
     record {
-      runs_are = asked_so c.whole-whole.ensures c.asked_of-asked.ensures (λ m d v l. IfSome c.runs-runs.result (λ found. AreVisitRuns m d v found.now)) c.runs-runs.ensures;
+      runs_are = asked_so c.whole-whole.ensures c.asked_of-asked.ensures (λ m d v l. IfSome c.runs-runs.result (λ found. AreVisitRuns m d v found.now)) c.runs-runs.ensures.runs;
       order = omega arith;
       within = asked_so c.whole-whole.ensures c.asked_of-asked.ensures (λ m d v l. length c.args.list.now + 1 ≤ suc (length l)) (omega arith);
       begun = begun_as_asked c.whole-whole.ensures c.asked_of-asked.ensures 0 ends.start_levels (started_at c.args.stops.now.closed.model.now c.args.stops.now.d c.args.stops.now.v c.args.list.now ends are c.requires.used);

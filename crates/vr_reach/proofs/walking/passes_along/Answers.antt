@@ -63,7 +63,7 @@ invariant_of-leg g c =
     let stretch = c.of-stretch.ensures in
     let apart = stretch.apart in
     record {
-      runs_are = asked_so refl c.asked_of-asked.ensures (λ m d v l. IfSome c.runs-runs.result (λ found. AreVisitRuns m d v found.now)) c.runs-runs.ensures;
+      runs_are = asked_so refl c.asked_of-asked.ensures (λ m d v l. IfSome c.runs-runs.result (λ found. AreVisitRuns m d v found.now)) c.runs-runs.ensures.runs;
       order = omega (arith, apart, many);
       within = asked_so refl c.asked_of-asked.ensures (λ m d v l. c.len-n.result - c.of-stretch.result.back + 1 ≤ suc (length l)) (omega (arith, many));
       begun = begun_as_asked refl c.asked_of-asked.ensures c.of-stretch.result.front c.levels_before-from.result.now (left_at c.args.stops.now.closed.model.now c.args.stops.now.d c.args.stops.now.v c.args.known.now.list.now c.of-new.result c.asked_of-asked.result.ends.now c.asked_of-asked.ensures.ends_are c.args.known.now.rows.now c.requires.known is_used c.of-stretch.result.front stretch.front c.levels_before-from.result.now c.levels_before-from.ensures.start c.levels_before-from.ensures.row);

@@ -32,7 +32,7 @@ invariant_of-line g c =
       slack_is = same ∙ c.slack_of.ensures.value;
       slack_range = subst (IsIn (pos 0) horizon) (sym same) c.slack_of.ensures.range;
       runs_are = search rules;
-      finish_is = c.in_ok-finish.ensures.finish;
+      finish_is = c.in_ok-finish.ensures.finish c.args.leg.now.stops.of.d c.args.leg.now.stops.ends_are;
     }
 
 pub returns-clause-given_up : goal.returns-clause-given_up
@@ -54,5 +54,15 @@ returns-clause-known g c some = (
   search rules,
   λ up.
       let told = c.told_without_breaks.ensures.known some in
-      told.1 (up.untold (ap₂ (λ a b. a && b) (sym c.in_ok-finish.ensures.known) told.0)),
+      told.1 (up.untold (ap₂ (λ a b. a && b) (sym (c.in_ok-finish.ensures.known c.args.leg.now.stops.of.d c.args.leg.now.stops.ends_are)) told.0)),
+)
+
+pub returns-in-Some-clause-known : goal.returns-in-Some-clause-known
+returns-in-Some-clause-known g c some = (
+  search rules,
+  λ up.
+      let leg = c.args.leg.now in
+      let ends_are = leg.stops.ends_are in
+      let runs = c.in-Some.ensures.known ∙ ap (λ breaks. are_runs breaks leg.from.now leg.to.now) ends_are.breaks_are.same in
+      up.not_one (ap₂ (λ a b. a && b) (sym (c.in_ok-finish.ensures.known leg.stops.of.d ends_are)) (sym runs)),
 )

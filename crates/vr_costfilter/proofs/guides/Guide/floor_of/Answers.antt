@@ -35,14 +35,14 @@ found g {node} {allowed} {next} {t} {r} {it} stop step same least greatest is =
 pub returns-then-floor-allowed-clause-value : goal.returns-then-floor-allowed-clause-value
 returns-then-floor-allowed-clause-value c =
     let g = c.args.self.now in
-    let t = c.transit_by-transit.ensures in
+    let t = c.transit-transit.ensures in
     let it = found g c.requires.stop c.requires.next t.value t.least t.greatest c.max-floor.ensures.value in
     sym (floor-not c.args.next.floor (transit g.model.now g.d g.v c.args.node c.args.next.node) (dimension_at g.model.now g.d).slack_max c.args.allowed c.max-floor.result it.value (omega (arith, ints, c.if-floor-allowed.true, it.high, it.read)))
 
 pub returns-clause-value : goal.returns-clause-value
 returns-clause-value c =
     let g = c.args.self.now in
-    let t = c.transit_by-transit.ensures in
+    let t = c.transit-transit.ensures in
     let it = found g c.requires.stop c.requires.next t.value t.least t.greatest c.max-floor.ensures.value in
     sym (floor-is c.args.next.floor (transit g.model.now g.d g.v c.args.node c.args.next.node) (dimension_at g.model.now g.d).slack_max c.args.allowed (to_z w64 (of_z w64 c.max-floor.result))
     (record { is = it.read ∙ it.value; most = omega (arith, ints, c.if-floor-allowed.false, it.high, it.read) }))

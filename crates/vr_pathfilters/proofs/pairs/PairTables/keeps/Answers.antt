@@ -4,7 +4,6 @@ use Rattle.std.specs.List.{list_all}
 use Rattle.vr_model.specs.deciding.Testing.{and_left, and_right}
 use Rattle.vr_model.specs.routes.Routes.{route}
 use Rattle.vr_model.specs.routes.Rules.{keeps_policy, serves_pair}
-use Rattle.vr_model.specs.tables.WellFormed.{IsWellFormed}
 use Rattle.vr_model.specs.declared.records.Model.{Model}
 use Rattle.vr_lists.specs.Pairs.{keeps_pairs}
 use Rattle.vr_routes.specs.Pieces.{joined, part_at}
@@ -13,26 +12,22 @@ use Rattle.vr_pathfilters.proofs.PartTours.{rule_at, tour_of}
 use Rattle.vr_pathfilters.specs.Counted.{AreCounted, asks_turns}
 use Rattle.vr_pathfilters.specs.Replaced.{takes_turns_between}
 use Rattle.vr_pathfilters.specs.Pairs.{asks_turns_of}
-use Rattle.vr_pathfilters.specs.TourLists.{AreTours}
 use Rattle.vr_pathfilters.proofs.TurnLemmas.{distinct_between, keeps_between, keeps_unasked}
 use Rattle.vr_pathfilters.proofs.pairs.PairTables.keeps.Goals as goal
 
-pub invariant_of-closed : goal.invariant_of-closed
-invariant_of-closed c = record { well_formed = subst IsWellFormed (sym c.model.ensures.model) c.model.ensures.well_formed }
-
 pub write_between-ends-requires-clause-tours : goal.write_between-ends-requires-clause-tours
-write_between-ends-requires-clause-tours c = subst (λ m. AreTours m c.args.routes.now) (sym c.model.ensures.model) c.requires.knows.knows_tours.tours_are
+write_between-ends-requires-clause-tours c = let knows = c.requires.knows.knows_tours in (c.args.lookups.now, knows.well_formed, knows.tours_are)
 
 pub mark-requires-clause-nodes : goal.mark-requires-clause-nodes
-mark-requires-clause-nodes c = (part_seen c.write_between-ends.ensures c.as_slice.ensures.value).nodes
+mark-requires-clause-nodes c = (part_seen (c.write_between-ends.ensures c.args.lookups.now c.requires.knows.knows_tours.well_formed c.requires.knows.knows_tours.tours_are) c.as_slice.ensures.value).nodes
 
 pub invariant_of-between : goal.invariant_of-between
 invariant_of-between c =
-    let part = part_seen c.write_between-ends.ensures c.as_slice-2.ensures.value in
+    let part = part_seen (c.write_between-ends.ensures c.args.lookups.now c.requires.knows.knows_tours.well_formed c.requires.knows.knows_tours.tours_are) c.as_slice-2.ensures.value in
     record {
       fits = record {
         vehicle = part.vehicle;
-        once = c.know_once.ensures;
+        once = c.requires.knows.knows_tours.tours_are.once;
         seams = part.seams;
         marked = search rules;
         few = part.long;
@@ -48,13 +43,13 @@ serves_between-requires c =
     let v = c.write_between-ends.result.vehicle in
     record {
       before = and_left (list_all (serves_pair (route lists v)) m.pairs) (keeps_policy m v (route lists v))
-          (rule_at (keeps_pairs m) lists c.requires.before v c.write_between-ends.ensures.vehicle);
+          (rule_at (keeps_pairs m) lists c.requires.before v (c.write_between-ends.ensures c.args.lookups.now c.requires.knows.knows_tours.well_formed c.requires.knows.knows_tours.tours_are).vehicle);
     }
 
 pub put_between-requires : goal.put_between-requires
 put_between-requires c =
     let ends = c.write_between-ends.result in
-    let part = part_seen c.write_between-ends.ensures c.as_slice-2.ensures.value in
+    let part = part_seen (c.write_between-ends.ensures c.args.lookups.now c.requires.knows.knows_tours.well_formed c.requires.knows.knows_tours.tours_are) c.as_slice-2.ensures.value in
     record {
       nodes = part.nodes;
       few = part.few;
@@ -67,14 +62,14 @@ takes_turns-requires-clause-listed c =
     let v = c.write_between-ends.result.vehicle in
     let asks : IsTrue (asks_turns_of m v) = ap asks_turns (sym c.policy_of-policy.ensures) ∙ (sym c.are_asked.ensures ∙ c.if-not-are_asked.false) in
     subst (λ listed. AreCounted m (route c.args.routes.now.lists v) listed) (sym c.put_between.ensures.kept)
-    (c.requires.knows.counted v c.write_between-ends.ensures.vehicle asks)
+    (c.requires.knows.counted v (c.write_between-ends.ensures c.args.lookups.now c.requires.knows.knows_tours.well_formed c.requires.knows.knows_tours.tours_are).vehicle asks)
 
 pub returns-then-not-are_asked-clause-answer : goal.returns-then-not-are_asked-clause-answer
 returns-then-not-are_asked-clause-answer c =
     let m : Model = c.args.lookups.now in
     let kept = part_at c.args.change.now c.args.k in
     let new : List ℕ = joined c.args.routes.now.lists kept.pieces in
-    let part = part_seen c.write_between-ends.ensures c.as_slice-2.ensures.value in
+    let part = part_seen (c.write_between-ends.ensures c.args.lookups.now c.requires.knows.knows_tours.well_formed c.requires.knows.knows_tours.tours_are) c.as_slice-2.ensures.value in
     let served : list_all (serves_pair new) m.pairs ≡ true = ap (λ l. list_all (serves_pair l) m.pairs) (sym part.whole) ∙ (sym c.serves_between.ensures ∙ c.if-not-serves_between.false) in
     let none : asks_turns_of m c.write_between-ends.result.vehicle ≡ false = ap asks_turns (sym c.policy_of-policy.ensures) ∙ (sym c.are_asked.ensures ∙ c.if-not-are_asked.true) in
     keeps_unasked m kept.vehicle new served (ap (asks_turns_of m) (sym part.same) ∙ none)
@@ -87,7 +82,7 @@ returns-clause-answer c =
     let old : List ℕ = route lists ends.vehicle in
     let new : List ℕ = joined lists (part_at c.args.change.now c.args.k).pieces in
     let middle = c.as_slice-2.result.now in
-    let part = part_seen c.write_between-ends.ensures c.as_slice-2.ensures.value in
+    let part = part_seen (c.write_between-ends.ensures c.args.lookups.now c.requires.knows.knows_tours.well_formed c.requires.knows.knows_tours.tours_are) c.as_slice-2.ensures.value in
     let kept = rule_at (keeps_pairs m) lists c.requires.before ends.vehicle part.vehicle in
     let served = sym c.serves_between.ensures ∙ c.if-not-serves_between.false in
     c.takes_turns.ensures
