@@ -1,5 +1,5 @@
 -- Blocks of moves: those of one kind that name the same vehicles. What is known of blocks.
-use Rattle.std.specs.Prelude.{◌≡◌, ◌≢◌, ℕ, ◌+◌, ◌*◌, ◌<◌, Bool, false, ◌&&◌, ◌||◌, ◌==◌, cond, nat_lt}
+use Rattle.std.specs.Prelude.{◌≡◌, ◌≢◌, ℕ, ◌+◌, ◌*◌, ◌<◌, Bool, false, true, ◌&&◌, ◌||◌, ◌==◌, cond, nat_lt}
 use Rattle.std.specs.Prelude.{List, [], ◌∷◌, slice_index_or, length, Option, Some, None, IsTrue}
 use Rattle.vr_model.specs.routes.Routes.{route, holds, is_active}
 use Rattle.vr_model.specs.tables.Tables.{pair_at}
@@ -79,25 +79,32 @@ IsSource model lists (MakeInactive v a) x = x ≡ v
 IsSource model lists (SwapActive v a u) x = x ≡ v
 
 -- what is remembered: for each row of a kind, when its moves were last found not to be acceptable; for each vehicle,
--- when its list last changed; when the activity of visits last changed; and the time
+-- when its list last changed; when the activity of visits last changed; the time; and whether anything is ever learned
 pub record Memory : Type 0 where
   pub seen : List ℕ
   pub changed : List ℕ
   pub active : ℕ
   pub clock : ℕ
+  pub learns : Bool
 
--- one that has no stamps learns nothing
+-- something may be learned of moves
 abbrev pub Learns : Memory → Type 0
-Learns memory = 0 < length memory.seen
+Learns memory = IsTrue memory.learns
 
--- what a memory without stamps is
+-- where there are no stamps nothing is known, and nothing is ever learned
 abbrev pub none : Memory
-none = record { seen = []; changed = []; active = 0; clock = 0 }
+none = record { seen = []; changed = []; active = 0; clock = 0; learns = false }
 
--- the memory that may be there
+-- the memory of stamps that may be there
 abbrev pub memory_of : Option Memory → Memory
 memory_of None = none
-memory_of (Some memory) = memory
+memory_of (Some stamps) = record {
+  seen = stamps.seen;
+  changed = stamps.changed;
+  active = stamps.active;
+  clock = stamps.clock;
+  learns = true;
+}
 
 -- where the stamp of a row of a kind stands
 abbrev pub stamp_of : ℕ → ℕ → ℕ

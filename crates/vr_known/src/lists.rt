@@ -26,6 +26,7 @@ pub trait OfList: Drop {
 pub struct Lists<'a, L: OfList> {
     routes: &'a Routes,
     of: L,
+    ghost few: { length routes.now.lists ≤ 100 },
 }
 
 impl<'a, L: OfList> Family for Lists<'a, L> {
@@ -37,7 +38,6 @@ impl<'a, L: OfList> Family for Lists<'a, L> {
 
     #[inline]
     fn open(&self, k: u32) -> Option<L::Inner> {
-        let _few = self.routes.vehicles();
         Some(self.of.open(k, self.routes.len(k)))
     }
 }

@@ -77,9 +77,7 @@ impl Known {
         ensures learns { Learns self.new → Learns self.old }
     {
         if let Some(stamps) = &mut self.stamps {
-            stamps.know_room();
             stamps.note(neighbourhoods, mv);
-            stamps.know_room();
         }
     }
 
@@ -90,9 +88,7 @@ impl Known {
         ensures learns { Learns self.new → Learns self.old }
     {
         if let Some(stamps) = &mut self.stamps {
-            stamps.know_room();
             stamps.note_all(neighbourhoods);
-            stamps.know_room();
         }
     }
 
@@ -109,9 +105,7 @@ impl Known {
         ensures learns { Learns self.new → Learns self.old }
     {
         if let Some(stamps) = &mut self.stamps {
-            stamps.know_room();
             stamps.change(Closed { model }, routes, mv, touched);
-            stamps.know_room();
         }
     }
 
@@ -126,10 +120,8 @@ impl Known {
         ensures learns { Learns self.new → Learns self.old }
     {
         if let Some(stamps) = &mut self.stamps {
-            stamps.know_room();
             stamps.forget(v);
             stamps.go_on();
-            stamps.know_room();
         }
     }
 
@@ -142,9 +134,7 @@ impl Known {
         ensures learns { Learns self.new → Learns self.old }
     {
         if let Some(stamps) = &mut self.stamps {
-            stamps.know_room();
             stamps.settle(Closed { model }, routes);
-            stamps.know_room();
         }
     }
 }

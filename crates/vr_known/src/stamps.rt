@@ -1,7 +1,7 @@
 //! When moves were refused, and when lists and activity changed.
 
 ghost use Rattle.std.specs.Prelude.{◌≡◌, ℕ, ◌⊎◌, ◌<◌, ◌≤◌, false, IsTrue, length, slice_index_or};
-ghost use Rattle.vr_known.specs.Blocks.{AreSettled, IsApart, Learns, common_change, covers, first_of, is_behind};
+ghost use Rattle.vr_known.specs.Blocks.{AreSettled, IsApart, common_change, covers, first_of, is_behind};
 ghost use Rattle.vr_known.specs.Blocks.{is_by_pair, is_kind_of, is_known, is_later, kind_of, rows_of};
 ghost use Rattle.vr_model.specs.moves.MoveTests.{is_move};
 ghost use Rattle.vr_model.specs.declared.neighbours.Move.{Move as Moved};
@@ -25,12 +25,18 @@ pub(crate) struct Stamps {
 }
 
 impl Model for Stamps {
-    ghost use Rattle.std.specs.Prelude.{ℕ, ◌≤◌, slice_index_or};
+    ghost use Rattle.std.specs.Prelude.{ℕ, ◌≤◌, slice_index_or, true};
     ghost use Rattle.vr_known.specs.Blocks.{Memory};
 
     ghost Value = { Memory };
 
-    ghost view = { λ s. record { seen = s.seen; changed = s.changed; active = s.active; clock = s.clock } };
+    ghost view = { λ s. record {
+      seen = s.seen;
+      changed = s.changed;
+      active = s.active;
+      clock = s.clock;
+      learns = true;
+    } };
 
     ghost invariant = { λ s. (i : ℕ) → slice_index_or s.seen i 0 ≤ s.clock };
 }
@@ -46,14 +52,6 @@ impl Stamps {
             active: 0,
             clock: 1,
         }
-    }
-
-    /// There is room for stamps. It does nothing.
-    #[inline]
-    pub(crate) fn know_room(&self)
-        ensures { Learns self.now }
-    {
-        let _ = &self.seen;
     }
 
     /// Whether the moves of a row and a vehicle were refused, and nothing on which they depend has changed since.

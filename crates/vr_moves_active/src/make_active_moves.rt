@@ -1,6 +1,6 @@
 //! Inactive visits that are put in.
 
-ghost use Rattle.std.specs.Prelude.{◌≡◌, ◌<◌, length, map, refl, slice_index};
+ghost use Rattle.std.specs.Prelude.{◌≡◌, ◌<◌, ◌≤◌, length, map, refl, slice_index};
 ghost use Rattle.vr_known.specs.Listing.{each, gaps, moves_in, route, vehicles, visits, Defined, MakeActive};
 ghost use Rattle.vr_known.specs.Listing.{MakeActiveKind};
 
@@ -41,6 +41,7 @@ impl Pattern for Gaps {
 pub struct Targets<'a> {
     routes: &'a Routes,
     u: u32,
+    ghost few: { length routes.now.lists ≤ 100 },
 }
 
 impl<'a> Family for Targets<'a> {
@@ -52,7 +53,6 @@ impl<'a> Family for Targets<'a> {
 
     #[inline]
     fn open(&self, k: u32) -> Option<Run<AnyLast<Gaps>>> {
-        let _few = self.routes.vehicles();
         let gaps = Gaps { u: self.u, w: k };
         Some(Run::new(AnyLast(gaps), 0, self.routes.len(k) + 1))
     }
@@ -65,6 +65,7 @@ pub struct Nodes<'a> {
     nodes: &'a [u32],
     vehicles: u32,
     ghost many: { vehicles ≡ length routes.now.lists },
+    ghost few: { vehicles ≤ 100 },
 }
 
 impl<'a> Family for Nodes<'a> {

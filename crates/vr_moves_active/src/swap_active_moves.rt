@@ -117,6 +117,7 @@ pub struct Vehicles<'a> {
     routes: &'a Routes,
     nodes: &'a [u32],
     ghost few: { length nodes.now ≤ 1000 },
+    ghost few_vehicles: { length routes.now.lists ≤ 100 },
 }
 
 impl<'a> Family for Vehicles<'a> {
@@ -128,7 +129,6 @@ impl<'a> Family for Vehicles<'a> {
 
     #[inline]
     fn open(&self, k: u32) -> Option<Each<Places<'a>>> {
-        let _few = self.routes.vehicles();
         let places = Places {
             v: k,
             nodes: self.nodes,

@@ -46,6 +46,7 @@ pub struct Targets<'a> {
     v: u32,
     a: u32,
     ghost vehicle: { v < 100 },
+    ghost few: { length routes.now.lists ≤ 100 },
 }
 
 impl<'a> Family for Targets<'a> {
@@ -57,7 +58,6 @@ impl<'a> Family for Targets<'a> {
 
     #[inline]
     fn open(&self, k: u32) -> Option<Run<AnyLast<Fronts>>> {
-        let _few = self.routes.vehicles();
         let fronts = Fronts {
             v: self.v,
             a: self.a,

@@ -47,6 +47,7 @@ pub struct Targets<'a> {
     a: u32,
     ghost vehicle: { v < 100 },
     ghost place: { a < 1000 },
+    ghost few: { length routes.now.lists ≤ 100 },
 }
 
 impl<'a> Family for Targets<'a> {
@@ -58,7 +59,6 @@ impl<'a> Family for Targets<'a> {
 
     #[inline]
     fn open(&self, k: u32) -> Option<Run<AnyLast<Partners>>> {
-        let _few = self.routes.vehicles();
         let partners = Partners {
             v: self.v,
             a: self.a,
@@ -78,6 +78,7 @@ pub struct Places<'a> {
     ghost vehicle: { v < length routes.now.lists },
     ghost many: { vehicles ≡ length routes.now.lists },
     ghost short: { length (route routes.now.lists v) ≤ 1000 },
+    ghost few: { vehicles ≤ 100 },
 }
 
 impl<'a> Family for Places<'a> {
@@ -90,7 +91,6 @@ impl<'a> Family for Places<'a> {
 
     #[inline]
     fn open(&self, k: u32) -> Option<Each<Targets<'a>>> {
-        let _few = self.routes.vehicles();
         let targets = Targets {
             routes: self.routes,
             v: self.v,
@@ -106,6 +106,7 @@ pub struct Vehicles<'a> {
     routes: &'a Routes,
     vehicles: u32,
     ghost many: { vehicles ≡ length routes.now.lists },
+    ghost few: { vehicles ≤ 100 },
 }
 
 impl<'a> Family for Vehicles<'a> {

@@ -1,6 +1,6 @@
 //! Nodes that are moved to other lists.
 
-ghost use Rattle.std.specs.Prelude.{◌≡◌, ◌<◌, filter, length, map, refl};
+ghost use Rattle.std.specs.Prelude.{◌≡◌, ◌<◌, ◌≤◌, filter, length, map, refl};
 ghost use Rattle.vr_known.specs.Listing.{each, gaps, is_other, moves_in, places, route, vehicles, Defined, Relocate};
 ghost use Rattle.vr_known.specs.Listing.{RelocateKind};
 
@@ -46,6 +46,7 @@ pub struct Targets<'a> {
     v: u32,
     a: u32,
     ghost vehicle: { v < 100 },
+    ghost few: { length routes.now.lists ≤ 100 },
 }
 
 impl<'a> Family for Targets<'a> {
@@ -62,7 +63,6 @@ impl<'a> Family for Targets<'a> {
         if self.v == k {
             return None;
         }
-        let _few = self.routes.vehicles();
         let gaps = Gaps {
             v: self.v,
             a: self.a,
@@ -80,6 +80,7 @@ pub struct Places<'a> {
     vehicles: u32,
     ghost vehicle: { v < 100 },
     ghost many: { vehicles ≡ length routes.now.lists },
+    ghost few: { vehicles ≤ 100 },
 }
 
 impl<'a> Family for Places<'a> {
@@ -107,6 +108,7 @@ pub struct Vehicles<'a> {
     routes: &'a Routes,
     vehicles: u32,
     ghost many: { vehicles ≡ length routes.now.lists },
+    ghost few: { vehicles ≤ 100 },
 }
 
 impl<'a> Family for Vehicles<'a> {
@@ -120,7 +122,6 @@ impl<'a> Family for Vehicles<'a> {
 
     #[inline]
     fn open(&self, k: u32) -> Option<Each<Places<'a>>> {
-        let _few = self.routes.vehicles();
         let places = Places {
             routes: self.routes,
             v: k,

@@ -71,6 +71,7 @@ impl Family for Pickups {
 pub struct Targets<'a> {
     routes: &'a Routes,
     p: u32,
+    ghost few: { length routes.now.lists ≤ 100 },
 }
 
 impl<'a> Family for Targets<'a> {
@@ -83,7 +84,6 @@ impl<'a> Family for Targets<'a> {
 
     #[inline]
     fn open(&self, k: u32) -> Option<Each<Pickups>> {
-        let _few = self.routes.vehicles();
         let n = self.routes.len(k);
         Some(Each::new(Pickups { p: self.p, w: k, n }, 0, n + 1))
     }
@@ -96,6 +96,7 @@ pub struct Pairs<'a> {
     routes: &'a Routes,
     vehicles: u32,
     ghost many: { vehicles ≡ length routes.now.lists },
+    ghost few: { vehicles ≤ 100 },
 }
 
 impl<'a> Family for Pairs<'a> {

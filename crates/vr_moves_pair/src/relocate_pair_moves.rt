@@ -107,6 +107,7 @@ pub struct Targets<'a> {
     ghost pair: { p < 500 },
     ghost order: { at.pickup < at.delivery },
     ghost places: { ArePairPlaces routes.now.lists (pair_at model.now p) at.vehicle at.pickup at.delivery },
+    ghost few: { length routes.now.lists ≤ 100 },
 }
 
 impl<'a> Family for Targets<'a> {
@@ -119,7 +120,6 @@ impl<'a> Family for Targets<'a> {
     #[inline]
     fn open(&self, k: u32) -> Option<Each<Pickups>> {
         self.routes.know_once();
-        let _few = self.routes.vehicles();
         let n = rest_len(self.routes, self.at, k);
         let pickups = Pickups {
             p: self.p,
@@ -139,6 +139,7 @@ pub struct Pairs<'a> {
     vehicles: u32,
     ghost many: { vehicles ≡ length routes.now.lists },
     ghost few: { length model.now.pairs ≤ 500 },
+    ghost few_vehicles: { vehicles ≤ 100 },
 }
 
 impl<'a> Family for Pairs<'a> {
