@@ -5,13 +5,14 @@ use Rattle.vr_model.specs.search.Outcomes.{Outcome}
 use Rattle.vr_model.specs.declared.records.Model.{Model}
 use Rattle.vr_model.specs.declared.search.Event.{Event}
 use Rattle.vr_routes.specs.Judging.{HoldSame}
+use Rattle.vr_routes.specs.Tours.{Tours}
 use Rattle.vr_watch.specs.Told.{Reported}
 use Rattle.vr_app.specs.declared.best.Best.{Best}
 use Rattle.vr_app.specs.declared.improving.FirstSolution.{FirstSolution}
 
 -- a judge of the model has committed a first solution, and what this costs is known
 pub record CanImprove (model : Model) (first : FirstSolution) (judged : Model)
-    (committed : List (List ℕ)) : Type 0 where
+    (committed : Tours → Type 0) : Type 0 where
   pub judge_model : judged ≡ model
   pub holds : HoldSame model committed first.routes
   pub first_cost : first.cost ≡ cost model first.routes.lists

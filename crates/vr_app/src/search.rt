@@ -20,7 +20,7 @@ use std::sync::ledger::{Blank, Ledger};
 use vr_judge::FilterJudge;
 use vr_model::{NoMemory, Steps};
 use vr_plan::Lookups;
-use vr_routes::Routes;
+use vr_routes::{Judge, Routes};
 
 /// What the search that the model names makes of its first solution, by a judge of filters that stands at it. The
 /// watchers are told of each event. The only refusal is want of memory.
@@ -32,8 +32,9 @@ pub fn improve_judged<L: Ledger>(
     watch: &mut Watchers,
     blank: Blank,
 ) -> Result<Best, NoMemory>
-    requires judge_model { judge.old.model ≡ lookups.now.closed.model.now }
-    requires holds { HoldSame lookups.now.closed.model.now judge.old.lists first.routes }
+    requires judge_model { ⟦<FilterJudge<'static> as Judge>⟧.model judge.old ≡ lookups.now.closed.model.now }
+    requires holds { HoldSame lookups.now.closed.model.now
+        (⟦<FilterJudge<'static> as Judge>⟧.committed judge.old) first.routes }
     requires first_cost { first.cost ≡ cost lookups.now.closed.model.now first.routes.lists }
     requires name { blank.name ≡ L.name }
     requires parts { blank.parts ≡ L.parts }

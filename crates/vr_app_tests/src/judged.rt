@@ -15,7 +15,7 @@ use vr_gen::generate;
 use vr_judge::FilterJudge;
 use vr_model::{Closed, NoMemory};
 use vr_plan::Lookups;
-use vr_routes::Routes;
+use vr_routes::{Judge, Routes};
 use vr_rules::total;
 
 // Searches from a first solution: by the judge of filters, and by no other.
@@ -25,8 +25,9 @@ fn search_by(
     judge: &mut FilterJudge<'_>,
     first: FirstSolution,
 ) -> Result<(), NoMemory>
-    requires judge_model { judge.old.model ≡ lookups.now.closed.model.now }
-    requires holds { HoldSame lookups.now.closed.model.now judge.old.lists first.routes }
+    requires judge_model { ⟦<FilterJudge<'static> as Judge>⟧.model judge.old ≡ lookups.now.closed.model.now }
+    requires holds { HoldSame lookups.now.closed.model.now
+        (⟦<FilterJudge<'static> as Judge>⟧.committed judge.old) first.routes }
     requires first_cost { first.cost ≡ cost lookups.now.closed.model.now first.routes.lists }
 {
     let mut none = Vec::new(alloc);

@@ -36,7 +36,7 @@ fn judge_all<J: Judge, L: Ledger>(
     requires holds { HoldSame (J.model judge.old) (J.committed judge.old) routes.now }
     requires moves { All (λ mv. IsTrue (is_move (J.model judge.old) routes.now.lists mv)) moves.now }
     ensures model { J.model judge.new ≡ J.model judge.old }
-    ensures committed { J.committed judge.new ≡ J.committed judge.old }
+    ensures committed { J.committed judge.new routes.now }
 {
     let mut sum: i64 = 0;
     for &mv in moves {
@@ -58,7 +58,7 @@ fn time_rounds<J: Judge, L: Ledger>(
     requires holds { HoldSame (J.model judge.old) (J.committed judge.old) routes.now }
     requires moves { All (λ mv. IsTrue (is_move (J.model judge.old) routes.now.lists mv)) moves.now }
     ensures model { J.model judge.new ≡ J.model judge.old }
-    ensures committed { J.committed judge.new ≡ J.committed judge.old }
+    ensures committed { J.committed judge.new routes.now }
 {
     let mut sum: i64 = 0;
     let start = Instant::now(rt)?;

@@ -1,12 +1,13 @@
 -- How often a judge was asked adds up.
-use Rattle.std.proofs.Common.{◌≡◌, ◌∙◌, ℕ, suc, ◌+◌, ◌<◌, ◌≤◌, ◌^◌, List, arith}
+use Rattle.std.proofs.Common.{◌≡◌, ◌∙◌, ℕ, suc, ◌+◌, ◌<◌, ◌≤◌, ◌^◌, arith}
 use Rattle.vr_known.specs.Passing.{tries_within}
 use Rattle.vr_model.specs.declared.records.Model.{Model}
+use Rattle.vr_routes.specs.Tours.{Tours}
 use Rattle.vr_descent.specs.Asking.{AsksFor, AsksOn, Keeps}
 use Rattle.vr_descent.proofs.PassedLemmas.{looks_few}
 
-pub keeps_then : {J : Type 0} {model_of : J → Model} {lists_of : J → List (List ℕ)} (a b c : J) → Keeps model_of lists_of a b → Keeps model_of lists_of b c → Keeps model_of lists_of a c
-keeps_then a b c first then = record { model = then.model ∙ first.model; committed = then.committed ∙ first.committed }
+pub keeps_then : {J : Type 0} {model_of : J → Model} {holds : J → Tours → Type 0} {routes : Tours} (a b c : J) → Keeps model_of holds routes a b → Keeps model_of holds routes b c → Keeps model_of holds routes a c
+keeps_then a b c first then = record { model = then.model ∙ first.model; committed = then.committed }
 
 module _ {J : Type 0} {judged seen : J → ℕ} where
   -- nothing was asked

@@ -58,7 +58,7 @@ first_is_best model routes best is valid = record {
 }
 
 -- at its beginning a search is under way
-pub under_way : (model : Model) (limit : Limit) (routes : Tours) (at : Progress) (best : Incumbent) (committed : List (List ℕ)) → at ≡ at_first model routes.lists → best ≡ record { routes = routes; cost = cost model routes.lists }
+pub under_way : (model : Model) (limit : Limit) (routes : Tours) (at : Progress) (best : Incumbent) (committed : Tours → Type 0) → at ≡ at_first model routes.lists → best ≡ record { routes = routes; cost = cost model routes.lists }
     → HoldSame model committed routes → 1 ≤ limit.solutions → IsUnderWay model limit committed routes at best
 under_way model limit routes at best committed at_is best_is holds some =
     let used = ap (λ p. p.used) at_is in

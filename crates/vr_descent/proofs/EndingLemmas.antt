@@ -27,7 +27,7 @@ stops after left lists at best old new stop goes = record {
 }
 
 -- a search has ended where what was left of it has, behind what was told before
-pub has_ended : {W : Type 0} (after : W → List Event → List ℕ) (model : Model) (limit : Limit) (whole left : Outcome) (from to : Tours) (a b c : List W) (at : Progress) (first best : Incumbent) (held judged : List (List ℕ)) (stop : End) (stated : Report)
+pub has_ended : {W : Type 0} (after : W → List Event → List ℕ) (model : Model) (limit : Limit) (whole left : Outcome) (from to : Tours) (a b c : List W) (at : Progress) (first best : Incumbent) (held judged : Tours → Type 0) (stop : End) (stated : Report)
     → Goes after whole left a b → HasStopped after left to.lists at best b c stop → HoldSame model held from → IsUnderWay model limit judged to at best
     → first.cost ≡ cost model from.lists → best.cost ≤ℤ first.cost → stated ≡ report_of at stop
     → HasEnded after model limit whole from to a c stated best.routes

@@ -75,7 +75,7 @@ module _ (model : Model) (takes : List (List ℕ) → Move → ℤ → Bool) (li
         routes_are = tours ∙ ap (routes_after model routes) scanned;
       }
 
-module _ (model : Model) (limit : Limit) (routes after : Tours) (at now : Progress) (committed judged : List (List ℕ)) where
+module _ (model : Model) (limit : Limit) (routes after : Tours) (at now : Progress) (committed judged : Tours → Type 0) where
   -- a search is under way still where a move was made, and the cheaper routes are kept
   pub under_way_moved : (takes : List (List ℕ) → Move → ℤ → Bool) (place : ℕ) (mv : Move) (best new : Incumbent) → Moved model takes limit routes after at now place mv → IsUnderWay model limit committed routes at best
       → HoldSame model judged after → new ≡ kept best after now.cost → ((at.found ≡ limit.solutions) → ⊥) → IsUnderWay model limit judged after now new

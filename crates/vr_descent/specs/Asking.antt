@@ -1,6 +1,7 @@
 -- How often a judge is asked.
-use Rattle.std.specs.Prelude.{◌≡◌, ℕ, ◌+◌, ◌*◌, ◌≤◌, List}
+use Rattle.std.specs.Prelude.{◌≡◌, ℕ, ◌+◌, ◌*◌, ◌≤◌}
 use Rattle.vr_model.specs.declared.records.Model.{Model}
+use Rattle.vr_routes.specs.Tours.{Tours}
 
 -- for so many tries a judge was asked about no more moves, and at most twice as often what a move, or a run of moves,
 -- makes at least
@@ -13,7 +14,8 @@ pub record AsksOn {J : Type 0} (judged seen : J → ℕ) (old new : J) (before a
   pub asked : judged new + before ≤ judged old + after
   pub looked : seen new + 2 * before ≤ seen old + 2 * after
 
--- a judge has its model still, and the lists that it has committed
-pub record Keeps {J : Type 0} (model_of : J → Model) (lists_of : J → List (List ℕ)) (old new : J) : Type 0 where
+-- a judge has its model still, and has committed the lists of the routes still
+pub record Keeps {J : Type 0} (model_of : J → Model) (holds : J → Tours → Type 0) (routes : Tours) (old new : J) :
+    Type 0 where
   pub model : model_of new ≡ model_of old
-  pub committed : lists_of new ≡ lists_of old
+  pub committed : holds new routes

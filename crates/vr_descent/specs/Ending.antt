@@ -22,7 +22,7 @@ pub record IsSearchLimit (limit : Limit) : Type 0 where
 
 -- a search may begin at routes that a judge holds, whose cost is known
 pub record CanBegin (model : Model) (routes : Tours) (total : ℤ) (allowed : Limit) (judged : Model)
-    (committed : List (List ℕ)) : Type 0 where
+    (committed : Tours → Type 0) : Type 0 where
   pub judge : CanJudge model routes judged committed
   pub first_cost : total ≡ cost model routes.lists
   pub limit : IsSearchLimit allowed

@@ -21,7 +21,7 @@ pub record IsBest (model : Model) (visits : List ℕ) (best : Incumbent) : Type 
 
 -- a search within a limit is under way: routes and judge hold the same valid lists; their cost is known, and the tries
 -- and the solutions are counted; and the best routes are valid
-pub record IsUnderWay (model : Model) (limit : Limit) (committed : List (List ℕ)) (routes : Tours) (at : Progress)
+pub record IsUnderWay (model : Model) (limit : Limit) (committed : Tours → Type 0) (routes : Tours) (at : Progress)
     (incumbent : Incumbent) : Type 0 where
   pub holds : HoldSame model committed routes
   pub costs : at.cost ≡ cost model routes.lists

@@ -118,7 +118,7 @@ pub fn scan<J: Judge, A: Accept, L: Ledger>(
     ensures ends { IfOk result (λ ended. ended ≡ scan_end model.now routes.now.lists
         (scan (moves model.now routes.now.lists)
         (is_acceptable model.now (A.takes accept.now) routes.now.lists) rest)) }
-    ensures keeps { Keeps J.model J.committed judge.old judge.new }
+    ensures keeps { Keeps J.model J.committed routes.now judge.old judge.new }
     ensures asked { IfOk result (λ ended. AsksFor J.asked J.looked judge.old judge.new (tries_in_scan rest ended)) }
     ensures asked_at_most { OnErr result (AsksFor J.asked J.looked judge.old judge.new rest) }
 {
@@ -171,7 +171,7 @@ fn next_open<J: Judge, A: Accept>(
     ensures takes { Takes (IsPassed (A.model accept.now) (A.takes accept.now) routes.now.lists rest)
         list.old place.old result list.new place.new }
     ensures model { J.model judge.new ≡ J.model judge.old }
-    ensures committed { J.committed judge.new ≡ J.committed judge.old }
+    ensures committed { J.committed judge.new routes.now }
     ensures asked { J.asked judge.new ≡ J.asked judge.old }
     ensures looked { J.looked judge.new + tries_within rest place.old
         ≤ J.looked judge.old + tries_within rest (place.new + tries_taken result) }
@@ -202,7 +202,7 @@ fn open_next<J: Judge, A: Accept>(
     ensures takes { Takes (IsPassed (A.model accept.now) (A.takes accept.now) routes.now.lists rest)
         list.old place.old result list.new place.new }
     ensures model { J.model judge.new ≡ J.model judge.old }
-    ensures committed { J.committed judge.new ≡ J.committed judge.old }
+    ensures committed { J.committed judge.new routes.now }
     ensures asked { J.asked judge.new ≡ J.asked judge.old }
     ensures looked { J.looked judge.new + tries_within rest place.old
         ≤ J.looked judge.old + tries_within rest (place.new + tries_taken result) }
@@ -237,7 +237,7 @@ fn try_move<J: Judge, A: Accept, L: Ledger>(
     ensures answer { IfOk result (λ answer. answer
         ≡ taken_difference closed.entry.model.now (A.takes accept.now) routes.now.lists mv) }
     ensures model { J.model judge.new ≡ J.model judge.old }
-    ensures committed { J.committed judge.new ≡ J.committed judge.old }
+    ensures committed { J.committed judge.new routes.now }
     ensures asked { J.asked judge.new ≤ J.asked judge.old + 1 }
     ensures looked { J.looked judge.new ≤ J.looked judge.old + 1 }
 {

@@ -72,7 +72,7 @@ module _ (model : Model) (limit : Limit) (lambda : Lambda) (penalties : Penaltie
 -- a scan that makes no move leaves the routes as they are, and only the tries are counted
 module _ (model : Model) (limit : Limit) (routes tours : Tours) (state : State) (now : Progress) (used : ℕ)
     (routes_are : tours ≡ routes) (at_is : now ≡ record { used = used; found = state.at.found; cost = state.at.cost }) where
-  pub stands_still : (committed judged : List (List ℕ)) → GuidedStands model limit committed routes state → HoldSame model judged tours → state.at.used ≤ used → used ≤ limit.tries → GuidedStands model limit judged tours (record state { at = now })
+  pub stands_still : (committed judged : Tours → Type 0) → GuidedStands model limit committed routes state → HoldSame model judged tours → state.at.used ≤ used → used ≤ limit.tries → GuidedStands model limit judged tours (record state { at = now })
   stands_still committed judged stands holds more low =
       let used_new = ap (λ p. p.used) at_is in
       record {
@@ -90,5 +90,5 @@ module _ (model : Model) (limit : Limit) (routes tours : Tours) (state : State) 
       (subst (λ p. HasStopped after whole routes.lists p state.best old new stop) (sym at_is) (stops after whole routes.lists (record { used = used; found = state.at.found; cost = state.at.cost }) state.best old new stop goes))
 
 -- no arc was penalised more often than there may be tries
-pub few_stand : (model : Model) (limit : Limit) (committed : List (List ℕ)) (routes : Tours) (state : State) → GuidedStands model limit committed routes state → limit.tries ≤ 1000000000 → AtMost 1000000000 (counted state.penalties)
+pub few_stand : (model : Model) (limit : Limit) (committed : Tours → Type 0) (routes : Tours) (state : State) → GuidedStands model limit committed routes state → limit.tries ≤ 1000000000 → AtMost 1000000000 (counted state.penalties)
 few_stand model limit committed routes state stands most = let low = stands.going.used in few_more (counted state.penalties) state.at.used 1000000000 (omega (arith, low, most)) stands.few

@@ -20,7 +20,7 @@ module _ (model : Model) (limit : Limit) (lambda : Lambda) (lists : List (List �
 
 -- a state that begins stands where the search begins
 module _ (model : Model) (limit : Limit) (routes : Tours) (state : State) (begins : IsGuidedBegun model routes (at_first model routes.lists) state) where
-  pub begun_stands : (committed : List (List ℕ)) → HoldSame model committed routes → 1 ≤ limit.solutions → GuidedStands model limit committed routes state
+  pub begun_stands : (committed : Tours → Type 0) → HoldSame model committed routes → 1 ≤ limit.solutions → GuidedStands model limit committed routes state
   begun_stands committed holds some =
       let used = ap (λ p. p.used) begins.at_is in
       record {

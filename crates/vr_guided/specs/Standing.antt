@@ -31,7 +31,7 @@ pub record IsGuidedBegun (model : Model) (routes : Tours) (at : Progress) (state
 
 -- the search is under way; no arc was penalised more often than a move was tried; each arc has a count; and each
 -- vehicle has sums
-pub record GuidedStands (model : Model) (limit : Limit) (committed : List (List ℕ)) (routes : Tours) (state : State) :
+pub record GuidedStands (model : Model) (limit : Limit) (committed : Tours → Type 0) (routes : Tours) (state : State) :
     Type 0 where
   pub going : IsUnderWay model limit committed routes state.at state.best
   pub few : AtMost state.at.used (counted state.penalties)

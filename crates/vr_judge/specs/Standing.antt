@@ -7,12 +7,12 @@ use Rattle.vr_judge.specs.Rules.{keeps_rules, total_weight}
 use Rattle.vr_judge.specs.Costs.{KeptCosts, StandsCosts}
 
 -- the filters ask what valid lists of the model keep, within its weights; they and the parts of the cost stand at the
--- lists that are held
-pub record IsJudging (model : Model) (held : Tours) (holds : List (List ℕ) → Bool)
+-- lists of the routes
+pub record IsJudging (model : Model) (routes : Tours) (holds : List (List ℕ) → Bool)
     (weight : List (List ℕ) → List (List ℕ) → ℕ) (stands_at : Tours → Type 0) (costs : KeptCosts) : Type 0 where
-  pub of_model : held.visits ≡ visits model
+  pub of_model : routes.visits ≡ visits model
   pub rules : (lists : List (List ℕ)) → holds lists ≡ keeps_rules model lists
   pub weights : (before later : List (List ℕ)) → weight before later ≡ total_weight model before later
-  pub filters : stands_at held
+  pub filters : stands_at routes
   pub costs_model : costs.model ≡ model
-  pub costs_stand : StandsCosts costs held
+  pub costs_stand : StandsCosts costs routes

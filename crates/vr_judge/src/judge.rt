@@ -1,19 +1,16 @@
 //! The judge that looks only at what a move changes.
 
 ghost use Rattle.std.specs.Prelude.{◌≡◌, IfOk, IsTrue};
-ghost use Rattle.vr_model.specs.moves.Moves.{apply};
 ghost use Rattle.vr_model.specs.routes.Rules.{is_valid};
 ghost use Rattle.vr_model.specs.tables.Tables.{visits};
 ghost use Rattle.vr_model.specs.tables.WellFormed.{IsWellFormed};
 ghost use Rattle.vr_routes.specs.Judging.{HoldSame};
-ghost use Rattle.vr_judge.specs.Rules.{total_weight};
 
 use crate::costs::Costs;
 use crate::filters::{Filters, filters_of};
 use crate::judging::Judging;
 use crate::try_both::try_both;
 use std::alloc::Global;
-use std::marker::Model;
 use std::sync::ledger::Ledger;
 use vr_model::{Closed, Model as RoutingModel, Move, NoMemory, Steps};
 use vr_plan::Lookups;
@@ -31,14 +28,6 @@ pub struct FilterJudge<'m> {
     judging: Box<Judging<'m, Filters<'m>>>,
 }
 
-impl<'m> Model for FilterJudge<'m> {
-    ghost use Rattle.vr_routes.specs.Judging.{Held};
-
-    ghost Value = { Held };
-
-    ghost view = { λ judge. judge.judging.value };
-}
-
 impl<'m> FilterJudge<'m> {
     /// A judge that has committed the lists of these routes, which are valid. The only refusal is want of memory.
     pub fn open(
@@ -49,8 +38,9 @@ impl<'m> FilterJudge<'m> {
         requires well_formed { IsWellFormed model.now }
         requires of_model { routes.now.visits ≡ visits model.now }
         requires valid { IsTrue (is_valid model.now routes.now.lists) }
-        ensures model { IfOk result (λ judge. judge.model ≡ model.now) }
-        ensures holds { IfOk result (λ judge. HoldSame model.now judge.lists routes.now) }
+        ensures model { IfOk result (λ judge. ⟦<FilterJudge<'static> as Judge>⟧.model judge ≡ model.now) }
+        ensures holds { IfOk result (λ judge.
+            HoldSame model.now (⟦<FilterJudge<'static> as Judge>⟧.committed judge) routes.now) }
     {
         let lookups = Lookups::open(alloc, Closed { model })?;
         FilterJudge::over(alloc, &lookups, routes)
@@ -64,16 +54,20 @@ impl<'m> FilterJudge<'m> {
     ) -> Result<FilterJudge<'m>, NoMemory>
         requires of_model { routes.now.visits ≡ visits lookups.now.closed.model.now }
         requires valid { IsTrue (is_valid lookups.now.closed.model.now routes.now.lists) }
-        ensures model { IfOk result (λ judge. judge.model ≡ lookups.now.closed.model.now) }
-        ensures holds { IfOk result (λ judge. HoldSame lookups.now.closed.model.now judge.lists routes.now) }
+        ensures model { IfOk result (λ judge.
+            ⟦<FilterJudge<'static> as Judge>⟧.model judge ≡ lookups.now.closed.model.now) }
+        ensures holds { IfOk result (λ judge. HoldSame lookups.now.closed.model.now
+            (⟦<FilterJudge<'static> as Judge>⟧.committed judge) routes.now) }
     {
         let filters = filters_of(alloc, lookups, routes);
         let costs = Costs::over(alloc, lookups, routes);
-        let held = routes.copy(alloc);
-        let kept = try_both(costs, held);
-        let (filters, kept) = try_both(filters, kept)?;
-        let (costs, held) = kept;
-        let judging = Judging::new(lookups.closed.model, held, filters, costs);
+        let (filter, costs) = try_both(filters, costs)?;
+        let judging = Judging {
+            model: lookups.closed.model,
+            filter,
+            costs,
+            change: Change::blank(),
+        };
         Ok(FilterJudge {
             judging: Box::new(alloc, judging)?,
         })
@@ -84,15 +78,15 @@ impl<'m> FilterJudge<'m> {
 }
 
 impl<'m> Judge for FilterJudge<'m> {
-    ghost model = { λ judge. judge.model };
+    ghost model = { λ judge. ⟦<Judging<'static, Filters<'static>> as Judge>⟧.model judge.judging.value };
 
-    ghost committed = { λ judge. judge.lists };
+    ghost committed = { λ judge. ⟦<Judging<'static, Filters<'static>> as Judge>⟧.committed judge.judging.value };
 
     ghost asked = { λ judge. 0 };
 
     ghost looked = { λ judge. 0 };
 
-    ghost weight = { λ judge mv. total_weight judge.model judge.lists (apply judge.model judge.lists mv) };
+    ghost weight = { λ judge. ⟦<Judging<'static, Filters<'static>> as Judge>⟧.weight judge.judging.value };
 
     fn judge<L: Ledger>(
         &mut self,

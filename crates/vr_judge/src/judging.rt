@@ -1,19 +1,17 @@
 //! Judging a move by a filter of what it changes, and by the parts of the cost.
 
-ghost use Rattle.std.specs.Prelude.{◌≡◌, ◌+◌, ◌≤◌, ℕ, List, IfOk, IsTrue};
+ghost use Rattle.std.specs.Prelude.{◌≡◌, ◌+◌, ◌≤◌, IfOk};
 ghost use Rattle.vr_filter.specs.Filters.{IsSameRule, IsSameWeight};
 ghost use Rattle.vr_model.specs.moves.Moves.{apply};
 ghost use Rattle.vr_model.specs.routes.Rules.{is_valid};
-ghost use Rattle.vr_model.specs.tables.Tables.{visits};
 ghost use Rattle.vr_judge.specs.Costs.{StandsCosts};
 ghost use Rattle.vr_judge.specs.Verdicts.{verdict_by};
 ghost use Rattle.vr_routes.specs.Changes.{IsMadeOn};
 ghost use Rattle.vr_routes.specs.Pieces.{changed};
-ghost use Rattle.vr_routes.specs.Judging.{HoldSame};
-ghost use Rattle.vr_judge.specs.Rules.{keeps_rules, total_weight};
+ghost use Rattle.vr_judge.specs.Rules.{total_weight};
+ghost use Rattle.vr_judge.specs.Standing.{IsJudging};
 
 use crate::costs::Costs;
-use std::marker::Model;
 use std::sync::ledger::Ledger;
 use vr_filter::PathFilter;
 use vr_model::{Model as RoutingModel, Move, NoMemory, Steps};
@@ -22,54 +20,11 @@ use vr_routes::{Change, Judge, Routes, Verdict};
 /// Judges a move by a filter whose rule is that the lists are valid, and by the parts of the cost.
 #[derive(Drop)]
 pub(crate) struct Judging<'m, F: PathFilter + Drop> {
-    model: &'m RoutingModel,
-    // The lists that are committed, for contracts alone: what a move makes is told by filters and costs.
-    held: Routes,
-    filter: F,
-    costs: Costs<'m>,
+    pub(crate) model: &'m RoutingModel,
+    pub(crate) filter: F,
+    pub(crate) costs: Costs<'m>,
     // what the move in hand changes: written over for each move
-    change: Change,
-}
-
-impl<'m, F: PathFilter + Drop> Model for Judging<'m, F> {
-    ghost use Rattle.vr_judge.specs.Standing.{IsJudging};
-    ghost use Rattle.vr_routes.specs.Judging.{Held};
-
-    ghost Value = { Held };
-
-    ghost view = { λ judging. record { model = judging.model.now; lists = judging.held.lists } };
-
-    ghost invariant = { λ judging. IsJudging judging.model.now judging.held (F.holds judging.filter)
-        (F.weight judging.filter) (F.stands_at judging.filter) judging.costs };
-}
-
-impl<'m, F: PathFilter + Drop> Judging<'m, F> {
-    /// A judge that holds these lists, which are valid: the filter and the costs stand at them.
-    pub(crate) fn new(
-        model: &'m RoutingModel,
-        held: Routes,
-        filter: F,
-        costs: Costs<'m>,
-    ) -> Judging<'m, F>
-        requires of_model { held.visits ≡ visits model.now }
-        requires valid { IsTrue (is_valid model.now held.lists) }
-        requires rules { (lists : List (List ℕ)) → F.holds filter lists ≡ keeps_rules model.now lists }
-        requires weights { (before later : List (List ℕ))
-            → F.weight filter before later ≡ total_weight model.now before later }
-        requires stands { F.stands_at filter held }
-        requires costs_model { costs.model ≡ model.now }
-        requires costs_stand { StandsCosts costs held }
-        ensures model { result.model ≡ model.now }
-        ensures holds { HoldSame model.now result.lists held }
-    {
-        Judging {
-            model,
-            held,
-            filter,
-            costs,
-            change: Change::blank(),
-        }
-    }
+    pub(crate) change: Change,
 }
 
 // Judges a change of lists at which a filter and costs stand: the filter says whether they are valid after it.
@@ -103,15 +58,16 @@ fn judge_by<F: PathFilter, L: Ledger>(
 }
 
 impl<'m, F: PathFilter + Drop> Judge for Judging<'m, F> {
-    ghost model = { λ judging. judging.model };
+    ghost model = { λ judging. judging.model.now };
 
-    ghost committed = { λ judging. judging.lists };
+    ghost committed = { λ judging tours. IsJudging judging.model.now tours (F.holds judging.filter)
+        (F.weight judging.filter) (F.stands_at judging.filter) judging.costs };
 
     ghost asked = { λ judging. 0 };
 
     ghost looked = { λ judging. 0 };
 
-    ghost weight = { λ judging mv. total_weight judging.model judging.lists (apply judging.model judging.lists mv) };
+    ghost weight = { λ judging lists mv. total_weight judging.model.now lists (apply judging.model.now lists mv) };
 
     fn judge<L: Ledger>(
         &mut self,
@@ -163,7 +119,6 @@ impl<'m, F: PathFilter + Drop> Judge for Judging<'m, F> {
         self.costs.commit(routes, &self.change)?;
         self.filter.commit(routes, &self.change);
         routes.commit(&self.change);
-        self.held.commit(&self.change);
         Ok(())
     }
 }

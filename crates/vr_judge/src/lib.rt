@@ -5,9 +5,9 @@
 //! costs, and `judge` is that over the filters of a model, in one box. Filters and costs are opened together
 //! (`try_both`).
 //!
-//! Filters, costs and the lists that the judge holds stand at the same valid lists of the model (`IsJudging`), and a
-//! commit makes all of them ready before it changes one. `vr_app` opens a judge for each search, and searches ask it,
-//! through the trait `Judge`, about runs of moves and about moves.
+//! Filters and costs stand at the same valid lists of the model, those of the routes that the judge is handed
+//! (`IsJudging`): it keeps no lists. A commit makes all of them ready before it changes one. `vr_app` opens a judge for
+//! each search, and searches ask it, through the trait `Judge`, about runs of moves and about moves.
 #![tactic(auto)]
 
 mod costs;

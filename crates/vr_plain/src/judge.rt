@@ -1,6 +1,6 @@
 //! The judge that rebuilds.
 
-ghost use Rattle.std.specs.Prelude.{◌≡◌, ◌≤ℤ◌, IfOk, IsTrue, length, pos};
+ghost use Rattle.std.specs.Prelude.{◌≡◌, IfOk, IsTrue, length};
 ghost use Rattle.vr_model.specs.moves.MoveTests.{is_move};
 ghost use Rattle.vr_model.specs.routes.Costs.{cost};
 ghost use Rattle.vr_model.specs.routes.Routes.{are_lists};
@@ -9,9 +9,9 @@ ghost use Rattle.vr_model.specs.tables.Tables.{visits};
 ghost use Rattle.vr_model.specs.tables.WellFormed.{IsWellFormed};
 ghost use Rattle.vr_routes.specs.Changes.{IsChange, IsMadeOn};
 ghost use Rattle.vr_routes.specs.Judging.{HoldSame, moved};
+ghost use Rattle.vr_plain.specs.Holding.{AreRoutesHeld};
 
 use std::alloc::Global;
-use std::marker::Model;
 use std::sync::ledger::Ledger;
 use vr_model::{Model as RoutingModel, Move, NoMemory, Steps};
 use vr_routes::{Change, Judge, Routes, Verdict};
@@ -25,23 +25,11 @@ use vr_rules::Rules;
 #[derive(Drop)]
 pub struct PlainJudge<'m> {
     rules: Rules<'m>,
-    // the lists that are committed, and what they cost
-    held: Routes,
+    // what the lists cost that are committed
     total: i64,
     // the lists after the move in hand, and what it changes: written over for each move
     scratch: Routes,
     change: Change,
-}
-
-impl<'m> Model for PlainJudge<'m> {
-    ghost use Rattle.vr_plain.specs.Holding.{AreRoutesHeld};
-    ghost use Rattle.vr_routes.specs.Judging.{Held};
-
-    ghost Value = { Held };
-
-    ghost view = { λ judge. record { model = judge.rules; lists = judge.held.lists } };
-
-    ghost invariant = { λ judge. AreRoutesHeld judge.rules judge.held judge.scratch judge.total };
 }
 
 impl<'m> PlainJudge<'m> {
@@ -54,16 +42,15 @@ impl<'m> PlainJudge<'m> {
         requires well_formed { IsWellFormed model.now }
         requires of_model { routes.now.visits ≡ visits model.now }
         requires valid { IsTrue (is_valid model.now routes.now.lists) }
-        ensures model { IfOk result (λ judge. judge.model ≡ model.now) }
-        ensures holds { IfOk result (λ judge. HoldSame model.now judge.lists routes.now) }
+        ensures model { IfOk result (λ judge. ⟦<PlainJudge<'static> as Judge>⟧.model judge ≡ model.now) }
+        ensures holds { IfOk result (λ judge.
+            HoldSame model.now (⟦<PlainJudge<'static> as Judge>⟧.committed judge) routes.now) }
     {
-        let held = routes.copy(alloc)?;
         let scratch = routes.copy(alloc)?;
         let mut rules = Rules::open(alloc, model)?;
         let total = rules.total(routes)?;
         Ok(PlainJudge {
             rules,
-            held,
             total,
             scratch,
             change: Change::blank(),
@@ -72,15 +59,15 @@ impl<'m> PlainJudge<'m> {
 }
 
 impl<'m> Judge for PlainJudge<'m> {
-    ghost model = { λ judge. judge.model };
+    ghost model = { λ judge. judge.rules };
 
-    ghost committed = { λ judge. judge.lists };
+    ghost committed = { λ judge tours. AreRoutesHeld judge.rules tours judge.scratch judge.total };
 
     ghost asked = { λ judge. 0 };
 
     ghost looked = { λ judge. 0 };
 
-    ghost weight = { λ judge mv. 0 };
+    ghost weight = { λ judge lists mv. 0 };
 
     /// Memory is taken by the rules alone.
     fn judge<L: Ledger>(
@@ -114,7 +101,6 @@ impl<'m> Judge for PlainJudge<'m> {
         );
         let total = self.rules.total(&self.scratch)?;
         routes.commit(&self.change);
-        self.held.commit(&self.change);
         self.total = total;
         Ok(())
     }

@@ -1,5 +1,5 @@
 -- What a judge has to answer, and what it holds.
-use Rattle.std.specs.Prelude.{◌≡◌, ℕ, cond, List, IsTrue, ℤ, ◌-ℤ◌, ◌≤ℤ◌}
+use Rattle.std.specs.Prelude.{◌≡◌, cond, List, ℕ, IsTrue, ℤ, ◌-ℤ◌, ◌≤ℤ◌}
 use Rattle.vr_model.specs.tables.Tables.{visits}
 use Rattle.vr_model.specs.moves.Moves.{apply}
 use Rattle.vr_model.specs.moves.MoveTests.{is_move}
@@ -11,14 +11,9 @@ use Rattle.vr_routes.specs.Tours.{Tours}
 use Rattle.vr_routes.specs.declared.judging.Verdict.{Verdict}
 use Rattle.vr_routes.specs.declared.judging.Verdict.TheVariants.{Refused, Difference}
 
--- what contracts see of a judge: its model, and the lists that it has committed
-pub record Held : Type 0 where
-  pub model : Model
-  pub lists : List (List ℕ)
-
--- routes hold the lists that a judge has committed, and they are valid lists of its model
-pub record HoldSame (model : Model) (committed : List (List ℕ)) (routes : Tours) : Type 0 where
-  pub same : committed ≡ routes.lists
+-- a judge has committed the lists of routes, and they are valid lists of its model
+pub record HoldSame (model : Model) (committed : Tours → Type 0) (routes : Tours) : Type 0 where
+  pub same : committed routes
   pub of_model : routes.visits ≡ visits model
   pub valid : IsTrue (is_valid model routes.lists)
 

@@ -10,6 +10,7 @@ ghost use Rattle.vr_model.specs.declared.records.Model.{Model as RoutingModel};
 ghost use Rattle.vr_routes.specs.Changes.{IsChange};
 ghost use Rattle.vr_routes.specs.Judging.{HoldSame, IsDifferenceBound, IsNoLess, moved, verdict_of};
 ghost use Rattle.vr_routes.specs.Runs.{with_last};
+ghost use Rattle.vr_routes.specs.Tours.{Tours};
 
 use crate::{Change, Routes};
 use std::sync::ledger::Ledger;
@@ -29,8 +30,8 @@ pub trait Judge {
     /// The model, which no call changes.
     ghost model: { Self → RoutingModel };
 
-    /// The lists that the judge has committed.
-    ghost committed: { Self → List (List ℕ) };
+    /// The judge has committed the lists of these routes: what it keeps is so of them.
+    ghost committed: { Self → Tours → Type 0 };
 
     /// A number that rises by at most one where a move is judged.
     ghost asked: { Self → ℕ };
@@ -38,8 +39,8 @@ pub trait Judge {
     /// A number that rises by at most one where it is asked what a move, or a run of moves, makes at least.
     ghost looked: { Self → ℕ };
 
-    /// How many steps it takes at most to judge a move of the committed lists.
-    ghost weight: { Self → Step → ℕ };
+    /// How many steps it takes at most to judge a move of lists that it has committed.
+    ghost weight: { Self → List (List ℕ) → Step → ℕ };
 
     /// Judges a move of the lists. The committed lists stay, whatever the answer.
     fn judge<L: Ledger>(
@@ -53,10 +54,10 @@ pub trait Judge {
         requires mv { IsTrue (is_move (model self.old) routes.now.lists mv) }
         ensures verdict { IfOk result (λ verdict. verdict ≡ verdict_of (model self.old) routes.now.lists mv) }
         ensures model { model self.new ≡ model self.old }
-        ensures committed { committed self.new ≡ committed self.old }
+        ensures committed { committed self.new routes.now }
         ensures asked { asked self.new ≤ asked self.old + 1 }
         ensures looked { looked self.new ≡ looked self.old }
-        ensures steps { steps.new ≤ steps.old + weight self.old mv };
+        ensures steps { steps.new ≤ steps.old + weight self.old routes.now.lists mv };
 
     /// Judges a move of the lists, as `judge` does. The caller hands in the change that the move makes, so that it need
     /// not be written again.
@@ -73,10 +74,10 @@ pub trait Judge {
         requires change { IsChange (model self.old) routes.now.lists mv change.now }
         ensures verdict { IfOk result (λ verdict. verdict ≡ verdict_of (model self.old) routes.now.lists mv) }
         ensures model { model self.new ≡ model self.old }
-        ensures committed { committed self.new ≡ committed self.old }
+        ensures committed { committed self.new routes.now }
         ensures asked { asked self.new ≤ asked self.old + 1 }
         ensures looked { looked self.new ≡ looked self.old }
-        ensures steps { steps.new ≤ steps.old + weight self.old mv }
+        ensures steps { steps.new ≤ steps.old + weight self.old routes.now.lists mv }
     {
         self.judge(routes, mv, steps)
     }
@@ -92,7 +93,7 @@ pub trait Judge {
         requires change { IsChange (model self.old) routes.now.lists mv change.now }
         ensures least { IsDifferenceBound (model self.old) routes.now.lists mv result }
         ensures model { model self.new ≡ model self.old }
-        ensures committed { committed self.new ≡ committed self.old }
+        ensures committed { committed self.new routes.now }
         ensures asked { asked self.new ≡ asked self.old }
         ensures looked { looked self.new ≤ looked self.old + 1 }
     {
@@ -121,7 +122,7 @@ pub trait Judge {
         ensures no_less { IfSome result (λ first. (k : ℕ) → from ≤ k → k < first
             → IsNoLess (model self.old) routes.now.lists (with_last mv k) bound) }
         ensures model { model self.new ≡ model self.old }
-        ensures committed { committed self.new ≡ committed self.old }
+        ensures committed { committed self.new routes.now }
         ensures asked { asked self.new ≡ asked self.old }
         ensures looked { looked self.new ≤ looked self.old + 1 }
     {
@@ -136,9 +137,9 @@ pub trait Judge {
         requires mv { IsTrue (is_move (model self.old) routes.old.lists mv) }
         requires valid { IsTrue (is_valid (model self.old) (apply (model self.old) routes.old.lists mv)) }
         ensures routes { OnOk result (routes.new ≡ moved (model self.old) routes.old mv) }
-        ensures committed { OnOk result (committed self.new ≡ routes.new.lists) }
+        ensures committed { OnOk result (committed self.new routes.new) }
         ensures routes_stay { OnErr result (routes.new ≡ routes.old) }
-        ensures committed_stay { OnErr result (committed self.new ≡ committed self.old) }
+        ensures committed_stay { OnErr result (committed self.new routes.new) }
         ensures model { model self.new ≡ model self.old }
         ensures asked { asked self.new ≡ asked self.old }
         ensures looked { looked self.new ≡ looked self.old };

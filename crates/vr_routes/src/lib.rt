@@ -5,7 +5,7 @@
 //!
 //! Invariant: each visit stands in one list at most, where the look-ups say, and the visits in no list are a list of
 //! their own. A change is made on the routes from which it was written (`IsMadeOn`); its pieces, joined, are the lists
-//! that the definition of the move gives. `Judge` is the trait of what judges moves: it holds the same lists as the
+//! that the definition of the move gives. `Judge` is the trait of what judges moves: what it keeps is so of the
 //! routes that it is asked about.
 //!
 //! All searches, filters and cost terms stand on this crate, and constructions end in it.

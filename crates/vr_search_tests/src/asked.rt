@@ -55,7 +55,7 @@ impl<J: Judge> Judge for Counting<J> {
 
     ghost looked = { λ counting. counting.looks };
 
-    ghost weight = { λ counting mv. J.weight counting.judge mv };
+    ghost weight = { λ counting. J.weight counting.judge };
 
     fn judge<L: Ledger>(
         &mut self,

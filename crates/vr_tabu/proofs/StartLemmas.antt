@@ -17,7 +17,7 @@ module _ (model : Model) (parameters : Parameters) (lists : List (List ℕ)) whe
 
 -- a state that begins stands where the search begins
 module _ (model : Model) (parameters : Parameters) (routes : Tours) (state : State) (begins : IsTabuBegun model routes (at_first model routes.lists) state) where
-  pub begun_stands : (committed : List (List ℕ)) → HoldSame model committed routes → 1 ≤ parameters.limit.solutions → TabuStands model parameters committed routes state
+  pub begun_stands : (committed : Tours → Type 0) → HoldSame model committed routes → 1 ≤ parameters.limit.solutions → TabuStands model parameters committed routes state
   begun_stands committed holds some =
       let found = ap (λ p. p.found) begins.at_is in
       let round = ap (λ t. t.round) begins.none in

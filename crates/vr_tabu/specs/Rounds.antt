@@ -56,13 +56,13 @@ IsCeiling model tabus best lists ceiling =
     (mv : Move) → IsTrue (is_no_less ceiling (cost_change model lists mv))
     → is_candidate model tabus best lists mv ≡ false
 
--- a judge is one of this model, and has committed these lists
-pub record IsJudgeOf (model : Model) (lists : List (List ℕ)) (judged : Model) (committed : List (List ℕ)) : Type 0 where
+-- a judge is one of this model, and has committed the lists of routes
+pub record IsJudgeOf (model : Model) (routes : Tours) (judged : Model) (committed : Tours → Type 0) : Type 0 where
   pub model_is : judged ≡ model
-  pub lists_are : committed ≡ lists
+  pub same : committed routes
 
--- a judge of this model that has committed these lists can be asked about moves of routes
-pub record CanPass (model : Model) (routes : Tours) (judged : Model) (committed : List (List ℕ)) : Type 0 where
+-- a judge of this model that has committed the lists of routes can be asked about moves of theirs
+pub record CanPass (model : Model) (routes : Tours) (judged : Model) (committed : Tours → Type 0) : Type 0 where
   pub well_formed : IsWellFormed model
   pub judge_model : judged ≡ model
   pub holds : HoldSame model committed routes

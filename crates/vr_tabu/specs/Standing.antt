@@ -41,7 +41,7 @@ pub record IsKnownState (model : Model) (routes : Tours) (state : State) : Type 
   pub best : IsBest model routes.visits state.best
 
 -- the search is under way, the rounds are counted, and it is known of each node how long it is tabu
-pub record TabuStands (model : Model) (parameters : Parameters) (committed : List (List ℕ)) (routes : Tours)
+pub record TabuStands (model : Model) (parameters : Parameters) (committed : Tours → Type 0) (routes : Tours)
     (state : State) : Type 0 where
   pub going : IsUnderWay model parameters.limit committed routes state.at state.best
   pub round : suc state.tabus.round ≤ state.at.found

@@ -108,13 +108,12 @@ impl<'a> Round<'a> {
         rest: u64,
         steps: &mut Steps<L>,
     ) -> Result<RoundEnd, NoMemory>
-        requires judge { IsJudgeOf self.now.model.now self.now.routes.now.lists (J.model judge.old)
-            (J.committed judge.old) }
+        requires judge { IsJudgeOf self.now.model.now self.now.routes.now (J.model judge.old) (J.committed judge.old) }
         requires rest { rest ≤ 1000000000 }
         ensures ends { IfOk result (λ ended. ended ≡ tabu_round_end self.now.model.now self.now.routes.now.lists
             (round_of self.now.model.now (tabus_of self.now.state.now.tabus) self.now.state.now.best.routes.lists
             self.now.routes.now.lists rest)) }
-        ensures keeps { Keeps J.model J.committed judge.old judge.new }
+        ensures keeps { Keeps J.model J.committed self.now.routes.now judge.old judge.new }
         ensures asked { IfOk result (λ ended. AsksFor J.asked J.looked judge.old judge.new (tries_of rest ended)) }
         ensures asked_at_most { OnErr result (AsksFor J.asked J.looked judge.old judge.new rest) }
     {
@@ -131,14 +130,13 @@ impl<'a> Round<'a> {
         list: &mut MoveList<'_>,
         steps: &mut Steps<L>,
     ) -> Result<RoundEnd, NoMemory>
-        requires judge { IsJudgeOf self.now.model.now self.now.routes.now.lists (J.model judge.old)
-            (J.committed judge.old) }
+        requires judge { IsJudgeOf self.now.model.now self.now.routes.now (J.model judge.old) (J.committed judge.old) }
         requires list { list.old ≡ moves self.now.model.now self.now.routes.now.lists }
         requires rest { rest ≤ 1000000000 }
         ensures ends { IfOk result (λ ended. ended ≡ tabu_round_end self.now.model.now self.now.routes.now.lists
             (round_of self.now.model.now (tabus_of self.now.state.now.tabus) self.now.state.now.best.routes.lists
             self.now.routes.now.lists rest)) }
-        ensures keeps { Keeps J.model J.committed judge.old judge.new }
+        ensures keeps { Keeps J.model J.committed self.now.routes.now judge.old judge.new }
         ensures asked { IfOk result (λ ended. AsksFor J.asked J.looked judge.old judge.new (tries_of rest ended)) }
         ensures asked_at_most { OnErr result (AsksFor J.asked J.looked judge.old judge.new rest) }
     {
@@ -170,12 +168,11 @@ impl<'a> Round<'a> {
         rest: u64,
         length: &mut u64,
     ) -> Option<Move>
-        requires judge { IsJudgeOf self.now.model.now self.now.routes.now.lists (J.model judge.old)
-            (J.committed judge.old) }
+        requires judge { IsJudgeOf self.now.model.now self.now.routes.now (J.model judge.old) (J.committed judge.old) }
         ensures takes { Takes (IsPassedInRound self.now.model.now self.now.routes.now.lists
             (bound_of best self.now.ceiling)) list.old length.old result list.new length.new }
         ensures model { J.model judge.new ≡ J.model judge.old }
-        ensures committed { J.committed judge.new ≡ J.committed judge.old }
+        ensures committed { J.committed judge.new self.now.routes.now }
         ensures asked { J.asked judge.new ≡ J.asked judge.old }
         ensures looked { J.looked judge.new + tries_within rest length.old
             ≤ J.looked judge.old + tries_within rest (length.new + tries_taken result) }
@@ -214,8 +211,7 @@ impl<'a> Round<'a> {
         after: &mut NewList,
         steps: &mut Steps<L>,
     ) -> Result<Option<Candidate>, NoMemory>
-        requires judge { IsJudgeOf self.now.model.now self.now.routes.now.lists (J.model judge.old)
-            (J.committed judge.old) }
+        requires judge { IsJudgeOf self.now.model.now self.now.routes.now (J.model judge.old) (J.committed judge.old) }
         requires mv { IsTrue (is_move self.now.model.now self.now.routes.now.lists mv) }
         requires best { IfSome best (IsDifferenceKnown self.now.model.now self.now.routes.now.lists) }
         ensures best { IfOk result (λ found. move_of found ≡ better_with self.now.model.now
@@ -224,7 +220,7 @@ impl<'a> Round<'a> {
         ensures known { IfOk result (λ found. IfSome found
             (IsDifferenceKnown self.now.model.now self.now.routes.now.lists)) }
         ensures model { J.model judge.new ≡ J.model judge.old }
-        ensures committed { J.committed judge.new ≡ J.committed judge.old }
+        ensures committed { J.committed judge.new self.now.routes.now }
         ensures asked { J.asked judge.new ≤ J.asked judge.old + 1 }
         ensures looked { J.looked judge.new ≤ J.looked judge.old + 1 }
     {

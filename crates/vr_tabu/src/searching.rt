@@ -282,11 +282,11 @@ fn run_round<J: Judge, L: Ledger>(
     steps: &mut Steps<L>,
 ) -> Result<RoundEnd, NoMemory>
     requires known { IsKnownState model.now routes.now state.now }
-    requires judge { IsJudgeOf model.now routes.now.lists (J.model judge.old) (J.committed judge.old) }
+    requires judge { IsJudgeOf model.now routes.now (J.model judge.old) (J.committed judge.old) }
     requires rest { rest ≤ 1000000000 }
     ensures ends { IfOk result (λ ended. ended ≡ tabu_round_end model.now routes.now.lists
         (round_of model.now (tabus_of state.now.tabus) state.now.best.routes.lists routes.now.lists rest)) }
-    ensures keeps { Keeps J.model J.committed judge.old judge.new }
+    ensures keeps { Keeps J.model J.committed routes.now judge.old judge.new }
     ensures asked { IfOk result (λ ended. AsksFor J.asked J.looked judge.old judge.new (tries_of rest ended)) }
     ensures asked_at_most { OnErr result (AsksFor J.asked J.looked judge.old judge.new rest) }
 {

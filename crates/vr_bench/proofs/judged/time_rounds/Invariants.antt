@@ -4,5 +4,5 @@ use Rattle.vr_bench.proofs.judged.time_rounds.Given as goal
 abbrev pub invariant-loop : goal.invariant-loop
 invariant-loop g l = record {
   model : g.J.Judge.model l.judge ≡ g.J.Judge.model l.initial.judge;
-  committed : g.J.Judge.committed l.judge ≡ g.J.Judge.committed l.initial.judge;
+  committed : g.J.Judge.committed l.judge l.routes;
 }

@@ -1,4 +1,4 @@
-use Rattle.std.proofs.Common.{◌≡◌, ◌∙◌, ◌+◌, ◌≤◌, ◌∷◌, [], ℕ, suc, List, Some, None, refl, sym, ap, subst, arith}
+use Rattle.std.proofs.Common.{◌≡◌, ◌∙◌, ◌+◌, ◌≤◌, ◌∷◌, [], ℕ, suc, Some, None, refl, sym, ap, subst, arith}
 use Rattle.std.specs.List.{list_all}
 use Rattle.vr_model.specs.moves.MoveTests.{is_move}
 use Rattle.vr_model.specs.moves.Moves.{moves}
@@ -59,7 +59,7 @@ further_at_end g c = at_or_behind c.args.rest c.loop-mv.place c.next_open.new.pl
 
 pub loop-mv-init : goal.loop-mv-init
 loop-mv-init g c = let list = c.moves-list.ensures in record {
-  keeps = record { model = refl; committed = refl };
+  keeps = record { model = refl; committed = c.requires.judge.holds.same };
   asked = asks_none _;
   within = omega arith;
   ends = ap (scan_from 0 (is_acceptable c.args.model.now (g.A.Accept.takes c.args.accept.now) c.args.routes.now.lists) c.args.rest) list;
@@ -81,7 +81,7 @@ loop-mv-preserved g c =
     let tried = c.try_move.ensures in
     let at = (gone g here).exact (omega (arith, c.if-place-rest.false)) in
     record {
-      keeps = keeps_then _ _ _ i.keeps (record { model = tried.model ∙ e.model; committed = tried.committed ∙ e.committed });
+      keeps = keeps_then _ _ _ i.keeps (record { model = tried.model ∙ e.model; committed = tried.committed });
       asked = asks g here c.try_move.new.judge (c.next_open.new.place + 1) tried.asked tried.looked (omega arith) (let more = further g here in omega (arith, more));
       within = omega (arith, c.if-place-rest.false);
       ends = sym (missed_at c.args.model.now (g.A.Accept.takes c.args.accept.now) c.args.routes.now.lists c.args.rest c.next_open.new.place c.in-Some.mv c.next_open.new.list (sym c.in_default-tried.is ∙ c.in_ok-tried.ensures.answer))
@@ -123,7 +123,7 @@ next_open-requires g c = record {
   can_judge = record {
     judge_model = c.loop-mv.invariant.keeps.model ∙ c.requires.judge.judge_model ∙ sym c.requires.accept_model;
     holds = subst (λ (m : Model). HoldSame m (g.J.Judge.committed c.loop-mv.judge) c.args.routes.now) (sym c.requires.accept_model)
-        (subst (λ (lists : List (List ℕ)). HoldSame c.args.model.now lists c.args.routes.now) (sym c.loop-mv.invariant.keeps.committed) c.requires.judge.holds);
+        (let before = c.requires.judge.holds in record { same = c.loop-mv.invariant.keeps.committed; of_model = before.of_model; valid = before.valid });
   };
 }
 
@@ -132,7 +132,7 @@ try_move-requires-clause-judge_model g c = c.in-Some.ensures.model ∙ (c.loop-m
 
 pub try_move-requires-clause-holds : goal.try_move-requires-clause-holds
 try_move-requires-clause-holds g c =
-    subst (λ (lists : List (List ℕ)). HoldSame c.args.model.now lists c.args.routes.now) (sym (c.in-Some.ensures.committed ∙ c.loop-mv.invariant.keeps.committed)) c.requires.judge.holds
+    let before = c.requires.judge.holds in record { same = c.in-Some.ensures.committed; of_model = before.of_model; valid = before.valid }
 
 -- ---- how often the judge was asked
 

@@ -11,7 +11,7 @@ use Rattle.vr_descent.proofs.scanning.scan.Given as goal
 -- the scan of the moves that are left, behind those tried, ends as the scan of all
 abbrev pub invariant-loop-mv : goal.invariant-loop-mv
 invariant-loop-mv g l = record {
-  keeps : Keeps g.J.Judge.model g.J.Judge.committed l.initial.judge l.judge;
+  keeps : Keeps g.J.Judge.model g.J.Judge.committed l.routes l.initial.judge l.judge;
   asked : AsksFor g.J.Judge.asked g.J.Judge.looked l.initial.judge l.judge l.place;
   within : l.place ≤ l.rest;
   ends : scan_from l.place (is_acceptable l.model (g.A.Accept.takes l.accept) l.routes.lists) l.rest l.list

@@ -33,7 +33,7 @@ same : (g : Over) (c : In_ok-ended g) → g.J.Judge.model c.scan.new.judge ≡ c
 same g c = c.in_ok-ended.ensures.keeps.model ∙ c.requires.judge.judge_model
 
 held : (g : Over) (c : In_ok-ended g) → HoldSame c.args.model.now (g.J.Judge.committed c.scan.new.judge) c.args.routes.now
-held g c = subst (λ x. HoldSame c.args.model.now x c.args.routes.now) (sym c.in_ok-ended.ensures.keeps.committed) c.requires.judge.holds
+held g c = let before = c.requires.judge.holds in record { same = c.in_ok-ended.ensures.keeps.committed; of_model = before.of_model; valid = before.valid }
 
 -- and so they stand once a move was made
 taken : (g : Over) (c : In_ok-ended g) (later : g.row.J.Denot) (tours : Tours) → g.J.Judge.model later ≡ g.J.Judge.model c.scan.new.judge → HoldSame (g.J.Judge.model c.scan.new.judge) (g.J.Judge.committed later) tours → CanJudge c.args.model.now tours (g.J.Judge.model later) (g.J.Judge.committed later)
@@ -68,7 +68,7 @@ returns-in_err-ended-clause-told_in_part g c =
 pub returns-in_err-ended-clause-judge : goal.returns-in_err-ended-clause-judge
 returns-in_err-ended-clause-judge g c = record {
   judge_model = c.in_err-ended.ensures.keeps.model ∙ c.requires.judge.judge_model;
-  holds = subst (λ x. HoldSame c.args.model.now x c.args.routes.now) (sym c.in_err-ended.ensures.keeps.committed) c.requires.judge.holds;
+  holds = let before = c.requires.judge.holds in record { same = c.in_err-ended.ensures.keeps.committed; of_model = before.of_model; valid = before.valid };
 }
 
 pub returns-in_err-ended-clause-asked_at_most : goal.returns-in_err-ended-clause-asked_at_most

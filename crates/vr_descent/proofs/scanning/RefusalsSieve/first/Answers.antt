@@ -1,4 +1,4 @@
-use Rattle.std.proofs.Common.{◌≡◌, ◌∙◌, ℕ, List, rules, subst, sym, w64, to_z, of_z}
+use Rattle.std.proofs.Common.{◌≡◌, ◌∙◌, rules, subst, sym, w64, to_z, of_z}
 use Rattle.std.specs.Prelude.{IfSome}
 use Rattle.vr_model.specs.declared.records.Model.{Model}
 use Rattle.vr_model.specs.tables.WellFormed.{IsWellFormed}
@@ -31,7 +31,7 @@ returns-in-Some-clause-passed g c =
 pub returns-in-Some-clause-can_ask : goal.returns-in-Some-clause-can_ask
 returns-in-Some-clause-can_ask g c = record {
   judge_model = c.first_below.ensures.model ∙ c.requires.can_ask.judge_model;
-  holds = subst (λ (lists : List (List ℕ)). HoldSame (g.A.Accept.model c.args.self.now.accept.now) lists c.args.self.now.routes.now) (sym c.first_below.ensures.committed) c.requires.can_ask.holds;
+  holds = let before = c.requires.can_ask.holds in record { same = c.first_below.ensures.committed; of_model = before.of_model; valid = before.valid };
 }
 
 pub first_below-requires-clause-well_formed : goal.first_below-requires-clause-well_formed

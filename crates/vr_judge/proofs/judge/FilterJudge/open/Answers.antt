@@ -1,8 +1,7 @@
 use Rattle.std.proofs.Common.{◌≡◌, subst, sym}
-use Rattle.std.specs.Prelude.{IfOk, IsTrue}
+use Rattle.std.specs.Prelude.{IsTrue}
 use Rattle.vr_model.specs.routes.Rules.{is_valid}
 use Rattle.vr_model.specs.tables.Tables.{visits}
-use Rattle.vr_routes.specs.Judging.{HoldSame}
 use Rattle.vr_judge.proofs.judge.FilterJudge.open.Goals as goal
 
 pub over-requires-clause-of_model : goal.over-requires-clause-of_model
@@ -10,9 +9,3 @@ over-requires-clause-of_model c = subst (λ m. c.args.routes.now.visits ≡ visi
 
 pub over-requires-clause-valid : goal.over-requires-clause-valid
 over-requires-clause-valid c = subst (λ m. IsTrue (is_valid m c.args.routes.now.lists)) (sym c.in_ok-lookups.ensures) c.requires.valid
-
-pub returns-clause-model : goal.returns-clause-model
-returns-clause-model c = subst (λ m. IfOk c.over.result (λ judge. judge.model ≡ m)) c.in_ok-lookups.ensures c.over.ensures.model
-
-pub returns-clause-holds : goal.returns-clause-holds
-returns-clause-holds c = subst (λ m. IfOk c.over.result (λ judge. HoldSame m judge.lists c.args.routes.now)) c.in_ok-lookups.ensures c.over.ensures.holds

@@ -1,4 +1,4 @@
-use Rattle.std.proofs.Common.{◌≡◌, ◌∙◌, ℕ, List, subst, sym, arith, w64, to_z, of_z}
+use Rattle.std.proofs.Common.{◌≡◌, ◌∙◌, subst, sym, arith, w64, to_z, of_z}
 use Rattle.std.proofs.lemmas.Int.{ints}
 use Rattle.vr_model.specs.declared.records.Model.{Model}
 use Rattle.vr_model.specs.tables.WellFormed.{IsWellFormed}
@@ -25,7 +25,7 @@ pub returns-in-Some-clause-can_ask : goal.returns-in-Some-clause-can_ask
 returns-in-Some-clause-can_ask g c = record {
   well_formed = c.requires.can_ask.well_formed;
   judge_model = c.first_below.ensures.model ∙ c.requires.can_ask.judge_model;
-  holds = subst (λ (lists : List (List ℕ)). HoldSame c.args.self.now.model.now lists c.args.self.now.routes.now) (sym c.first_below.ensures.committed) c.requires.can_ask.holds;
+  holds = let before = c.requires.can_ask.holds in record { same = c.first_below.ensures.committed; of_model = before.of_model; valid = before.valid };
 }
 
 pub first_below-requires-clause-well_formed : goal.first_below-requires-clause-well_formed

@@ -57,7 +57,7 @@ loop-mv-init g c =
     let lists = c.args.self.now.routes.now.lists in
     let list = c.requires.list in
     record {
-      keeps = record { model = refl; committed = refl };
+      keeps = record { model = refl; committed = c.requires.judge.same };
       asked = asks_none _;
       within = omega arith;
       counted = (let same = ap length list in omega (arith, same));
@@ -89,7 +89,7 @@ loop-mv-preserved g c =
     let at = counted g here (omega (arith, under, c.requires.rest)) in
     let more = further g here in
     record {
-      keeps = keeps_then _ _ _ i.keeps (record { model = e.model ∙ c.in-Some.ensures.model; committed = e.committed ∙ c.in-Some.ensures.committed });
+      keeps = keeps_then _ _ _ i.keeps (record { model = e.model ∙ c.in-Some.ensures.model; committed = e.committed });
       asked = asks g here c.try_move.new.judge (c.next_open.new.length + 1) e.asked e.looked (omega arith) (omega (arith, more));
       within = omega (arith, under);
       counted = one_more c.next_open.new.length (length c.next_open.new.list) (length (moves c.args.self.now.model.now c.args.self.now.routes.now.lists)) (ap (λ n. n + suc (length c.next_open.new.list)) at ∙ (ap (λ ms. is.at + length ms) (sym t.first) ∙ is.sum));

@@ -14,7 +14,7 @@ use Rattle.vr_tabu.proofs.rounds.Round.run_over.Given as goal
 -- the least candidate is the best of the moves that are left and the best candidate so far
 abbrev pub invariant-loop-mv : goal.invariant-loop-mv
 invariant-loop-mv g l = record {
-  keeps : Keeps g.J.Judge.model g.J.Judge.committed l.initial.judge l.judge;
+  keeps : Keeps g.J.Judge.model g.J.Judge.committed l.self.routes.now l.initial.judge l.judge;
   asked : AsksFor g.J.Judge.asked g.J.Judge.looked l.initial.judge l.judge l.length;
   within : l.length ≤ l.rest;
   counted : l.length + length l.list ≡ length (moves l.self.model.now l.self.routes.now.lists);
