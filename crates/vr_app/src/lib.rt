@@ -19,7 +19,7 @@
 //!
 //! Each call that answers says which reply of the definition it gives, or that memory was wanting. An input is let go
 //! as it is used: the bytes before its model is read, the value before that is solved. A function owns one large value
-//! and lends it on. The lists that a search begins with are valid, and the judge holds them.
+//! and lends it on. The lists that a search begins with are valid, and the judge stands at them.
 //!
 //! `vr_cli` calls [`run`] with the words of its command line and the two standard streams.
 //!

@@ -20,7 +20,7 @@ pub record IsSearchLimit (limit : Limit) : Type 0 where
   pub one_solution : 1 ≤ limit.solutions
   pub solutions : limit.solutions ≤ 1000000000
 
--- a search may begin at routes that a judge holds, whose cost is known
+-- a search may begin at routes whose lists a judge has committed and whose cost is known
 pub record CanBegin (model : Model) (routes : Tours) (total : ℤ) (allowed : Limit) (judged : Model)
     (committed : Tours → Type 0) : Type 0 where
   pub judge : CanJudge model routes judged committed

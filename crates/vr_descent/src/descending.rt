@@ -52,8 +52,8 @@ impl<'m> Accept for Cheaper<'m> {
 }
 
 /// Takes the first move that makes the cost less, again and again (`GREEDY_DESCENT` in OR-Tools), and tells the
-/// watchers of the first solution and of each move. Routes and judge then hold the last lists, which are the best.
-/// `limit` allows up to 10^9 tries and from 1 to 10^9 solutions.
+/// watchers of the first solution and of each move. The routes then have the last lists, which are the best, and the
+/// judge stands at them. `limit` allows up to 10^9 tries and from 1 to 10^9 solutions.
 ///
 /// The report's end is `Solutions` where as many solutions were found as the limit allows, which is asked first; else
 /// `Optimum` where no move of the last lists makes the cost less, and `Tries` where the tries ran out before that was
@@ -62,9 +62,9 @@ impl<'m> Accept for Cheaper<'m> {
 /// The judge is asked about no more moves than are tried, and at most twice as often what a move, or a run of moves,
 /// makes at least.
 ///
-/// The only refusal is want of memory. Routes and judge then hold the same valid lists, the judge was asked about no
-/// more moves than the limit has tries, and the watchers have been told the events up to there: of the event in hand,
-/// the first few. Memory is taken by the judge and the watchers alone.
+/// The only refusal is want of memory. The judge then stands at the lists of the routes, which are valid, it was asked
+/// about no more moves than the limit has tries, and the watchers have been told the events up to there: of the event
+/// in hand, the first few. Memory is taken by the judge and the watchers alone.
 ///
 /// The moves of a row that a scan refused whole are not asked about again as long as the lists of their vehicles stay
 /// and, of kinds that change it, which visits are active; where no dimension has a cost of its global span.

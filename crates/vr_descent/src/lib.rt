@@ -7,9 +7,9 @@
 //! Moves that are known to be refused are counted as tries, and nothing is asked about them (`vr_known`). What a scan
 //! refused is noted at its end, and what a move may have changed is forgotten when it is made.
 //!
-//! Between scans routes and judge hold the same valid lists, whose cost is known, and what the definition tells of the
-//! whole search is what was told already, and behind that what it tells of the search from here. No move of these lists
-//! that is known is acceptable.
+//! Between scans the judge stands at the lists of the routes, which are valid and whose cost is known, and what the
+//! definition tells of the whole search is what was told already, and behind that what it tells of the search from
+//! here. No move of these lists that is known is acceptable.
 //!
 //! `vr_app` calls [`descend`]. `vr_guided` scans by penalised costs; it and `vr_tabu` go on to lists that cost more,
 //! and keep the best ones ([`Incumbent`]).

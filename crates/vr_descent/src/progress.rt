@@ -37,8 +37,8 @@ impl Progress {
     /// scan refused whole are known then, where anything is learned, but for what names a vehicle whose list the move
     /// changed, or changes activity as it did.
     ///
-    /// The only refusal is want of memory. Routes and judge then hold the same valid lists, and of the event in hand
-    /// some watchers at the front were told.
+    /// The only refusal is want of memory. The judge then stands at the lists of the routes, which are valid, and of
+    /// the event in hand some watchers at the front were told.
     pub fn advance<J: Judge, A: Accept, L: Ledger>(
         &mut self,
         model: &Model,
@@ -112,8 +112,8 @@ impl Progress {
         }
     }
 
-    // Makes an accepted move at a place of a scan, and tells the watchers. Where memory is wanting, routes and judge
-    // hold the same lists all the same.
+    // Makes an accepted move at a place of a scan, and tells the watchers. Where memory is wanting, the judge stands at
+    // the lists of the routes all the same.
     fn take<J: Judge>(
         &mut self,
         judge: &mut J,

@@ -99,7 +99,7 @@ impl<'a, J: Judge, A: Accept> Sieve for Refusals<'a, J, A> {
 /// a run, which differ in their last number, the judge is asked at once which may be taken, and those in front of these
 /// are tries as well. Where more than 10^9 tries are left, no move is passed over so.
 ///
-/// The only refusal is want of memory, which is taken by the judge alone; the judge still holds the same lists then.
+/// The only refusal is want of memory, which is taken by the judge alone; it still stands at the same lists then.
 #[inline(never)]
 pub fn scan<J: Judge, A: Accept, L: Ledger>(
     model: &Model,

@@ -32,9 +32,9 @@ pub struct Guided {
 }
 
 /// Takes the first move that makes the augmented cost less, again and again, and at each local optimum penalises the
-/// used arcs of the greatest worth (`GUIDED_LOCAL_SEARCH` in OR-Tools). Routes and judge then hold the last lists; the
-/// answer has the first lists of the least cost. `limit` allows up to 10^9 tries and from 1 to 10^9 solutions, and both
-/// parts of `lambda` are in 1..=1000.
+/// used arcs of the greatest worth (`GUIDED_LOCAL_SEARCH` in OR-Tools). The routes then have the last lists, at which
+/// the judge stands; the answer has the first lists of the least cost. `limit` allows up to 10^9 tries and from 1 to
+/// 10^9 solutions, and both parts of `lambda` are in 1..=1000.
 ///
 /// The report's end is `Optimum` where no move was left to try or no used arc costs anything, so that no penalty could
 /// help, `Tries` where the tries ran out, and `Solutions` where as many solutions were found as the limit allows.
@@ -42,9 +42,9 @@ pub struct Guided {
 /// The judge is asked about no more moves than are tried, and at most twice as often what a move, or a run of moves,
 /// makes at least.
 ///
-/// The only refusal is want of memory. Routes and judge then hold the same valid lists, the judge was asked about no
-/// more moves than the limit has tries, and the watchers have been told the events up to there: of the event in hand,
-/// the first few. Memory is taken once at the beginning, and then by the judge and the watchers alone.
+/// The only refusal is want of memory. The judge then stands at the lists of the routes, which are valid, it was asked
+/// about no more moves than the limit has tries, and the watchers have been told the events up to there: of the event
+/// in hand, the first few. Memory is taken once at the beginning, and then by the judge and the watchers alone.
 ///
 /// Where no dimension has a cost of its global span, moves of a row that a scan refused whole are not asked about again
 /// as long as the lists of their vehicles stay, no arc of these is penalised once more, and of kinds that change it the

@@ -129,8 +129,8 @@ pub trait Judge {
         None
     }
 
-    /// Makes a move after which the lists are valid: routes and judge then both hold the lists after it. Where memory
-    /// is wanting, both are as before.
+    /// Makes a move after which the lists are valid: the routes then have the lists after it, and the judge has
+    /// committed them. Where memory is wanting, both are as before.
     fn commit(&mut self, routes: &mut Routes, mv: Move) -> Result<(), NoMemory>
         requires well_formed { IsWellFormed (model self.old) }
         requires holds { HoldSame (model self.old) (committed self.old) routes.old }

@@ -112,7 +112,7 @@ impl<J: Judge> Counting<J> {
     }
 }
 
-// Whether a judge that holds routes answers a question as it says.
+// Whether a judge that stands at routes answers a question as it says.
 fn is_answered<J: Judge, L: Ledger>(
     alloc: Global,
     closed: Closed<'_>,

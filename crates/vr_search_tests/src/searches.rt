@@ -147,7 +147,7 @@ pub(crate) fn ends_so(routes: &Routes, report: &Report, wanted: &Wanted) -> bool
         && has_list(routes, wanted.list)
 }
 
-/// Whether a search by a judge from the routes that it holds finds what is wanted, and asks as often as it should.
+/// Whether a search by a judge from the routes at which it stands finds what is wanted, and asks as often as it should.
 pub(crate) fn finds<J: Judge, L: Ledger>(
     alloc: Global,
     closed: Closed<'_>,

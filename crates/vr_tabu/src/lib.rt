@@ -5,9 +5,9 @@
 //! passed over, unless it leads to lists that cost less than any before. Which visits a move changes is told by the
 //! lists that its change makes (`new_list`, `list_change`), without memory.
 //!
-//! Between rounds routes and judge hold the same valid lists of known cost, the best lists so far are valid and of
-//! known cost, and what the definition says of the whole search is what was reported already, and behind that what
-//! it says of the search from here.
+//! Between rounds the judge stands at the lists of the routes, which are valid and of known cost, the best lists so far
+//! are valid and of known cost, and what the definition says of the whole search is what was reported already, and
+//! behind that what it says of the search from here.
 //!
 //! `vr_app` calls [`tabu`] for `TABU_SEARCH`.
 #![tactic(auto)]

@@ -100,8 +100,7 @@ impl<'a> Round<'a> {
     /// moves of a run, which differ in their last number, the judge is asked at once from which on some may cost less,
     /// and those in front of these are tries as well.
     ///
-    /// The only refusal is want of memory, which is taken by the judge alone; the judge still holds the same lists
-    /// then.
+    /// The only refusal is want of memory, which is taken by the judge alone; it still stands at the same lists then.
     pub fn run<J: Judge, L: Ledger>(
         &self,
         judge: &mut J,

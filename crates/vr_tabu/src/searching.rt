@@ -48,8 +48,9 @@ pub struct Parameters {
 /// Tries all moves of the lists in each round and makes the one of least cost, also where it costs more
 /// (`TABU_SEARCH` in OR-Tools). The visits that it changes are tabu for the next `tenure` rounds: those whose vehicle
 /// or whose node just before is another. A move that changes only visits that are tabu is passed over, unless it leads
-/// to lists that cost less than any before. Routes and judge then hold the last lists; the answer has the first lists
-/// of the least cost. `limit` allows up to 10^9 tries and from 1 to 10^9 solutions, and `tenure` is in 1..=1000.
+/// to lists that cost less than any before. The routes then have the last lists, at which the judge stands; the answer
+/// has the first lists of the least cost. `limit` allows up to 10^9 tries and from 1 to 10^9 solutions, and `tenure` is
+/// in 1..=1000.
 ///
 /// The report's end is `Solutions` where as many solutions were found as the limit allows, which is asked first; else
 /// `Tries` where there are more moves than tries left, which then count as used; and `Optimum` where no move may be
@@ -58,9 +59,9 @@ pub struct Parameters {
 /// The judge is asked about no more moves than are tried, and at most twice as often what a move, or a run of moves,
 /// makes at least.
 ///
-/// The only refusal is want of memory. Routes and judge then hold the same valid lists, the judge was asked about no
-/// more moves than the limit has tries, and the watchers have been told the events up to there: of the event in hand,
-/// the first few. Memory is taken once at the beginning, and then by the judge and the watchers alone.
+/// The only refusal is want of memory. The judge then stands at the lists of the routes, which are valid, it was asked
+/// about no more moves than the limit has tries, and the watchers have been told the events up to there: of the event
+/// in hand, the first few. Memory is taken once at the beginning, and then by the judge and the watchers alone.
 pub fn tabu<J: Judge, L: Ledger>(
     alloc: Global,
     model: &Model,
@@ -209,8 +210,8 @@ impl State {
         self.tabus.follow(lists, tenure, &mut after);
     }
 
-    // Makes the best candidate of a round of so many moves, and tells the watchers. Where memory is wanting, routes and
-    // judge hold the same lists all the same.
+    // Makes the best candidate of a round of so many moves, and tells the watchers. Where memory is wanting, the judge
+    // stands at the lists of the routes all the same.
     fn take<J: Judge>(
         &mut self,
         judge: &mut J,
