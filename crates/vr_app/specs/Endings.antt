@@ -4,7 +4,7 @@ use Rattle.vr_model.specs.routes.Costs.{cost}
 use Rattle.vr_model.specs.search.Outcomes.{Outcome}
 use Rattle.vr_model.specs.declared.records.Model.{Model}
 use Rattle.vr_model.specs.declared.search.Event.{Event}
-use Rattle.vr_routes.specs.Judging.{HoldSame}
+use Rattle.vr_routes.specs.Judging.{HasCommitted}
 use Rattle.vr_routes.specs.Tours.{Tours}
 use Rattle.vr_watch.specs.Told.{Reported}
 use Rattle.vr_app.specs.declared.best.Best.{Best}
@@ -14,7 +14,7 @@ use Rattle.vr_app.specs.declared.improving.FirstSolution.{FirstSolution}
 pub record CanImprove (model : Model) (first : FirstSolution) (judged : Model)
     (committed : Tours → Type 0) : Type 0 where
   pub judge_model : judged ≡ model
-  pub holds : HoldSame model committed first.routes
+  pub holds : HasCommitted model committed first.routes
   pub first_cost : first.cost ≡ cost model first.routes.lists
 
 -- the best routes and the report are those of an outcome, and the routes have these visits

@@ -24,7 +24,7 @@ use vr_json::{Cause, Datum, Fields, Path, ReadFail, Reader, field, known, settle
 use vr_model::{Closed, Model, NoMemory};
 use vr_read::read_model;
 
-/// The table of a model, as a field.
+/// Reads the field `model` of a question.
 #[derive(Clone, Copy)]
 pub struct ModelField;
 

@@ -1,15 +1,16 @@
 //! The whole of what the program does: from the words and the bytes of a source to a status and the bytes of a sink.
 //! The reply to words and bytes is defined here (`specs/Reply`), and [`run`] gives it.
 //!
-//! Asked: `words` says what is asked for, `input` reads bytes and the model in them, `files` a file that is imported.
+//! Asked: `words` says what is asked for, `input` finds the value in bytes and the model in a value, `files` reads a
+//! file that is imported; `reply` has `vr_io` read the bytes.
 //!
 //! Searched: `first` builds a first solution, `total` tells what routes cost, and `search` improves a first solution by
 //! the judge that it chooses and by `insertion`, which rebuilds open routes; `best` is what a search gives. `improving`
 //! takes the search that the model names: nothing, greedy descent, guided local search, path neighbourhoods or tabu
-//! search. Each is a strategy over rounds: greedy descent and guided local search scan for the first move that they
-//! accept, tabu search makes the best move of all, and path neighbourhoods take the first cut whose rebuilding costs
-//! less. Each keeps valid lists of known cost between rounds, counts tries and solutions, tells the watchers, and
-//! stands in a crate of its own; what all four answer is put side by side here.
+//! search. Each but nothing is a strategy over rounds: greedy descent and guided local search scan for the first move
+//! that they accept, tabu search makes the best move of all, and path neighbourhoods take the first cut whose
+//! rebuilding costs less. Each keeps valid lists of known cost between rounds, counts tries and solutions, tells the
+//! watchers, and stands in a crate of its own; what all four answer is put side by side here.
 //!
 //! Replied: `solving` works out the answer to an input, `demo` a summary of a search for a number, `checked` what is
 //! asked of a solution, `spans` the tree of least spans for it, `numbered` what has a number, `answer` what says a
@@ -36,22 +37,30 @@
 //!     answer_value         solving: a solution of it, or a question about one
 //!     answer_solved        solving: the model in the value, which is let go
 //!     answer_model         solving: what is looked up of the model
-//!     answer_over          solving: the reports of watchers, behind the line
+//!     answer_over          solving: the line; of `solve --log` the reports of watchers behind it
 //!     line_found           solving: the first solution
 //!     line_from            solving: what this costs, and the line of what is found
 //!     search               search: as the mode asks, the first solution or a search from it
 //!     search_unwatched     search: no watchers, where none are asked for; of `solve --log` this frame is left out
 //!     search_watched       search: the judge, opened for each search; path neighbourhoods do not ask it
-//!     improve_judged       search: what rebuilds open routes, asked by path neighbourhoods alone
+//!     improve_judged       search: a counter of steps, and what rebuilds routes, for path neighbourhoods alone
 //!     improve              improving: the search that the model names, say
 //!     guide_from           improving: guided local search, by the limit and weights of the model
-//!     guide, improve       vr_guided: rounds of scans, and penalties between them
+//!     guide, search        vr_guided: rounds of scans, and penalties between them
 //!     advance, scan        vr_descent: one scan: the moves of the lists, one after another
+//!     next_open            vr_descent: the next move, behind runs that are known or ruled out (`Judge::first_below`)
 //!     try_move             vr_descent: asks the judge, a `vr_judge::FilterJudge`, about a move
 //!
-//! The way back from there to the printed line: `improve` gives the best routes and a report of the search, a `Best`;
+//! `scan` owns the change of the move in hand and lends it down: `try_move` writes it over for each move, and hands it
+//! to all that is asked. Of an accepted move its place, the move and its difference go back to `advance`, where `take`
+//! has the judge make it (`commit`), counts the move and tells the watchers. Then `advance` stamps what the move
+//! touched (`vr_known`), and the search lets what it keeps follow the routes.
+//!
+//! The way back from there to the printed line: after each move the search keeps the routes that cost less than any
+//! before (`vr_descent::Incumbent`); `guide` gives these and its report, `guide_from` makes a `Best` of them, and
 //! `line_from` has `vr_print::solution_line_over` find the schedules of these routes and print them; `answer_over` puts
-//! the reports of watchers behind the line, by `logs`; and `run_lent` writes the text of the answer to the sink.
+//! the reports of watchers behind the line, by `logs`, where they are asked for; and `run_lent` writes the text of the
+//! answer to the sink and gives the number of its status, with which `main` ends.
 #![tactic(auto)]
 
 mod answer;

@@ -7,7 +7,7 @@ ghost use Rattle.vr_app.specs.Improved as how;
 ghost use Rattle.vr_model.specs.routes.Costs.{cost};
 ghost use Rattle.vr_model.specs.routes.Rules.{is_valid};
 ghost use Rattle.vr_model.specs.tables.Tables.{visits};
-ghost use Rattle.vr_routes.specs.Judging.{HoldSame};
+ghost use Rattle.vr_routes.specs.Judging.{HasCommitted};
 ghost use Rattle.vr_watch.specs.Told.{Reported};
 
 use crate::best::{Best, untried};
@@ -33,7 +33,7 @@ pub fn improve_judged<L: Ledger>(
     blank: Blank,
 ) -> Result<Best, NoMemory>
     requires judge_model { ⟦<FilterJudge<'static> as Judge>⟧.model judge.old ≡ lookups.now.closed.model.now }
-    requires holds { HoldSame lookups.now.closed.model.now
+    requires holds { HasCommitted lookups.now.closed.model.now
         (⟦<FilterJudge<'static> as Judge>⟧.committed judge.old) first.routes }
     requires first_cost { first.cost ≡ cost lookups.now.closed.model.now first.routes.lists }
     requires name { blank.name ≡ L.name }
@@ -81,6 +81,7 @@ pub(crate) fn search_watched(
         routes: first,
         cost: first_cost,
     };
+    // the counter of steps holds no bytes: contracts alone see it
     let best = improve_judged::<Brand>(alloc, lookups, &mut judge, first, watch, Blank::new(1));
     judge.close();
     best

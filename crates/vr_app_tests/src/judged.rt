@@ -4,7 +4,7 @@ ghost use Rattle.std.specs.Prelude.{◌≡◌, IsTrue};
 ghost use Rattle.vr_model.specs.routes.Costs.{cost};
 ghost use Rattle.vr_model.specs.routes.Rules.{is_valid};
 ghost use Rattle.vr_model.specs.tables.Tables.{visits};
-ghost use Rattle.vr_routes.specs.Judging.{HoldSame};
+ghost use Rattle.vr_routes.specs.Judging.{HasCommitted};
 
 use std::alloc::Global;
 use std::marker::Brand;
@@ -26,7 +26,7 @@ fn search_by(
     first: FirstSolution,
 ) -> Result<(), NoMemory>
     requires judge_model { ⟦<FilterJudge<'static> as Judge>⟧.model judge.old ≡ lookups.now.closed.model.now }
-    requires holds { HoldSame lookups.now.closed.model.now
+    requires holds { HasCommitted lookups.now.closed.model.now
         (⟦<FilterJudge<'static> as Judge>⟧.committed judge.old) first.routes }
     requires first_cost { first.cost ≡ cost lookups.now.closed.model.now first.routes.lists }
 {

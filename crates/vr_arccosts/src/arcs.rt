@@ -11,7 +11,7 @@ ghost use Rattle.vr_arccosts.specs.Along.{StandsAlong};
 ghost use Rattle.vr_arccosts.specs.ArcMoves.{costs_more, with_between, IsKnownPiece};
 ghost use Rattle.vr_parts.specs.Bounds.{IsAddedByList};
 
-use crate::costs::ArcCosts;
+use crate::costs::VehicleArcs;
 use crate::gaps::Line;
 use crate::lines::Along;
 use crate::walks::{Driven, Gap};
@@ -102,14 +102,14 @@ impl<'m> ArcCost<'m> {
 impl<'m> ArcCost<'m> {
     /// The arc costs of a vehicle.
     #[inline(always)]
-    pub(crate) fn costs_of(&self, v: u32) -> ArcCosts<'m>
+    pub(crate) fn costs_of(&self, v: u32) -> VehicleArcs<'m>
         requires well_formed { IsWellFormed self.now.model }
         requires vehicle { v < length self.now.model.vehicles }
         ensures model { result.model.now ≡ self.now.model }
         ensures vehicle { result.vehicle ≡ v }
     {
         let number = self.model.vehicles.get(v as usize).costs;
-        ArcCosts {
+        VehicleArcs {
             model: self.model,
             vehicle: v,
             entries: self.model.matrices.get(number as usize).entries.as_slice(),

@@ -10,7 +10,7 @@ use vr_model::Model;
 
 /// The arc costs of a vehicle, row by row.
 #[derive(Drop)]
-pub struct ArcCosts<'m> {
+pub struct VehicleArcs<'m> {
     pub model: &'m Model,
     pub vehicle: u32,
     pub entries: &'m [i64],
@@ -19,7 +19,7 @@ pub struct ArcCosts<'m> {
     ghost of_vehicle: { entries.now ≡ (matrix_at model.now (vehicle_at model.now vehicle).costs).entries },
 }
 
-impl<'m> ArcCosts<'m> {
+impl<'m> VehicleArcs<'m> {
     /// The node at which the vehicle starts.
     #[inline(always)]
     pub fn start(&self) -> u32

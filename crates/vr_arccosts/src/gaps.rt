@@ -1,5 +1,5 @@
-//! Places of a list at which its arcs cost less than a bound more: of parts that are reversed, by their last place, and
-//! of gaps into which a chain is put. Each search is one loop along the list.
+//! Loops along a list for the first place whose move adds less than a bound to the arc costs: of parts that are
+//! reversed, by their last place, of gaps into which a chain or a delivery is put, and of nodes that are exchanged.
 
 ghost use Rattle.std.proofs.Props.{props};
 ghost use Rattle.std.specs.Prelude.{◌≡◌, ℕ, ◌+◌, ◌<◌, ◌≤◌, ◌+ℤ◌, ◌≤ℤ◌, length, slice_index, take, All};
@@ -10,7 +10,7 @@ ghost use Rattle.vr_balance.specs.Sums.{last_of};
 ghost use Rattle.vr_arccosts.specs.Runs.{at_place, before_place, ends_added, gap_added};
 ghost use Rattle.vr_arccosts.specs.Runs.{pair_added, swap_added, turn_added, IsLine, IsPut};
 
-use crate::costs::ArcCosts;
+use crate::costs::VehicleArcs;
 use crate::lines::Along;
 use vr_model::Pair;
 
@@ -59,7 +59,7 @@ impl Asked {
 /// The line of a vehicle with its list: what its arcs cost, and the sums along it.
 #[derive(Drop)]
 pub struct Line<'a, 'm> {
-    pub costs: ArcCosts<'m>,
+    pub costs: VehicleArcs<'m>,
     pub along: &'a Along,
     pub list: &'a [u32],
     pub ghost sound: { IsLine costs.model.now costs.vehicle list.now along.now } by { Prim.hlevel props },
@@ -228,9 +228,9 @@ fn first_behind(put: &Put, k: u32, from: u32, asked: Asked) -> u32
     first_gap(put, behind) - k
 }
 
-/// The first place before which the delivery of a pair can be put so that, with the pickup before place `s`, which is
-/// not behind the first number, and with what else the move adds, the arcs cost less than the bound more; `end` where
-/// there is none.
+/// The first of the asked places before which the delivery of a pair can be put so that the move adds less than the
+/// bound to the arc costs: `base`, and what pickup and delivery add to this list, with the pickup before place `s`,
+/// which is not behind the first asked place; `end` where there is none.
 #[inline(never)]
 pub fn first_delivery(line: &Line, pair: Pair, s: u32, base: i64, asked: Asked) -> u32
     requires pickup { pair.pickup < line.now.costs.model.now.nodes }
@@ -246,6 +246,7 @@ pub fn first_delivery(line: &Line, pair: Pair, s: u32, base: i64, asked: Asked) 
     if asked.from == asked.end {
         return asked.end;
     }
+    // a node stands between both at each asked place
     if s < asked.from {
         return first_apart(line, pair, s, base, asked);
     }

@@ -16,7 +16,9 @@ use vr_model::{Closed, Model};
 /// arcs backwards.
 #[derive(Drop)]
 pub struct Along {
+    /// Of the arcs as they are driven.
     pub ahead: Sums,
+    /// Of the same arcs backwards.
     pub behind: Sums,
 }
 

@@ -6,14 +6,14 @@ ghost use Rattle.vr_parts.specs.Bounds.{IsAddedByChange, IsAddedByList};
 ghost use Rattle.vr_routes.specs.Pairs.{without_two};
 ghost use Rattle.vr_arccosts.specs.Runs.{at_place, before_place, gap_added, pair_added, place_among_all, IsRest};
 
-use crate::costs::ArcCosts;
+use crate::costs::VehicleArcs;
 use crate::gaps::{Asked, Ends};
 use vr_model::Pair;
 
 /// The list of a vehicle without the nodes at two places, of which `lo` comes first, and what its arcs cost.
 #[derive(Drop)]
 pub struct Rest<'a, 'm> {
-    pub costs: ArcCosts<'m>,
+    pub costs: VehicleArcs<'m>,
     pub list: &'a [u32],
     pub lo: u32,
     pub hi: u32,

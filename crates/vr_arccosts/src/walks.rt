@@ -12,7 +12,7 @@ ghost use Rattle.vr_arccosts.specs.Chains.{chain_sum, first_node_or, turned};
 ghost use Rattle.vr_arccosts.specs.Along.{between_cost, HaveAlong};
 ghost use Rattle.vr_arccosts.specs.Bounds.{IsChainCost, IsGapCost, IsPathCost, IsPieceFurther};
 
-use crate::costs::ArcCosts;
+use crate::costs::VehicleArcs;
 use crate::lines::Along;
 use vr_parts::is_left_empty;
 use vr_routes::{Piece, Routes, Splice};
@@ -20,7 +20,7 @@ use vr_routes::{Piece, Routes, Splice};
 /// A vehicle of the committed lists: what its arcs cost, and the sums along the lines of all of them.
 #[derive(Clone, Copy)]
 pub struct Driven<'a, 'm> {
-    pub costs: &'a ArcCosts<'m>,
+    pub costs: &'a VehicleArcs<'m>,
     pub along: &'a [Along],
     pub routes: &'a Routes,
     pub ghost have: { HaveAlong costs.now.model.now costs.now.vehicle routes.now.lists along.now } by { Prim.hlevel
@@ -189,7 +189,7 @@ impl Path {
 
     // The path goes on to a node, and from there by arcs of a known cost to another one.
     #[inline(always)]
-    fn through(self, costs: &ArcCosts, first: u32, last: u32, inner: i64) -> Path
+    fn through(self, costs: &VehicleArcs, first: u32, last: u32, inner: i64) -> Path
         requires at { self.at < costs.now.model.now.nodes }
         requires first { first < costs.now.model.now.nodes }
         requires cost { IsPathCost self.cost }
@@ -226,7 +226,7 @@ fn ends_of(routes: &Routes, w: u32, reversed: bool, from: u32, to: u32) -> (u32,
 
 /// The arc costs of a vehicle along a chain, or along the chain backwards, added up.
 #[inline(never)]
-pub fn costs_along(costs: &ArcCosts, reversed: bool, chain: &[u32]) -> i64
+pub fn costs_along(costs: &VehicleArcs, reversed: bool, chain: &[u32]) -> i64
     requires few { length chain.now ≤ 1000 }
     requires nodes { All (λ node. node < costs.now.model.now.nodes) chain.now }
     ensures value { result ≡ chain_sum (turned reversed (arc_cost costs.now.model.now costs.now.vehicle)) chain.now }

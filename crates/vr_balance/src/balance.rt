@@ -1,4 +1,4 @@
-//! The balance of a change.
+//! What a change brings in and takes out, where the same piece on both sides cancels out.
 
 ghost use Rattle.std.specs.Prelude.{◌≡◌, ◌+◌, ◌<◌, ◌≤◌, ℕ, List, [], length, All, false};
 ghost use Rattle.std.specs.Prelude.{slice_index_or, slice_range, sum_by, take};
@@ -15,7 +15,7 @@ use vr_routes::{Change, Piece, Routes};
 
 /// What a change brings into lists, and what it takes out of them, as pieces of the lists before it. A piece that only
 /// changes its place or its direction does neither, so that for the change of a move these are few, however long the
-/// lists are.
+/// lists are: of two parts of eight pieces at most, with what is left behind each, 18 at most on a side.
 #[derive(Drop)]
 pub struct Balance {
     come: ArrayVec<Piece, 18>,
@@ -44,7 +44,7 @@ fn place_of(pieces: &[Piece], piece: Piece) -> usize
     pieces.len()
 }
 
-// Adds a piece to one side, or takes the same piece from the other side, where it is there.
+// Adds a piece to one side; where the other side has the same piece, that one is taken out of there instead.
 fn enter(side: &mut ArrayVec<Piece, 18>, other: &mut ArrayVec<Piece, 18>, piece: Piece)
     requires room { array_vec_len side.old < 18 }
     ensures room { array_vec_len side.new ≤ array_vec_len side.old + 1 }

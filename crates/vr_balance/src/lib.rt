@@ -2,8 +2,9 @@
 //! paths.
 //!
 //! [`Sums`] keeps, for each node of a path, what a measure gives of the arcs before it: what a stretch of the path
-//! comes to is one subtraction. The filters of loads and groups, the costs of arcs and the penalties of guided search
-//! stand on these.
+//! comes to is one subtraction. `vr_loads` and `vr_arccosts` keep them; `vr_guided` has wider ones of its own, by the
+//! same definitions. [`Balance`] and [`active_in`] are asked by the filter of groups (`vr_pathfilters`) and by the
+//! penalties of groups (`vr_usecosts`).
 #![tactic(auto)]
 
 mod active;

@@ -3,7 +3,7 @@
 ghost use Rattle.std.specs.Prelude.{◌≡◌, ◌<◌, IsTrue};
 ghost use Rattle.vr_model.specs.moves.MoveTests.{is_move};
 ghost use Rattle.vr_model.specs.tables.WellFormed.{IsWellFormed};
-ghost use Rattle.vr_routes.specs.Judging.{HoldSame};
+ghost use Rattle.vr_routes.specs.Judging.{HasCommitted};
 
 use crate::solved::Solved;
 use crate::stop::Stop;
@@ -21,7 +21,7 @@ fn verdict<J: Judge, L: Ledger>(
     blank: Blank,
 ) -> Result<Verdict, NoMemory>
     requires well_formed { IsWellFormed (J.model judge.old) }
-    requires holds { HoldSame (J.model judge.old) (J.committed judge.old) routes.now }
+    requires holds { HasCommitted (J.model judge.old) (J.committed judge.old) routes.now }
     requires mv { IsTrue (is_move (J.model judge.old) routes.now.lists mv) }
     requires name { blank.name ≡ L.name }
     requires parts { blank.parts ≡ L.parts }

@@ -3,7 +3,7 @@
 ghost use Rattle.std.specs.Prelude.{◌≡◌, ◌<◌, All, IsTrue};
 ghost use Rattle.vr_model.specs.moves.MoveTests.{is_move};
 ghost use Rattle.vr_model.specs.tables.WellFormed.{IsWellFormed};
-ghost use Rattle.vr_routes.specs.Judging.{HoldSame};
+ghost use Rattle.vr_routes.specs.Judging.{HasCommitted};
 
 use crate::listed::first_moves;
 use crate::report::{TIMES, Timed, report};
@@ -33,7 +33,7 @@ fn judge_all<J: Judge, L: Ledger>(
     steps: &mut Steps<L>,
 ) -> Result<i64, NoMemory>
     requires well_formed { IsWellFormed (J.model judge.old) }
-    requires holds { HoldSame (J.model judge.old) (J.committed judge.old) routes.now }
+    requires holds { HasCommitted (J.model judge.old) (J.committed judge.old) routes.now }
     requires moves { All (λ mv. IsTrue (is_move (J.model judge.old) routes.now.lists mv)) moves.now }
     ensures model { J.model judge.new ≡ J.model judge.old }
     ensures committed { J.committed judge.new routes.now }
@@ -55,7 +55,7 @@ fn time_rounds<J: Judge, L: Ledger>(
     steps: &mut Steps<L>,
 ) -> Result<Timed, Stop>
     requires well_formed { IsWellFormed (J.model judge.old) }
-    requires holds { HoldSame (J.model judge.old) (J.committed judge.old) routes.now }
+    requires holds { HasCommitted (J.model judge.old) (J.committed judge.old) routes.now }
     requires moves { All (λ mv. IsTrue (is_move (J.model judge.old) routes.now.lists mv)) moves.now }
     ensures model { J.model judge.new ≡ J.model judge.old }
     ensures committed { J.committed judge.new routes.now }
@@ -83,7 +83,7 @@ fn report_judge<J: Judge, L: Ledger>(
     blank: Blank,
 ) -> Result<(), Stop>
     requires well_formed { IsWellFormed (J.model judge.old) }
-    requires holds { HoldSame (J.model judge.old) (J.committed judge.old) routes.now }
+    requires holds { HasCommitted (J.model judge.old) (J.committed judge.old) routes.now }
     requires moves { All (λ mv. IsTrue (is_move (J.model judge.old) routes.now.lists mv)) moves.now }
     requires name { blank.name ≡ L.name }
     requires parts { blank.parts ≡ L.parts }

@@ -13,7 +13,7 @@ use Rattle.vr_model.specs.deciding.Testing.{and_right}
 use Rattle.vr_model.specs.declared.records.Pair.{Pair}
 use Rattle.vr_model.specs.declared.records.Policy.{Policy}
 use Rattle.vr_model.specs.declared.records.Policy.TheVariants.{Any, Lifo, Fifo}
-use Rattle.vr_check.specs.Terms.{places_of, are_in_order, is_in_order}
+use Rattle.vr_check.specs.Terms.{places_of, are_pairs_in_order, is_in_order}
 
 -- the rest of a list, as a slice is said
 pub rest_of : (xs : List ℕ) (k : ℕ) → take (length xs - k) (drop k xs) ≡ drop k xs
@@ -98,7 +98,7 @@ list_all_same p q h [] = refl
 list_all_same p q h (x ∷ xs) = ap₂ (λ a b. a && b) (h x) (list_all_same p q h xs)
 
 -- what a policy asks of two pairs is what it asks of their places
-by_places : (policy : Policy) (list : List ℕ) (x y : Pair) → are_in_order policy (places_of list x) (places_of list y) ≡ policy_allows policy list x y
+by_places : (policy : Policy) (list : List ℕ) (x y : Pair) → are_pairs_in_order policy (places_of list x) (places_of list y) ≡ policy_allows policy list x y
 by_places Any list x y = refl
 by_places Lifo list x y = refl
 by_places Fifo list x y = refl
@@ -108,5 +108,5 @@ pub policy_by_places : (policy : Policy) (list : List ℕ) (pairs : List Pair)
 policy_by_places policy list pairs =
     list_all-map (is_in_order policy (map (places_of list) pairs)) (places_of list) pairs
     ∙ list_all_same (λ x. is_in_order policy (map (places_of list) pairs) (places_of list x)) (λ x. list_all (λ y. policy_allows policy list x y) pairs)
-    (λ x. list_all-map (are_in_order policy (places_of list x)) (places_of list) pairs
-    ∙ list_all_same (λ y. are_in_order policy (places_of list x) (places_of list y)) (λ y. policy_allows policy list x y) (by_places policy list x) pairs) pairs
+    (λ x. list_all-map (are_pairs_in_order policy (places_of list x)) (places_of list) pairs
+    ∙ list_all_same (λ y. are_pairs_in_order policy (places_of list x) (places_of list y)) (λ y. policy_allows policy list x y) (by_places policy list x) pairs) pairs

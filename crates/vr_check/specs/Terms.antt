@@ -30,14 +30,15 @@ abbrev pub places_of : List ℕ → Pair → PlacesOfPair
 places_of list pair = record { pickup = place_of list pair.pickup; delivery = place_of list pair.delivery }
 
 -- what a policy asks of two pairs, by their places
-abbrev pub are_in_order : Policy → PlacesOfPair → PlacesOfPair → Bool
-are_in_order Any x y = true
-are_in_order Lifo x y = not (nat_lt x.pickup y.pickup && nat_lt y.pickup x.delivery) || nat_lt y.delivery x.delivery
-are_in_order Fifo x y = not (nat_lt x.pickup y.pickup) || nat_lt x.delivery y.delivery
+abbrev pub are_pairs_in_order : Policy → PlacesOfPair → PlacesOfPair → Bool
+are_pairs_in_order Any x y = true
+are_pairs_in_order Lifo x y =
+    not (nat_lt x.pickup y.pickup && nat_lt y.pickup x.delivery) || nat_lt y.delivery x.delivery
+are_pairs_in_order Fifo x y = not (nat_lt x.pickup y.pickup) || nat_lt x.delivery y.delivery
 
 -- what a policy asks of a pair and of each of some others
 abbrev pub is_in_order : Policy → List PlacesOfPair → PlacesOfPair → Bool
-is_in_order policy places x = list_all (are_in_order policy x) places
+is_in_order policy places x = list_all (are_pairs_in_order policy x) places
 
 -- what the cumuls of arc k leave over its transit
 abbrev pub left_over : Line → Plan → ℕ → ℤ

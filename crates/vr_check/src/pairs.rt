@@ -43,7 +43,8 @@ fn is_served(lists: &[Seq<u32>], pair: &Pair) -> bool
     lists.iter().all(|list| serves_pair(list.as_slice(), pair))
 }
 
-/// Where one node of a pair is active and the other is not, or stands in another list, or before the pickup.
+/// Where one node of a pair is active and the other is not, or stands in another list, or the delivery stands before
+/// the pickup.
 pub(crate) fn wrong_pair(closed: Closed<'_>, lists: &[Seq<u32>]) -> Option<Spot>
     ensures { result ≡ pair_broken closed.entry.model.now lists.now }
 {
@@ -91,9 +92,10 @@ fn places_in(alloc: Global, model: &Model, list: &[u32]) -> Result<Seq<PlacesOfP
     Ok(places)
 }
 
-// Whether a policy lets two pairs stand at these places.
-fn are_in_order(policy: Policy, x: PlacesOfPair, y: PlacesOfPair) -> bool
-    ensures { result ≡ terms.are_in_order policy x y }
+// Whether a policy lets two pairs stand at these places, as far as it asks anything where the first is picked up first:
+// else the other order of the two is asked.
+fn are_pairs_in_order(policy: Policy, x: PlacesOfPair, y: PlacesOfPair) -> bool
+    ensures { result ≡ terms.are_pairs_in_order policy x y }
 {
     match policy {
         Policy::Any => true,
@@ -104,11 +106,11 @@ fn are_in_order(policy: Policy, x: PlacesOfPair, y: PlacesOfPair) -> bool
     }
 }
 
-// Whether a policy lets a pair and each of some others stand at their places.
+// Whether a policy lets a pair and each of those that are picked up behind it stand at their places.
 fn is_in_order(policy: Policy, x: PlacesOfPair, places: &[PlacesOfPair]) -> bool
     ensures { result ≡ terms.is_in_order policy places.now x }
 {
-    places.iter().all(|&y| are_in_order(policy, x, y))
+    places.iter().all(|&y| are_pairs_in_order(policy, x, y))
 }
 
 // Whether a policy lets each two of some pairs stand at their places.

@@ -30,6 +30,6 @@ pub mod FeasibleLemmas
 pub mod AfterLemmas
 pub mod AlongLemmas
 pub mod GuideLemmas
-pub mod LedLemmas
+pub mod FewVisitsLemmas
 pub mod KnownLemmas
 pub mod CostLemmas

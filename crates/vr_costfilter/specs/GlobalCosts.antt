@@ -133,7 +133,7 @@ pub record StandsSpans (kept : KeptSpans) (tours : Tours) : Type 0 where
   pub cumuls : AreAllKept kept.model tours.lists kept.cumuls
 
 -- a change was made on routes whose global spans are kept, and these rows tell of the lists after it
-pub record AreSpansTold (kept : KeptSpans) (rows : List (List Early)) (parts : List ListAfter) (tours : Tours) : Type 0
+pub record AreSpansKnown (kept : KeptSpans) (rows : List (List Early)) (parts : List ListAfter) (tours : Tours) : Type 0
   where
     pub stands : StandsSpans kept tours
     pub made : IsMadeOn tours parts

@@ -1,7 +1,5 @@
 -- The list of a vehicle that pieces are joined to.
 use Rattle.std.specs.Prelude.{◌<◌, ◌≤◌, ℕ, All, List, length}
-use Rattle.std.proofs.Props.{props}
-use mathlib.Core.HLevel.{Unit-prop}
 use Rattle.vr_model.specs.routes.Routes.{route}
 use Rattle.vr_model.specs.schedules.Lines.{line}
 use Rattle.vr_model.specs.schedules.Schedules.{IsFeasible}
@@ -9,7 +7,6 @@ use Rattle.vr_model.specs.declared.records.Model.{Model}
 use Rattle.vr_reach.specs.Lists.{IsUsed}
 use Rattle.vr_routes.specs.Pieces.{joined, IsSplice, IsWithin}
 use Rattle.vr_routes.specs.declared.pieces.Piece.{Piece}
-use Rattle.vr_routes.specs.declared.pieces.Piece.TheVariants.{Chain, Node}
 use Rattle.vr_routes.specs.declared.pieces.Splice.{Splice}
 
 -- these pieces, each within its list, are joined to another list of vehicle v than it has here, of distinct visits, and
@@ -29,8 +26,3 @@ pub record AreJoinedFeasibly (model : Model) (d : ℕ) (lists : List (List ℕ))
   pub vehicle : splice.vehicle < length model.vehicles
   pub are : AreJoined model splice.vehicle lists pieces splice
   pub feasible : IsFeasible (line model d splice.vehicle (joined lists pieces))
-
--- a piece lies within its list in one way at most
-pub IsWithin-prop : (lists : List (List ℕ)) (piece : Piece) → IsProp (IsWithin lists piece)
-IsWithin-prop lists (Chain v from to reversed) = Prim.hlevel props
-IsWithin-prop lists (Node node) = Unit-prop

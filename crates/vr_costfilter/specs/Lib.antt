@@ -19,7 +19,7 @@ pub mod ValidParts
 pub mod PartsAfter
 pub mod EarlyParts
 pub mod EarlyChanges
-pub mod Led
+pub mod FewVisits
 pub mod Tours
 pub mod LookedUp
 pub mod Known

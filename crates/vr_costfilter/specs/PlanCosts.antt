@@ -96,7 +96,7 @@ pub record StandsPlans (kept : KeptPlans) (tours : Tours) : Type 0 where
   pub cumuls : AreAllKept kept.model tours.lists kept.cumuls
 
 -- a change was made on routes of which it is kept what each list costs, and these rows tell of the lists after it
-pub record ArePlansTold (kept : KeptPlans) (rows : List (List Early)) (parts : List ListAfter) (tours : Tours) : Type 0
+pub record ArePlansKnown (kept : KeptPlans) (rows : List (List Early)) (parts : List ListAfter) (tours : Tours) : Type 0
   where
     pub stands : StandsPlans kept tours
     pub made : IsMadeOn tours parts

@@ -3,13 +3,14 @@
 ghost use Rattle.std.proofs.Props.{props};
 ghost use Rattle.vr_model.specs.schedules.Schedules.{IsFeasible};
 ghost use Rattle.vr_model.specs.schedules.Tight.{IsLatestStart, IsLeastEnd};
-ghost use Rattle.vr_costfilter.specs.Joined.{AreJoined, IsWithin-prop};
+ghost use Rattle.vr_costfilter.specs.Joined.{AreJoined};
+ghost use Rattle.vr_routes.specs.Pieces.{IsWithin-prop};
 
 use crate::guides::Guide;
 use crate::kept_ways::KeptWays;
-use crate::led::LedPieces;
 use crate::tight::{TightEnds, ends_by};
 use crate::trails::Trail;
+use crate::with_guide::PiecesWithGuide;
 use vr_earliest::along_pieces;
 use vr_plan::Timing;
 use vr_routes::{Piece, Routes, Splice};
@@ -58,12 +59,12 @@ impl<'a, 'm, 's> Asked<'a, 'm, 's> {
     {
         trail.steps.clear();
         let next = self.guide.end_step();
-        let led = LedPieces {
+        let on = PiecesWithGuide {
             guide: self.guide,
             routes: self.routes,
             pieces: self.pieces,
         };
-        let first = led.back_along(next, trail)?;
+        let first = on.back_along(next, trail)?;
         let floor = self.guide.start_floor(first)?;
         let stage = self.guide.standing(floor);
         let gone = self.guide.along_trail(trail, stage)?;

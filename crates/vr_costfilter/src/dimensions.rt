@@ -77,7 +77,7 @@ impl AllCumuls {
         })
     }
 
-    /// What the chosen schedule of the list comes to that a part of a change gives its vehicle, in dimension `d`.
+    /// What the chosen schedule of the new list of a part of a change comes to, in dimension `d`.
     /// Nothing exactly where what is kept does not tell; then it has to be looked for. The trail is scratch that the
     /// caller lends: it is written over.
     pub fn timing_after(

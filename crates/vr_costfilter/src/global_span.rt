@@ -12,7 +12,7 @@ ghost use Rattle.vr_plan.specs.Bounds.{cumul_cost, IsAround};
 ghost use Rattle.vr_costfilter.specs.GlobalCosts.{global_cost_of, is_some_spanned, IsRow, AreLike, AreNextRows};
 ghost use Rattle.vr_costfilter.specs.GlobalCosts.{AreRanged, AreRowsAfter};
 ghost use Rattle.vr_costfilter.specs.Known.{IsValidChange};
-ghost use Rattle.vr_costfilter.specs.GlobalCosts.{AreSpansReady, AreSpansTold, IsGlobalCost, StandsSpans};
+ghost use Rattle.vr_costfilter.specs.GlobalCosts.{AreSpansReady, AreSpansKnown, IsGlobalCost, StandsSpans};
 ghost use Rattle.vr_parts.specs.Parts.{CostAlike};
 ghost use Rattle.vr_costfilter.specs.Spreads.{global_least};
 
@@ -126,14 +126,14 @@ impl<'m> GlobalSpan<'m> {
 
     /// What a change adds at least, where the lists after it are valid: how far its lists and those that stay reach at
     /// least, less what the global spans cost now. The caller hands in what the chosen schedules of the changed lists
-    /// come to at least. No schedule is built. It holds of any routes at which this stands and on which the change was
-    /// made; there must be some.
+    /// come to at least. No schedule is built. The change must have been made on routes at which this stands; they
+    /// themselves are not needed.
     pub fn least(&self, earlies: &Earlies, change: &Change) -> i64
-        requires { (tours : Tours) × AreSpansTold self.now earlies.now change.now tours }
-        ensures value { (tours : Tours) → AreSpansTold self.now earlies.now change.now tours
+        requires { (tours : Tours) × AreSpansKnown self.now earlies.now change.now tours }
+        ensures value { (tours : Tours) → AreSpansKnown self.now earlies.now change.now tours
             → result ≡ global_least self.now.model tours.lists change.now
             -ℤ global_cost_of self.now.model tours.lists }
-        ensures least { (tours : Tours) → AreSpansTold self.now earlies.now change.now tours
+        ensures least { (tours : Tours) → AreSpansKnown self.now earlies.now change.now tours
             → IsTrue (is_valid self.now.model (changed tours.lists change.now))
             → result ≤ℤ (global_cost_of self.now.model (changed tours.lists change.now)
             -ℤ global_cost_of self.now.model tours.lists) }
@@ -145,7 +145,7 @@ impl<'m> GlobalSpan<'m> {
         self.rules.least(earlies, &self.orders, change) - self.cost
     }
 
-    // What the schedules come to of the list that part `k` of a change gives its vehicle.
+    // What the chosen schedules of the new list of part `k` of a change come to.
     fn row_after(
         &mut self,
         routes: &Routes,

@@ -31,11 +31,11 @@ ghost use Rattle.vr_costfilter.specs.Steps.{HasStages};
 use crate::asked::Asked;
 use crate::guides::Guide;
 use crate::kept_ways::KeptWays;
-use crate::led::LedList;
 use crate::steps::KeptSteps;
 use crate::tight::TightEnds;
 use crate::tours::Tour;
 use crate::trails::Trail;
+use crate::with_guide::ListWithGuide;
 use std::alloc::Global;
 use std::marker::Model;
 use vr_earliest::write_ways;
@@ -87,20 +87,20 @@ impl KeptList {
     }
 
     // Writes what is kept of a list of a vehicle that chooses its earliest schedule.
-    fn write_earliest(&mut self, led: &LedList)
-        requires { IsGuideBy Earliest led.now.guide.now }
-        ensures kept { IsKept led.now.guide.now.model.now led.now.guide.now.d led.now.guide.now.v led.now.list.now
+    fn write_earliest(&mut self, on: &ListWithGuide)
+        requires { IsGuideBy Earliest on.now.guide.now }
+        ensures kept { IsKept on.now.guide.now.model.now on.now.guide.now.d on.now.guide.now.v on.now.list.now
             self.new }
         ensures room { length self.new.ends.items ≡ length self.old.ends.items }
     {
         self.forget();
-        self.steps.write(led);
+        self.steps.write(on);
     }
 
     // Writes what is kept of a list of a vehicle that chooses its tight schedule.
-    fn write_tight(&mut self, led: &LedList)
-        requires { IsGuideBy Tight led.now.guide.now }
-        ensures kept { IsKept led.now.guide.now.model.now led.now.guide.now.d led.now.guide.now.v led.now.list.now
+    fn write_tight(&mut self, on: &ListWithGuide)
+        requires { IsGuideBy Tight on.now.guide.now }
+        ensures kept { IsKept on.now.guide.now.model.now on.now.guide.now.d on.now.guide.now.v on.now.list.now
             self.new }
         ensures room { length self.new.ends.items ≡ length self.old.ends.items }
     {
@@ -108,36 +108,36 @@ impl KeptList {
         if self.ends.is_empty() {
             return;
         }
-        write_ways(&mut self.ends[0], led.guide, led.list);
-        self.write_between(led);
+        write_ways(&mut self.ends[0], on.guide, on.list);
+        self.write_between(on);
     }
 
     // Writes the steps and the stages of a list between its two ends, where soft upper bounds may cost anything.
-    fn write_between(&mut self, led: &LedList)
-        requires { HasWaysAlone led.now.guide.now.model.now led.now.guide.now.d led.now.guide.now.v
-            (runs_of led.now.guide.now)
-            led.now.list.now self.old }
-        ensures stages { HasStages led.now.guide.now.model.now led.now.guide.now.d led.now.guide.now.v
-            (between_runs (runs_of led.now.guide.now) self.new.between.start self.new.between.last) led.now.list.now
+    fn write_between(&mut self, on: &ListWithGuide)
+        requires { HasWaysAlone on.now.guide.now.model.now on.now.guide.now.d on.now.guide.now.v
+            (runs_of on.now.guide.now)
+            on.now.list.now self.old }
+        ensures stages { HasStages on.now.guide.now.model.now on.now.guide.now.d on.now.guide.now.v
+            (between_runs (runs_of on.now.guide.now) self.new.between.start self.new.between.last) on.now.list.now
             self.new.steps }
         ensures between { HasCumuls self.new.between }
-        ensures told { led.now.guide.now.table.now.is_hard ≡ false → AreTightEndsOf led.now.guide.now.model.now
-            led.now.guide.now.d led.now.guide.now.v (runs_of led.now.guide.now) led.now.list.now self.new.between }
-        ensures all { led.now.guide.now.table.now.is_hard ≡ false → (line : Line)
-            → AllowsRuns led.now.guide.now.model.now led.now.guide.now.d led.now.guide.now.v
-            (between_runs (runs_of led.now.guide.now) self.new.between.start self.new.between.last) led.now.list.now
-            line → IsFeasible line → length self.new.steps.stages.items ≡ length led.now.list.now + 2 }
+        ensures told { on.now.guide.now.table.now.is_hard ≡ false → AreTightEndsOf on.now.guide.now.model.now
+            on.now.guide.now.d on.now.guide.now.v (runs_of on.now.guide.now) on.now.list.now self.new.between }
+        ensures all { on.now.guide.now.table.now.is_hard ≡ false → (line : Line)
+            → AllowsRuns on.now.guide.now.model.now on.now.guide.now.d on.now.guide.now.v
+            (between_runs (runs_of on.now.guide.now) self.new.between.start self.new.between.last) on.now.list.now
+            line → IsFeasible line → length self.new.steps.stages.items ≡ length on.now.list.now + 2 }
         ensures ends { self.new.ends.items ≡ self.old.ends.items }
     {
-        if led.guide.table.is_hard {
+        if on.guide.table.is_hard {
             return;
         }
-        let ends = led.ends(&self.ends[0]);
+        let ends = on.ends(&self.ends[0]);
         self.between = ends;
-        let between = led.guide.between(ends);
-        self.steps.write(&LedList {
+        let between = on.guide.between(ends);
+        self.steps.write(&ListWithGuide {
             guide: &between,
-            list: led.list,
+            list: on.list,
         });
     }
 
@@ -349,13 +349,13 @@ fn write_list(tour: &Tour, table: &Table, d: u32, kept: &mut KeptList)
 {
     match Guide::of(tour.closed, table, d, tour.v) {
         Some(guide) => {
-            let led = LedList {
+            let on = ListWithGuide {
                 guide: &guide,
                 list: tour.list,
             };
             match tour.closed.model.vehicles.get(tour.v as usize).schedule {
-                ScheduleRule::Earliest => kept.write_earliest(&led),
-                ScheduleRule::Tight => kept.write_tight(&led),
+                ScheduleRule::Earliest => kept.write_earliest(&on),
+                ScheduleRule::Tight => kept.write_tight(&on),
             }
         }
         None => kept.forget(),

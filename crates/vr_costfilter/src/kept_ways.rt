@@ -11,9 +11,9 @@ ghost use Rattle.vr_costfilter.specs.Rests.{rest_at_end, rest_before, IsTightRes
 ghost use Rattle.vr_costfilter.specs.Ways.{nearest_cumul, tight-more, way_out, way_to_visit, IsTightWayOf};
 
 use crate::guides::Guide;
-use crate::led::LedList;
 use crate::rests::Rest;
 use crate::tight::{TightEnds, Way, ends_by};
+use crate::with_guide::ListWithGuide;
 use vr_earliest::Walk;
 use vr_model::limits::HORIZON;
 
@@ -72,7 +72,7 @@ impl<'m> Walk for Guide<'m> {
     }
 }
 
-impl<'a, 'm> LedList<'a, 'm> {
+impl<'a, 'm> ListWithGuide<'a, 'm> {
     /// The ends of the tight schedule of a list whose ways are kept: those that its whole way tells, brought within the
     /// horizon, also where it has none.
     pub fn ends(&self, kept: &KeptWays) -> TightEnds

@@ -1,4 +1,5 @@
-//! The parts of the cost of routes, each kept for the committed lists and known for a change of them.
+//! The parts of the cost of routes, each kept for the committed lists and known for a change of them. The name is that
+//! of OR-Tools, where a filter tells the cost; nothing is refused here.
 //!
 //! Arc costs, fixed costs and the penalties of groups come from `vr_arccosts` and `vr_usecosts`, the trait of a part
 //! from `vr_parts`. Here stand the two parts that ask schedules: `PlanCost` (soft upper bounds and spans, list by list)
@@ -26,7 +27,6 @@ mod global_span;
 mod guides;
 mod kept;
 mod kept_ways;
-mod led;
 mod order;
 mod orders;
 mod parts_after;
@@ -40,6 +40,7 @@ mod steps;
 mod tight;
 mod tours;
 mod trails;
+mod with_guide;
 
 pub use dimensions::{AllCumuls, Paid};
 pub use global_span::GlobalSpan;

@@ -6,8 +6,7 @@ ghost use Rattle.std.specs.List.{list_all};
 ghost use Rattle.vr_model.specs.routes.Routes.{is_distinct, is_empty};
 ghost use Rattle.vr_model.specs.tables.Tables.{is_visit};
 ghost use Rattle.vr_model.specs.tables.WellFormedOnce.{IsWellFormed-prop};
-ghost use Rattle.vr_routes.specs.Pieces.{part_at, IsSplice, IsWithin};
-ghost use Rattle.vr_costfilter.specs.Joined.{IsWithin-prop};
+ghost use Rattle.vr_routes.specs.Pieces.{part_at, IsSplice, IsWithin, IsWithin-prop};
 ghost use Rattle.vr_costfilter.specs.ValidParts.{IsValidPart};
 
 use vr_model::Model;

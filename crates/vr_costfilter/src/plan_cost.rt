@@ -10,7 +10,7 @@ ghost use Rattle.vr_routes.specs.Tours.{Tours};
 ghost use Rattle.vr_parts.specs.Parts.{CostAlike};
 ghost use Rattle.vr_costfilter.specs.PlanCosts.{cost_after, pays_no_plan, soft_and_span, AreNextCosts, ArePlansReady};
 ghost use Rattle.vr_costfilter.specs.Known.{IsValidChange};
-ghost use Rattle.vr_costfilter.specs.PlanCosts.{plans_least, ArePlansLike, ArePlansTold, IsPlanChange, IsPlanCost};
+ghost use Rattle.vr_costfilter.specs.PlanCosts.{plans_least, ArePlansLike, ArePlansKnown, IsPlanChange, IsPlanCost};
 ghost use Rattle.vr_costfilter.specs.PlanCosts.{StandsPlans};
 
 use crate::dimensions::AllCumuls;
@@ -113,13 +113,13 @@ impl<'m> PlanCost<'m> {
 
     /// What a change adds at least, where the lists after it are valid: what the spans of the changed lists cost at
     /// least, less what the lists of these vehicles cost now. The caller hands in what the chosen schedules of the
-    /// changed lists come to at least. No schedule is built. It holds of any routes at which this stands and on which
-    /// the change was made; there must be some.
+    /// changed lists come to at least. No schedule is built. The change must have been made on routes at which this
+    /// stands; they themselves are not needed.
     pub fn least(&self, earlies: &Earlies, change: &Change) -> i64
-        requires { (tours : Tours) × ArePlansTold self.now earlies.now change.now tours }
-        ensures value { (tours : Tours) → ArePlansTold self.now earlies.now change.now tours
+        requires { (tours : Tours) × ArePlansKnown self.now earlies.now change.now tours }
+        ensures value { (tours : Tours) → ArePlansKnown self.now earlies.now change.now tours
             → result ≡ plans_least self.now.model tours.lists change.now }
-        ensures least { (tours : Tours) → ArePlansTold self.now earlies.now change.now tours
+        ensures least { (tours : Tours) → ArePlansKnown self.now earlies.now change.now tours
             → IsTrue (is_valid self.now.model (changed tours.lists change.now))
             → result ≤ℤ (soft_and_span self.now.model (changed tours.lists change.now)
             -ℤ soft_and_span self.now.model tours.lists) }
@@ -136,7 +136,7 @@ impl<'m> PlanCost<'m> {
         least
     }
 
-    // What the list costs that part `k` of a change gives its vehicle.
+    // What the new list of part `k` of a change costs.
     fn cost_after(&mut self, routes: &Routes, change: &Change, k: usize) -> Result<i64, NoMemory>
         requires change { IsValidChange (StandsPlans self.old) self.old.model routes.now change.now }
         requires part { k < length change.now }

@@ -39,7 +39,7 @@ use vr_routes::{Change, Routes};
 /// What the schedule of a list comes to in each dimension whose global span has a coefficient, none of an empty one.
 pub type ListTimings = [Option<Timing>; 4];
 
-/// What is looked up of a model once. Contracts see the model.
+/// Asks about global spans, over what was looked up of a model. Contracts see the model.
 #[derive(Drop)]
 pub struct SpanRules<'m> {
     lookups: Lookups<'m>,
@@ -140,7 +140,7 @@ impl<'m> SpanRules<'m> {
         cumuls.commit(self.lookups.closed, self.lookups.tables(), routes, change);
     }
 
-    /// What the chosen schedules of the list come to that part `k` of a change gives its vehicle. The list is written
+    /// What the chosen schedules of the new list of part `k` of a change come to. The list is written
     /// out only where what is kept does not tell its schedule.
     pub fn row_after(
         &self,
@@ -237,13 +237,14 @@ fn row_of_list(tour: &Tour, tables: &[Table], timer: &mut Timer) -> Result<ListT
 {
     let mut row: ListTimings = [None; 4];
     for d in 0..tables.len() {
-        row[d] = kept_in(tour, &tables[d], d as u32, timer)?;
+        row[d] = timing_of_tour(tour, &tables[d], d as u32, timer)?;
     }
     Ok(row)
 }
 
-// What is kept of a list in one dimension.
-fn kept_in(
+// What the chosen schedule of a list comes to in one dimension; none of an empty list, or where nothing is paid for the
+// global span.
+fn timing_of_tour(
     tour: &Tour,
     table: &Table,
     d: u32,
@@ -263,7 +264,7 @@ fn kept_in(
     Ok(Some(timing))
 }
 
-// What the chosen schedules of the list come to that a part of a change gives its vehicle.
+// What the chosen schedules of the new list of a part of a change come to.
 fn row_of_part(
     part: &PartAfter,
     tables: &[Table],
@@ -310,7 +311,7 @@ fn kept_after(
         v: part.vehicle(),
         list: scratch.row.as_slice(),
     };
-    kept_in(&tour, table, d, &mut scratch.timer)
+    timing_of_tour(&tour, table, d, &mut scratch.timer)
 }
 
 // What the global spans cost in all dimensions.
@@ -365,8 +366,8 @@ fn reach(orders: &SortedEnds, vehicles: &[u32], next: &[ListTimings], d: u32) ->
     extent
 }
 
-// Vehicle `v` gets its list, whose schedules are chosen here, where those before it have theirs, in the dimensions that
-// pay.
+// Sorts vehicle `v` in, by what the chosen schedules of its list come to, in the dimensions that pay; those before it
+// are in already.
 fn set_list(
     closed: Closed<'_>,
     tables: &[Table],

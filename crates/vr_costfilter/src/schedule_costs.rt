@@ -34,7 +34,7 @@ use vr_model::{Closed, NoMemory};
 use vr_plan::{Lookups, Table, Timer, Timing, may_pay_alone, span_cost, times, timing_of};
 use vr_routes::{Change, Piece, Routes};
 
-/// What is looked up of a model once. Contracts see the model.
+/// Tells what soft bounds and spans cost each list, over what was looked up of a model. Contracts see the model.
 #[derive(Drop)]
 pub struct PlanRules<'m> {
     lookups: Lookups<'m>,
@@ -125,8 +125,8 @@ impl<'m> PlanRules<'m> {
         cumuls.commit(self.lookups.closed, self.lookups.tables(), routes, change);
     }
 
-    /// What the list costs that part `k` of a change gives its vehicle. The list is written out only where what is kept
-    /// does not tell its schedule.
+    /// What the new list of part `k` of a change costs, by soft bounds and spans in all dimensions. The list is written
+    /// out only where what is kept does not tell its schedule.
     pub fn cost_after(
         &self,
         cumuls: &AllCumuls,
@@ -152,7 +152,7 @@ impl<'m> PlanRules<'m> {
         cost_of_part(&part, self.lookups.tables(), cumuls, scratch)
     }
 
-    /// What the spans of the list cost at least that part `k` of a change gives its vehicle, of any lists of which
+    /// What the spans of the new list of part `k` of a change cost at least, of any lists of which
     /// `earlies` tells. No schedule is built.
     pub fn least(&self, earlies: &Earlies, change: &Change, k: usize) -> i64
         requires earlies { AreEarlyInRange self.now change.now earlies.now }
@@ -191,7 +191,7 @@ fn cost_of_plans(tour: &Tour, tables: &[Table], timer: &mut Timer) -> Result<i64
     Ok(cost)
 }
 
-// What the list costs that a part of a change gives its vehicle, where it has nodes.
+// What the new list of a part of a change costs, where it has nodes.
 fn cost_of_part(
     part: &PartAfter,
     tables: &[Table],

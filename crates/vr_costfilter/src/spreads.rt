@@ -98,7 +98,7 @@ fn spread_but(orders: &SortedEnds, vehicles: &[u32]) -> Spread
     }
 }
 
-// It reaches over the list too that part `k` of the change gives its vehicle.
+// It reaches over the new list of part `k` of the change too.
 #[inline]
 fn with_changed(paid: &EarlyIn, k: usize, spread: Spread) -> Spread
     requires part { k < length paid.now.early.now.change.now }

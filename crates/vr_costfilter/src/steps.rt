@@ -20,9 +20,9 @@ ghost use Rattle.vr_costfilter.specs.Stages.{IsStageOf};
 
 use crate::asked::Asked;
 use crate::guides::{Guide, Stage};
-use crate::led::{LedChain, LedList, LedPieces};
 use crate::tight::only;
 use crate::trails::{Step, Trail};
+use crate::with_guide::{ChainWithGuide, ListWithGuide, PiecesWithGuide};
 use arrayvec::ArrayVec;
 use vr_plan::Timing;
 
@@ -89,40 +89,40 @@ impl KeptSteps {
     }
 
     /// Writes the steps and the stages of a list, as far as there are any: all of them where it is feasible.
-    pub fn write(&mut self, led: &LedList)
-        ensures stages { HasStages led.now.guide.now.model.now led.now.guide.now.d led.now.guide.now.v
-            (runs_of led.now.guide.now) led.now.list.now self.new }
-        ensures all { (line : Line) → AllowsRuns led.now.guide.now.model.now led.now.guide.now.d led.now.guide.now.v
-            (runs_of led.now.guide.now) led.now.list.now line → IsFeasible line
-            → length self.new.stages.items ≡ length led.now.list.now + 2 }
+    pub fn write(&mut self, on: &ListWithGuide)
+        ensures stages { HasStages on.now.guide.now.model.now on.now.guide.now.d on.now.guide.now.v
+            (runs_of on.now.guide.now) on.now.list.now self.new }
+        ensures all { (line : Line) → AllowsRuns on.now.guide.now.model.now on.now.guide.now.d on.now.guide.now.v
+            (runs_of on.now.guide.now) on.now.list.now line → IsFeasible line
+            → length self.new.stages.items ≡ length on.now.list.now + 2 }
     {
         self.stages.clear();
         self.trail.steps.clear();
-        let end = led.guide.end_step();
-        let chain = LedChain {
-            guide: led.guide,
-            nodes: led.list,
+        let end = on.guide.end_step();
+        let chain = ChainWithGuide {
+            guide: on.guide,
+            nodes: on.list,
             reversed: false,
         };
         match chain.back_along(end, &mut self.trail) {
-            Some(first) => self.write_stages(led, first),
+            Some(first) => self.write_stages(on, first),
             None => {}
         }
     }
 
     // Writes the stages along the steps, of which `first` is the first one.
-    fn write_stages(&mut self, led: &LedList, first: Step)
+    fn write_stages(&mut self, on: &ListWithGuide, first: Step)
         requires none { length self.old.stages.items ≡ 0 }
-        requires steps { AreStepsFrom led.now.guide.now.model.now led.now.guide.now.d led.now.guide.now.v
-            (runs_of led.now.guide.now) led.now.list.now (steps_of self.old) first }
-        ensures stages { HasStages led.now.guide.now.model.now led.now.guide.now.d led.now.guide.now.v
-            (runs_of led.now.guide.now) led.now.list.now self.new }
-        ensures all { (line : Line) → AllowsRuns led.now.guide.now.model.now led.now.guide.now.d led.now.guide.now.v
-            (runs_of led.now.guide.now) led.now.list.now line → IsFeasible line
-            → length self.new.stages.items ≡ length led.now.list.now + 2 }
+        requires steps { AreStepsFrom on.now.guide.now.model.now on.now.guide.now.d on.now.guide.now.v
+            (runs_of on.now.guide.now) on.now.list.now (steps_of self.old) first }
+        ensures stages { HasStages on.now.guide.now.model.now on.now.guide.now.d on.now.guide.now.v
+            (runs_of on.now.guide.now) on.now.list.now self.new }
+        ensures all { (line : Line) → AllowsRuns on.now.guide.now.model.now on.now.guide.now.d on.now.guide.now.v
+            (runs_of on.now.guide.now) on.now.list.now line → IsFeasible line
+            → length self.new.stages.items ≡ length on.now.list.now + 2 }
     {
-        let guide = led.guide;
-        let list = led.list;
+        let guide = on.guide;
+        let list = on.list;
         let Some(floor) = guide.start_floor(first) else {
             return;
         };
@@ -162,12 +162,12 @@ impl KeptSteps {
         let behind = splice.behind as usize;
         trail.steps.clear();
         let next = known.step_behind(behind);
-        let led = LedPieces {
+        let on = PiecesWithGuide {
             guide,
             routes: asked.routes,
             pieces: splice.middle,
         };
-        let first = led.back_along(next, trail)?;
+        let first = on.back_along(next, trail)?;
         let lead = known.lead(front, first, trail)?;
         let met = known.set_out(start, lead)?;
         let gone = guide.along_trail(trail, met.stage)?;

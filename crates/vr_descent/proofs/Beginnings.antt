@@ -11,7 +11,7 @@ use Rattle.vr_model.specs.declared.search.Event.{Event}
 use Rattle.vr_model.specs.declared.search.Kind.TheVariants as kind
 use Rattle.vr_model.specs.declared.search.Limit.{Limit}
 use Rattle.vr_model.proofs.routes.CostFits.{costs_are_bounded}
-use Rattle.vr_routes.specs.Judging.{HoldSame}
+use Rattle.vr_routes.specs.Judging.{HasCommitted}
 use Rattle.vr_routes.specs.Tours.{Tours}
 use Rattle.vr_watch.specs.Told.{Reported, ReportedInPart}
 use Rattle.vr_watch.proofs.ToldLemmas.{told_nothing}
@@ -59,7 +59,7 @@ first_is_best model routes best is valid = record {
 
 -- at its beginning a search is under way
 pub under_way : (model : Model) (limit : Limit) (routes : Tours) (at : Progress) (best : Incumbent) (committed : Tours → Type 0) → at ≡ at_first model routes.lists → best ≡ record { routes = routes; cost = cost model routes.lists }
-    → HoldSame model committed routes → 1 ≤ limit.solutions → IsUnderWay model limit committed routes at best
+    → HasCommitted model committed routes → 1 ≤ limit.solutions → IsUnderWay model limit committed routes at best
 under_way model limit routes at best committed at_is best_is holds some =
     let used = ap (λ p. p.used) at_is in
     let found = ap (λ p. p.found) at_is in

@@ -16,7 +16,7 @@ use Rattle.vr_model.specs.declared.neighbours.Move.{Move}
 use Rattle.vr_model.proofs.tables.Tests.{apart}
 use Rattle.vr_routes.specs.Tours.{Tours}
 use Rattle.vr_watch.specs.Told.{Reported, ReportedInPart}
-use Rattle.vr_routes.specs.Judging.{HoldSame}
+use Rattle.vr_routes.specs.Judging.{HasCommitted}
 use Rattle.vr_descent.specs.Ending.{HasEnded, report_of}
 use Rattle.vr_descent.specs.Scanned.{takes_less}
 use Rattle.vr_descent.specs.Searching.{behind, events_after, scan_of}
@@ -35,13 +35,13 @@ pub record Descends {W : Type 0} (after : W → List Event → List ℕ) (model 
   pub found : at.found ≤ limit.solutions
   pub goes : Goes after (descent model first limit) (from_here model limit routes.lists at.used at.found) old new
 
-module _ {W : Type 0} (after : W → List Event → List ℕ) (model : Model) (limit : Limit) (from : Tours) (held : Tours → Type 0) (begun : HoldSame model held from) (old new : List W) (routes : Tours) (at : Progress) (stands : Descends after model limit from.lists old new routes at) where
+module _ {W : Type 0} (after : W → List Event → List ℕ) (model : Model) (limit : Limit) (from : Tours) (held : Tours → Type 0) (begun : HasCommitted model held from) (old new : List W) (routes : Tours) (at : Progress) (stands : Descends after model limit from.lists old new routes at) where
   abbrev whole : Outcome
   whole = descent model from.lists limit
 
   -- it ends with so many tries, where the routes are still the same, and with this report
   ends_at : (later : List W) (tours : Tours) (now : Progress) (used : ℕ) (stop : End) → Goes after whole (ended (standing model limit routes.lists used at.found) stop) old later → now ≡ record { used = used; found = at.found; cost = at.cost } → tours ≡ routes → used ≤ limit.tries
-      → (judged : Tours → Type 0) → HoldSame model judged tours → (stated : Report) → stated ≡ report_of now stop → HasEnded after model limit whole from tours old later stated tours
+      → (judged : Tours → Type 0) → HasCommitted model judged tours → (stated : Report) → stated ≡ report_of now stop → HasEnded after model limit whole from tours old later stated tours
   ends_at later tours now used stop goes at_is routes_are low judged holds stated stated_is =
       let reported : stated ≡ record { tries = used; solutions = at.found; «end» = stop } = stated_is ∙ ap (λ p. report_of p stop) at_is in
       record {
@@ -58,7 +58,7 @@ module _ {W : Type 0} (after : W → List Event → List ℕ) (model : Model) (l
       }
 
   -- enough solutions were found
-  pub ends_enough : at.found ≡ limit.solutions → (judged : Tours → Type 0) → HoldSame model judged routes → (stated : Report) → stated ≡ report_of at Solutions → HasEnded after model limit whole from routes old new stated routes
+  pub ends_enough : at.found ≡ limit.solutions → (judged : Tours → Type 0) → HasCommitted model judged routes → (stated : Report) → stated ≡ report_of at Solutions → HasEnded after model limit whole from routes old new stated routes
   ends_enough all = ends_at new routes at at.used Solutions
       (goes_as after whole _ _ old new (enough model limit routes.lists at.used at.found (same_count at.found limit.solutions all)) stands.goes) refl refl stands.used
 
@@ -97,11 +97,11 @@ module _ {W : Type 0} (after : W → List Event → List ℕ) (model : Model) (l
           }
 
       -- all moves were tried
-      pub ends_complete : (n : ℕ) → TriedAll model takes_less limit routes tours at now n → (judged : Tours → Type 0) → HoldSame model judged tours → (stated : Report) → stated ≡ report_of now Optimum → HasEnded after model limit whole from tours old later stated tours
+      pub ends_complete : (n : ℕ) → TriedAll model takes_less limit routes tours at now n → (judged : Tours → Type 0) → HasCommitted model judged tours → (stated : Report) → stated ≡ report_of now Optimum → HasEnded after model limit whole from tours old later stated tours
       ends_complete n gave = ends_at later tours now (at.used + n) Optimum (after_scan (complete n) gave.scanned) gave.at_is gave.routes_are (let within = gave.within in omega (arith, within, stands.used))
 
       -- the tries ran out
-      pub ends_cut : RanOut model takes_less limit routes tours at now → (judged : Tours → Type 0) → HoldSame model judged tours → (stated : Report) → stated ≡ report_of now Tries → HasEnded after model limit whole from tours old later stated tours
+      pub ends_cut : RanOut model takes_less limit routes tours at now → (judged : Tours → Type 0) → HasCommitted model judged tours → (stated : Report) → stated ≡ report_of now Tries → HasEnded after model limit whole from tours old later stated tours
       ends_cut gave =
           let all : at.used + (limit.tries - at.used) ≡ limit.tries = omega (arith, stands.used) in
           ends_at later tours now limit.tries Tries (goes_as after whole _ _ old later (ap (λ k. ended (standing model limit routes.lists k at.found) Tries) all) (after_scan cut gave.scanned)) gave.at_is gave.routes_are (omega arith)

@@ -9,7 +9,7 @@ use Rattle.vr_model.specs.declared.records.Model.{Model}
 use Rattle.vr_model.specs.declared.records.Report.{Report}
 use Rattle.vr_model.specs.declared.search.Event.{Event}
 use Rattle.vr_model.specs.declared.search.Limit.{Limit}
-use Rattle.vr_routes.specs.Judging.{HoldSame}
+use Rattle.vr_routes.specs.Judging.{HasCommitted}
 use Rattle.vr_routes.specs.Tours.{Tours}
 use Rattle.vr_descent.specs.Ending.{HasEnded, HasStopped, outcome_of, report_of}
 use Rattle.vr_descent.specs.Incumbents.{IsUnderWay}
@@ -28,7 +28,7 @@ stops after left lists at best old new stop goes = record {
 
 -- a search has ended where what was left of it has, behind what was told before
 pub has_ended : {W : Type 0} (after : W → List Event → List ℕ) (model : Model) (limit : Limit) (whole left : Outcome) (from to : Tours) (a b c : List W) (at : Progress) (first best : Incumbent) (held judged : Tours → Type 0) (stop : End) (stated : Report)
-    → Goes after whole left a b → HasStopped after left to.lists at best b c stop → HoldSame model held from → IsUnderWay model limit judged to at best
+    → Goes after whole left a b → HasStopped after left to.lists at best b c stop → HasCommitted model held from → IsUnderWay model limit judged to at best
     → first.cost ≡ cost model from.lists → best.cost ≤ℤ first.cost → stated ≡ report_of at stop
     → HasEnded after model limit whole from to a c stated best.routes
 has_ended after model limit whole left from to a b c at first best held judged stop stated goes stopped begun going first_cost less stated_is =

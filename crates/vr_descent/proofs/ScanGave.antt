@@ -6,7 +6,7 @@ use Rattle.vr_model.specs.search.Scans.Scan.{Accepted as accepted, Complete as c
 use Rattle.vr_model.specs.declared.records.Model.{Model}
 use Rattle.vr_model.specs.declared.neighbours.Move.{Move}
 use Rattle.vr_model.specs.declared.search.Limit.{Limit}
-use Rattle.vr_routes.specs.Judging.{HoldSame, cost_change, moved}
+use Rattle.vr_routes.specs.Judging.{HasCommitted, cost_change, moved}
 use Rattle.vr_routes.specs.Tours.{Tours}
 use Rattle.vr_descent.specs.Incumbents.{IsUnderWay, kept}
 use Rattle.vr_descent.specs.Scanned.{scan_end}
@@ -78,7 +78,7 @@ module _ (model : Model) (takes : List (List ℕ) → Move → ℤ → Bool) (li
 module _ (model : Model) (limit : Limit) (routes after : Tours) (at now : Progress) (committed judged : Tours → Type 0) where
   -- a search is under way still where a move was made, and the cheaper routes are kept
   pub under_way_moved : (takes : List (List ℕ) → Move → ℤ → Bool) (place : ℕ) (mv : Move) (best new : Incumbent) → Moved model takes limit routes after at now place mv → IsUnderWay model limit committed routes at best
-      → HoldSame model judged after → new ≡ kept best after now.cost → ((at.found ≡ limit.solutions) → ⊥) → IsUnderWay model limit judged after now new
+      → HasCommitted model judged after → new ≡ kept best after now.cost → ((at.found ≡ limit.solutions) → ⊥) → IsUnderWay model limit judged after now new
   under_way_moved takes place mv best new gave before holds keeps more =
       let used_new = ap (λ p. p.used) gave.at_is in
       let found_new = ap (λ p. p.found) gave.at_is in
@@ -94,7 +94,7 @@ module _ (model : Model) (limit : Limit) (routes after : Tours) (at now : Progre
       }
 
   -- so it is where none was made, and only the tries are counted
-  pub under_way_still : (used : ℕ) (best : Incumbent) → after ≡ routes → now ≡ record { used = used; found = at.found; cost = at.cost } → IsUnderWay model limit committed routes at best → HoldSame model judged after → used ≤ limit.tries
+  pub under_way_still : (used : ℕ) (best : Incumbent) → after ≡ routes → now ≡ record { used = used; found = at.found; cost = at.cost } → IsUnderWay model limit committed routes at best → HasCommitted model judged after → used ≤ limit.tries
       → IsUnderWay model limit judged after now best
   under_way_still used best routes_are at_is before holds low =
       let used_new = ap (λ p. p.used) at_is in

@@ -15,7 +15,7 @@ pub record AsksOn {J : Type 0} (judged seen : J → ℕ) (old new : J) (before a
   pub looked : seen new + 2 * before ≤ seen old + 2 * after
 
 -- a judge has its model still, and has committed the lists of the routes still
-pub record Keeps {J : Type 0} (model_of : J → Model) (holds : J → Tours → Type 0) (routes : Tours) (old new : J) :
+pub record Keeps {J : Type 0} (model_of : J → Model) (stands_at : J → Tours → Type 0) (routes : Tours) (old new : J) :
     Type 0 where
   pub model : model_of new ≡ model_of old
-  pub committed : holds new routes
+  pub committed : stands_at new routes

@@ -4,7 +4,7 @@ use Rattle.vr_model.specs.routes.Costs.{cost}
 use Rattle.vr_model.specs.routes.Rules.{is_valid}
 use Rattle.vr_model.specs.declared.records.Model.{Model}
 use Rattle.vr_model.specs.declared.search.Limit.{Limit}
-use Rattle.vr_routes.specs.Judging.{HoldSame}
+use Rattle.vr_routes.specs.Judging.{HasCommitted}
 use Rattle.vr_routes.specs.Tours.{Tours}
 use Rattle.vr_descent.specs.declared.incumbent.Incumbent.{Incumbent}
 use Rattle.vr_descent.specs.declared.progress.Progress.{Progress}
@@ -23,7 +23,7 @@ pub record IsBest (model : Model) (visits : List ℕ) (best : Incumbent) : Type 
 -- known, and the tries and the solutions are counted; and the best routes are valid
 pub record IsUnderWay (model : Model) (limit : Limit) (committed : Tours → Type 0) (routes : Tours) (at : Progress)
     (incumbent : Incumbent) : Type 0 where
-  pub holds : HoldSame model committed routes
+  pub holds : HasCommitted model committed routes
   pub costs : at.cost ≡ cost model routes.lists
   pub used : at.used ≤ limit.tries
   pub some : 1 ≤ at.found

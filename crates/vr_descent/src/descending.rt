@@ -6,7 +6,7 @@ ghost use Rattle.vr_descent.specs.Ending.{CanBegin, HasEnded};
 ghost use Rattle.vr_descent.specs.Scanned.{takes_less, IsEnough, IsPassedOver};
 ghost use Rattle.vr_model.specs.search.Descents.{descent};
 ghost use Rattle.vr_model.specs.tables.WellFormed.{IsWellFormed};
-ghost use Rattle.vr_routes.specs.Judging.{HoldSame};
+ghost use Rattle.vr_routes.specs.Judging.{HasCommitted};
 ghost use Rattle.vr_watch.specs.Told.{ReportedInPart};
 
 use crate::{Accept, Progress, ScanEnd};
@@ -85,7 +85,7 @@ pub fn descend<J: Judge, L: Ledger>(
     ensures asked { IfOk result (λ report. AsksFor J.asked J.looked judge.old judge.new report.tries) }
 
     ensures judge_model { J.model judge.new ≡ model.now }
-    ensures holds { HoldSame model.now (J.committed judge.new) routes.new }
+    ensures holds { HasCommitted model.now (J.committed judge.new) routes.new }
     ensures told_in_part { OnErr result (ReportedInPart (λ w later. after w later) watch.old.items watch.new.items
         (descent model.now routes.old.lists limit).events) }
     ensures asked_at_most { OnErr result (AsksFor J.asked J.looked judge.old judge.new limit.tries) }

@@ -12,7 +12,7 @@
 //! here. No move of these lists that is known is acceptable.
 //!
 //! `vr_app` calls [`descend`]. `vr_guided` scans by penalised costs; it and `vr_tabu` go on to lists that cost more,
-//! and keep the best ones ([`Incumbent`]).
+//! and keep the best ones ([`Incumbent`]); `vr_lns` counts and tells by [`Progress`] too.
 #![tactic(auto)]
 
 mod accepting;

@@ -1,4 +1,4 @@
-//! Where a search stands.
+//! Where a search stands, and one scan with the move that it finds made (`advance`).
 
 ghost use Rattle.std.specs.Prelude.{◌≡◌, ◌+◌, ◌≤◌, ◌<◌, ◌^◌, [], ◌∷◌, IsTrue, IfOk, OnOk, OnErr};
 ghost use Rattle.vr_descent.specs.Asking.{AsksOn};
@@ -10,7 +10,7 @@ ghost use Rattle.vr_descent.specs.Searching.{progress_after, routes_after, scan_
 ghost use Rattle.vr_known.specs.Blocks.{Learns};
 ghost use Rattle.vr_model.specs.routes.CostLaws.{HasBoundedCost};
 ghost use Rattle.vr_model.specs.routes.Costs.{cost};
-ghost use Rattle.vr_routes.specs.Judging.{HoldSame, cost_change, moved};
+ghost use Rattle.vr_routes.specs.Judging.{HasCommitted, cost_change, moved};
 ghost use Rattle.vr_model.specs.moves.Moves.{apply};
 ghost use Rattle.vr_model.specs.moves.MoveTests.{is_move};
 ghost use Rattle.vr_model.specs.routes.Rules.{is_valid};
@@ -124,7 +124,7 @@ impl Progress {
         difference: i64,
     ) -> Result<(), NoMemory>
         requires well_formed { IsWellFormed (J.model judge.old) }
-        requires holds { HoldSame (J.model judge.old) (J.committed judge.old) routes.old }
+        requires holds { HasCommitted (J.model judge.old) (J.committed judge.old) routes.old }
         requires mv { IsTrue (is_move (J.model judge.old) routes.old.lists mv) }
         requires valid { IsTrue (is_valid (J.model judge.old) (apply (J.model judge.old) routes.old.lists mv)) }
         requires fits { HasBoundedCost (J.model judge.old) (apply (J.model judge.old) routes.old.lists mv) }
@@ -134,7 +134,7 @@ impl Progress {
         requires found { self.old.found + 1 < 2 ^ 64 }
         ensures progress { OnOk result (self.new ≡ after_move (J.model judge.old) routes.old.lists mv place self.old) }
         ensures routes { OnOk result (routes.new ≡ moved (J.model judge.old) routes.old mv) }
-        ensures holds { HoldSame (J.model judge.old) (J.committed judge.new) routes.new }
+        ensures holds { HasCommitted (J.model judge.old) (J.committed judge.new) routes.new }
         ensures model { J.model judge.new ≡ J.model judge.old }
         ensures asked { J.asked judge.new ≡ J.asked judge.old }
         ensures looked { J.looked judge.new ≡ J.looked judge.old }

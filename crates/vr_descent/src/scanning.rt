@@ -9,7 +9,7 @@ ghost use Rattle.vr_model.specs.moves.Moves.{moves};
 ghost use Rattle.vr_model.specs.moves.MoveTests.{is_move};
 ghost use Rattle.vr_model.specs.search.Scans.{scan};
 ghost use Rattle.vr_model.specs.tables.WellFormed.{IsWellFormed};
-ghost use Rattle.vr_routes.specs.Judging.{HoldSame};
+ghost use Rattle.vr_routes.specs.Judging.{HasCommitted};
 
 use crate::{Accept, MoveList, moves};
 use std::marker::PhantomData;
@@ -38,7 +38,8 @@ pub enum ScanEnd {
 // So many tries are counted exactly, whatever is passed over.
 const FEW: u64 = 1_000_000_000;
 
-// What tells a scan with so many tries left which moves are not acceptable.
+// The sieve of a scan with so many tries left: it tells which moves are not acceptable, by what is known and by its
+// judge.
 #[derive(Drop)]
 struct Refusals<'a, J: Judge, A: Accept> {
     routes: &'a Routes,
@@ -232,7 +233,7 @@ fn try_move<J: Judge, A: Accept, L: Ledger>(
     requires judge_model { J.model judge.old ≡ closed.model.now }
     requires accept_model { A.model accept.now ≡ closed.model.now }
     requires accept_stands { A.stands_at accept.now routes.now.lists }
-    requires holds { HoldSame closed.model.now (J.committed judge.old) routes.now }
+    requires holds { HasCommitted closed.model.now (J.committed judge.old) routes.now }
     requires mv { IsTrue (is_move closed.model.now routes.now.lists mv) }
     ensures answer { IfOk result (λ answer. answer
         ≡ taken_difference closed.entry.model.now (A.takes accept.now) routes.now.lists mv) }

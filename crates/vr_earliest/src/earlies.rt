@@ -40,7 +40,7 @@ impl Earlies {
         }
     }
 
-    /// What is told in dimension `d` of the list that part `k` of the change gives its vehicle.
+    /// What is told in dimension `d` of the new list of part `k` of the change.
     #[inline]
     pub fn at(&self, d: u32, k: usize) -> Early
         requires dimension { d < 4 }

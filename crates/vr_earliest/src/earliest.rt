@@ -22,9 +22,9 @@ use vr_model::limits::HORIZON;
 use vr_model::{Closed, Model as RoutingModel, NoMemory};
 use vr_routes::{Change, Routes, Row};
 
-/// How early vehicles can end lists. It has committed lists, and in the dimensions where anything is paid for spans it
-/// walks along what a change puts between the kept ends of lists alone. Contracts see the model, and what is kept of
-/// the committed lists.
+/// How early vehicles can end lists. It keeps ways along the committed lists, so that in the dimensions where anything
+/// is paid for spans it walks along what a change puts between the kept ends of lists alone. Contracts see the model,
+/// and what is kept of the committed lists.
 #[derive(Drop)]
 pub struct Earliest<'m> {
     model: &'m RoutingModel,
@@ -119,8 +119,8 @@ impl<'m> Earliest<'m> {
         row
     }
 
-    /// Commits the lists after a change, where they are valid. It is called before the routes are changed, and takes no
-    /// memory.
+    /// What is kept becomes that of the lists after a change, which must be valid. It is called before the routes are
+    /// changed, and takes no memory.
     pub fn commit(&mut self, routes: &Routes, change: &Change)
         requires stands { StandsEarliest self.old routes.now.lists }
         requires made { IsMadeOn routes.now change.now }

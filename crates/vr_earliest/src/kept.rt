@@ -31,7 +31,7 @@ impl Model for KeptLists {
 }
 
 impl KeptLists {
-    /// Of the lists of routes in dimension `d`. The only refusal is want of memory.
+    /// What is kept of the lists of routes in dimension `d`. The only refusal is want of memory.
     pub fn of(
         alloc: Global,
         closed: Closed<'_>,
@@ -55,7 +55,7 @@ impl KeptLists {
         Ok(KeptLists { lists })
     }
 
-    /// Vehicle `v` gets another list.
+    /// Vehicle `v` gets another list. Nothing is done where nothing is kept in the dimension.
     pub fn write(&mut self, closed: Closed<'_>, floors: &Floors, d: u32, v: u32, list: &[u32])
         requires dimension { d < length closed.model.now.dimensions }
         requires vehicle { v < length closed.model.now.vehicles }

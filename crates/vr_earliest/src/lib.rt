@@ -6,6 +6,8 @@
 //! and so do several stops in turn. Of each committed list the ways along its first visits are kept, and what is left
 //! behind each place, where anything is paid for spans; so what a change keeps of a list is not walked.
 //!
+//! [`Earliest`] (`earliest`) is what is asked, `kept` and `kept_ways` what it keeps, and `walks` the walk along a list.
+//!
 //! What is kept is always of the committed lists, which are valid (`StandsEarliest`): who changes them commits the
 //! change here first. `vr_judge` asks once for each change and lends the answer to the cost terms of `vr_costfilter`,
 //! which takes the walk along a list and what is kept of it from here ([`Walk`], [`KeptWays`]); the law of `laws` says

@@ -45,7 +45,7 @@ pub trait PathFilter {
         ensures refused { IfOk result (λ passed. passed ≡ false → NothingReady (ready self.new)) }
         ensures unready { OnErr result (NothingReady (ready self.new)) };
 
-    /// Makes a change ready of which the rule holds afterwards. After `NoMemory` no change is ready.
+    /// Makes ready a change after which the rule holds. After `NoMemory` no change is ready.
     fn prepare(&mut self, routes: &Routes, change: &Change) -> Result<(), NoMemory>
         requires stands { stands_at self.old routes.now }
         requires made { IsMadeOn routes.now change.now }

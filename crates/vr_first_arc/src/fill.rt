@@ -153,7 +153,7 @@ fn fill(
     Ok(())
 }
 
-// The same with fronts of its own.
+// The same, where what the list reaches at its end is not known yet.
 fn fill_from_start(
     filling: &Filling<'_, '_, '_>,
     v: u32,

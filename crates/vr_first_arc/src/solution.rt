@@ -48,7 +48,11 @@ fn filled_lists(alloc: Global, lookups: &Lookups<'_>) -> Result<Vec<Seq<u32>>, N
     Ok(lists)
 }
 
-/// The first solution, as `first` gives it, over what was looked up of the model.
+/// The first solution of a model (`PATH_CHEAPEST_ARC` in OR-Tools): vehicle after vehicle, items are appended to its
+/// list as long as the lists stay open, each time the item of the least class, and of those the one to which the arc
+/// costs least, and of those the one of the least number.
+///
+/// `None` exactly where the lists at which this ends are not valid; `NoMemory` where there was no memory.
 pub fn first_over(alloc: Global, lookups: &Lookups<'_>) -> Result<Option<Routes>, NoMemory>
     ensures first { IfOk result (λ first. lists_in first ≡ cond
         (is_valid lookups.now.closed.model.now (path_cheapest_arc lookups.now.closed.model.now))
@@ -60,11 +64,8 @@ pub fn first_over(alloc: Global, lookups: &Lookups<'_>) -> Result<Option<Routes>
     complete_routes(alloc, lookups, &lists)
 }
 
-/// The first solution of a model (`PATH_CHEAPEST_ARC` in OR-Tools): vehicle after vehicle, items are appended to its
-/// list as long as the lists stay open, each time the item of the least class, and of those the one to which the arc
-/// costs least, and of those the one of the least number.
-///
-/// `None` exactly where the lists at which this ends are not valid; `NoMemory` where there was no memory.
+/// The same of a model that nobody has looked up yet: looks it up, and asks [`first_over`]. The program, which has it
+/// looked up, asks that itself.
 pub fn first(alloc: Global, model: &Model) -> Result<Option<Routes>, NoMemory>
     requires well_formed { IsWellFormed model.now }
     ensures first { IfOk result (λ first. lists_in first

@@ -37,8 +37,8 @@ pub(crate) enum KnownItem {
     Best(Option<InsertionChoice>),
 }
 
-/// Whether what is known of an item of a class in a list tells the best beside the best so far: the best in the list is
-/// known, or none there is better.
+/// Whether what is known of an item of a class in a list tells the better of the best so far and the best in the list:
+/// the best in the list is known, or none there is better.
 pub(crate) fn is_settled(known: &KnownItem, class: u32, best: Option<InsertionChoice>) -> bool
     ensures { result ≡ is_settled_of known.now class best }
 {

@@ -48,7 +48,7 @@ impl ListRows {
         Ok(ListRows { rows: known })
     }
 
-    // Writes the rows of a list of vehicle `v` over those of its list before.
+    // Writes the rows of a new list of a vehicle over those of its list before, in one dimension.
     fn rewrite(
         &mut self,
         alloc: Global,

@@ -38,7 +38,8 @@ fn visit_at(visit: &VisitIn<'_, '_, '_>, t: usize) -> InsertionChoice
     }
 }
 
-// The better of the best so far and a visit before place `t`, as it is written, which is tested only where it improves.
+// The better of the best so far and a visit before place `t`, as `longer` has it, which is tested only where it
+// improves.
 fn weigh_visit(
     trying: &mut Trying,
     visit: &VisitIn<'_, '_, '_>,
@@ -78,8 +79,8 @@ fn is_visit_taken(
     may_visit(trying, visit, t)
 }
 
-// The best beside a visit before each place of a list. The first place at which it adds least comes first: where that
-// is taken, no other is looked at.
+// The better of the best so far and a visit before each place of a list. The first place at which it adds least comes
+// first: where that is taken, no other is looked at.
 fn best_visit(
     scratch: &mut InsertScratch,
     visit: &VisitIn<'_, '_, '_>,
@@ -138,8 +139,8 @@ fn pair_at(pair: &PairIn<'_, '_, '_>, s: usize, t: usize) -> InsertionChoice
     }
 }
 
-// The better of the best so far and a pair before two places, as it is written, which is tested only where it improves,
-// by what the list with the pickup reaches at the node before the delivery.
+// The better of the best so far and a pair before two places, as `longer` has it, which is tested only where it
+// improves, by what the list with the pickup reaches at the node before the delivery.
 fn weigh_pair(
     trying: &mut Trying,
     probes: &Probes,
@@ -176,9 +177,9 @@ struct Begun<'l, 'm, 'k, 's> {
     ghost picked_up: { half.now ≡ insert pair.list.nodes.now s pair.pickup },
 }
 
-// The best beside a pickup before a place and its delivery before each place behind, where what the list with the
-// pickup reaches at the next node is known. Once nothing is reached, no place further on is allowed; and none is looked
-// at where none from there on can be better.
+// The better of the best so far and a pickup before a place with its delivery before each place behind, where what the
+// list with the pickup reaches at the next node is known. Once nothing is reached, no place further on is allowed; and
+// none is looked at where none from there on can be better.
 fn best_further(
     trying: &mut Trying,
     probes: &mut Probes,
@@ -219,8 +220,8 @@ fn best_further(
     Ok(best)
 }
 
-// The best beside a pickup before a place and its delivery before each place from there on. Once nothing is reached, no
-// place further on is allowed; and none is looked at behind the first where none can be better.
+// The better of the best so far and a pickup before a place with its delivery before each place from there on. Once
+// nothing is reached, no place further on is allowed; and none is looked at behind the first where none can be better.
 fn best_behind(
     alloc: Global,
     trying: &mut Trying,
@@ -259,8 +260,8 @@ fn best_behind(
     best_further(trying, probes, begun, near)
 }
 
-// The best beside a pickup before place `s` and its delivery before each place from there on, where the least that the
-// delivery adds is in the scratch: then no place is looked at where none can be better.
+// The better of the best so far and a pickup before place `s` with its delivery before each place from there on, where
+// the least that the delivery adds is in the scratch: then no place is looked at where none can be better.
 fn best_delivery(
     scratch: &mut InsertScratch,
     pair: &PairIn<'_, '_, '_>,
@@ -299,7 +300,7 @@ fn best_delivery(
     best_behind(scratch.alloc, trying, probes, &begun, least, best)
 }
 
-// The best beside a pair before each two places of a list.
+// The better of the best so far and a pair before each two places of a list.
 fn best_pair(
     scratch: &mut InsertScratch,
     pair: &PairIn<'_, '_, '_>,
@@ -318,7 +319,7 @@ fn best_pair(
     Ok(best)
 }
 
-// The best beside an item in a list, whose vehicle may visit its nodes.
+// The better of the best so far and an item in a list, whose vehicle may visit its nodes.
 fn best_where_allowed(
     scratch: &mut InsertScratch,
     of: &CandidateIn<'_, '_, '_>,
@@ -357,7 +358,8 @@ fn best_where_allowed(
     Ok(best)
 }
 
-/// The best beside an item in a list. Whether its vehicle may visit the nodes of the item is asked once.
+/// The better of the best so far and the best insertion of an item into a list. Whether the vehicle may visit the nodes
+/// of the item is asked once.
 pub(crate) fn best_in_list(
     scratch: &mut InsertScratch,
     of: &CandidateIn<'_, '_, '_>,

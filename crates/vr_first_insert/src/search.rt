@@ -36,7 +36,8 @@ struct AskedLists<'l, 'm, 'c, 'k> {
     lists: &'k [Seq<u32>],
 }
 
-// The best beside candidate `i` in the list of vehicle `v`, of whose candidates `known_here` has what is known.
+// The better of the best so far and the best insertion of candidate `i` into the list of vehicle `v`, of whose
+// candidates `known_here` has what is known.
 fn settle(
     scratch: &mut InsertScratch,
     on: &AskedLists<'_, '_, '_, '_>,
@@ -92,7 +93,8 @@ fn ask(
     Ok(better_of(best, &told))
 }
 
-// The best beside candidate `i` in each list, where `known_items` has what is known of the candidates in each.
+// The better of the best so far and the best insertion of candidate `i` into any list, where `known_items` has what is
+// known of the candidates in each.
 fn best_in_lists(
     scratch: &mut InsertScratch,
     on: &AskedLists<'_, '_, '_, '_>,
@@ -124,7 +126,7 @@ fn may_be_placed(items: &Items<'_, '_, '_>, marks: &[bool], candidate: Candidate
     }
 }
 
-// Takes the best beside all insertions of candidate `i`.
+// Takes the better of the best so far and the best of all insertions of candidate `i`.
 fn beside(
     scratch: &mut InsertScratch,
     on: &AskedLists<'_, '_, '_, '_>,

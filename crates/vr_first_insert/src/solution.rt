@@ -159,7 +159,10 @@ fn first_kept(
     complete_routes(alloc, lookups, &keeper.lists)
 }
 
-/// The first solution, as `first` gives it, over what was looked up of the model.
+/// The first solution of a model by parallel cheapest insertion (`PARALLEL_CHEAPEST_INSERTION` in OR-Tools): empty
+/// routes, rebuilt.
+///
+/// `None` exactly where the lists at which this ends are not valid. `NoMemory` where there was no memory.
 pub fn first_over(alloc: Global, lookups: &Lookups<'_>) -> Result<Option<Routes>, NoMemory>
     ensures first { IfOk result (λ first. lists_in first ≡ cond
         (is_valid lookups.now.closed.model.now (parallel_cheapest_insertion lookups.now.closed.model.now))
@@ -171,10 +174,8 @@ pub fn first_over(alloc: Global, lookups: &Lookups<'_>) -> Result<Option<Routes>
     first_kept(alloc, &mut keeper, lookups)
 }
 
-/// The first solution of a model by parallel cheapest insertion (`PARALLEL_CHEAPEST_INSERTION` in OR-Tools): empty
-/// routes, rebuilt.
-///
-/// `None` exactly where the lists at which this ends are not valid. `NoMemory` where there was no memory.
+/// The same of a model that nobody has looked up yet: looks it up, and asks [`first_over`]. The program, which has it
+/// looked up, asks that itself.
 pub fn first(alloc: Global, model: &Model) -> Result<Option<Routes>, NoMemory>
     requires well_formed { IsWellFormed model.now }
     ensures first { IfOk result (λ first. lists_in first

@@ -57,8 +57,8 @@ fn keeps_its_pairs(trying: &mut Trying, list: &LookedUpList<'_, '_, '_>) -> bool
     )
 }
 
-/// Whether the vehicle of a list may drive it with a visit before place `t`, as it is written, found by walks over the
-/// two arcs that are new.
+/// Whether the vehicle of a list may drive it with a visit before place `t`, as `longer` has it, found by walks over
+/// the two arcs that are new.
 pub(crate) fn may_visit(
     trying: &mut Trying,
     visit: &VisitIn<'_, '_, '_>,
@@ -79,8 +79,8 @@ pub(crate) fn may_visit(
     Ok(keeps_its_pairs(trying, list))
 }
 
-/// Whether the vehicle of a list may drive it with a pair in it, the delivery before place `t`, as it is written, where
-/// what the list with the pickup reaches at the node before the delivery is known.
+/// Whether the vehicle of a list may drive it with a pair in it, the delivery before place `t`, as `longer` has it,
+/// where what the list with the pickup reaches at the node before the delivery is known.
 pub(crate) fn may_serve(
     trying: &mut Trying,
     probes: &Probes,

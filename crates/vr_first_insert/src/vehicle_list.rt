@@ -32,7 +32,7 @@ pub(crate) struct CandidateIn<'l, 'm, 'k> {
     ghost may_hold: { MayHold list.lookups.now.closed.model.now list.nodes.now candidate.item },
 }
 
-/// A visit of a class that a list may hold, and that its vehicle may make.
+/// A visit, with its class (`vr_rules::Candidate`), that a list may hold and its vehicle may make.
 #[derive(Clone, Copy)]
 pub(crate) struct VisitIn<'l, 'm, 'k> {
     pub(crate) list: LookedUpList<'l, 'm, 'k>,
@@ -44,7 +44,7 @@ pub(crate) struct VisitIn<'l, 'm, 'k> {
         (item_nodes (Visit node))) },
 }
 
-/// A pair of a class that a list may hold, and that its vehicle may serve.
+/// A pair, with its class, that a list may hold and its vehicle may serve.
 #[derive(Clone, Copy)]
 pub(crate) struct PairIn<'l, 'm, 'k> {
     pub(crate) list: LookedUpList<'l, 'm, 'k>,

@@ -50,7 +50,11 @@ fn are_valid(alloc: Global, lookups: &Lookups<'_>, routes: &Routes) -> Result<bo
     rules.valid(routes)
 }
 
-/// The first solution, as `first` gives it, over what was looked up of the model.
+/// The first solution of a model by savings (`SAVINGS` in OR-Tools, after Clarke and Wright): each item begins as a
+/// route of its own, and routes are joined where that saves most. Routes are built as if vehicle 0 drove each. A model
+/// that names this construction has vehicles that are alike; of another model it gives what it can.
+///
+/// `None` exactly where the lists at which this ends are not valid. `NoMemory` where there was no memory.
 pub fn first_over(alloc: Global, lookups: &Lookups<'_>) -> Result<Option<Routes>, NoMemory>
     ensures first { IfOk result (λ first. lists_in first ≡ cond
         (is_valid lookups.now.closed.model.now (savings lookups.now.closed.model.now))
@@ -70,11 +74,8 @@ pub fn first_over(alloc: Global, lookups: &Lookups<'_>) -> Result<Option<Routes>
     }
 }
 
-/// The first solution of a model by savings (`SAVINGS` in OR-Tools, after Clarke and Wright): each item begins as a
-/// route of its own, and routes are joined where that saves most. Routes are built as if vehicle 0 drove each. A model
-/// that names this construction has vehicles that are alike; of another model it gives what it can.
-///
-/// `None` exactly where the lists at which this ends are not valid. `NoMemory` where there was no memory.
+/// The same of a model that nobody has looked up yet: looks it up, and asks [`first_over`]. The program, which has it
+/// looked up, asks that itself.
 pub fn first(alloc: Global, model: &Model) -> Result<Option<Routes>, NoMemory>
     requires well_formed { IsWellFormed model.now }
     ensures first { IfOk result (λ first. lists_in first

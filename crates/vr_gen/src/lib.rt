@@ -1,8 +1,8 @@
 //! The generator of test models: a model for each number.
 //!
 //! The numbers are drawn one after another from a defined stream (`rand_pcg`), and the tree is built from them; the law
-//! of `laws` says that each such tree is read as a well-formed model. The words `generate` and `demo` of `vr_app` and
-//! tests call it.
+//! of `laws` says that each such tree is read as a well-formed model with a first solution. The words `generate` and
+//! `demo` of `vr_app` and tests call it.
 #![tactic(auto)]
 
 mod draws;

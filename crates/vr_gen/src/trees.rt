@@ -63,7 +63,7 @@ fn rest(alloc: Global, v: u64) -> Result<Value, NoMemory>
     Ok(json!(in alloc; {"breaks": [pause], "vehicle": v})?)
 }
 
-// The penalty for leaving out a node.
+// The group of customer `k` alone, with the penalty for leaving it out.
 fn group(alloc: Global, k: u64) -> Result<Value, NoMemory>
     requires { k < 2 ^ 32 }
     ensures { IfOk result (λ tree. view tree ≡ trees.group k) }
@@ -135,7 +135,7 @@ fn values(alloc: Global, others: &[u32]) -> Result<Value, NoMemory>
     Ok(Value::Array(all))
 }
 
-// The window of a node.
+// The window of customer `k`, which is node `k + 1`.
 fn window(alloc: Global, customers: &[Customer], k: usize) -> Result<Value, NoMemory>
     requires place { k < length customers.now }
     requires few { length customers.now ≤ 60 }

@@ -14,7 +14,7 @@ use Rattle.vr_model.specs.declared.search.Kind.TheVariants as kind
 use Rattle.vr_model.specs.declared.search.Lambda.{Lambda}
 use Rattle.vr_model.specs.declared.search.Limit.{Limit}
 use Rattle.vr_model.specs.declared.neighbours.Move.{Move}
-use Rattle.vr_routes.specs.Judging.{HoldSame}
+use Rattle.vr_routes.specs.Judging.{HasCommitted}
 use Rattle.vr_routes.specs.Tours.{Tours}
 use Rattle.vr_descent.specs.Searching.{behind, event_of, scan_of, standing}
 use Rattle.vr_descent.specs.declared.progress.Progress.{Progress}
@@ -72,7 +72,7 @@ module _ (model : Model) (limit : Limit) (lambda : Lambda) (penalties : Penaltie
 -- a scan that makes no move leaves the routes as they are, and only the tries are counted
 module _ (model : Model) (limit : Limit) (routes tours : Tours) (state : State) (now : Progress) (used : ℕ)
     (routes_are : tours ≡ routes) (at_is : now ≡ record { used = used; found = state.at.found; cost = state.at.cost }) where
-  pub stands_still : (committed judged : Tours → Type 0) → GuidedStands model limit committed routes state → HoldSame model judged tours → state.at.used ≤ used → used ≤ limit.tries → GuidedStands model limit judged tours (record state { at = now })
+  pub stands_still : (committed judged : Tours → Type 0) → GuidedStands model limit committed routes state → HasCommitted model judged tours → state.at.used ≤ used → used ≤ limit.tries → GuidedStands model limit judged tours (record state { at = now })
   stands_still committed judged stands holds more low =
       let used_new = ap (λ p. p.used) at_is in
       record {

@@ -5,7 +5,7 @@ use Rattle.vr_model.specs.search.Outcomes.{Outcome}
 use Rattle.vr_model.specs.declared.records.Model.{Model}
 use Rattle.vr_model.specs.declared.search.Lambda.{Lambda}
 use Rattle.vr_model.specs.declared.search.Limit.{Limit}
-use Rattle.vr_routes.specs.Judging.{HoldSame}
+use Rattle.vr_routes.specs.Judging.{HasCommitted}
 use Rattle.vr_routes.specs.Tours.{Tours}
 use Rattle.vr_descent.proofs.Beginnings.{at_first, under_way}
 use Rattle.vr_guided.specs.Counts.{AtMost}
@@ -20,7 +20,7 @@ module _ (model : Model) (limit : Limit) (lambda : Lambda) (lists : List (List �
 
 -- a state that begins stands where the search begins
 module _ (model : Model) (limit : Limit) (routes : Tours) (state : State) (begins : IsGuidedBegun model routes (at_first model routes.lists) state) where
-  pub begun_stands : (committed : Tours → Type 0) → HoldSame model committed routes → 1 ≤ limit.solutions → GuidedStands model limit committed routes state
+  pub begun_stands : (committed : Tours → Type 0) → HasCommitted model committed routes → 1 ≤ limit.solutions → GuidedStands model limit committed routes state
   begun_stands committed holds some =
       let used = ap (λ p. p.used) begins.at_is in
       record {

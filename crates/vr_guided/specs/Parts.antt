@@ -1,12 +1,9 @@
 -- The list of a vehicle, before a change and after it.
 use Rattle.std.specs.Prelude.{ℕ, ◌<◌, ◌≤◌, List, length, All, ℤ, ◌-ℤ◌}
-use Rattle.std.proofs.Props.{props}
-use mathlib.Core.HLevel.{Unit-prop}
 use Rattle.vr_model.specs.routes.Routes.{route}
 use Rattle.vr_model.specs.search.GuidedSearches.{Penalties}
 use Rattle.vr_model.specs.declared.records.Model.{Model}
 use Rattle.vr_routes.specs.declared.pieces.Piece.{Piece}
-use Rattle.vr_routes.specs.declared.pieces.Piece.TheVariants.{Chain, Node}
 use Rattle.vr_routes.specs.Pieces.{IsWithin, ListAfter, joined}
 use Rattle.vr_guided.specs.Walks.{route_weight}
 
@@ -28,8 +25,3 @@ weight_change model p lists part = route_weight model p part.vehicle (joined lis
 pub record AreBelow (n : ℕ) (lists : List (List ℕ)) (pieces : List Piece) : Type 0 where
   pub within : All (IsWithin lists) pieces
   pub nodes : All (λ node. node < n) (joined lists pieces)
-
--- a piece lies within its list in one way at most
-pub IsWithin-prop : (lists : List (List ℕ)) (piece : Piece) → IsProp (IsWithin lists piece)
-IsWithin-prop lists (Chain v from to reversed) = Prim.hlevel props
-IsWithin-prop lists (Node node) = Unit-prop

@@ -5,7 +5,8 @@ ghost use Rattle.std.specs.Prelude.{◌≡◌, ◌<◌, ◌≤◌, ◌-ℤ◌, �
 ghost use Rattle.std.specs.Prelude.{All, ℕ, drop, length, pos, take, unsigned_abs};
 ghost use Rattle.vr_guided.specs.Counts.{counted};
 ghost use Rattle.vr_guided.specs.Nexts.{IsFirstOf};
-ghost use Rattle.vr_guided.specs.Parts.{IsPart, IsWithin-prop, weight_change};
+ghost use Rattle.vr_guided.specs.Parts.{IsPart, weight_change};
+ghost use Rattle.vr_routes.specs.Pieces.{IsWithin-prop};
 ghost use Rattle.vr_guided.specs.RouteSums.{AreAllRouteSums};
 ghost use Rattle.vr_guided.specs.Savings.{touched_weight};
 ghost use Rattle.vr_guided.specs.Walks.{route_weight};

@@ -1,4 +1,4 @@
-//! What guided search takes.
+//! Which moves guided search accepts; the search itself is `searching`.
 
 ghost use Rattle.std.specs.Prelude.{◌≡◌, ◌<◌, ◌≤◌, ◌*◌, ◌^◌, ◌*ℤ◌, ◌-ℤ◌, ◌≤ℤ◌, false, pos, IfSome, IsTrue};
 ghost use Rattle.std.specs.Prelude.{length, unsigned_abs};

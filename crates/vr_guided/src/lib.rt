@@ -1,9 +1,9 @@
 //! Guided local search.
 //!
-//! [`guide`] scans as a descent does, by the cost with penalties: at each local optimum a penalty rises on those used
-//! arcs whose utility, cost over one more than penalty, is greatest, which leads the search away. What a move makes of
-//! the penalised arc costs is told by the stretches that its change touches (`changing`, `stretches`), with sums
-//! along the lists of vehicles (`route_sums`).
+//! [`guide`] (`searching`; what it accepts is `guiding`) scans as a descent does, by the cost with penalties: at each
+//! local optimum a penalty rises on those used arcs whose worth (the utility of the literature), cost over one more
+//! than penalty, is greatest, which leads the search away. What a move makes of the penalised arc costs is told by the
+//! stretches that its change touches (`changing`, `stretches`), with sums along the lists of vehicles (`route_sums`).
 //!
 //! Where nothing is paid for global spans, the moves of a row that a scan refused whole are known to be refused until a
 //! commit changes the list of one of their vehicles (or activity, if they change that), or a round penalises an arc of

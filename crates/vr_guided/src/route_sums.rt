@@ -19,7 +19,7 @@ use vr_routes::Routes;
 pub struct RouteSums {
     /// Along its list from the start.
     pub forward: Sums,
-    /// Along it from the end backwards.
+    /// From the start on too, of each arc as it is taken back, from its target to its origin.
     pub back: Sums,
 }
 

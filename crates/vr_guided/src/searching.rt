@@ -7,7 +7,7 @@ ghost use Rattle.vr_guided.specs.Standing.{AreParameters, IsGuidedBegun, GuidedS
 ghost use Rattle.vr_model.specs.search.GuidedSearches.{guided, has_costly_arc};
 ghost use Rattle.vr_model.specs.routes.Rules.{is_valid};
 ghost use Rattle.vr_model.specs.tables.WellFormed.{IsWellFormed};
-ghost use Rattle.vr_routes.specs.Judging.{HoldSame};
+ghost use Rattle.vr_routes.specs.Judging.{HasCommitted};
 ghost use Rattle.vr_watch.specs.Told.{ReportedInPart};
 
 use crate::costly::has_costly_arc;
@@ -36,8 +36,8 @@ pub struct Guided {
 /// the judge stands; the answer has the first lists of the least cost. `limit` allows up to 10^9 tries and from 1 to
 /// 10^9 solutions, and both parts of `lambda` are in 1..=1000.
 ///
-/// The report's end is `Optimum` where no move was left to try or no used arc costs anything, so that no penalty could
-/// help, `Tries` where the tries ran out, and `Solutions` where as many solutions were found as the limit allows.
+/// The report's end is `Optimum` where the lists have no move at all or no used arc costs anything, so that no penalty
+/// could help, `Tries` where the tries ran out, and `Solutions` where as many solutions were found as the limit allows.
 ///
 /// The judge is asked about no more moves than are tried, and at most twice as often what a move, or a run of moves,
 /// makes at least.
@@ -72,7 +72,7 @@ pub fn guide<J: Judge, L: Ledger>(
     ensures asked { IfOk result (λ answer. AsksFor J.asked J.looked judge.old judge.new answer.report.tries) }
 
     ensures judge_model { J.model judge.new ≡ model.now }
-    ensures holds { HoldSame model.now (J.committed judge.new) routes.new }
+    ensures holds { HasCommitted model.now (J.committed judge.new) routes.new }
     ensures told_in_part { OnErr result (ReportedInPart (λ w later. after w later) watch.old.items watch.new.items
         (guided model.now routes.old.lists limit lambda).events) }
     ensures asked_at_most { OnErr result (AsksFor J.asked J.looked judge.old judge.new limit.tries) }
@@ -86,7 +86,7 @@ pub fn guide<J: Judge, L: Ledger>(
     note_all(watch, at.event(Kind::First))?;
     let mut state = State::open(alloc, closed, routes, at)?;
     let parameters = Parameters { limit, lambda };
-    let end = improve(closed, judge, routes, parameters, &mut state, watch, steps)?;
+    let end = search(closed, judge, routes, parameters, &mut state, watch, steps)?;
     Ok(Guided {
         report: state.at.report(end),
         best: state.best.routes,
@@ -136,7 +136,7 @@ struct Parameters {
 }
 
 // Searches on from where it stands, and says why it ended.
-fn improve<J: Judge, L: Ledger>(
+fn search<J: Judge, L: Ledger>(
     closed: Closed<'_>,
     judge: &mut J,
     routes: &mut Routes,
@@ -157,7 +157,7 @@ fn improve<J: Judge, L: Ledger>(
     ensures no_dearer { OnOk result (state.new.best.cost ≤ℤ state.old.best.cost) }
 
     ensures judge_model { J.model judge.new ≡ closed.entry.model.now }
-    ensures holds { HoldSame closed.entry.model.now (J.committed judge.new) routes.new }
+    ensures holds { HasCommitted closed.entry.model.now (J.committed judge.new) routes.new }
     ensures told_in_part { OnErr result (ReportedInPart (λ w later. after w later) watch.old.items watch.new.items
         (guided_from_state closed.entry.model.now parameters.limit parameters.lambda routes.old.lists
         state.old).events) }

@@ -1,4 +1,4 @@
-//! Walks along routes, which add up penalised costs of arcs.
+//! Walks through the nodes of changed lists, which add up penalised costs of arcs; `stretches` takes them.
 
 ghost use Rattle.std.specs.Prelude.{◌≡◌, ◌<◌, ◌≤◌, ◌+◌, ◌*◌, ◌^◌, ◌∷◌, ℕ, List, All, length};
 ghost use Rattle.std.specs.Prelude.{pos, reverse};

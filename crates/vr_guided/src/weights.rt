@@ -22,7 +22,7 @@ pub struct Weights<'m, 'p> {
     pub ghost few: { AtMost 1000000000 (counted penalties.now) },
 }
 
-/// Those of a vehicle.
+/// The same of one vehicle.
 #[derive(Clone, Copy)]
 pub struct VehicleWeights<'m, 'p> {
     /// Those of all vehicles.
@@ -111,7 +111,8 @@ impl<'m, 'p> VehicleWeights<'m, 'p> {
         }
     }
 
-    /// What the arc from its start to its end adds where it has `len = 0` visits: it takes no arc then.
+    /// Of a list of `len` visits: where there are none, what the arc from start to end would add, which is not taken
+    /// then; else 0.
     #[inline]
     pub fn unused(&self, len: u32) -> i128
         ensures low { pos 0 ≤ℤ result }

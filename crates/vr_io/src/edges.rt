@@ -16,7 +16,8 @@ pub trait Source {
     ghost faults: { Self → ℕ };
 
     /// Puts some of the bytes to come at the front of `buf` and gives their number. Zero on a `buf` that is not empty
-    /// is the end of input. `Failed` comes only where the device failed in this call; no byte is lost then.
+    /// is the end of input. `Failed` comes only where the device failed in this call; of bytes that are known to come
+    /// none is lost then.
     fn read(&mut self, buf: &mut [u8]) -> Result<usize, Failed>
         ensures bound { IfOk result (λ n. n ≤ length buf.new) }
         ensures gives { IfOk result (λ n. Gave (left self.old) (left self.new) (take n buf.new)) }
@@ -35,7 +36,8 @@ pub trait Sink {
     ghost faults: { Self → ℕ };
 
     /// Takes some bytes of the front of `piece`, at least one where there is one, and gives their number. `Failed`
-    /// comes only where the device failed in this call; no byte was taken then.
+    /// comes only where the device failed in this call. A sink whose bytes are known has taken none then; of another
+    /// one the front of `piece` may have gone out.
     fn write(&mut self, piece: &[u8]) -> Result<usize, Failed>
         ensures bound { IfOk result (λ n. n ≤ length piece.now) }
         ensures some { IfOk result (λ n. 0 < length piece.now → 0 < n) }

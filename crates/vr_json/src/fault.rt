@@ -25,19 +25,19 @@ pub enum Cause {
     OutOfRange,
     /// An array or a string has another length than stated.
     WrongLength,
-    /// An entry that must be distinct stands earlier.
+    /// A value is one that it must differ from: an entry that stands earlier, or the pickup of a delivery.
     Repeated,
     /// A string is none of the stated words.
     UnknownWord,
     /// A node that must be a visit is a start or an end.
     NotAVisit,
-    /// The lower end of an interval lies above its upper end.
+    /// The lower end of an interval lies above its upper end, or a break's `from` above its `to`.
     Reversed,
     /// The cost matrix of a vehicle has a negative entry.
     NegativeCost,
     /// A matrix that a dimension uses has an entry that is too large for it.
     LargeTransit,
-    /// A transit is negative in a dimension that forbids it.
+    /// A dimension with breaks or span costs has a negative transit between two different nodes.
     NegativeTransit,
     /// The vehicles differ, or are restricted, where they must be alike.
     UnlikeVehicles,
@@ -67,7 +67,8 @@ impl Cause {
     }
 }
 
-/// A refusal: the number of its cause, and the path of the value that is refused.
+/// A refusal: the number of what is wrong (a [`Cause`], or a flaw of `vr_tsplib`), and the path of the value or line
+/// that is refused.
 #[derive(Drop)]
 pub struct Fault {
     pub code: u8,

@@ -5,8 +5,9 @@
 //! path where it stands, and the first fault in the order of the table is the answer. A tree is built field by field,
 //! in any order, and `to_line` prints it, its keys in the order of bytes.
 //!
-//! `vr_read`, `vr_printed` and `vr_app` (the object of a check) read by it, `vr_gen`, `vr_print` and `vr_tsplib` build
-//! trees by it, and `vr_app` prints.
+//! `vr_read`, `vr_printed` and `vr_app` (the object of a check) read by it; `vr_gen`, `vr_print`, `vr_tsplib` and
+//! `vr_app` build trees by it; `vr_print` prints solutions, and `vr_app` all else. [`Cause`] has the faults of models
+//! too; `vr_tsplib` gives flaws of its own as [`Fault`]s.
 #![tactic(auto)]
 
 mod arrays;

@@ -4,6 +4,6 @@ pub mod DimensionLemmas
 pub mod SumLemmas
 pub mod StandLemmas
 pub mod VerdictLemmas
-pub mod HeldLemmas
+pub mod CommittedLemmas
 pub mod PairLemmas
 pub mod LeastLemmas

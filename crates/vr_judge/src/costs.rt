@@ -18,12 +18,14 @@ ghost use Rattle.vr_judge.specs.Costs.{is_least_by_arcs, pays_arcs_and_groups, A
 use crate::try_both::try_both;
 use std::alloc::Global;
 use std::marker::Model;
-use vr_costfilter::{ArcCost, CostPart, FixedCost, GlobalSpan, GroupCost, PlanCost};
+use vr_arccosts::ArcCost;
+use vr_costfilter::{GlobalSpan, PlanCost};
 use vr_earliest::{Earlies, Earliest};
 use vr_model::{Model as RoutingModel, Move, NoMemory};
-use vr_parts::InfallibleCost;
+use vr_parts::{CostPart, InfallibleCost};
 use vr_plan::Lookups;
 use vr_routes::{Change, Routes};
+use vr_usecosts::{FixedCost, GroupCost};
 
 /// What routes cost, part by part.
 #[derive(Drop)]
@@ -32,9 +34,11 @@ pub(crate) struct Costs<'m> {
     arcs: ArcCost<'m>,
     fixed: FixedCost<'m>,
     groups: GroupCost<'m>,
+    // soft upper bounds and the spans of lists
     plans: PlanCost<'m>,
+    // global spans
     spans: GlobalSpan<'m>,
-    // how early vehicles can end lists, for what plans and spans add at least
+    // how early vehicles can end lists, for what `plans` and `spans` add at least
     earliest: Earliest<'m>,
     // room for that of the lists after a change
     earlies: Earlies,
@@ -221,8 +225,8 @@ impl<'m> Costs<'m> {
         sum(arcs, fixed, groups, plans, spans)
     }
 
-    /// Commits the lists after a change. Plans and spans are made ready first, so all stay as before where memory is
-    /// wanting; the other cost terms take none.
+    /// Commits the lists after a change. Plans and global spans are made ready first, so all stay as before where
+    /// memory is wanting; the other cost terms take none.
     pub fn commit(&mut self, routes: &Routes, change: &Change) -> Result<(), NoMemory>
         requires stands { StandsCosts self.old routes.now }
         requires made { IsMadeOn routes.now change.now }

@@ -4,7 +4,7 @@ ghost use Rattle.std.specs.Prelude.{◌≡◌, IfOk, IsTrue};
 ghost use Rattle.vr_model.specs.routes.Rules.{is_valid};
 ghost use Rattle.vr_model.specs.tables.Tables.{visits};
 ghost use Rattle.vr_model.specs.tables.WellFormed.{IsWellFormed};
-ghost use Rattle.vr_routes.specs.Judging.{HoldSame};
+ghost use Rattle.vr_routes.specs.Judging.{HasCommitted};
 
 use crate::costs::Costs;
 use crate::filters::{Filters, filters_of};
@@ -18,10 +18,12 @@ use vr_routes::{Change, Judge, Routes, Verdict};
 
 /// Judges a move by what it changes: filters refuse it (`LocalSearchFilterManager` in OR-Tools), and parts of the cost
 /// tell its difference. It counts no questions. Of steps it counts at most the weight that the definitions give the
-/// change, summed over the dimensions: what lies before and behind the changed stretch of a route is not walked.
+/// change, summed over the dimensions: filters do not walk what lies before and behind the changed stretch of a route.
+/// Parts of the cost count no steps; they go along the whole list of a vehicle that has breaks, or where a stop allows
+/// several runs of cumuls.
 ///
-/// A judged move takes memory only where a set of cumuls has more than four runs, or where a list or its breaks are
-/// longer than any before.
+/// A judged move takes memory only where a set of cumuls has more than four runs, where a list or its breaks are longer
+/// than any before, or where a tight schedule is built, for which a line is copied.
 #[derive(Drop)]
 pub struct FilterJudge<'m> {
     // in a box, so that who owns a judge moves and drops one pointer
@@ -40,7 +42,7 @@ impl<'m> FilterJudge<'m> {
         requires valid { IsTrue (is_valid model.now routes.now.lists) }
         ensures model { IfOk result (λ judge. ⟦<FilterJudge<'static> as Judge>⟧.model judge ≡ model.now) }
         ensures holds { IfOk result (λ judge.
-            HoldSame model.now (⟦<FilterJudge<'static> as Judge>⟧.committed judge) routes.now) }
+            HasCommitted model.now (⟦<FilterJudge<'static> as Judge>⟧.committed judge) routes.now) }
     {
         let lookups = Lookups::open(alloc, Closed { model })?;
         FilterJudge::over(alloc, &lookups, routes)
@@ -56,7 +58,7 @@ impl<'m> FilterJudge<'m> {
         requires valid { IsTrue (is_valid lookups.now.closed.model.now routes.now.lists) }
         ensures model { IfOk result (λ judge.
             ⟦<FilterJudge<'static> as Judge>⟧.model judge ≡ lookups.now.closed.model.now) }
-        ensures holds { IfOk result (λ judge. HoldSame lookups.now.closed.model.now
+        ensures holds { IfOk result (λ judge. HasCommitted lookups.now.closed.model.now
             (⟦<FilterJudge<'static> as Judge>⟧.committed judge) routes.now) }
     {
         let filters = filters_of(alloc, lookups, routes);

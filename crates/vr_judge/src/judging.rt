@@ -23,7 +23,7 @@ pub(crate) struct Judging<'m, F: PathFilter + Drop> {
     pub(crate) model: &'m RoutingModel,
     pub(crate) filter: F,
     pub(crate) costs: Costs<'m>,
-    // what the move in hand changes: written over for each move
+    // room for the change of a move that is asked about or made without it
     pub(crate) change: Change,
 }
 

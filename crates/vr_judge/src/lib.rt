@@ -7,7 +7,7 @@
 //!
 //! Filters and costs stand at the same valid lists of the model, those of the routes that the judge is handed
 //! (`IsJudging`): it keeps no lists. A commit makes all of them ready before it changes one. `vr_app` opens a judge for
-//! each search, and searches ask it, through the trait `Judge`, about runs of moves and about moves.
+//! each search, and searches ask it, through the trait `vr_routes::Judge`, about runs of moves and about moves.
 #![tactic(auto)]
 
 mod costs;

@@ -1,4 +1,4 @@
-//! The kind of a move and its row among those of its kind, as numbers.
+//! The kind of a move and its row among those of its kind, as numbers, and the block of a run.
 
 ghost use Rattle.std.specs.Prelude.{◌≡◌, ◌<◌};
 ghost use Rattle.vr_known.specs.Blocks as blocks;

@@ -1,27 +1,30 @@
 //! Moves that are known to be refused: a search does not ask about them again.
 //!
-//! What a scan has refused stays refused until a commit changes the list of one of its vehicles, or other visits are
-//! active where it changes that: on no more does it depend what a move makes ([`validity_is_local`],
-//! [`cost_is_local`]). So [`Known`] keeps, for each row of a kind, when all its moves were last refused, for each
-//! vehicle when its list last changed, and when activity last did. A row is a first vehicle or a pair that is put
-//! elsewhere or taken out; the moves of each other kind are one row. The ranges of moves ([`Run`], [`Each`]) pass over
-//! those of which a sieve ([`Sieve`]) says so, and count them: what is known is one, and a search has another, which
-//! also goes over runs of moves by what they cost.
+//! Where no dimension has a cost of its global span, what a scan has refused stays refused until a commit changes the
+//! list of one of its vehicles, or other visits are active where it changes that: what a move makes depends on no more
+//! ([`validity_is_local`], [`cost_is_local`]). So [`Known`] keeps, for each row of a kind, when all its moves were last
+//! refused, for each vehicle when its list last changed, and when activity last did. A row is a first vehicle or a pair
+//! that is put elsewhere or taken out; the moves of each other kind are one row. The ranges of moves ([`Run`],
+//! [`Each`]) pass over those of which a sieve ([`Sieve`]) says so, and count them: [`Known`] is one; `vr_descent` hands
+//! in one that asks [`Known`] about blocks and its judge about runs, and `vr_tabu` one that asks its judge alone.
+//!
+//! Of models with such a cost nothing is learned. `vr_descent` and `vr_guided` make a [`Known`] for each search
+//! (`Known::of`).
 //!
 //! No stamp is above the clock, so what changes now is later than all that was learned.
 //!
 //! `vr_moves_route`, `vr_moves_cross`, `vr_moves_active` and `vr_moves_pair` list their moves by these ranges. What
-//! makes the moves of a run knows their kind ([`Pattern`]), and says in which block they stand ([`Block`]).
+//! makes the moves of a run ([`Numbered`], mostly over a [`Pattern`]) says in which block they stand ([`Block`]).
 //! `vr_descent` learns at the end of each scan ([`Known::note`], [`Known::note_all`]), and forgets where a move is made
 //! ([`Known::change`]), by the vehicles that it touches ([`Touched`]); `vr_guided` forgets besides where it penalises
 //! an arc ([`Known::forget`], [`Known::settle`]).
 #![tactic(auto)]
 
 mod blocks;
+mod known;
 mod lasts;
 mod laws;
 mod lists;
-mod memory;
 mod moves;
 mod nests;
 mod sieve;
@@ -30,10 +33,10 @@ mod stretches;
 mod touched;
 
 pub use blocks::Block;
+pub use known::Known;
 pub use lasts::{AnyLast, AnyLastBut, Pattern};
 pub use laws::{cost_is_local, moves_are_local, validity_is_local};
 pub use lists::{Lists, OfList, of_each_list};
-pub use memory::Known;
 pub use moves::Moves;
 pub use nests::{Each, Family, Listed, Numbered, Run};
 pub use sieve::Sieve;

@@ -66,7 +66,8 @@ impl Stamps {
         self.common_change(kind, row) < seen && self.changed[w as usize] < seen
     }
 
-    // When what the moves of a row have in common last changed.
+    // When what the moves of a row have in common last changed: of the first five kinds the list of the vehicle of the
+    // row, of `relocate_pair` nothing (`settle` forgets its rows), of the kinds that change activity that.
     #[inline(always)]
     fn common_change(&self, kind: u32, row: u32) -> u64
         requires row { row < rows_of kind }

@@ -5,7 +5,9 @@
 //! into: it stands for its model, which no call changes. `keeps_pairs` writes down where each node stands in a list,
 //! over places that the caller lends, and compares: the two places of each pair, and under a policy those of two pairs.
 //!
-//! Rules, constructions and the filters of vehicles, pairs and groups ask them.
+//! `vr_rules`, the constructions (`vr_first_insert`, `vr_first_savings`) and the filters of vehicles and pairs
+//! (`vr_pathfilters`) ask them; the filter of groups asks `group_numbers` alone. `vr_plan::Lookups` opens `NodeTables`
+//! once in a run.
 #![tactic(auto)]
 
 mod nodes;

@@ -10,7 +10,7 @@
 //!
 //! Who rebuilds is handed in ([`Rebuild`]), so that the crate does not stand on the construction that inserts items.
 //! The search lets it know the model once, so that it may keep what it finds of lists from cut to cut, and asks it once
-//! for each cut that leaves open lists, no more often than the limit allows tries.
+//! for each cut that leaves open lists, no more often than the limit allows tries. `vr_app` calls [`lns_over`].
 #![tactic(auto)]
 
 mod cutter;

@@ -1,12 +1,13 @@
-//! A counter of steps, which contracts see as a number.
+//! A counter of steps, which contracts see as a number. `vr_app` makes one for a search, and what a judged move walks
+//! over in `vr_steps` and `vr_reach` ticks it; `docs/DECISIONS.md` says why.
 
 ghost use Rattle.std.specs.Prelude.{◌≡◌, ◌+◌, ◌<◌};
 
 use std::marker::Model;
 use std::sync::ledger::{Blank, Book, Ledger, Share};
 
-/// How many steps were taken, of the kind that a call names: images of runs, tries, lists written. Contracts bound it.
-/// It holds no bytes at run time, and only `tick` changes it.
+/// How many steps were taken, of the kind that a call names: runs carried over an arc, tries, lists written. Contracts
+/// bound it. It holds no bytes at run time, and only `tick` changes it.
 #[derive(Drop)]
 pub struct Steps<L: Ledger> {
     book: Book<L>,
@@ -24,7 +25,7 @@ impl<L: Ledger> Model for Steps<L> {
 }
 
 impl<L: Ledger> Steps<L> {
-    /// A counter that stands at 0, of the ledger that a blank one becomes.
+    /// A counter that stands at 0. It takes a blank ledger, by which contracts tell counters apart.
     pub fn new(blank: Blank) -> Steps<L>
         requires name { blank.name ≡ L.name }
         requires parts { blank.parts ≡ L.parts }

@@ -84,7 +84,7 @@ fn end_within(nodes: &[u32], from: u32, end: u32, lowest: u32, first: u32) -> u3
     end
 }
 
-/// The places of `v`.
+/// The places of `v`; at each one each of the inactive `nodes` may come in.
 #[derive(Drop)]
 pub struct Places<'a> {
     v: u32,
@@ -111,7 +111,7 @@ impl<'a> Family for Places<'a> {
     }
 }
 
-/// The vehicles.
+/// The vehicles, with the inactive `nodes`.
 #[derive(Drop)]
 pub struct Vehicles<'a> {
     routes: &'a Routes,

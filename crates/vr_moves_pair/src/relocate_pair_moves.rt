@@ -10,8 +10,8 @@ use vr_known::{Block, Each, Family, Moves, Numbered, Run};
 use vr_model::{Model as RoutingModel, Move, Neighbourhood};
 use vr_routes::{PairPlaces, Routes, is_elsewhere, pair_served, rest_len};
 
-/// The places of the rest of `w` before which the delivery may be put, where the pickup is put before place `s`. The
-/// place where it stands is none of them.
+/// The places of the rest of `w` before which the delivery may be put, where the pickup is put before place `s`. Left
+/// out is only the place with which both nodes would stand as they do (`is_elsewhere`).
 #[derive(Drop)]
 pub struct Deliveries {
     p: u32,

@@ -3,7 +3,7 @@
 //! A filter stands at the committed lists: its rule holds of them, and what it keeps is of them. So a change is asked
 //! about what it changes alone, the nodes that come into a list or go and the stretch between the ends that it keeps.
 //! Rows are made where a filter is opened or a change made ready, sums of loads and counts of turns are written over by
-//! the commit, and nothing that is kept is written where a filter is asked. The commit takes no memory.
+//! the commit; nothing that is kept of committed lists is written where a filter is asked. The commit takes no memory.
 //!
 //! `vr_judge` opens the filters of a model and asks them of each move, those first that ask least.
 #![tactic(auto)]

@@ -136,35 +136,37 @@ impl<'r, 'n> NewList<'r, 'n> {
 
     // Whether the list serves the pair that a node is in.
     #[inline]
-    fn serves_node(&self, lookups: &NodeTables<'_>, node: u32) -> bool
-        ensures { result ≡ serves_node lookups.now self.now node }
+    fn serves_node(&self, node_tables: &NodeTables<'_>, node: u32) -> bool
+        ensures { result ≡ serves_node node_tables.now self.now node }
     {
-        match lookups.pair_of(node) {
+        match node_tables.pair_of(node) {
             Some(pair) => self.serves(pair),
             None => true,
         }
     }
 
     /// Whether the list serves the pairs that some nodes are in.
-    pub(crate) fn serves_each(&self, lookups: &NodeTables<'_>, nodes: &[u32]) -> bool
-        ensures { result ≡ list_all (serves_node lookups.now self.now) nodes.now }
+    pub(crate) fn serves_each(&self, node_tables: &NodeTables<'_>, nodes: &[u32]) -> bool
+        ensures { result ≡ list_all (serves_node node_tables.now self.now) nodes.now }
     {
-        nodes.iter().all(|&node| self.serves_node(lookups, node))
+        nodes
+            .iter()
+            .all(|&node| self.serves_node(node_tables, node))
     }
 
     /// Whether the list serves the pairs that some nodes are in, but for nodes that `marks` tells to be in `marked`:
     /// both are handed in, since contracts see of this the list alone.
     pub(crate) fn serves_unmarked(
         &self,
-        lookups: &NodeTables<'_>,
+        node_tables: &NodeTables<'_>,
         nodes: &[u32],
         marked: &[u32],
         marks: &[u32],
     ) -> bool
-        ensures { result ≡ list_all (serves_unmarked lookups.now self.now marked.now marks.now) nodes.now }
+        ensures { result ≡ list_all (serves_unmarked node_tables.now self.now marked.now marks.now) nodes.now }
     {
         nodes.iter().all(|&node| is_at(marked, mark_of(marks, node), node)
-            || self.serves_node(lookups, node))
+            || self.serves_node(node_tables, node))
     }
 
     // Whether the pair that a node is in comes in turn.

@@ -34,7 +34,7 @@ use vr_routes::{Change, Routes, Row};
 #[derive(Drop)]
 pub struct PairRule<'m> {
     lookups: Lookups<'m>,
-    kept: PairTables,
+    tables: PairTables,
 }
 
 // What is counted of lists, and what is written over while changes are asked about.
@@ -50,17 +50,17 @@ struct PairTables {
 
 // Whether the list of a vehicle serves each pair, with other nodes between the ends that it keeps. It asks the pairs of
 // these nodes, and of those that stood there and do so no more.
-fn serves_between(lookups: &NodeTables<'_>, ends: &Between) -> bool
-    requires before { IsTrue (list_all (serves_pair (list_before ends.now)) lookups.now.pairs) }
-    ensures { result ≡ list_all (serves_pair (changed_list ends.now)) lookups.now.pairs }
+fn serves_between(node_tables: &NodeTables<'_>, ends: &Between) -> bool
+    requires before { IsTrue (list_all (serves_pair (list_before ends.now)) node_tables.now.pairs) }
+    ensures { result ≡ list_all (serves_pair (changed_list ends.now)) node_tables.now.pairs }
 {
     // what holds of the model is known
-    let _model = lookups.model();
+    let _model = node_tables.model();
     let old = ends.routes.list(ends.v);
     let new = NewList { ends: *ends };
-    new.serves_each(lookups, ends.middle)
+    new.serves_each(node_tables, ends.middle)
         && new.serves_unmarked(
-            lookups,
+            node_tables,
             &old[ends.front as usize..ends.behind as usize],
             ends.middle,
             ends.marks,
@@ -69,92 +69,105 @@ fn serves_between(lookups: &NodeTables<'_>, ends: &Between) -> bool
 
 // Whether the pairs of the list of a vehicle come in turn, with other nodes between the ends that it keeps, where they
 // came in turn before.
-fn takes_turns(lookups: &NodeTables<'_>, turns: &Turns, policy: Policy, ends: &Between) -> bool
-    requires listed { AreCounted lookups.now (list_before ends.now) turns.now.listed }
-    requires between { AreCounted lookups.now ends.now.middle.now turns.now.between }
-    ensures { result ≡ takes_turns_between lookups.now policy (list_before ends.now) ends.now.front ends.now.behind
+fn takes_turns(node_tables: &NodeTables<'_>, turns: &Turns, policy: Policy, ends: &Between) -> bool
+    requires listed { AreCounted node_tables.now (list_before ends.now) turns.now.listed }
+    requires between { AreCounted node_tables.now ends.now.middle.now turns.now.between }
+    ensures { result ≡ takes_turns_between node_tables.now policy (list_before ends.now) ends.now.front ends.now.behind
         ends.now.middle.now }
 {
     let old = ends.routes.list(ends.v);
-    let counted = NewCounts::of(lookups, turns, old, ends.front, ends.behind, ends.middle);
+    let counted = NewCounts::of(
+        node_tables,
+        turns,
+        old,
+        ends.front,
+        ends.behind,
+        ends.middle,
+    );
     let new = NewList { ends: *ends };
     new.come_in_turn(policy, &counted, ends.middle)
 }
 
 // The policy of a vehicle.
-fn policy_of(lookups: &NodeTables<'_>, v: u32) -> Policy
-    requires vehicle { v < length lookups.now.vehicles }
-    ensures { result ≡ (vehicle_at lookups.now v).policy }
+fn policy_of(node_tables: &NodeTables<'_>, v: u32) -> Policy
+    requires vehicle { v < length node_tables.now.vehicles }
+    ensures { result ≡ (vehicle_at node_tables.now v).policy }
 {
-    lookups.model().vehicles.get(v as usize).policy
+    node_tables.model().vehicles.get(v as usize).policy
 }
 
 // Counts a list of vehicle `v`, where the policy of the vehicle asks for turns.
-fn count_list(lookups: &NodeTables<'_>, v: u32, list: &[u32], turns: &mut Turns)
-    requires vehicle { v < length lookups.now.vehicles }
-    requires tour { IsTour lookups.now list.now }
+fn count_list(node_tables: &NodeTables<'_>, v: u32, list: &[u32], turns: &mut Turns)
+    requires vehicle { v < length node_tables.now.vehicles }
+    requires tour { IsTour node_tables.now list.now }
     requires few { length list.now ≤ 1000 }
-    ensures { IsListCounted lookups.now v list.now turns.old.listed turns.new.listed }
+    ensures { IsListCounted node_tables.now v list.now turns.old.listed turns.new.listed }
 {
-    let vehicle = lookups.model().vehicles.get(v as usize);
+    let vehicle = node_tables.model().vehicles.get(v as usize);
     if !Turns::are_asked(vehicle.policy) {
         return;
     }
-    turns.put(lookups, list);
+    turns.put(node_tables, list);
 }
 
 impl PairTables {
     // Whether the list that part `k` of a change gives its vehicle keeps the rule, where the list before kept it.
     fn keeps(
         &mut self,
-        lookups: &NodeTables<'_>,
+        node_tables: &NodeTables<'_>,
         routes: &Routes,
         change: &Change,
         k: usize,
     ) -> bool
-        requires knows { KnowsPairs lookups.now self.old.turns.listed routes.now }
+        requires knows { KnowsPairs node_tables.now self.old.turns.listed routes.now }
         requires made { IsMadeOn routes.now change.now }
         requires part { k < length change.now }
-        requires before { IsTrue (holds_of_each (keeps_pairs lookups.now) routes.now.lists) }
-        ensures answer { result ≡ keeps_pairs lookups.now (part_at change.now k).vehicle
+        requires before { IsTrue (holds_of_each (keeps_pairs node_tables.now) routes.now.lists) }
+        ensures answer { result ≡ keeps_pairs node_tables.now (part_at change.now k).vehicle
             (joined routes.now.lists (part_at change.now k).pieces) }
         ensures listed { self.new.turns.listed ≡ self.old.turns.listed }
     {
-        if lookups.model().pairs.is_empty() {
+        if node_tables.model().pairs.is_empty() {
             return true;
         }
-        let ends = write_between(routes, change, k, &mut self.list);
+        let splice = write_between(routes, change, k, &mut self.list);
         mark(self.list.as_slice(), &mut self.marks);
         let between = Between {
             routes,
-            v: ends.vehicle,
-            front: ends.front,
-            behind: ends.behind,
+            v: splice.vehicle,
+            front: splice.front,
+            behind: splice.behind,
             middle: self.list.as_slice(),
             marks: &self.marks,
         };
-        if !serves_between(lookups, &between) {
+        if !serves_between(node_tables, &between) {
             return false;
         }
-        let policy = policy_of(lookups, ends.vehicle);
+        let policy = policy_of(node_tables, splice.vehicle);
         if !Turns::are_asked(policy) {
             return true;
         }
-        self.turns.put_between(lookups, between.middle);
-        takes_turns(lookups, &self.turns, policy, &between)
+        self.turns.put_between(node_tables, between.middle);
+        takes_turns(node_tables, &self.turns, policy, &between)
     }
 
     // Counts the list that part `k` of a change gives its vehicle, where the policy of the vehicle asks for turns.
-    fn count_part(&mut self, lookups: &NodeTables<'_>, routes: &Routes, change: &Change, k: usize)
-        requires tours { KnowsTours lookups.now routes.now }
+    fn count_part(
+        &mut self,
+        node_tables: &NodeTables<'_>,
+        routes: &Routes,
+        change: &Change,
+        k: usize,
+    )
+        requires tours { KnowsTours node_tables.now routes.now }
         requires made { IsMadeOn routes.now change.now }
         requires part { k < length change.now }
-        ensures { IsListCounted lookups.now (part_at change.now k).vehicle
+        ensures { IsListCounted node_tables.now (part_at change.now k).vehicle
             (joined routes.now.lists (part_at change.now k).pieces) self.old.turns.listed self.new.turns.listed }
     {
         routes.write_after(change, k, &mut self.list);
         count_list(
-            lookups,
+            node_tables,
             change.vehicle(k),
             self.list.as_slice(),
             &mut self.turns,
@@ -162,13 +175,13 @@ impl PairTables {
     }
 
     // Counts the lists of all parts of a change.
-    fn commit(&mut self, lookups: &NodeTables<'_>, routes: &Routes, change: &Change)
-        requires knows { KnowsPairs lookups.now self.old.turns.listed routes.now }
+    fn commit(&mut self, node_tables: &NodeTables<'_>, routes: &Routes, change: &Change)
+        requires knows { KnowsPairs node_tables.now self.old.turns.listed routes.now }
         requires made { IsMadeOn routes.now change.now }
-        ensures { KnowsPairs lookups.now self.new.turns.listed (after routes.now change.now) }
+        ensures { KnowsPairs node_tables.now self.new.turns.listed (after routes.now change.now) }
     {
         for k in 0..change.parts() {
-            self.count_part(lookups, routes, change, k);
+            self.count_part(node_tables, routes, change, k);
         }
     }
 }
@@ -176,24 +189,24 @@ impl PairTables {
 impl<'m> ListRule for PairRule<'m> {
     ghost rule = { λ r v list. keeps_pairs r.lookups.closed.model.now v list };
 
-    ghost knows = { λ r tours. KnowsPairs r.lookups.closed.model.now r.kept.turns.listed tours };
+    ghost knows = { λ r tours. KnowsPairs r.lookups.closed.model.now r.tables.turns.listed tours };
 
     fn keeps(&mut self, routes: &Routes, change: &Change, k: usize) -> bool {
-        self.kept.keeps(self.lookups.nodes(), routes, change, k)
+        self.tables.keeps(self.lookups.nodes(), routes, change, k)
     }
 
     fn commit(&mut self, routes: &Routes, change: &Change) {
-        self.kept.commit(self.lookups.nodes(), routes, change);
+        self.tables.commit(self.lookups.nodes(), routes, change);
     }
 }
 
 // Counts the list of each vehicle whose policy asks for turns.
-fn count_all(lookups: &NodeTables<'_>, routes: &Routes, turns: &mut Turns)
-    requires tours { KnowsTours lookups.now routes.now }
-    ensures { AreAllCounted lookups.now routes.now.lists turns.new.listed }
+fn count_all(node_tables: &NodeTables<'_>, routes: &Routes, turns: &mut Turns)
+    requires tours { KnowsTours node_tables.now routes.now }
+    ensures { AreAllCounted node_tables.now routes.now.lists turns.new.listed }
 {
     for v in 0..routes.vehicles() {
-        count_list(lookups, v, routes.list(v), turns);
+        count_list(node_tables, v, routes.list(v), turns);
     }
 }
 
@@ -242,7 +255,7 @@ impl<'m> PairFilter<'m> {
         Ok(ListFilter {
             rule: PairRule {
                 lookups: lookups.share()?,
-                kept: PairTables {
+                tables: PairTables {
                     list: Row::new(),
                     marks: [0; 1000],
                     turns,

@@ -44,13 +44,13 @@ impl<'m> ListRule for VehicleRule<'m> {
 }
 
 // Whether the nodes of a piece allow a vehicle. Those of its own list do.
-fn piece_allows(lookups: &NodeTables<'_>, routes: &Routes, v: u32, piece: Piece) -> bool
-    requires rule { IsTrue (is_allowed_list lookups.now v (route routes.now.lists v)) }
+fn piece_allows(node_tables: &NodeTables<'_>, routes: &Routes, v: u32, piece: Piece) -> bool
+    requires rule { IsTrue (is_allowed_list node_tables.now v (route routes.now.lists v)) }
     requires within { IsWithin routes.now.lists piece }
-    ensures { result ≡ is_allowed_list lookups.now v (nodes_of routes.now.lists piece) }
+    ensures { result ≡ is_allowed_list node_tables.now v (nodes_of routes.now.lists piece) }
 {
     match piece {
-        Piece::Node { node } => lookups.allows_vehicle(v, node),
+        Piece::Node { node } => node_tables.allows_vehicle(v, node),
         Piece::Chain {
             vehicle,
             from,
@@ -60,19 +60,19 @@ fn piece_allows(lookups: &NodeTables<'_>, routes: &Routes, v: u32, piece: Piece)
             if vehicle == v {
                 return true;
             }
-            lookups.allows_each(v, &routes.list(vehicle)[from as usize..to as usize])
+            node_tables.allows_each(v, &routes.list(vehicle)[from as usize..to as usize])
         }
     }
 }
 
 // Whether the nodes of pieces allow a vehicle.
-fn pieces_allow(lookups: &NodeTables<'_>, routes: &Routes, v: u32, pieces: &[Piece]) -> bool
-    requires rule { IsTrue (is_allowed_list lookups.now v (route routes.now.lists v)) }
+fn pieces_allow(node_tables: &NodeTables<'_>, routes: &Routes, v: u32, pieces: &[Piece]) -> bool
+    requires rule { IsTrue (is_allowed_list node_tables.now v (route routes.now.lists v)) }
     requires within { All (IsWithin routes.now.lists) pieces.now }
-    ensures { result ≡ are_allowed_pieces lookups.now routes.now.lists v pieces.now }
+    ensures { result ≡ are_allowed_pieces node_tables.now routes.now.lists v pieces.now }
 {
     for k in 0..pieces.len() {
-        if !piece_allows(lookups, routes, v, pieces[k]) {
+        if !piece_allows(node_tables, routes, v, pieces[k]) {
             return false;
         }
     }

@@ -8,8 +8,8 @@ ghost use Rattle.vr_model.specs.routes.Rules.{is_valid};
 ghost use Rattle.vr_model.specs.tables.Tables.{visits};
 ghost use Rattle.vr_model.specs.tables.WellFormed.{IsWellFormed};
 ghost use Rattle.vr_routes.specs.Changes.{IsChange, IsMadeOn};
-ghost use Rattle.vr_routes.specs.Judging.{HoldSame, moved};
-ghost use Rattle.vr_plain.specs.Holding.{AreRoutesHeld};
+ghost use Rattle.vr_routes.specs.Judging.{HasCommitted, moved};
+ghost use Rattle.vr_plain.specs.Committed.{AreCommitted};
 
 use std::alloc::Global;
 use std::sync::ledger::Ledger;
@@ -21,7 +21,7 @@ use vr_rules::Rules;
 /// questions and no steps: all of its numbers are 0.
 ///
 /// All that a judged move needs is kept and written over: after the first moves one takes memory only where a set of
-/// cumuls has more than four runs, or a list is longer than any before.
+/// cumuls has more than four runs, where a list is longer than any before, or where a tight schedule is built.
 #[derive(Drop)]
 pub struct PlainJudge<'m> {
     rules: Rules<'m>,
@@ -44,7 +44,7 @@ impl<'m> PlainJudge<'m> {
         requires valid { IsTrue (is_valid model.now routes.now.lists) }
         ensures model { IfOk result (λ judge. ⟦<PlainJudge<'static> as Judge>⟧.model judge ≡ model.now) }
         ensures holds { IfOk result (λ judge.
-            HoldSame model.now (⟦<PlainJudge<'static> as Judge>⟧.committed judge) routes.now) }
+            HasCommitted model.now (⟦<PlainJudge<'static> as Judge>⟧.committed judge) routes.now) }
     {
         let scratch = routes.copy(alloc)?;
         let mut rules = Rules::open(alloc, model)?;
@@ -61,7 +61,7 @@ impl<'m> PlainJudge<'m> {
 impl<'m> Judge for PlainJudge<'m> {
     ghost model = { λ judge. judge.rules };
 
-    ghost committed = { λ judge tours. AreRoutesHeld judge.rules tours judge.scratch judge.total };
+    ghost committed = { λ judge tours. AreCommitted judge.rules tours judge.scratch judge.total };
 
     ghost asked = { λ judge. 0 };
 

@@ -15,7 +15,8 @@ use vr_reach::{Sweep, least_shared};
 use vr_spans::{Run, Spans};
 use vr_steps::{Levels, Way, cross_uncounted, start_levels_into};
 
-// Sets that are written over while cumuls are settled.
+// Sets that are written over while cumuls are settled: the settled cumul alone, and what is reached from it at this
+// stop and at the next one.
 #[derive(Drop)]
 pub(crate) struct Scratch {
     only: Spans,

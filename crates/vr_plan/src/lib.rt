@@ -10,7 +10,9 @@
 //! the earliest cumuls where those tell it and by a [`Chooser`] else; an [`Extent`] is from where to where the
 //! schedules of several lists reach.
 //!
-//! `vr_print` asks for whole schedules, `vr_rules` and `vr_costfilter` for what they come to.
+//! `vr_print` and `vr_span` ask for whole schedules, `vr_rules` and `vr_costfilter` for what they come to. `vr_app`
+//! opens the [`Lookups`] of a run, which constructions (`vr_first_arc`, `vr_first_insert`, `vr_first_savings`),
+//! `vr_rules`, `vr_pathfilters`, `vr_costfilter`, `vr_judge`, `vr_lns` and `vr_print` share.
 #![tactic(auto)]
 
 mod choosers;

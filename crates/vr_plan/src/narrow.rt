@@ -1,4 +1,5 @@
-//! Lines whose cumuls and break starts are put in.
+//! Copies of lines that are narrowed: stops allow given cumuls alone, breaks have given starts. `starts`, `ends` and
+//! `vr_span` ask for them.
 
 ghost use Rattle.std.specs.Prelude.{◌≡◌, ◌<◌, ◌≤◌, All, IfOk, OnOk, length, pos, set, slice_index_or};
 ghost use Rattle.vr_model.specs.tables.Numbers.{horizon};
@@ -82,7 +83,7 @@ pub fn same_line(alloc: Global, line: &Line) -> Result<Line, NoMemory>
     })
 }
 
-// The same sets.
+// A copy of the sets: a narrowed line owns its own.
 fn same_sets(alloc: Global, sets: &[Spans]) -> Result<Seq<Spans>, NoMemory>
     ensures { IfOk result (λ same. same ≡ sets.now) }
 {
@@ -96,7 +97,7 @@ fn same_sets(alloc: Global, sets: &[Spans]) -> Result<Seq<Spans>, NoMemory>
     Ok(same)
 }
 
-// The same arcs.
+// A copy of the arcs.
 fn same_hops(alloc: Global, hops: &[Hop]) -> Result<Seq<Hop>, NoMemory>
     ensures { IfOk result (λ same. same ≡ hops.now) }
 {
@@ -107,7 +108,7 @@ fn same_hops(alloc: Global, hops: &[Hop]) -> Result<Seq<Hop>, NoMemory>
     Ok(same)
 }
 
-// The same breaks.
+// A copy of the breaks.
 fn same_breaks(breaks: &Breaks) -> Breaks
     requires { length breaks.now ≤ 8 }
     ensures { result ≡ breaks.now }

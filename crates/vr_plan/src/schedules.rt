@@ -36,7 +36,8 @@ pub fn schedule(alloc: Global, line: &Line, rule: ScheduleRule) -> Result<Option
     }
 }
 
-/// The schedule of a line that is chosen under a rule, over the rows of the line, as `schedule` answers it.
+/// The schedule of a line that is chosen under a rule, over the rows of the line, as `schedule` answers it; for who has
+/// the rows. In this repository tests alone do.
 pub fn schedule_over(
     alloc: Global,
     line: &Line,
@@ -56,7 +57,8 @@ pub fn schedule_over(
 }
 
 /// The cumuls of the schedule of a line that is chosen under a rule, one for each stop; `None` exactly where the line
-/// has no schedule. The breaks are taken into account, and their starts are not looked for.
+/// has no schedule. The breaks are taken into account, and their starts are not looked for. In this repository tests
+/// alone ask it; others ask a [`Chooser`] of their own.
 pub fn chosen_cumuls(
     alloc: Global,
     line: &Line,

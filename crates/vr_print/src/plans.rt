@@ -61,7 +61,7 @@ fn plan_tree(alloc: Global, dimension: &Dimension, plan: &Plan) -> Result<Value,
     Ok(tree.finish())
 }
 
-/// The route of vehicle `v`.
+/// The route of vehicle `v` among the routes of a model; its list may be empty.
 #[derive(Clone, Copy)]
 pub(crate) struct RouteOf<'m, 'r> {
     pub(crate) closed: Closed<'m>,

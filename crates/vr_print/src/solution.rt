@@ -79,7 +79,7 @@ fn put_report(alloc: Global, tree: &mut Tree, report: Report) -> Result<(), NoMe
     Ok(())
 }
 
-// The tree of a solution, of its parts.
+// The tree of a solution, put together from what it cost, what is dropped, its routes and the report.
 #[tactic(auto, unfolding(crate::specs::Solution::tree_of))]
 fn tree_of(
     alloc: Global,
@@ -132,7 +132,8 @@ fn parts_of(alloc: Global, lookups: &Lookups<'_>, routes: &Routes) -> Result<Par
 
 /// The tree of valid routes of a model: their cost with its six parts, the visits that are dropped, ascending, and for
 /// each vehicle its nodes from start to end and, in each dimension, the cumuls, slacks and break starts of the schedule
-/// that its rule chooses; beside these what the first solution cost and how the search went.
+/// that its rule chooses; beside these what the first solution cost and how the search went. It looks the model up for
+/// that; the program, which has it looked up, asks `solution_line_over`.
 ///
 /// `NoMemory` where there was no memory.
 pub fn solution_tree(

@@ -1,4 +1,4 @@
-//! A list that a vehicle drives.
+//! A vehicle in a dimension, and a list that it drives there.
 
 ghost use Rattle.std.specs.Prelude.{◌<◌, length};
 ghost use Rattle.vr_reach.specs.Lists.{IsUsed};
@@ -6,7 +6,7 @@ ghost use Rattle.vr_reach.specs.Lists.{IsUsed};
 use crate::spliced::Spliced;
 use vr_model::Closed;
 
-// Vehicle `v` in dimension `d`.
+// Vehicle `v` in dimension `d`, both of which there are: what is looked up of them once is asked with it.
 #[derive(Clone, Copy)]
 pub(crate) struct VehicleIn<'m> {
     pub(crate) closed: Closed<'m>,

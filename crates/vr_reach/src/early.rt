@@ -1,4 +1,5 @@
-//! The earliest cumuls along a list: where each stop allows one run and there are no breaks, they are chosen.
+//! The earliest cumuls along a list: where each stop allows one run, there are no breaks and no slack would be too
+//! great, the rule `earliest` chooses them.
 
 ghost use Rattle.std.specs.Prelude.{◌≡◌, ◌↔◌, ◌+◌, ◌<◌, ◌≤◌, ◌≤ℤ◌, ◌^◌, suc, All, IfSome, IsTrue, is_some, [], length};
 ghost use Rattle.std.specs.Prelude.{List, ℤ, neg_ℤ, pos};

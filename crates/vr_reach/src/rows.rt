@@ -24,7 +24,9 @@ use vr_steps::{Levels, Line};
 /// more runs than its place has room for.
 #[derive(Drop)]
 pub struct Rows {
+    // from the start on: the forward levels
     ahead: Sweep,
+    // from the end back: the backward levels
     behind: Sweep,
 }
 
@@ -57,7 +59,7 @@ impl Rows {
         })
     }
 
-    /// The rows of a line.
+    /// The rows of a line. In this repository tests alone ask for them so; others write over rows that they have.
     pub fn build(alloc: Global, line: &Line) -> Result<Rows, NoMemory>
         requires { IsSoundLine line.now }
         ensures { IfOk result (AreRows line.now) }
@@ -103,7 +105,7 @@ impl Rows {
         self.ahead.stops()
     }
 
-    /// Whether the line has a schedule. It takes no memory.
+    /// Whether the line has a schedule, by both ways at its first stop. It takes no memory. Tests alone ask it.
     pub fn feasible(&self) -> bool
         ensures { (line : Made) → AreRows line self.now → (defined : Defined) → IsLineOf defined line →
             IsTrue result ↔ IsFeasible defined }

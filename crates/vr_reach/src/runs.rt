@@ -36,7 +36,7 @@ fn runs_of(alloc: Global, sets: &Seq<Spans>) -> Result<Option<Seq<Run>>, NoMemor
     Ok(Some(runs))
 }
 
-// The run that has the numbers of a set, nothing where the set is of more than one.
+// The run that has the numbers of a set, one without numbers where the set is empty, nothing where it has several runs.
 pub(crate) fn run_of(set: &Spans) -> Option<Run>
     ensures run { IfSome result (IsRunOf set.now) }
     ensures known { is_some result ≡ is_single set.now }
@@ -58,10 +58,10 @@ pub(crate) fn shares_with(run: Run, set: &Spans) -> bool
     if run.lo > run.hi {
         return false;
     }
-    // that a set has no empty run
+    // to read its length is to know that no run of it is empty
     let runs = set.len();
     for k in 0..runs {
-        if share(run, set.run(k)) {
+        if runs_share(run, set.run(k)) {
             return true;
         }
     }
@@ -70,7 +70,7 @@ pub(crate) fn shares_with(run: Run, set: &Spans) -> bool
 
 // Whether two runs, of a number each at least, have one in common.
 #[inline]
-pub(crate) fn share(a: Run, b: Run) -> bool
+pub(crate) fn runs_share(a: Run, b: Run) -> bool
     requires first { a.lo ≤ℤ a.hi }
     requires second { b.lo ≤ℤ b.hi }
     ensures { IsTrue result ↔ ShareANumber (a ∷ []) (b ∷ []) }

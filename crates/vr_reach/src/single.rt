@@ -24,7 +24,7 @@ ghost use Rattle.vr_reach.specs.VisitRuns.{is_one_run, HasCumulEnds, IsAllowedRu
 
 use crate::ends::Ends;
 use crate::run_walks::{RunLine, RunWalk};
-use crate::runs::{run_of, share};
+use crate::runs::{run_of, runs_share};
 use crate::stops::node_at;
 use std::sync::ledger::Ledger;
 use vr_model::{Closed, Model, Steps};
@@ -113,7 +113,7 @@ pub(crate) fn walk_by_runs<L: Ledger>(
     // a step for each of the two runs
     steps.tick();
     steps.tick();
-    share(run, between.to)
+    runs_share(run, between.to)
 }
 
 // The run at the last stop of a leg, where a walk without breaks begins with run `from` at its first stop. Where `from`

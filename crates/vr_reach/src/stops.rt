@@ -70,7 +70,7 @@ pub struct StopsFor<'m, 's> {
     pub d: u32,
     /// The vehicle.
     pub v: u32,
-    /// What the stops of the dimension ask.
+    /// What the stops of all vehicles ask in the dimension, looked up once.
     pub of_dimension: &'s Stops,
 }
 

@@ -124,7 +124,7 @@ impl Walk {
         Ok(())
     }
 
-    /// The same, where nobody counts steps.
+    /// As `leave`, where nobody counts steps.
     pub fn cross_from(
         &mut self,
         from: &Levels,
@@ -162,7 +162,7 @@ impl Walk {
         Ok(())
     }
 
-    /// The same, where nobody counts steps.
+    /// As `step`, where nobody counts steps.
     pub fn cross(&mut self, hop: Hop, next: &Spans, breaks: &Breaks) -> Result<(), NoMemory>
         requires { IsCrossing self.old hop next.now breaks.now }
         ensures exact { OnOk result (AreCrossed self.old hop next.now breaks.now self.new) }

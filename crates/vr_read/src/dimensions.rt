@@ -131,7 +131,9 @@ pub struct DimensionBounds {
 /// The rows of stops, and the breaks.
 #[derive(Drop)]
 pub struct DimensionRows {
+    /// Of visits, by node.
     pub nodes: Seq<StopRow>,
+    /// Of starts and of ends, by vehicle.
     pub starts: Seq<StopRow>,
     pub ends: Seq<StopRow>,
     pub breaks: Seq<VehicleBreaks>,
@@ -204,7 +206,7 @@ impl DimensionTable<'_> {
         })
     }
 
-    // The rows of starts or of ends, in the field `name`.
+    // The rows of starts or of ends, in the field that `name` names.
     fn vehicle_rows(&self, fields: Fields<'_, '_>, name: &str) -> Result<Seq<StopRow>, ReadFail>
         ensures { Answers result (dimension_tables.vehicle_rows name.now self.now.fleet
             fields.entry.path.now (view fields.entry.value.now)) }

@@ -10,32 +10,33 @@ use vr_json::{Array, Below, Cause, Count, Datum, Fields, ReadFail, Reader, Table
 use vr_model::limits::{GREATEST_COST, MOST_NODES};
 use vr_model::{Allowed, Group, Pair, Vehicle};
 
-/// A node of a group, which stands in no earlier group.
+/// Reads a node of a group: a visit that stands in no earlier group, and not earlier in this one.
 #[derive(Clone, Copy)]
 pub struct GroupNode<'a> {
     pub visit: Visit<'a>,
+    /// The groups before this one.
     pub groups: &'a [Group],
 }
 
-/// A group.
+/// Reads a group.
 #[derive(Clone, Copy)]
 pub struct GroupTable<'a> {
     pub visit: Visit<'a>,
 }
 
-/// A pair of a pickup and its delivery.
+/// Reads a pair of a pickup and its delivery.
 #[derive(Clone, Copy)]
 pub struct PairTable<'a> {
     pub visit: Visit<'a>,
 }
 
-/// One of so many vehicles, each once.
+/// Reads one of so many vehicles, each once.
 #[derive(Clone, Copy)]
 pub struct AllowedVehicle {
     pub fleet: u32,
 }
 
-/// The vehicles that a visit allows, in a model of so many vehicles.
+/// Reads the vehicles that a visit allows, in a model of so many vehicles.
 #[derive(Clone, Copy)]
 pub struct AllowedTable<'a> {
     pub visit: Visit<'a>,

@@ -2,7 +2,7 @@
 //!
 //! Each table is a reader that stands beside its definition in `specs/`, line by line: the order of the lines is the
 //! order of the faults, and the first fault is the answer. What is read is well formed, the one condition of all crates
-//! above (`laws`). `vr_app` and `vr_samples` call `read_model`; `vr_gen` shows that it accepts what is generated.
+//! above (`laws`). `vr_app`, `vr_bench` and tests call `read_model`; `vr_gen` shows that it accepts what is generated.
 #![tactic(auto)]
 
 mod alike;

@@ -1,4 +1,4 @@
-//! The table of a model, and models.
+//! Reads a model: its fields in order, and then the rules on the whole.
 
 ghost use Rattle.std.specs.Prelude.{IfOk};
 ghost use Rattle.serde_json.specs.View.{view};
@@ -46,7 +46,8 @@ pub struct ModelParts {
     pub search: SearchRow,
 }
 
-// The groups, pairs and allowed rows, in a model of so many vehicles, of which a visit is none's start or end.
+// Reads the groups, pairs and allowed rows of a model of so many vehicles. `visit` reads a node, and refuses starts and
+// ends.
 #[tactic(auto, unfolding(vr_json::specs::Reading::and_then, crate::specs::Models::visit_tables))]
 fn read_visit_tables(
     fields: Fields<'_, '_>,

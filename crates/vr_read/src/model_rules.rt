@@ -23,7 +23,7 @@ use vr_model::{Dimension, First, Matrix, Model, NoMemory, Seq};
 /// Refuses a model that breaks a rule on the whole of it: `NegativeCost` at the costs of the first
 /// vehicle whose matrix has a negative entry; then `LargeTransit` at the matrix of the first
 /// evaluator whose matrix has an entry above 2^30; then `NegativeTransit` at the first dimension that
-/// has breaks or span costs and a negative transit of a vehicle between two nodes; then
+/// has breaks or span costs and a negative transit of a vehicle between two different nodes; then
 /// `UnlikeVehicles` at `search/first` where savings are asked for, though vehicles differ or rows of
 /// allowed vehicles are there. `path` is where the model stands.
 #[tactic(auto, unfolding(vr_json::specs::Reading::and_then, crate::specs::Rules::rules))]
@@ -64,7 +64,7 @@ fn has_negative(entries: &[i64]) -> bool
     entries.iter().any(|entry| *entry < 0)
 }
 
-// For each matrix, whether it has a negative entry.
+// For each matrix, whether it has a negative entry: each is gone over once, since vehicles share them.
 fn negative_matrices(alloc: Global, matrices: &[Matrix]) -> Result<Seq<bool>, NoMemory>
     ensures { IfOk result
         (λ marks. marks ≡ map (λ (m : MatrixOf). list_any is_negative m.entries) matrices.now) }

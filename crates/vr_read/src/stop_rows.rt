@@ -24,7 +24,7 @@ pub struct IntervalTable;
 #[derive(Clone, Copy)]
 pub struct SoftTable;
 
-/// A row for a stop, whose key stands in the field `name`.
+/// A row for a stop, whose key stands in the field that `name` names.
 #[derive(Clone, Copy)]
 pub struct StopTable<'a, K> {
     pub name: &'a str,

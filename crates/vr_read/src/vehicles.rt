@@ -106,7 +106,7 @@ impl Table for VehicleTable {
     }
 }
 
-/// A visit: a node that no vehicle starts or ends at.
+/// Reads a visit: a node that no vehicle starts or ends at.
 #[derive(Clone, Copy)]
 pub struct Visit<'a> {
     pub nodes: u32,

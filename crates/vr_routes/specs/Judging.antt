@@ -1,4 +1,4 @@
--- What a judge has to answer, and what it holds.
+-- What a judge has to answer, and which routes it has committed.
 use Rattle.std.specs.Prelude.{◌≡◌, cond, List, ℕ, IsTrue, ℤ, ◌-ℤ◌, ◌≤ℤ◌}
 use Rattle.vr_model.specs.tables.Tables.{visits}
 use Rattle.vr_model.specs.moves.Moves.{apply}
@@ -12,8 +12,8 @@ use Rattle.vr_routes.specs.declared.judging.Verdict.{Verdict}
 use Rattle.vr_routes.specs.declared.judging.Verdict.TheVariants.{Refused, Difference}
 
 -- a judge has committed the lists of routes, and they are valid lists of its model
-pub record HoldSame (model : Model) (committed : Tours → Type 0) (routes : Tours) : Type 0 where
-  pub same : committed routes
+pub record HasCommitted (model : Model) (stands_at : Tours → Type 0) (routes : Tours) : Type 0 where
+  pub committed : stands_at routes
   pub of_model : routes.visits ≡ visits model
   pub valid : IsTrue (is_valid model routes.lists)
 

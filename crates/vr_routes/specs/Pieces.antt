@@ -1,4 +1,6 @@
 -- Lists after a change, as pieces of the lists before it.
+use Rattle.std.proofs.Props.{props}
+use mathlib.Core.HLevel.{Unit-prop}
 use Rattle.std.specs.Prelude.{◌≡◌, ℕ, ◌+◌, ◌-◌, ◌<◌, ◌≤◌, cond, List, [], ◌∷◌, ◌++◌, length, take, drop, reverse, All}
 use Rattle.std.specs.Prelude.{slice_range, slice_index_or}
 use Rattle.vr_model.specs.tables.Numbers.{each}
@@ -38,6 +40,11 @@ joined lists pieces = each pieces (nodes_of lists)
 abbrev pub IsWithin : List (List ℕ) → Piece → Type 0
 IsWithin lists (Chain v from to reversed) = (v < length lists) × (from ≤ to) × (to ≤ length (route lists v))
 IsWithin lists (Node node) = Unit {0}
+
+-- a piece lies within its list in one way at most
+pub IsWithin-prop : (lists : List (List ℕ)) (piece : Piece) → IsProp (IsWithin lists piece)
+IsWithin-prop lists (Chain v from to reversed) = Prim.hlevel props
+IsWithin-prop lists (Node node) = Unit-prop
 
 -- pieces are a splice of the list of v: its places below `front`, the middle ones, and its places from `behind` on
 pub record IsSplice (lists : List (List ℕ)) (v : ℕ) (pieces : List Piece) (front behind : ℕ) (middle : List Piece) :

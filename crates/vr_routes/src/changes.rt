@@ -82,7 +82,7 @@ impl Change {
         true
     }
 
-    /// Writes the change that a move of the lists makes over another one.
+    /// Writes into `out` what `mv`, a move of the lists, changes; what stood there is written over.
     #[inline]
     pub fn write(model: &RoutingModel, routes: &Routes, mv: Move, out: &mut Change)
         requires well_formed { IsWellFormed model.now }

@@ -12,7 +12,8 @@ use std::marker::Model;
 use vr_model::{Model as RoutingModel, NoMemory};
 
 /// The indices of a model (`RoutingIndexManager` in OR-Tools): first the visits ascending, then the starts of the
-/// vehicles, then their ends.
+/// vehicles, then their ends. They are for users of the library: here tests alone open them, and moves name vehicles
+/// and places.
 #[derive(Drop)]
 pub struct Indices {
     // One list: the visits, ascending.

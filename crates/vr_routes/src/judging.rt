@@ -8,7 +8,7 @@ ghost use Rattle.vr_model.specs.tables.WellFormed.{IsWellFormed};
 ghost use Rattle.vr_model.specs.declared.neighbours.Move.{Move as Step};
 ghost use Rattle.vr_model.specs.declared.records.Model.{Model as RoutingModel};
 ghost use Rattle.vr_routes.specs.Changes.{IsChange};
-ghost use Rattle.vr_routes.specs.Judging.{HoldSame, IsDifferenceBound, IsNoLess, moved, verdict_of};
+ghost use Rattle.vr_routes.specs.Judging.{HasCommitted, IsDifferenceBound, IsNoLess, moved, verdict_of};
 ghost use Rattle.vr_routes.specs.Runs.{with_last};
 ghost use Rattle.vr_routes.specs.Tours.{Tours};
 
@@ -42,7 +42,7 @@ pub trait Judge {
     /// How many steps it takes at most to judge a move of lists that it has committed.
     ghost weight: { Self → List (List ℕ) → Step → ℕ };
 
-    /// Judges a move of the lists. The committed lists stay, whatever the answer.
+    /// Judges a move of the lists. The committed lists stay, whatever the answer. Searches ask `judge_change`.
     fn judge<L: Ledger>(
         &mut self,
         routes: &Routes,
@@ -50,7 +50,7 @@ pub trait Judge {
         steps: &mut Steps<L>,
     ) -> Result<Verdict, NoMemory>
         requires well_formed { IsWellFormed (model self.old) }
-        requires holds { HoldSame (model self.old) (committed self.old) routes.now }
+        requires holds { HasCommitted (model self.old) (committed self.old) routes.now }
         requires mv { IsTrue (is_move (model self.old) routes.now.lists mv) }
         ensures verdict { IfOk result (λ verdict. verdict ≡ verdict_of (model self.old) routes.now.lists mv) }
         ensures model { model self.new ≡ model self.old }
@@ -69,7 +69,7 @@ pub trait Judge {
         steps: &mut Steps<L>,
     ) -> Result<Verdict, NoMemory>
         requires well_formed { IsWellFormed (model self.old) }
-        requires holds { HoldSame (model self.old) (committed self.old) routes.now }
+        requires holds { HasCommitted (model self.old) (committed self.old) routes.now }
         requires mv { IsTrue (is_move (model self.old) routes.now.lists mv) }
         requires change { IsChange (model self.old) routes.now.lists mv change.now }
         ensures verdict { IfOk result (λ verdict. verdict ≡ verdict_of (model self.old) routes.now.lists mv) }
@@ -88,7 +88,7 @@ pub trait Judge {
     /// takes no memory and counts no steps. A judge that knows no better number says the least of all.
     fn least_difference(&mut self, routes: &Routes, mv: Move, change: &Change) -> i64
         requires well_formed { IsWellFormed (model self.old) }
-        requires holds { HoldSame (model self.old) (committed self.old) routes.now }
+        requires holds { HasCommitted (model self.old) (committed self.old) routes.now }
         requires mv { IsTrue (is_move (model self.old) routes.now.lists mv) }
         requires change { IsChange (model self.old) routes.now.lists mv change.now }
         ensures least { IsDifferenceBound (model self.old) routes.now.lists mv result }
@@ -115,7 +115,7 @@ pub trait Judge {
         bound: i64,
     ) -> Option<u32>
         requires well_formed { IsWellFormed (model self.old) }
-        requires holds { HoldSame (model self.old) (committed self.old) routes.now }
+        requires holds { HasCommitted (model self.old) (committed self.old) routes.now }
         requires order { from ≤ end }
         ensures from { IfSome result (λ first. from ≤ first) }
         ensures within { IfSome result (λ first. first ≤ end) }
@@ -133,7 +133,7 @@ pub trait Judge {
     /// committed them. Where memory is wanting, both are as before.
     fn commit(&mut self, routes: &mut Routes, mv: Move) -> Result<(), NoMemory>
         requires well_formed { IsWellFormed (model self.old) }
-        requires holds { HoldSame (model self.old) (committed self.old) routes.old }
+        requires holds { HasCommitted (model self.old) (committed self.old) routes.old }
         requires mv { IsTrue (is_move (model self.old) routes.old.lists mv) }
         requires valid { IsTrue (is_valid (model self.old) (apply (model self.old) routes.old.lists mv)) }
         ensures routes { OnOk result (routes.new ≡ moved (model self.old) routes.old mv) }

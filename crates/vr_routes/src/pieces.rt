@@ -72,6 +72,7 @@ pub struct Splice<'a> {
 }
 
 /// The list of a vehicle after a change, as a splice of the list before it: its front, what comes between, and its end.
+/// What each kind of move writes into it is in `kinds`.
 #[derive(Drop)]
 pub struct Part {
     vehicle: u32,

@@ -25,7 +25,7 @@ use std::marker::Model;
 use vr_model::{Model as RoutingModel, NoMemory, Seq};
 
 /// Lists of visits, one for each vehicle, in which no visit stands twice (`RoutingModel` in OR-Tools). Each look-up
-/// takes the same time whatever the lists are.
+/// but `inactive_from` takes the same time whatever the lists are.
 #[derive(Drop)]
 pub struct Routes {
     // One list: the visits, ascending.
@@ -258,7 +258,8 @@ impl Routes {
         false
     }
 
-    /// The least visit at or above `node` that stands in no list.
+    /// The least visit at or above `node` that stands in no list. It is for users of the library: nothing here calls
+    /// it.
     pub fn inactive_from(&self, node: u32) -> Option<u32>
         ensures { result ≡ find (λ x. nat_le node x) (inactive_of self.now.visits self.now.lists) }
     {
@@ -275,7 +276,7 @@ impl Routes {
     }
 
     /// The index of the stop behind an index, `None` at an inactive visit, at an end, and at the start of an unused
-    /// vehicle.
+    /// vehicle. Indices are those of `Indices`; they are for users of the library, and nothing here calls it.
     pub fn next(&self, index: u32) -> Option<u32>
         requires index { index < end_index self.now (length self.now.lists) }
         ensures { MatchOption result (HasNoNext self.now index) (λ after. IsNext self.now index after) }
@@ -302,7 +303,7 @@ impl Routes {
     }
 
     /// The index of the stop before an index, `None` at an inactive visit, at a start, and at the end of an unused
-    /// vehicle.
+    /// vehicle. It is for users of the library too.
     pub fn previous(&self, index: u32) -> Option<u32>
         requires index { index < end_index self.now (length self.now.lists) }
         ensures { MatchOption result (HasNoPrevious self.now index) (λ before. IsNext self.now before index) }

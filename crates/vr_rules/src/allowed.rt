@@ -9,11 +9,14 @@ use crate::items::Item;
 use vr_lists::NodeTables;
 
 /// Whether vehicle `v` may visit each node of an item (`SetAllowedVehiclesForIndex` in OR-Tools). It takes no memory.
-pub fn allows_item(lookups: &NodeTables<'_>, v: u32, item: Item) -> bool
-    ensures { result ≡ list_all (allows_vehicle_of lookups.now v) (item_nodes item) }
+pub fn allows_item(node_tables: &NodeTables<'_>, v: u32, item: Item) -> bool
+    ensures { result ≡ list_all (allows_vehicle_of node_tables.now v) (item_nodes item) }
 {
     match item {
-        Item::Visit(node) => lookups.allows_each(v, &[node]),
-        Item::PickupAndDelivery(pickup, delivery) => lookups.allows_each(v, &[pickup, delivery]),
+        Item::Visit(node) => node_tables.allows_each(v, &[node]),
+        Item::PickupAndDelivery(pickup, delivery) => node_tables.allows_each(
+            v,
+            &[pickup, delivery],
+        ),
     }
 }

@@ -50,7 +50,7 @@ pub fn last_stop(model: &Model, v: u32, list: &[u32]) -> u32
     }
 }
 
-// A vehicle in a dimension.
+// A vehicle in a dimension, of which fronts are written; `vr_reach` has its own for what is looked up once.
 #[derive(Clone, Copy)]
 struct VehicleIn<'m> {
     closed: Closed<'m>,
@@ -320,7 +320,7 @@ fn keeps_pairs_with(room: &mut Room, of: &Longer<'_, '_>) -> Result<bool, NoMemo
     Ok(keeps_pairs(model, of.v, &longer, &mut room.pairs))
 }
 
-/// What is written over while items are tried at the end of a list.
+/// Scratch that is written over while items are tried at the end of a list.
 #[derive(Drop)]
 pub struct Room {
     alloc: Global,

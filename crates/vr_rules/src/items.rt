@@ -58,7 +58,8 @@ impl Item {
 pub struct Candidate {
     /// What is placed.
     pub item: Item,
-    /// 0 where it must be placed, 1 where it is in a group without a penalty, 2 in another: the least of its nodes.
+    /// 0 where it must be placed, 1 where it is in a group without a penalty, 2 where it is in one with a penalty; of a
+    /// pair the lesser of the classes of its two nodes.
     pub class: u32,
 }
 
@@ -73,11 +74,11 @@ fn is_free_of_penalty(group: &Group) -> bool
 }
 
 /// The class of a node: 0 outside all groups, 1 in a group without a penalty, 2 in another.
-pub fn node_class(lookups: &NodeTables<'_>, node: u32) -> u32
-    ensures { result ≡ node_class_of lookups.now node }
+pub fn node_class(node_tables: &NodeTables<'_>, node: u32) -> u32
+    ensures { result ≡ node_class_of node_tables.now node }
 {
-    let model = lookups.model();
-    let g = lookups.group_number(node) as usize;
+    let model = node_tables.model();
+    let g = node_tables.group_number(node) as usize;
     if g >= model.groups.len() {
         return 0;
     }
@@ -89,22 +90,22 @@ pub fn node_class(lookups: &NodeTables<'_>, node: u32) -> u32
 }
 
 // The class of an item: the least of its nodes.
-fn item_class(lookups: &NodeTables<'_>, item: Item) -> u32
-    ensures { result ≡ class lookups.now (item_nodes item) }
+fn item_class(node_tables: &NodeTables<'_>, item: Item) -> u32
+    ensures { result ≡ class node_tables.now (item_nodes item) }
 {
     match item {
-        Item::Visit(node) => 2.min(node_class(lookups, node)),
+        Item::Visit(node) => 2.min(node_class(node_tables, node)),
         Item::PickupAndDelivery(pickup, delivery) => 2
-            .min(node_class(lookups, pickup))
-            .min(node_class(lookups, delivery)),
+            .min(node_class(node_tables, pickup))
+            .min(node_class(node_tables, delivery)),
     }
 }
 
 // The item of a node: the node alone, or the pair of which it is the pickup.
-fn item_at(lookups: &NodeTables<'_>, node: u32) -> Option<Item>
-    ensures { item_lists result ≡ items_at (pair_of_node lookups.now node) node }
+fn item_at(node_tables: &NodeTables<'_>, node: u32) -> Option<Item>
+    ensures { item_lists result ≡ items_at (pair_of_node node_tables.now node) node }
 {
-    match lookups.pair_of(node) {
+    match node_tables.pair_of(node) {
         None => Some(Item::Visit(node)),
         Some(pair) if pair.pickup == node => {
             Some(Item::PickupAndDelivery(pair.pickup, pair.delivery))
@@ -114,29 +115,29 @@ fn item_at(lookups: &NodeTables<'_>, node: u32) -> Option<Item>
 }
 
 // The item of a node that is a visit.
-fn visit_item(lookups: &NodeTables<'_>, node: u32) -> Option<Item>
+fn visit_item(node_tables: &NodeTables<'_>, node: u32) -> Option<Item>
     ensures item { item_lists result
-        ≡ (if is_visit lookups.now node then items_at (pair_of_node lookups.now node) node else []) }
-    ensures valid { IfSome result (IsItem lookups.now) }
+        ≡ (if is_visit node_tables.now node then items_at (pair_of_node node_tables.now node) node else []) }
+    ensures valid { IfSome result (IsItem node_tables.now) }
 {
-    let model = lookups.model();
+    let model = node_tables.model();
     if model.is_visit(node) {
-        item_at(lookups, node)
+        item_at(node_tables, node)
     } else {
         None
     }
 }
 
 /// The items of a model with their classes, ascending by their numbers.
-pub fn candidates(alloc: Global, lookups: &NodeTables<'_>) -> Result<Vec<Candidate>, NoMemory>
-    ensures { IfOk result (λ candidates. AreCandidates lookups.now candidates.items) }
+pub fn candidates(alloc: Global, node_tables: &NodeTables<'_>) -> Result<Vec<Candidate>, NoMemory>
+    ensures { IfOk result (λ candidates. AreCandidates node_tables.now candidates.items) }
 {
-    let model = lookups.model();
+    let model = node_tables.model();
     let mut candidates = Vec::new(alloc);
     for node in 0..model.nodes {
-        match visit_item(lookups, node) {
+        match visit_item(node_tables, node) {
             Some(item) => {
-                let class = item_class(lookups, item);
+                let class = item_class(node_tables, item);
                 candidates.push(Candidate { item, class })?;
             }
             None => {}

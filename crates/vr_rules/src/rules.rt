@@ -26,7 +26,8 @@ use vr_routes::Routes;
 ///
 /// What its stops ask is looked up once, and the group, the pair and the allowed vehicles of each node, and all that a
 /// question needs is kept and written over: after the first questions an answer takes memory only where a set of cumuls
-/// has more than four runs, or a list is longer, has more pairs, or its vehicle more breaks, than any before.
+/// has more than four runs, where a list is longer, has more pairs, or its vehicle more breaks, than any before, or
+/// where a tight schedule is built, for which a line is copied.
 #[derive(Drop)]
 pub struct Rules<'m> {
     lookups: Lookups<'m>,

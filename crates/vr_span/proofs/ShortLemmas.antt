@@ -5,7 +5,7 @@ use Rattle.std.proofs.lemmas.Int.{ints}
 use Rattle.vr_model.specs.tables.Numbers.{horizon}
 use Rattle.vr_model.specs.deciding.Testing.{or_cases, or_left, or_right}
 use Rattle.vr_span.specs.declared.pieces.Piece.{Piece}
-use Rattle.vr_span.specs.Pieces.{has_from, have_from, IsPiece, IsRisingFrom, ArePieces, HasEnds, span_of, shorter_of, shortest_of, IsShortest}
+use Rattle.vr_span.specs.Pieces.{has_from, have_from, IsPiece, IsRisingFrom, ArePieces, BeginsInHorizon, span_of, shorter_of, shortest_of, IsShortest}
 use Rattle.vr_span.proofs.PieceLemmas.{of_has, rises_earlier, to_has}
 
 -- the piece is the first of the shortest among pieces that begin at b or later and start at s or later
@@ -126,7 +126,7 @@ first_of_rest zero (p ∷ ps) d lt = refl
 first_of_rest (suc k) [] d lt = absurd (omega (arith, lt))
 first_of_rest (suc k) (p ∷ ps) d lt = first_of_rest k ps d (omega (arith, lt))
 
-pub ends_at : (k : ℕ) (ps : List Piece) (d : Piece) → k < length ps → ArePieces ps → HasEnds (get_or ps k d)
+pub ends_at : (k : ℕ) (ps : List Piece) (d : Piece) → k < length ps → ArePieces ps → BeginsInHorizon (get_or ps k d)
 ends_at k ps d lt h =
     let r = subst ArePieces (first_of_rest k ps d lt) (rest_are k (pos 0) (pos 0) ps (omega (arith, ints)) (omega (arith, ints)) h) in
     let order = r.2.in_order in
@@ -138,13 +138,13 @@ ends_at k ps d lt h =
       start = record { at_least = r.1; at_most = omega (arith, ints, rises, latest) };
     }
 
-some_ends : (ps : List Piece) (found : Option Piece) → IfSome found (IsShortest ps) → IfSome found HasEnds
+some_ends : (ps : List Piece) (found : Option Piece) → IfSome found (IsShortest ps) → IfSome found BeginsInHorizon
 some_ends ps None h = tt
 some_ends ps (Some d) h = h.ends
 
-pub ends_of_rest : (k : ℕ) (ps : List Piece) (best : Option Piece) → ArePieces ps → best ≡ shortest_of (drop k ps) → IfSome best HasEnds
+pub ends_of_rest : (k : ℕ) (ps : List Piece) (best : Option Piece) → ArePieces ps → best ≡ shortest_of (drop k ps) → IfSome best BeginsInHorizon
 ends_of_rest k ps best h is =
-    subst (λ found. IfSome found HasEnds) (sym is) (some_ends (drop k ps) (shortest_of (drop k ps)) (shortest_some (drop k ps) (rest_are k (pos 0) (pos 0) ps (omega (arith, ints)) (omega (arith, ints)) h)))
+    subst (λ found. IfSome found BeginsInHorizon) (sym is) (some_ends (drop k ps) (shortest_of (drop k ps)) (shortest_some (drop k ps) (rest_are k (pos 0) (pos 0) ps (omega (arith, ints)) (omega (arith, ints)) h)))
 
 pub one_more : (k : ℕ) (ps : List Piece) (d : Piece) (best : Option Piece) → k < length ps → best ≡ shortest_of (drop (suc k) ps) → Some (shorter_of (get_or ps k d) best) ≡ shortest_of (drop k ps)
 one_more k ps d best lt is = ap (λ b. Some (shorter_of (get_or ps k d) b)) is ∙ ap shortest_of (sym (first_of_rest k ps d lt))

@@ -113,8 +113,8 @@ abbrev pub shortest_of : List Piece → Option Piece
 shortest_of [] = None
 shortest_of (piece ∷ pieces) = Some (shorter_of piece (shortest_of pieces))
 
--- the first cumul of the piece and its first start are cumuls
-pub record HasEnds (piece : Piece) : Type 0 where
+-- the first cumul of the piece and its first start lie in 0..=horizon
+pub record BeginsInHorizon (piece : Piece) : Type 0 where
   pub cumul : IsIn (pos 0) horizon piece.lo
   pub start : IsIn (pos 0) horizon piece.first
 
@@ -124,4 +124,4 @@ pub record IsShortest (pieces : List Piece) (piece : Piece) : Type 0 where
   pub among : IsTrue (have_from pieces piece.first piece.lo)
   pub least : (s x : ℤ) → IsTrue (have_from pieces s x) → span_of piece ≤ℤ (x -ℤ s)
   pub earliest : (s x : ℤ) → IsTrue (have_from pieces s x) → (x -ℤ s) ≡ span_of piece → piece.first ≤ℤ s
-  pub ends : HasEnds piece
+  pub ends : BeginsInHorizon piece

@@ -76,7 +76,8 @@ fn cross(from: &[Piece], hop: Hop, next: &Spans, out: &mut Seq<Piece>) -> Result
     Ok(())
 }
 
-// The last cumul before the second of the pieces, as far as can be where there is none.
+// The last cumul before the second of the pieces, as far as can be where there is none: a piece is made longer no
+// further than that.
 fn until(pieces: &[Piece]) -> i64
     requires { ArePieces pieces.now }
     ensures value { result ≡ until_of (drop 1 pieces.now) }

@@ -1,7 +1,7 @@
 //! The first of the pieces of the least span.
 
 ghost use Rattle.std.specs.Prelude.{◌≡◌, IfSome, IsNone, []};
-ghost use Rattle.vr_span.specs.Pieces.{ArePieces, HasEnds, IsShortest, shorter_of};
+ghost use Rattle.vr_span.specs.Pieces.{ArePieces, BeginsInHorizon, IsShortest, shorter_of};
 
 use crate::pieces::Piece;
 
@@ -22,8 +22,8 @@ pub(crate) fn shortest(pieces: &[Piece]) -> Option<Piece>
 
 // The piece of the lesser span, and of equal spans the one in front.
 fn shorter(piece: Piece, behind: Option<Piece>) -> Piece
-    requires piece { HasEnds piece }
-    requires behind { IfSome behind HasEnds }
+    requires piece { BeginsInHorizon piece }
+    requires behind { IfSome behind BeginsInHorizon }
     ensures { result ≡ shorter_of piece behind }
 {
     let Some(other) = behind else {

@@ -22,7 +22,7 @@ use vr_spans::Spans;
 /// level `a <= b` of `from`, with the breaks after the first `a` up to the `b`-th inside it.
 ///
 /// A step is the image of one run under one number of further breaks; `steps` counts each, and after `NoMemory` at most
-/// as many.
+/// as many. The program writes over levels that it has, by `cross_into` and `cross_uncounted`; tests alone call this.
 pub fn cross<L: Ledger>(
     alloc: Global,
     from: &Levels,
@@ -70,7 +70,7 @@ pub fn cross_into<L: Ledger>(
 /// level `b >= a` of `to`, with the breaks after the first `a` up to the `b`-th inside it.
 ///
 /// A step is the preimage of one run under one number of further breaks; `steps` counts each, and after `NoMemory` at
-/// most as many.
+/// most as many. Tests alone call this; the program crosses backwards by `cross_uncounted`.
 pub fn cross_back<L: Ledger>(
     alloc: Global,
     to: &Levels,
@@ -166,7 +166,7 @@ struct ArcBreaks<'r> {
     rows: &'r [BreakRow],
 }
 
-// Writes the levels to which an arc leads over `out`, each with the breaks taken on the way.
+// Writes over `out` the levels to which an arc leads, each with the breaks taken on the way, where there are breaks.
 #[cold]
 #[inline(never)]
 fn write_all(

@@ -12,7 +12,8 @@ use Rattle.vr_model.specs.declared.records.Model.{Model}
 use Rattle.vr_model.specs.declared.neighbours.Move.{Move}
 use Rattle.vr_descent.proofs.PassedLemmas.{all_right}
 use Rattle.vr_known.specs.Passing.{Passes, capped}
-use Rattle.vr_tabu.specs.Rounds.{IsCeiling, IsDifferenceKnown, IsPassedInRound, better_with, bound_of, end_with, move_of, tabu_round_end, tries_of}
+use Rattle.vr_routes.specs.Pieces.{ListAfter}
+use Rattle.vr_tabu.specs.Rounds.{IsCeiling, IsChangeOf, IsChangeOfBest, IsDifferenceKnown, IsPassedInRound, better_with, bound_of, end_with, move_of, tabu_round_end, tries_of}
 use Rattle.vr_tabu.specs.TabuSearches.{TabuList, is_candidate, least_candidate, round_of, round_with}
 use Rattle.vr_tabu.specs.TabuSearches.TabuRound.{Cut}
 use Rattle.vr_tabu.specs.declared.rounds.Candidate.{Candidate}
@@ -108,6 +109,12 @@ module _ (model : Model) (tabus : TabuList) (best lists : List (List ℕ)) where
 pub tries_end : (rest n : ℕ) (found : Option Candidate) → tries_of rest (end_with n found) ≡ n
 tries_end rest n None = refl
 tries_end rest n (Some c) = refl
+
+-- what the best candidate changes is known where a round ends with one
+pub change_at_end : (model : Model) (lists : List (List ℕ)) (change : List ListAfter) (n : ℕ) (found : Option Candidate) → IfSome found (IsChangeOf model lists change)
+    → IsChangeOfBest model lists (end_with n found) change
+change_at_end model lists change n None h = tt
+change_at_end model lists change n (Some c) h = h
 
 -- one move more was counted
 pub one_more : (n left all : ℕ) → n + suc left ≡ all → (n + 1) + left ≡ all

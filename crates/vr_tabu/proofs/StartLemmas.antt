@@ -2,7 +2,7 @@
 use Rattle.std.proofs.Common.{◌≡◌, ◌∙◌, ℕ, ◌≤◌, List, ap, arith}
 use Rattle.vr_model.specs.search.Outcomes.{Outcome}
 use Rattle.vr_model.specs.declared.records.Model.{Model}
-use Rattle.vr_routes.specs.Judging.{HoldSame}
+use Rattle.vr_routes.specs.Judging.{HasCommitted}
 use Rattle.vr_routes.specs.Tours.{Tours}
 use Rattle.vr_descent.proofs.Beginnings.{at_first, under_way}
 use Rattle.vr_tabu.specs.Standing.{IsTabuBegun, TabuStands, tabu_from_here, tabu_from_state}
@@ -17,7 +17,7 @@ module _ (model : Model) (parameters : Parameters) (lists : List (List ℕ)) whe
 
 -- a state that begins stands where the search begins
 module _ (model : Model) (parameters : Parameters) (routes : Tours) (state : State) (begins : IsTabuBegun model routes (at_first model routes.lists) state) where
-  pub begun_stands : (committed : Tours → Type 0) → HoldSame model committed routes → 1 ≤ parameters.limit.solutions → TabuStands model parameters committed routes state
+  pub begun_stands : (committed : Tours → Type 0) → HasCommitted model committed routes → 1 ≤ parameters.limit.solutions → TabuStands model parameters committed routes state
   begun_stands committed holds some =
       let found = ap (λ p. p.found) begins.at_is in
       let round = ap (λ t. t.round) begins.none in

@@ -9,7 +9,9 @@ use Rattle.vr_model.specs.routes.Costs.{cost}
 use Rattle.vr_model.specs.tables.WellFormed.{IsWellFormed}
 use Rattle.vr_model.specs.declared.records.Model.{Model}
 use Rattle.vr_model.specs.declared.neighbours.Move.{Move}
-use Rattle.vr_routes.specs.Judging.{HoldSame, cost_change}
+use Rattle.vr_routes.specs.Changes.{IsChange}
+use Rattle.vr_routes.specs.Judging.{HasCommitted, cost_change}
+use Rattle.vr_routes.specs.Pieces.{ListAfter}
 use Rattle.vr_routes.specs.Tours.{Tours}
 use Rattle.vr_tabu.specs.TabuSearches.{TabuRound, TabuList, is_candidate}
 use Rattle.vr_tabu.specs.TabuSearches.TabuRound.{Best, Stuck, Cut}
@@ -25,6 +27,10 @@ move_of (Some candidate) = Some candidate.mv
 -- what a candidate makes of the cost is known
 abbrev pub IsDifferenceKnown : Model → List (List ℕ) → Candidate → Type 0
 IsDifferenceKnown model lists candidate = candidate.difference ≡ cost_change model lists candidate.mv
+
+-- this is what a candidate changes
+abbrev pub IsChangeOf : Model → List (List ℕ) → List ListAfter → Candidate → Type 0
+IsChangeOf model lists change candidate = IsChange model lists candidate.mv change
 
 -- what the difference of a better candidate than the best so far is below: that of this one, else a ceiling, where it
 -- is known
@@ -57,15 +63,15 @@ IsCeiling model tabus best lists ceiling =
     → is_candidate model tabus best lists mv ≡ false
 
 -- a judge is one of this model, and has committed the lists of routes
-pub record IsJudgeOf (model : Model) (routes : Tours) (judged : Model) (committed : Tours → Type 0) : Type 0 where
+pub record IsJudgeOf (model : Model) (routes : Tours) (judged : Model) (stands_at : Tours → Type 0) : Type 0 where
   pub model_is : judged ≡ model
-  pub same : committed routes
+  pub committed : stands_at routes
 
 -- a judge of this model that has committed the lists of routes can be asked about moves of theirs
 pub record CanPass (model : Model) (routes : Tours) (judged : Model) (committed : Tours → Type 0) : Type 0 where
   pub well_formed : IsWellFormed model
   pub judge_model : judged ≡ model
-  pub holds : HoldSame model committed routes
+  pub holds : HasCommitted model committed routes
 
 -- the better of the best candidate so far and a move, where that is a candidate
 abbrev pub better_with : Model → TabuList → List (List ℕ) → List (List ℕ) → Option Move → Move → Option Move
@@ -87,6 +93,12 @@ tabu_round_end model lists Cut = code.Cut
 abbrev pub end_with : ℕ → Option Candidate → RoundEnd
 end_with n None = code.Stuck n
 end_with n (Some candidate) = code.Best n candidate
+
+-- where a round ends with a best candidate, this is what its move changes
+abbrev pub IsChangeOfBest : Model → List (List ℕ) → RoundEnd → List ListAfter → Type 0
+IsChangeOfBest model lists (code.Best n candidate) change = IsChangeOf model lists change candidate
+IsChangeOfBest model lists (code.Stuck n) change = Unit {0}
+IsChangeOfBest model lists code.Cut change = Unit {0}
 
 -- how many moves were tried in a round that could try `rest` moves
 abbrev pub tries_of : ℕ → RoundEnd → ℕ

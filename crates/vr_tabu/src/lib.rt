@@ -2,7 +2,7 @@
 //!
 //! [`tabu`] goes on in rounds. A round tries all moves of the lists and makes the best of them, also where it costs
 //! more; the visits that it changes are then tabu for some rounds (`tabu_list`): a move that changes no other visit is
-//! passed over, unless it leads to lists that cost less than any before. Which visits a move changes is told by the
+//! not made, unless it leads to lists that cost less than any before. Which visits a move changes is told by the
 //! lists that its change makes (`new_list`, `list_change`), without memory.
 //!
 //! Between rounds the judge stands at the lists of the routes, which are valid and of known cost, the best lists so far

@@ -10,7 +10,8 @@ ghost use Rattle.vr_descent.specs.Asking.{AsksFor, Keeps};
 ghost use Rattle.vr_known.specs.Passing.{Takes, tries_taken, tries_within};
 ghost use Rattle.vr_routes.specs.Changes.{IsMadeOn};
 ghost use Rattle.vr_routes.specs.Pieces.{changed};
-ghost use Rattle.vr_tabu.specs.Rounds.{IsCeiling, IsJudgeOf, IsDifferenceKnown, IsPassedInRound};
+ghost use Rattle.vr_tabu.specs.Rounds.{IsCeiling, IsChangeOf, IsChangeOfBest, IsJudgeOf};
+ghost use Rattle.vr_tabu.specs.Rounds.{IsDifferenceKnown, IsPassedInRound};
 ghost use Rattle.vr_tabu.specs.Rounds.{aspiration, better_with};
 ghost use Rattle.vr_tabu.specs.Rounds.{bound_of, end_with, is_no_less, move_of, tabu_round_end, tries_of};
 ghost use Rattle.vr_tabu.specs.Standing.{IsKnownState};
@@ -22,6 +23,7 @@ use crate::passing::NoBetter;
 use crate::searching::State;
 use crate::tabu_list::WholeChange;
 use std::marker::PhantomData;
+use std::mem::swap;
 use std::sync::ledger::Ledger;
 use vr_descent::{MoveList, moves};
 use vr_model::{Closed, Model, Move, NoMemory, Steps};
@@ -45,12 +47,29 @@ pub enum RoundEnd {
     Cut,
 }
 
+// Room for what the move in hand changes, and for the list of a vehicle after it. Both are written over.
+#[derive(Drop)]
+struct Scratch {
+    change: Change,
+    after: NewList,
+}
+
+impl Scratch {
+    fn new() -> Scratch {
+        Scratch {
+            change: Change::blank(),
+            after: NewList::new(),
+        }
+    }
+}
+
 /// What a round looks at.
 #[derive(Clone, Copy)]
 pub struct Round<'a> {
     model: &'a Model,
     routes: &'a Routes,
     state: &'a State,
+    // where each visit is tabu, only moves that make less than this are candidates
     ceiling: Option<i64>,
     // the lists are valid, and their cost and that of the best ones are known
     ghost known: { IsKnownState model.now routes.now state.now } by { Prim.hlevel (props, IsWellFormed-prop) },
@@ -98,13 +117,15 @@ impl<'a> Round<'a> {
     /// once, and the judge is asked at most twice as often what moves make at least: a move that would cost no less
     /// than the best candidate so far is not judged, and which visits it changes is asked of the others alone. Of the
     /// moves of a run, which differ in their last number, the judge is asked at once from which on some may cost less,
-    /// and those in front of these are tries as well.
+    /// and those in front of these are tries as well. What the best candidate changes is written over `kept`; where
+    /// there is none, `kept` is any.
     ///
     /// The only refusal is want of memory, which is taken by the judge alone; it still stands at the same lists then.
     pub fn run<J: Judge, L: Ledger>(
         &self,
         judge: &mut J,
         rest: u64,
+        kept: &mut Change,
         steps: &mut Steps<L>,
     ) -> Result<RoundEnd, NoMemory>
         requires judge { IsJudgeOf self.now.model.now self.now.routes.now (J.model judge.old) (J.committed judge.old) }
@@ -112,12 +133,14 @@ impl<'a> Round<'a> {
         ensures ends { IfOk result (λ ended. ended ≡ tabu_round_end self.now.model.now self.now.routes.now.lists
             (round_of self.now.model.now (tabus_of self.now.state.now.tabus) self.now.state.now.best.routes.lists
             self.now.routes.now.lists rest)) }
+        ensures kept { IfOk result (λ ended.
+            IsChangeOfBest self.now.model.now self.now.routes.now.lists ended kept.new) }
         ensures keeps { Keeps J.model J.committed self.now.routes.now judge.old judge.new }
         ensures asked { IfOk result (λ ended. AsksFor J.asked J.looked judge.old judge.new (tries_of rest ended)) }
         ensures asked_at_most { OnErr result (AsksFor J.asked J.looked judge.old judge.new rest) }
     {
         let mut list = moves(self.model, self.routes);
-        self.run_over(judge, rest, &mut list, steps)
+        self.run_over(judge, rest, &mut list, kept, steps)
     }
 
     // Tries the moves of a list of all moves. The list is lent, so that where the round ends there is less to let go.
@@ -127,6 +150,7 @@ impl<'a> Round<'a> {
         judge: &mut J,
         rest: u64,
         list: &mut MoveList<'_>,
+        kept: &mut Change,
         steps: &mut Steps<L>,
     ) -> Result<RoundEnd, NoMemory>
         requires judge { IsJudgeOf self.now.model.now self.now.routes.now (J.model judge.old) (J.committed judge.old) }
@@ -135,12 +159,13 @@ impl<'a> Round<'a> {
         ensures ends { IfOk result (λ ended. ended ≡ tabu_round_end self.now.model.now self.now.routes.now.lists
             (round_of self.now.model.now (tabus_of self.now.state.now.tabus) self.now.state.now.best.routes.lists
             self.now.routes.now.lists rest)) }
+        ensures kept { IfOk result (λ ended.
+            IsChangeOfBest self.now.model.now self.now.routes.now.lists ended kept.new) }
         ensures keeps { Keeps J.model J.committed self.now.routes.now judge.old judge.new }
         ensures asked { IfOk result (λ ended. AsksFor J.asked J.looked judge.old judge.new (tries_of rest ended)) }
         ensures asked_at_most { OnErr result (AsksFor J.asked J.looked judge.old judge.new rest) }
     {
-        let mut change = Change::blank();
-        let mut after = NewList::new();
+        let mut scratch = Scratch::new();
         let mut best = None;
         let mut length: u64 = 0;
         while let Some(mv) = self.next_open(judge, best, list, rest, &mut length) {
@@ -148,7 +173,7 @@ impl<'a> Round<'a> {
                 return Ok(RoundEnd::Cut);
             }
             length += 1;
-            best = self.try_move(judge, mv, best, &mut change, &mut after, steps)?;
+            best = self.try_move(judge, mv, best, kept, &mut scratch, steps)?;
         }
         if length > rest {
             return Ok(RoundEnd::Cut);
@@ -156,8 +181,8 @@ impl<'a> Round<'a> {
         Ok(end_of(length, best))
     }
 
-    // Takes the first move of a list, behind some that are passed over since they are no better than the best candidate
-    // so far. These are counted.
+    // Takes the first move of a list, behind some that are passed over since they make no less than the best candidate
+    // so far, or than the ceiling. These are counted.
     #[inline(always)]
     fn next_open<J: Judge>(
         &self,
@@ -186,8 +211,8 @@ impl<'a> Round<'a> {
         list.step(&passing, judge, length)
     }
 
-    // What the difference of a better candidate than the best so far is below, where there is one, or each visit is
-    // tabu.
+    // A move is a better candidate only where it makes less than this: than the best candidate so far, or, before there
+    // is one, than the ceiling. `None` where there is neither.
     #[inline(always)]
     fn bound(&self, best: Option<Candidate>) -> Option<i64>
         ensures { result ≡ bound_of best self.now.ceiling }
@@ -198,31 +223,35 @@ impl<'a> Round<'a> {
         }
     }
 
-    // The better of the best candidate so far and a move, where that is a candidate. What it changes is written over
-    // `change` and `after`. It stands apart from the loop, whose list passes over most moves where runs are told.
+    // The better of the best candidate so far and a move, where that is a candidate. What the best candidate changes is
+    // kept. It stands apart from the loop, whose list passes over most moves where runs are told.
     #[inline(never)]
     fn try_move<J: Judge, L: Ledger>(
         &self,
         judge: &mut J,
         mv: Move,
         best: Option<Candidate>,
-        change: &mut Change,
-        after: &mut NewList,
+        kept: &mut Change,
+        scratch: &mut Scratch,
         steps: &mut Steps<L>,
     ) -> Result<Option<Candidate>, NoMemory>
         requires judge { IsJudgeOf self.now.model.now self.now.routes.now (J.model judge.old) (J.committed judge.old) }
         requires mv { IsTrue (is_move self.now.model.now self.now.routes.now.lists mv) }
         requires best { IfSome best (IsDifferenceKnown self.now.model.now self.now.routes.now.lists) }
+        requires kept { IfSome best (IsChangeOf self.now.model.now self.now.routes.now.lists kept.old) }
         ensures best { IfOk result (λ found. move_of found ≡ better_with self.now.model.now
             (tabus_of self.now.state.now.tabus) self.now.state.now.best.routes.lists self.now.routes.now.lists
             (move_of best) mv) }
         ensures known { IfOk result (λ found. IfSome found
             (IsDifferenceKnown self.now.model.now self.now.routes.now.lists)) }
+        ensures kept { IfOk result (λ found. IfSome found
+            (IsChangeOf self.now.model.now self.now.routes.now.lists kept.new)) }
         ensures model { J.model judge.new ≡ J.model judge.old }
         ensures committed { J.committed judge.new self.now.routes.now }
         ensures asked { J.asked judge.new ≤ J.asked judge.old + 1 }
         ensures looked { J.looked judge.new ≤ J.looked judge.old + 1 }
     {
+        let change = &mut scratch.change;
         Change::write(self.model, self.routes, mv, change);
         let least = judge.least_difference(self.routes, mv, change);
         if is_no_less(self.bound(best), least) {
@@ -234,9 +263,10 @@ impl<'a> Round<'a> {
                 if is_no_less(self.bound(best), difference) {
                     return Ok(best);
                 }
-                if self.is_forbidden(difference, change, after) {
+                if self.is_forbidden(difference, change, &mut scratch.after) {
                     return Ok(best);
                 }
+                swap(change, kept);
                 Ok(Some(Candidate { mv, difference }))
             }
         }

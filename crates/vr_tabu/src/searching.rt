@@ -11,9 +11,10 @@ ghost use Rattle.vr_model.specs.tables.WellFormed.{IsIn, IsWellFormed};
 ghost use Rattle.vr_descent.specs.Asking.{AsksFor, AsksOn, Keeps};
 ghost use Rattle.vr_descent.specs.Ending.{CanBegin, HasEnded, HasStopped};
 ghost use Rattle.vr_descent.specs.Searching.{after_move, move_event, behind};
-ghost use Rattle.vr_routes.specs.Judging.{HoldSame, moved};
+ghost use Rattle.vr_routes.specs.Judging.{HasCommitted, moved};
 ghost use Rattle.vr_watch.specs.Told.{Reported, ReportedInPart};
-ghost use Rattle.vr_tabu.specs.Rounds.{IsJudgeOf, IsDifferenceKnown, tabu_round_end, tries_of};
+ghost use Rattle.vr_tabu.specs.Rounds.{IsChangeOfBest, IsDifferenceKnown, IsJudgeOf};
+ghost use Rattle.vr_tabu.specs.Rounds.{tabu_round_end, tries_of};
 ghost use Rattle.vr_tabu.specs.Standing.{AreTabuParameters, IsTabuBegun, IsKnownState, TabuStands};
 ghost use Rattle.vr_descent.specs.Incumbents.{IsBest, kept};
 ghost use Rattle.vr_tabu.specs.Standing.{tabu_from_state, left_of, next_events};
@@ -26,7 +27,7 @@ use crate::tabu_list::{TabuList, WholeChange};
 use std::alloc::Global;
 use std::sync::ledger::Ledger;
 use vr_descent::{Incumbent, Progress};
-use vr_model::{Closed, End, Kind, Limit, Model, Move, NoMemory, Report, Steps};
+use vr_model::{Closed, End, Kind, Limit, Model, NoMemory, Report, Steps};
 use vr_routes::{Change, Judge, Routes};
 use vr_watch::{Watch, note_all};
 
@@ -47,7 +48,7 @@ pub struct Parameters {
 
 /// Tries all moves of the lists in each round and makes the one of least cost, also where it costs more
 /// (`TABU_SEARCH` in OR-Tools). The visits that it changes are tabu for the next `tenure` rounds: those whose vehicle
-/// or whose node just before is another. A move that changes only visits that are tabu is passed over, unless it leads
+/// or whose node just before is another. A move that changes only visits that are tabu is not made, unless it leads
 /// to lists that cost less than any before. The routes then have the last lists, at which the judge stands; the answer
 /// has the first lists of the least cost. `limit` allows up to 10^9 tries and from 1 to 10^9 solutions, and `tenure` is
 /// in 1..=1000.
@@ -83,7 +84,7 @@ pub fn tabu<J: Judge, L: Ledger>(
     ensures asked { IfOk result (λ answer. AsksFor J.asked J.looked judge.old judge.new answer.report.tries) }
 
     ensures judge_model { J.model judge.new ≡ model.now }
-    ensures holds { HoldSame model.now (J.committed judge.new) routes.new }
+    ensures holds { HasCommitted model.now (J.committed judge.new) routes.new }
     ensures told_in_part { OnErr result (ReportedInPart (λ w later. after w later) watch.old.items watch.new.items
         (tabu_search model.now routes.old.lists limit tenure).events) }
     ensures asked_at_most { OnErr result (AsksFor J.asked J.looked judge.old judge.new limit.tries) }
@@ -161,17 +162,24 @@ impl State {
         ensures further { IfOk result (λ stop. stop ≡ None → self.old.at.used < self.new.at.used) }
 
         ensures judge_model { J.model judge.new ≡ closed.entry.model.now }
-        ensures holds { HoldSame closed.entry.model.now (J.committed judge.new) routes.new }
+        ensures holds { HasCommitted closed.entry.model.now (J.committed judge.new) routes.new }
         ensures told_in_part { OnErr result (ReportedInPart (λ w later. after w later) watch.old.items watch.new.items
             (next_events closed.entry.model.now parameters routes.old.lists self.old)) }
         ensures asked_at_most { OnErr result (AsksOn J.asked J.looked judge.old judge.new self.old.at.used
             parameters.limit.tries) }
     {
         let rest = parameters.limit.tries - self.at.used;
-        let ended = run_round(closed.model, judge, routes, self, rest, steps)?;
+        let mut change = Change::blank();
+        let ended = run_round(closed.model, judge, routes, self, rest, &mut change, steps)?;
         match ended {
             RoundEnd::Best { length, candidate } => {
-                self.forbid(closed, routes, candidate.mv, parameters.tenure);
+                let lists = WholeChange {
+                    closed,
+                    routes,
+                    change: &change,
+                };
+                self.tabus
+                    .follow(lists, parameters.tenure, &mut NewList::new());
                 self.take(judge, routes, watch, length, candidate)?;
                 Ok(None)
             }
@@ -186,30 +194,6 @@ impl State {
         }
     }
 
-    // The visits that a move changes are tabu from the next round on.
-    fn forbid(&mut self, closed: Closed<'_>, routes: &Routes, mv: Move, tenure: u32)
-        requires of_model { routes.now.visits ≡ visits closed.model.now }
-        requires valid { IsTrue (is_valid closed.model.now routes.now.lists) }
-        requires mv { IsTrue (is_move closed.model.now routes.now.lists mv) }
-        requires round { self.old.tabus.round ≤ 1000000000 }
-        requires covers { length self.old.tabus.until.items ≡ closed.model.now.nodes }
-        ensures next { tabus_of self.new.tabus ≡ next_round closed.entry.model.now tenure routes.now.lists
-            (apply closed.entry.model.now routes.now.lists mv) (tabus_of self.old.tabus) }
-        ensures covers { length self.new.tabus.until.items ≡ closed.entry.model.now.nodes }
-        ensures at { self.new.at ≡ self.old.at }
-        ensures best { self.new.best ≡ self.old.best }
-    {
-        let mut change = Change::blank();
-        let mut after = NewList::new();
-        Change::write(closed.model, routes, mv, &mut change);
-        let lists = WholeChange {
-            closed,
-            routes,
-            change: &change,
-        };
-        self.tabus.follow(lists, tenure, &mut after);
-    }
-
     // Makes the best candidate of a round of so many moves, and tells the watchers. Where memory is wanting, the judge
     // stands at the lists of the routes all the same.
     fn take<J: Judge>(
@@ -221,7 +205,7 @@ impl State {
         candidate: Candidate,
     ) -> Result<(), NoMemory>
         requires well_formed { IsWellFormed (J.model judge.old) }
-        requires holds { HoldSame (J.model judge.old) (J.committed judge.old) routes.old }
+        requires holds { HasCommitted (J.model judge.old) (J.committed judge.old) routes.old }
         requires mv { IsTrue (is_move (J.model judge.old) routes.old.lists candidate.mv) }
         requires valid { IsTrue (is_valid (J.model judge.old)
             (apply (J.model judge.old) routes.old.lists candidate.mv)) }
@@ -236,7 +220,7 @@ impl State {
             (cost (J.model judge.old) routes.new.lists)) }
         ensures tabus { self.new.tabus ≡ self.old.tabus }
         ensures routes { OnOk result (routes.new ≡ moved (J.model judge.old) routes.old candidate.mv) }
-        ensures holds { HoldSame (J.model judge.old) (J.committed judge.new) routes.new }
+        ensures holds { HasCommitted (J.model judge.old) (J.committed judge.new) routes.new }
         ensures judge_model { J.model judge.new ≡ J.model judge.old }
         ensures asked { J.asked judge.new ≡ J.asked judge.old }
         ensures looked { J.looked judge.new ≡ J.looked judge.old }
@@ -273,13 +257,15 @@ impl State {
     }
 }
 
-// One round from where a search stands, in which at most `rest` moves may be tried.
+// One round from where a search stands, in which at most `rest` moves may be tried. What the best candidate changes is
+// written over `kept`.
 fn run_round<J: Judge, L: Ledger>(
     model: &Model,
     judge: &mut J,
     routes: &Routes,
     state: &State,
     rest: u64,
+    kept: &mut Change,
     steps: &mut Steps<L>,
 ) -> Result<RoundEnd, NoMemory>
     requires known { IsKnownState model.now routes.now state.now }
@@ -287,12 +273,13 @@ fn run_round<J: Judge, L: Ledger>(
     requires rest { rest ≤ 1000000000 }
     ensures ends { IfOk result (λ ended. ended ≡ tabu_round_end model.now routes.now.lists
         (round_of model.now (tabus_of state.now.tabus) state.now.best.routes.lists routes.now.lists rest)) }
+    ensures kept { IfOk result (λ ended. IsChangeOfBest model.now routes.now.lists ended kept.new) }
     ensures keeps { Keeps J.model J.committed routes.now judge.old judge.new }
     ensures asked { IfOk result (λ ended. AsksFor J.asked J.looked judge.old judge.new (tries_of rest ended)) }
     ensures asked_at_most { OnErr result (AsksFor J.asked J.looked judge.old judge.new rest) }
 {
     let round = Round::open(model, routes, state);
-    round.run(judge, rest, steps)
+    round.run(judge, rest, kept, steps)
 }
 
 // Searches on from where it stands, and says why it ended.
@@ -317,7 +304,7 @@ fn search<J: Judge, L: Ledger>(
     ensures no_dearer { OnOk result (state.new.best.cost ≤ℤ state.old.best.cost) }
 
     ensures judge_model { J.model judge.new ≡ closed.entry.model.now }
-    ensures holds { HoldSame closed.entry.model.now (J.committed judge.new) routes.new }
+    ensures holds { HasCommitted closed.entry.model.now (J.committed judge.new) routes.new }
     ensures told_in_part { OnErr result (ReportedInPart (λ w later. after w later) watch.old.items watch.new.items
         (tabu_from_state closed.entry.model.now parameters routes.old.lists state.old).events) }
     ensures asked_at_most { OnErr result (AsksOn J.asked J.looked judge.old judge.new state.old.at.used

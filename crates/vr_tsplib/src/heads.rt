@@ -63,11 +63,11 @@ pub enum LinePlace {
     Weights(u64),
     /// In the section of demands, of which so many rows are to come.
     Demands(u32),
-    /// At the depot.
+    /// In the section of the depot, before its node.
     Depot,
-    /// Behind the depot.
+    /// In the section of the depot, before the -1 that ends it.
     DepotEnd,
-    /// Behind the end of the file.
+    /// Behind the line `EOF`.
     Ended,
 }
 

@@ -3,8 +3,8 @@
 //!
 //! Both stand at the committed lists. What a list costs a vehicle in fixed costs is told by whether it has visits. Of
 //! groups it is kept what each node saves where it is active, so that a change is told by the nodes that it brings in
-//! and takes out (`vr_balance`). `vr_judge` adds both to the cost, and asks what a move saves at most where arcs alone
-//! do not tell that it costs too much.
+//! and takes out (`vr_balance`). `vr_judge` adds both to the cost, and asks the penalties what each move of a run saves
+//! at most, where arcs and penalties alone are paid.
 #![tactic(auto)]
 
 mod fixed;

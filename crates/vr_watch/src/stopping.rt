@@ -9,8 +9,8 @@ use std::alloc::Global;
 use std::marker::Model;
 use vr_model::{Event, NoMemory, Seq};
 
-/// Takes so many events, answers want of memory to each further one, and reports nothing: it tries out how a search
-/// ends where memory is wanting.
+/// Takes so many events, answers want of memory to each further one, and reports nothing. Tests try out with it how a
+/// search ends where memory is wanting; the program makes none.
 #[derive(Drop)]
 pub struct Stopper {
     alloc: Global,

@@ -31,12 +31,12 @@ impl Counts {
 
 // What is counted with one node more.
 #[inline]
-fn with_node(lookups: &NodeTables<'_>, before: Counts, node: u32) -> Counts
+fn with_node(node_tables: &NodeTables<'_>, before: Counts, node: u32) -> Counts
     requires pickups { before.pickups ≤ 1000 }
     requires deliveries { before.deliveries ≤ 1000 }
-    ensures { result ≡ with_one_node lookups.now before node }
+    ensures { result ≡ with_one_node node_tables.now before node }
 {
-    match lookups.pair_of(node) {
+    match node_tables.pair_of(node) {
         None => before,
         Some(pair) => {
             if pair.pickup == node {
@@ -54,17 +54,17 @@ fn with_node(lookups: &NodeTables<'_>, before: Counts, node: u32) -> Counts
 }
 
 /// Writes, for each node of a list of distinct nodes, what stands in the list up to it.
-pub(crate) fn write_counts(lookups: &NodeTables<'_>, list: &[u32], table: &mut [Counts; 1000])
+pub(crate) fn write_counts(node_tables: &NodeTables<'_>, list: &[u32], table: &mut [Counts; 1000])
     requires { CanBeCounted list.now }
-    ensures counted { AreCounted lookups.now list.now table.new }
+    ensures counted { AreCounted node_tables.now list.now table.new }
     ensures others { (node : ℕ) → holds list.now node ≡ false
         → count_of_node table.new node ≡ count_of_node table.old node }
 {
     // what holds of the model is known
-    let _model = lookups.model();
+    let _model = node_tables.model();
     let mut counts = Counts::none();
     for k in 0..list.len() {
-        counts = with_node(lookups, counts, list[k]);
+        counts = with_node(node_tables, counts, list[k]);
         table[list[k] as usize] = counts;
     }
 }

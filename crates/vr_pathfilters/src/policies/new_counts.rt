@@ -18,7 +18,7 @@ use vr_model::{Pair, Policy};
 #[derive(Drop)]
 pub struct NewCounts<'a, 'm> {
     // what is looked up once of the nodes of the model
-    lookups: &'a NodeTables<'m>,
+    node_tables: &'a NodeTables<'m>,
     turns: &'a Turns,
     old: &'a [u32],
     // how many nodes are kept at the front
@@ -36,14 +36,14 @@ impl<'a, 'm> Model for NewCounts<'a, 'm> {
     ghost Value = { Replaced };
 
     ghost view = { λ s. record {
-      model = s.lookups.now;
+      model = s.node_tables.now;
       old = s.old.now;
       front = s.front;
       behind = s.behind;
       middle = s.middle.now;
     } };
 
-    ghost invariant = { λ s. IsNewCounted s.lookups.now s.old.now s.front s.behind s.middle.now
+    ghost invariant = { λ s. IsNewCounted s.node_tables.now s.old.now s.front s.behind s.middle.now
         s.turns.now.listed s.turns.now.between };
 }
 
@@ -52,7 +52,7 @@ impl<'a, 'm> NewCounts<'a, 'm> {
     /// counted.
     #[inline]
     pub fn of(
-        lookups: &'a NodeTables<'m>,
+        node_tables: &'a NodeTables<'m>,
         turns: &'a Turns,
         old: &'a [u32],
         front: u32,
@@ -62,10 +62,10 @@ impl<'a, 'm> NewCounts<'a, 'm> {
         requires seams { AreSeams (length old.now) front behind }
         requires few { length old.now ≤ 1000 }
         requires few_between { length middle.now ≤ 1000 }
-        requires listed { AreCounted lookups.now old.now turns.now.listed }
-        requires between { AreCounted lookups.now middle.now turns.now.between }
+        requires listed { AreCounted node_tables.now old.now turns.now.listed }
+        requires between { AreCounted node_tables.now middle.now turns.now.between }
         ensures { result ≡ record {
-          model = lookups.now;
+          model = node_tables.now;
           old = old.now;
           front = front;
           behind = behind;
@@ -73,7 +73,7 @@ impl<'a, 'm> NewCounts<'a, 'm> {
         } }
     {
         NewCounts {
-            lookups,
+            node_tables,
             turns,
             old,
             front,
@@ -87,7 +87,7 @@ impl<'a, 'm> NewCounts<'a, 'm> {
     pub fn pair_of(&self, node: u32) -> Option<Pair>
         ensures { result ≡ pair_of_node self.now.model node }
     {
-        self.lookups.pair_of(node)
+        self.node_tables.pair_of(node)
     }
 
     // What is counted before a place of the list before.

@@ -40,21 +40,21 @@ impl Turns {
     }
 
     /// Counts the nodes of a committed list. What `listed` has of other nodes stays; of `between` nothing is promised.
-    pub fn put(&mut self, lookups: &NodeTables<'_>, list: &[u32])
+    pub fn put(&mut self, node_tables: &NodeTables<'_>, list: &[u32])
         requires { CanBeCounted list.now }
-        ensures counted { AreCounted lookups.now list.now self.new.listed }
+        ensures counted { AreCounted node_tables.now list.now self.new.listed }
         ensures others { (node : ℕ) → holds list.now node ≡ false
             → count_of self.new.listed node ≡ count_of self.old.listed node }
     {
-        write_counts(lookups, list, &mut self.listed);
+        write_counts(node_tables, list, &mut self.listed);
     }
 
     /// Counts the nodes that a change puts into a list. What is kept of committed lists stays.
-    pub fn put_between(&mut self, lookups: &NodeTables<'_>, middle: &[u32])
+    pub fn put_between(&mut self, node_tables: &NodeTables<'_>, middle: &[u32])
         requires { CanBeCounted middle.now }
-        ensures counted { AreCounted lookups.now middle.now self.new.between }
+        ensures counted { AreCounted node_tables.now middle.now self.new.between }
         ensures kept { self.new.listed ≡ self.old.listed }
     {
-        write_counts(lookups, middle, &mut self.between);
+        write_counts(node_tables, middle, &mut self.between);
     }
 }

@@ -1,7 +1,7 @@
 use Rattle.std.proofs.Common.{◌∙◌, ℕ, List, sym, subst, arith}
 use Rattle.std.proofs.lemmas.Bool.{false≢true}
 use Rattle.vr_costfilter.proofs.KeptCumulLemmas.{all-visits, stages-none}
-use Rattle.vr_costfilter.specs.Led.{AreFewVisits}
+use Rattle.vr_costfilter.specs.FewVisits.{AreFewVisits}
 use Rattle.vr_costfilter.proofs.kept.write_list.Goals as goal
 
 pub returns-in-None-clause-kept : goal.returns-in-None-clause-kept
@@ -15,8 +15,8 @@ returns-in-None-clause-kept c =
       whole = λ tour one feasible room. absurd (false≢true (c.in-None.ensures.known ∙ one));
     }
 
-pub invariant_of-led : goal.invariant_of-led
-invariant_of-led c =
+pub invariant_of-on : goal.invariant_of-on
+invariant_of-on c =
     let tour = c.args.tour.now in
     let m = tour.closed.model.now in
     let list : List ℕ = tour.list.now in

@@ -41,6 +41,6 @@ invariant_of-tour c =
 pub returns : goal.returns
 returns c =
     let m = c.args.part.now.model.now in
-    let found = c.kept_in.result in
+    let found = c.timing_of_tour.result in
     subst (λ v. IfOk found (IsTimedIfPaid m c.args.d v (list_after c.args.part.now))) c.vehicle.ensures.value
-    (subst (λ l. IfOk found (IsTimedIfPaid m c.args.d c.vehicle.result l)) (c.as_slice.ensures.value ∙ c.write.ensures.list) c.kept_in.ensures)
+    (subst (λ l. IfOk found (IsTimedIfPaid m c.args.d c.vehicle.result l)) (c.as_slice.ensures.value ∙ c.write.ensures.list) c.timing_of_tour.ensures)

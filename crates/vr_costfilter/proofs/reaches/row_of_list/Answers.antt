@@ -7,8 +7,8 @@ use Rattle.vr_costfilter.proofs.KnownLemmas.{known-at}
 use Rattle.vr_costfilter.specs.GlobalCosts.{IsTimedIfPaid}
 use Rattle.vr_costfilter.proofs.reaches.row_of_list.Goals as goal
 
-pub kept_in-requires : goal.kept_in-requires
-kept_in-requires c = record { known = known-at c.args.tour.now.closed.model.now c.args.tables.now c.requires.tables c.loop-d.d c.index-tables-d.result c.index-tables-d.is c.loop-d-test.true }
+pub timing_of_tour-requires : goal.timing_of_tour-requires
+timing_of_tour-requires c = record { known = known-at c.args.tour.now.closed.model.now c.args.tables.now c.requires.tables c.loop-d.d c.index-tables-d.result c.index-tables-d.is c.loop-d-test.true }
 
 pub loop-d-preserved : goal.loop-d-preserved
 loop-d-preserved c =

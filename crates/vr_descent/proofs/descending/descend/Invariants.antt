@@ -1,5 +1,5 @@
 use Rattle.std.proofs.Common.{◌≡◌, ◌-◌}
-use Rattle.vr_routes.specs.Judging.{HoldSame}
+use Rattle.vr_routes.specs.Judging.{HasCommitted}
 use Rattle.vr_descent.specs.Asking.{AsksFor}
 use Rattle.vr_descent.specs.Scanned.{takes_less}
 use Rattle.vr_known.specs.Blocks.{Learns}
@@ -12,7 +12,7 @@ use Rattle.vr_descent.proofs.descending.descend.Given as goal
 abbrev pub invariant-scans : goal.invariant-scans
 invariant-scans g l = record {
   model : g.J.Judge.model l.judge ≡ l.model;
-  holds : HoldSame l.model (g.J.Judge.committed l.judge) l.routes;
+  holds : HasCommitted l.model (g.J.Judge.committed l.judge) l.routes;
   descends : Descends (λ w. (goal.Watch-dyn g (w.vtable, w.value)).after w.value) l.model l.limit l.fn.routes.lists l.fn.watch.items l.watch.items l.routes l.at;
   asked : AsksFor g.J.Judge.asked g.J.Judge.looked l.fn.judge l.judge l.at.used;
   known : AreRefused l.model takes_less l.routes.lists l.known;

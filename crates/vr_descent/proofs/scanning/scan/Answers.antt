@@ -8,7 +8,7 @@ use Rattle.vr_model.specs.declared.records.Model.{Model}
 use Rattle.vr_known.specs.Passing.{Takes}
 use Rattle.vr_model.proofs.tables.Refusals.{on_err}
 use Rattle.vr_model.specs.tables.WellFormed.{IsWellFormed}
-use Rattle.vr_routes.specs.Judging.{HoldSame}
+use Rattle.vr_routes.specs.Judging.{HasCommitted}
 use Rattle.vr_descent.specs.Asking.{AsksFor}
 use Rattle.vr_descent.specs.Refused.{AreRefused, IsPassed}
 use Rattle.vr_descent.specs.Scanned.{is_acceptable, scan_end}
@@ -59,7 +59,7 @@ further_at_end g c = at_or_behind c.args.rest c.loop-mv.place c.next_open.new.pl
 
 pub loop-mv-init : goal.loop-mv-init
 loop-mv-init g c = let list = c.moves-list.ensures in record {
-  keeps = record { model = refl; committed = c.requires.judge.holds.same };
+  keeps = record { model = refl; committed = c.requires.judge.holds.committed };
   asked = asks_none _;
   within = omega arith;
   ends = ap (scan_from 0 (is_acceptable c.args.model.now (g.A.Accept.takes c.args.accept.now) c.args.routes.now.lists) c.args.rest) list;
@@ -122,8 +122,8 @@ next_open-requires g c = record {
   };
   can_judge = record {
     judge_model = c.loop-mv.invariant.keeps.model ∙ c.requires.judge.judge_model ∙ sym c.requires.accept_model;
-    holds = subst (λ (m : Model). HoldSame m (g.J.Judge.committed c.loop-mv.judge) c.args.routes.now) (sym c.requires.accept_model)
-        (let before = c.requires.judge.holds in record { same = c.loop-mv.invariant.keeps.committed; of_model = before.of_model; valid = before.valid });
+    holds = subst (λ (m : Model). HasCommitted m (g.J.Judge.committed c.loop-mv.judge) c.args.routes.now) (sym c.requires.accept_model)
+        (let before = c.requires.judge.holds in record { committed = c.loop-mv.invariant.keeps.committed; of_model = before.of_model; valid = before.valid });
   };
 }
 
@@ -132,7 +132,7 @@ try_move-requires-clause-judge_model g c = c.in-Some.ensures.model ∙ (c.loop-m
 
 pub try_move-requires-clause-holds : goal.try_move-requires-clause-holds
 try_move-requires-clause-holds g c =
-    let before = c.requires.judge.holds in record { same = c.in-Some.ensures.committed; of_model = before.of_model; valid = before.valid }
+    let before = c.requires.judge.holds in record { committed = c.in-Some.ensures.committed; of_model = before.of_model; valid = before.valid }
 
 -- ---- how often the judge was asked
 

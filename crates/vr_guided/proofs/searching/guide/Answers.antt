@@ -37,8 +37,8 @@ pub returns-in_err-state-clause-told_in_part : goal.returns-in_err-state-clause-
 returns-in_err-state-clause-told_in_part g c =
     on_err c.from_residual-in_err-state.result (goes_nowhere (λ w. (goal.Watch-dyn g (w.vtable, w.value)).after w.value) (guided c.args.model.now c.args.routes.now.lists c.args.limit c.args.lambda) (rest c.args.model.now c.args.limit c.args.lambda c.args.routes.now.lists) _ _ (noted g (goal.at.returns-in_err-state-clause-told_in_part g c).In_ok-note_all))
 
-pub improve-requires-clause-parameters : goal.improve-requires-clause-parameters
-improve-requires-clause-parameters g c =
+pub search-requires-clause-parameters : goal.search-requires-clause-parameters
+search-requires-clause-parameters g c =
     record {
       tries = c.requires.begins.limit.tries;
       solutions = c.requires.begins.limit.solutions;
@@ -48,15 +48,15 @@ improve-requires-clause-parameters g c =
       q_to_1000 = c.requires.q_to_1000;
     }
 
-pub improve-requires-clause-stands : goal.improve-requires-clause-stands
-improve-requires-clause-stands g c =
-    begun_stands c.args.model.now c.args.limit c.args.routes.now c.in_ok-state.state (begins g (goal.at.improve-requires-clause-stands g c).In_ok-state) _ c.requires.begins.judge.holds c.requires.begins.limit.one_solution
+pub search-requires-clause-stands : goal.search-requires-clause-stands
+search-requires-clause-stands g c =
+    begun_stands c.args.model.now c.args.limit c.args.routes.now c.in_ok-state.state (begins g (goal.at.search-requires-clause-stands g c).In_ok-state) _ c.requires.begins.judge.holds c.requires.begins.limit.one_solution
 
 pub returns-in_err-end-clause-told_in_part : goal.returns-in_err-end-clause-told_in_part
 returns-in_err-end-clause-told_in_part g c =
     let at = goal.at.returns-in_err-end-clause-told_in_part g c in
     on_err c.from_residual-in_err-end.result (breaks_within (λ w. (goal.Watch-dyn g (w.vtable, w.value)).after w.value) (guided c.args.model.now c.args.routes.now.lists c.args.limit c.args.lambda) (rest c.args.model.now c.args.limit c.args.lambda c.args.routes.now.lists) _ _ _ (noted g at.In_ok-note_all)
-    (subst (λ o. ReportedInPart (λ w. (goal.Watch-dyn g (w.vtable, w.value)).after w.value) c.note_all.new.watch.items c.improve.new.watch.items o.events) (same g at.In_ok-state) c.in_err-end.ensures.told_in_part))
+    (subst (λ o. ReportedInPart (λ w. (goal.Watch-dyn g (w.vtable, w.value)).after w.value) c.note_all.new.watch.items c.search.new.watch.items o.events) (same g at.In_ok-state) c.in_err-end.ensures.told_in_part))
 
 pub returns-in_err-end-clause-asked_at_most : goal.returns-in_err-end-clause-asked_at_most
 returns-in_err-end-clause-asked_at_most g c =
@@ -69,9 +69,9 @@ returns-clause-ended g c =
     let done = c.in_ok-end.ensures in
     let model = c.args.model.now in
     let start = begins g at.In_ok-state in
-    has_ended (λ w. (goal.Watch-dyn g (w.vtable, w.value)).after w.value) model c.args.limit (guided model c.args.routes.now.lists c.args.limit c.args.lambda) (rest model c.args.limit c.args.lambda c.args.routes.now.lists) c.args.routes.now c.improve.new.routes _ _ _ c.improve.new.state.at c.in_ok-state.state.best c.improve.new.state.best _ _ c.in_ok-end.end c.report.result
+    has_ended (λ w. (goal.Watch-dyn g (w.vtable, w.value)).after w.value) model c.args.limit (guided model c.args.routes.now.lists c.args.limit c.args.lambda) (rest model c.args.limit c.args.lambda c.args.routes.now.lists) c.args.routes.now c.search.new.routes _ _ _ c.search.new.state.at c.in_ok-state.state.best c.search.new.state.best _ _ c.in_ok-end.end c.report.result
     (noted g at.In_ok-note_all)
-    (subst (λ o. HasStopped (λ w. (goal.Watch-dyn g (w.vtable, w.value)).after w.value) o c.improve.new.routes.lists c.improve.new.state.at c.improve.new.state.best c.note_all.new.watch.items c.improve.new.watch.items c.in_ok-end.end) (same g at.In_ok-state) done.stopped)
+    (subst (λ o. HasStopped (λ w. (goal.Watch-dyn g (w.vtable, w.value)).after w.value) o c.search.new.routes.lists c.search.new.state.at c.search.new.state.best c.note_all.new.watch.items c.search.new.watch.items c.in_ok-end.end) (same g at.In_ok-state) done.stopped)
     c.requires.begins.judge.holds done.stands.going (ap (λ b. b.cost) start.best_is) done.no_dearer c.report.ensures
 
 pub returns-clause-asked : goal.returns-clause-asked

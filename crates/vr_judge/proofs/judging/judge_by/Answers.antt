@@ -6,7 +6,7 @@ use Rattle.vr_model.specs.routes.Rules.{is_valid}
 use Rattle.vr_model.specs.declared.records.Model.{Model}
 use Rattle.vr_model.proofs.routes.CostFits.{costs_are_bounded}
 use Rattle.vr_routes.specs.Pieces.{changed}
-use Rattle.vr_judge.proofs.HeldLemmas.{of_held}
+use Rattle.vr_judge.proofs.CommittedLemmas.{stand_at_valid}
 use Rattle.vr_judge.proofs.VerdictLemmas.{differs_by, refused_by}
 use Rattle.vr_judge.proofs.judging.judge_by.Goals as goal
 
@@ -23,7 +23,7 @@ returns-clause-verdict g c =
     let model : Model = c.args.costs.now.model in
     let lists = c.args.routes.now.lists in
     let after = changed lists c.args.change.now in
-    let of = of_held c.requires.costs in
+    let of = stand_at_valid c.requires.costs in
     let valid : is_valid model after ≡ true = sym c.requires.rule ∙ (sym c.in_ok-passes.ensures.answer ∙ c.if-not-branch.false) in
     let exact : c.in_ok-difference.difference ≡ cost model after -ℤ cost model lists = c.in_ok-difference.ensures.exact in
     let old = costs_are_bounded model of.0 lists of.1 in

@@ -7,4 +7,4 @@ use Rattle.vr_pathfilters.proofs.pairs.count_all.Given as goal
 
 -- the lists of the vehicles so far are counted
 abbrev pub invariant-loop-v : goal.invariant-loop-v
-invariant-loop-v l = (w : ℕ) → w < l.v → IsTrue (asks_turns_of l.lookups w) → AreCounted l.lookups (route l.routes.lists w) l.turns.listed
+invariant-loop-v l = (w : ℕ) → w < l.v → IsTrue (asks_turns_of l.node_tables w) → AreCounted l.node_tables (route l.routes.lists w) l.turns.listed

@@ -9,7 +9,7 @@ use Rattle.vr_pathfilters.proofs.pairs.serves_between.Goals as goal
 
 pub returns-then-serves_each : goal.returns-then-serves_each
 returns-then-serves_each c =
-    let m = c.args.lookups.now in
+    let m = c.args.node_tables.now in
     let old : List ℕ = route c.args.ends.now.routes.now.lists c.args.ends.now.v in
     let new : List ℕ = spliced old c.args.ends.now.front c.args.ends.now.behind c.args.ends.now.middle.now in
     let gone : List ℕ = slice_range old c.args.ends.now.front c.args.ends.now.behind in
@@ -22,7 +22,7 @@ returns-then-serves_each c =
 pub returns-else-serves_each : goal.returns-else-serves_each
 returns-else-serves_each c =
     let old : List ℕ = route c.args.ends.now.routes.now.lists c.args.ends.now.v in
-    let gone : Bool = list_all (serves_node c.args.lookups.now (spliced old c.args.ends.now.front c.args.ends.now.behind c.args.ends.now.middle.now)) (slice_range old c.args.ends.now.front c.args.ends.now.behind) in
+    let gone : Bool = list_all (serves_node c.args.node_tables.now (spliced old c.args.ends.now.front c.args.ends.now.behind c.args.ends.now.middle.now)) (slice_range old c.args.ends.now.front c.args.ends.now.behind) in
     c.if-serves_each.false
     ∙ (ap (λ b. b && gone) (sym (sym c.serves_each.ensures ∙ c.if-serves_each.false))
-    ∙ serves-spliced c.args.lookups.now c.model-model.ensures.well_formed old c.args.ends.now.middle.now c.args.ends.now.front c.args.ends.now.behind c.args.ends.now.fits.seams.order c.requires.before)
+    ∙ serves-spliced c.args.node_tables.now c.model-model.ensures.well_formed old c.args.ends.now.middle.now c.args.ends.now.front c.args.ends.now.behind c.args.ends.now.fits.seams.order c.requires.before)

@@ -11,7 +11,7 @@ use Rattle.vr_pathfilters.proofs.vehicles.piece_allows.Goals as goal
 pub returns-then-vehicle-v : goal.returns-then-vehicle-v
 returns-then-vehicle-v c =
     let lists : List (List ℕ) = c.args.routes.now.lists in
-    let p : ℕ → Bool = allows_vehicle c.args.lookups.now c.args.v in
+    let p : ℕ → Bool = allows_vehicle c.args.node_tables.now c.args.v in
     let chain = c.in-Chain in
     let rule = subst (λ w. IsTrue (list_all p (route lists w))) (sym c.if-vehicle-v.true) c.requires.rule in
     sym (ap (λ x. list_all p (nodes_of lists x)) chain.is ∙ all-of_chain p lists chain.vehicle chain.from chain.to chain.reversed rule)
@@ -19,7 +19,7 @@ returns-then-vehicle-v c =
 pub returns-else-vehicle-v : goal.returns-else-vehicle-v
 returns-else-vehicle-v c =
     let lists : List (List ℕ) = c.args.routes.now.lists in
-    let p : ℕ → Bool = allows_vehicle c.args.lookups.now c.args.v in
+    let p : ℕ → Bool = allows_vehicle c.args.node_tables.now c.args.v in
     let chain = c.in-Chain in
     c.allows_each.ensures ∙ (ap (λ l. list_all p (slice_range l chain.from chain.to)) c.list.ensures.value
     ∙ sym (ap (λ x. list_all p (nodes_of lists x)) chain.is ∙ all-chain p lists chain.vehicle chain.from chain.to chain.reversed))

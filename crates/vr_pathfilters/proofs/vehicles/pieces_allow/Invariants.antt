@@ -4,4 +4,4 @@ use Rattle.vr_pathfilters.proofs.vehicles.pieces_allow.Given as goal
 
 -- the nodes of the pieces so far allow the vehicle
 abbrev pub invariant-loop-k : goal.invariant-loop-k
-invariant-loop-k l = are_allowed_pieces l.lookups l.routes.lists l.v (take l.k l.pieces) ≡ true
+invariant-loop-k l = are_allowed_pieces l.node_tables l.routes.lists l.v (take l.k l.pieces) ≡ true

@@ -15,18 +15,18 @@ read c = get_or_from_slice_get c.args.set.now c.loop-k.k c.run.result c.run.resu
 low : (c : After-run) → c.loop-k.k < length c.args.set.now
 low c = let test = c.loop-k-test.true in let n = c.len-runs.ensures.value in omega (arith, test, n)
 
-pub share-requires-clause-first : goal.share-requires-clause-first
-share-requires-clause-first c = let test = c.if-run.false in omega (arith, ints, test)
+pub runs_share-requires-clause-first : goal.runs_share-requires-clause-first
+runs_share-requires-clause-first c = let test = c.if-run.false in omega (arith, ints, test)
 
-pub share-requires-clause-second : goal.share-requires-clause-second
-share-requires-clause-second c = subst (λ (r : Run). r.lo ≤ℤ r.hi) (read c) (in_order (neg_ℤ limit) c.args.set.now c.loop-k.k c.run.result c.len-runs.ensures.normal (low c))
+pub runs_share-requires-clause-second : goal.runs_share-requires-clause-second
+runs_share-requires-clause-second c = subst (λ (r : Run). r.lo ≤ℤ r.hi) (read c) (in_order (neg_ℤ limit) c.args.set.now c.loop-k.k c.run.result c.len-runs.ensures.normal (low c))
 
-pub returns-then-share : goal.returns-then-share
-returns-then-share c =
-    let at = (goal.at.returns-then-share c).After-run in
-    (λ t. shared_with_one c.args.run c.args.set.now c.loop-k.k c.run.result (low at) (subst (λ (r : Run). ShareANumber (c.args.run ∷ []) (r ∷ [])) (sym (read at)) (c.share.ensures.0 c.if-share.true)), λ shared. refl)
+pub returns-then-runs_share : goal.returns-then-runs_share
+returns-then-runs_share c =
+    let at = (goal.at.returns-then-runs_share c).After-run in
+    (λ t. shared_with_one c.args.run c.args.set.now c.loop-k.k c.run.result (low at) (subst (λ (r : Run). ShareANumber (c.args.run ∷ []) (r ∷ [])) (sym (read at)) (c.runs_share.ensures.0 c.if-runs_share.true)), λ shared. refl)
 
 pub loop-k-preserved : goal.loop-k-preserved
 loop-k-preserved c =
     let at = (goal.at.loop-k-preserved c).After-run in
-    λ shared. shared_behind c.args.run c.args.set.now c.loop-k.k c.run.result (low at) (λ both. clash c.share.result (c.share.ensures.1 (subst (λ (r : Run). ShareANumber (c.args.run ∷ []) (r ∷ [])) (read at) both)) c.if-share.false) (c.loop-k.invariant shared)
+    λ shared. shared_behind c.args.run c.args.set.now c.loop-k.k c.run.result (low at) (λ both. clash c.runs_share.result (c.runs_share.ensures.1 (subst (λ (r : Run). ShareANumber (c.args.run ∷ []) (r ∷ [])) (read at) both)) c.if-runs_share.false) (c.loop-k.invariant shared)

@@ -45,16 +45,16 @@ returns-then-run-clause-count g c =
     let walk = c.args.walk.now in
     within_both c.args.steps.now (steps_between (line_along walk) walk.begin walk.last) (join_steps (line_along walk) walk.last) c.carry_run-run.new.steps (c.carry_run-run.ensures.count c.requires.from)
 
-pub share-requires-clause-first : goal.share-requires-clause-first
-share-requires-clause-first g c = let test = c.if-run.false in omega (arith, ints, test)
+pub runs_share-requires-clause-first : goal.runs_share-requires-clause-first
+runs_share-requires-clause-first g c = let test = c.if-run.false in omega (arith, ints, test)
 
-pub share-requires-clause-second : goal.share-requires-clause-second
-share-requires-clause-second g c = c.requires.to.cumuls.in_order
+pub runs_share-requires-clause-second : goal.runs_share-requires-clause-second
+runs_share-requires-clause-second g c = c.requires.to.cumuls.in_order
 
 pub returns-clause-exact : goal.returns-clause-exact
 returns-clause-exact g c =
     let is = feasible_where c.args.walk.now c.args.between c.requires c.carry_run-run.result (c.carry_run-run.ensures.reached 0 (omega arith) c.requires.from) in
-    feasible_as_tested chosen_where_feasible (line_along c.args.walk.now) c.share.result (λ t. is.1 (c.share.ensures.0 t), λ feasible. c.share.ensures.1 (is.0 feasible))
+    feasible_as_tested chosen_where_feasible (line_along c.args.walk.now) c.runs_share.result (λ t. is.1 (c.runs_share.ensures.0 t), λ feasible. c.runs_share.ensures.1 (is.0 feasible))
 
 pub returns-clause-count : goal.returns-clause-count
 returns-clause-count g c =

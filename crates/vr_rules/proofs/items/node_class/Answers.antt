@@ -14,7 +14,7 @@ returns-then-g-len c =
     ∙ ap (λ m. node_class m c.args.node) is
 
 -- the class of a node in a group
-grouped : (c : After-is_free_of_penalty) → cond c.is_free_of_penalty.result 1 2 ≡ node_class c.args.lookups.now c.args.node
+grouped : (c : After-is_free_of_penalty) → cond c.is_free_of_penalty.result 1 2 ≡ node_class c.args.node_tables.now c.args.node
 grouped c =
     let model = c.model-model.result.now in
     let is = c.model-model.ensures.model in

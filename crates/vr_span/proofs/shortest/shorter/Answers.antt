@@ -1,14 +1,14 @@
 use Rattle.std.proofs.Common.{subst, arith}
 use Rattle.std.specs.Prelude.{IfSome}
 use Rattle.std.proofs.lemmas.Int.{ints}
-use Rattle.vr_span.specs.Pieces.{HasEnds}
+use Rattle.vr_span.specs.Pieces.{BeginsInHorizon}
 use Rattle.vr_span.proofs.ShortLemmas.{shorter_is, shorter_not}
 use Rattle.vr_span.proofs.shortest.shorter.Goals.{In-Some}
 use Rattle.vr_span.proofs.shortest.shorter.Goals as goal
 
 -- the ends of the other piece
-theirs : (c : In-Some) → HasEnds c.in-Some.other
-theirs c = subst (λ found. IfSome found HasEnds) c.in-Some.is c.requires.behind
+theirs : (c : In-Some) → BeginsInHorizon c.in-Some.other
+theirs c = subst (λ found. IfSome found BeginsInHorizon) c.in-Some.is c.requires.behind
 
 pub returns-then-other-piece : goal.returns-then-other-piece
 returns-then-other-piece c =

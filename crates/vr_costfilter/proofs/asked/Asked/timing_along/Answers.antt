@@ -20,8 +20,8 @@ use Rattle.vr_costfilter.proofs.StageLemmas.{stage-more}
 use Rattle.vr_costfilter.proofs.StuckLemmas.{untold}
 use Rattle.vr_costfilter.proofs.asked.Asked.timing_along.Goals as goal
 
-pub invariant_of-led : goal.invariant_of-led
-invariant_of-led c =
+pub invariant_of-on : goal.invariant_of-on
+invariant_of-on c =
     let asked = c.args.self.now in
     let h = asked.sound in
     record { sound = record { within = h.within; nodes = record { few = h.few; visits = all-visits asked.guide.now.model.now (joined asked.routes.now.lists asked.pieces.now) h.used.tour.visits } } }

@@ -6,7 +6,7 @@ use Rattle.vr_routes.specs.Tours.{Tours}
 use Rattle.vr_earliest.specs.declared.earlies.Early.{Early}
 use Rattle.vr_costfilter.specs.EarlyParts.{AreEarlyInRange, AreEarlyParts}
 use Rattle.vr_costfilter.specs.declared.orders.SortedEnds.{SortedEnds}
-use Rattle.vr_costfilter.specs.GlobalCosts.{AreAllOrders, AreSpansTold, KeptSpans}
+use Rattle.vr_costfilter.specs.GlobalCosts.{AreAllOrders, AreSpansKnown, KeptSpans}
 use Rattle.vr_costfilter.specs.Spreads.{global_least}
 use Rattle.vr_costfilter.proofs.GlobalLemmas.{none-costs, none-pays, ranged-alone, ranged-same}
 use Rattle.vr_costfilter.proofs.KnownLemmas.{early-range}
@@ -14,7 +14,7 @@ use Rattle.vr_costfilter.proofs.SpreadLemmas.{least-holds, none-least}
 use Rattle.vr_costfilter.proofs.global_span.GlobalSpan.least.Goals as goal
 
 -- what is told of the lists after the change
-told-of : (kept : KeptSpans) (rows : List (List Early)) (parts : List ListAfter) (tours : Tours) → AreSpansTold kept rows parts tours → AreEarlyParts kept.model tours.lists parts rows
+told-of : (kept : KeptSpans) (rows : List (List Early)) (parts : List ListAfter) (tours : Tours) → AreSpansKnown kept rows parts tours → AreEarlyParts kept.model tours.lists parts rows
 told-of kept rows parts tours h = record { well_formed = h.stands.well_formed; as_many = h.stands.as_many; parts_are = h.made.makes.parts_are; earlies = h.earlies }
 
 pub least-requires-clause-earlies : goal.least-requires-clause-earlies

@@ -12,8 +12,8 @@ use Rattle.vr_costfilter.proofs.kept.KeptList.write_earliest.Goals as goal
 
 pub returns-clause-kept : goal.returns-clause-kept
 returns-clause-kept c =
-    let g = c.args.led.now.guide.now in
-    let list = c.args.led.now.list.now in
+    let g = c.args.on.now.guide.now in
+    let list = c.args.on.now.list.now in
     record {
       earliest = λ rule runs are. stages-so g.model.now g.d g.v (runs_of g) runs c.requires.runs are list _ c.write.ensures.stages;
       tight = λ rule runs are. absurd (other-rule (sym c.requires.rule_is ∙ rule));

@@ -14,29 +14,29 @@ use Rattle.vr_costfilter.proofs.KeptCumulLemmas.{ends-set, other-rule, stages-be
 use Rattle.vr_costfilter.proofs.kept.KeptList.write_tight.Goals as goal
 
 pub write_ways-requires : goal.write_ways-requires
-write_ways-requires c = (omega arith, (c.args.led.now.sound.few, c.args.led.now.sound.visits))
+write_ways-requires c = (omega arith, (c.args.on.now.sound.few, c.args.on.now.sound.visits))
 
 pub write_between-requires : goal.write_between-requires
 write_between-requires c =
-    let g = c.args.led.now.guide.now in
+    let g = c.args.on.now.guide.now in
     let items : List KeptTightWays = c.forget.new.self.ends.items in
     let many = length-set items 0 c.write_ways.new.kept in
     let some = some_from_test _ _ c.if-is_empty.false c.is_empty.ensures in
     record {
       ends = omega (arith, many, some);
-      ways = λ other. subst (HasWaysBy g.model.now g.d g.v (runs_of g) c.args.led.now.list.now) (sym (get_or-set_same items 0 c.write_ways.new.kept other (omega (arith, some)))) (record { runs_are = c.requires.runs; keeps = c.write_ways.ensures });
+      ways = λ other. subst (HasWaysBy g.model.now g.d g.v (runs_of g) c.args.on.now.list.now) (sym (get_or-set_same items 0 c.write_ways.new.kept other (omega (arith, some)))) (record { runs_are = c.requires.runs; keeps = c.write_ways.ensures });
       none = c.forget.ensures.none;
       between = c.forget.ensures.between;
     }
 
 pub returns-then-is_empty-clause-kept : goal.returns-then-is_empty-clause-kept
 returns-then-is_empty-clause-kept c =
-    let g = c.args.led.now.guide.now in
+    let g = c.args.on.now.guide.now in
     record {
       earliest = λ rule runs are. absurd (other-rule (sym rule ∙ c.requires.rule_is));
-      tight = λ rule runs are. stages-none g.model.now g.d g.v _ c.args.led.now.list.now _ (omega (arith, c.forget.ensures.none));
+      tight = λ rule runs are. stages-none g.model.now g.d g.v _ c.args.on.now.list.now _ (omega (arith, c.forget.ensures.none));
       between = c.forget.ensures.between;
-      ends = c.forget.ensures.ends g.model.now g.d g.v c.args.led.now.list.now;
+      ends = c.forget.ensures.ends g.model.now g.d g.v c.args.on.now.list.now;
       whole = λ tour one feasible room. absurd (no-room (vehicle_at g.model.now g.v).schedule (length c.forget.new.self.ends.items) c.requires.rule_is room (let none = none_from_test _ _ c.if-is_empty.true c.is_empty.ensures in omega (arith, none)));
     }
   where
@@ -45,8 +45,8 @@ returns-then-is_empty-clause-kept c =
 
 pub returns-clause-kept : goal.returns-clause-kept
 returns-clause-kept c =
-    let g = c.args.led.now.guide.now in
-    let list = c.args.led.now.list.now in
+    let g = c.args.on.now.guide.now in
+    let list = c.args.on.now.list.now in
     let items : List KeptTightWays = c.forget.new.self.ends.items in
     let new : KeptTightWays = c.write_ways.new.kept in
     let is : AreKeptWays g.model.now g.d g.v list new = record { ways = λ _. record { runs = runs_of g; has = record { runs_are = c.requires.runs; keeps = c.write_ways.ensures } } } in

@@ -9,7 +9,7 @@ use Rattle.vr_routes.specs.Pieces.{ListAfter, changed, joined, part_at}
 use Rattle.vr_routes.specs.Tours.{Tours}
 use Rattle.vr_earliest.specs.declared.earlies.Early.{Early}
 use Rattle.vr_costfilter.specs.EarlyParts.{AreEarlyInRange, AreEarlyParts}
-use Rattle.vr_costfilter.specs.PlanCosts.{plans_cost, soft_and_span, spans_least, ArePlansTold, KeptPlans}
+use Rattle.vr_costfilter.specs.PlanCosts.{plans_cost, soft_and_span, spans_least, ArePlansKnown, KeptPlans}
 use Rattle.vr_costfilter.proofs.CostLemmas.{old-cost}
 use Rattle.vr_costfilter.proofs.KnownLemmas.{early-range}
 use Rattle.vr_costfilter.proofs.PlanLemmas.{idle-where}
@@ -18,7 +18,7 @@ use Rattle.vr_costfilter.proofs.LeastSpanLemmas.{change-idle, change-least, leas
 use Rattle.vr_costfilter.proofs.plan_cost.PlanCost.least.Goals as goal
 
 -- what is told of the lists after the change
-told-of : (kept : KeptPlans) (rows : List (List Early)) (parts : List ListAfter) (tours : Tours) → ArePlansTold kept rows parts tours → AreEarlyParts kept.model tours.lists parts rows
+told-of : (kept : KeptPlans) (rows : List (List Early)) (parts : List ListAfter) (tours : Tours) → ArePlansKnown kept rows parts tours → AreEarlyParts kept.model tours.lists parts rows
 told-of kept rows parts tours h = record { well_formed = h.stands.well_formed; as_many = h.stands.as_many; parts_are = h.made.makes.parts_are; earlies = h.earlies }
 
 pub least-requires-clause-earlies : goal.least-requires-clause-earlies

@@ -26,8 +26,8 @@ invariant_of-known c =
     let g = c.args.asked.now.guide.now in
     record { sound = subst (λ list. AreKnownSteps g.model.now g.d g.v (runs_of g) list c.args.self.now) (sym c.list-list.ensures.value) c.requires.known }
 
-pub invariant_of-led : goal.invariant_of-led
-invariant_of-led c =
+pub invariant_of-on : goal.invariant_of-on
+invariant_of-on c =
     let asked = c.args.asked.now in
     let lists : List (List ℕ) = asked.routes.now.lists in
     let ends = c.args.asked.now.splice in

@@ -26,8 +26,8 @@ read-is trail old read n k other same is many low = step-read old.steps.items re
 
 pub to_visit-requires-clause-step : goal.to_visit-requires-clause-step
 to_visit-requires-clause-step c =
-    let g = c.args.led.now.guide.now in
-    let list : List ℕ = c.args.led.now.list.now in
+    let g = c.args.on.now.guide.now in
+    let list : List ℕ = c.args.on.now.list.now in
     let low = c.loop-k-test.true in
     let items : List Step = c.args.self.now.trail.steps.items in
     let many = items-many g.model.now g.d g.v (runs_of g) list items c.requires.steps.steps_are in
@@ -37,15 +37,15 @@ to_visit-requires-clause-step c =
 
 pub to_visit-requires-clause-stage : goal.to_visit-requires-clause-stage
 to_visit-requires-clause-stage c =
-    stage-more c.args.led.now.guide.now.model.now (suc c.loop-k.k) 4000 c.loop-k.stage (omega (arith, c.args.led.now.sound.few, c.loop-k-test.true)) c.loop-k.invariant.range
+    stage-more c.args.on.now.guide.now.model.now (suc c.loop-k.k) 4000 c.loop-k.stage (omega (arith, c.args.on.now.sound.few, c.loop-k-test.true)) c.loop-k.invariant.range
 
 pub to_end-requires : goal.to_end-requires
 to_end-requires c =
-    record { stage = stage-more c.args.led.now.guide.now.model.now (suc c.loop-k.k) 4000 c.loop-k.stage (omega (arith, c.args.led.now.sound.few, c.loop-k.auto.k-end)) c.loop-k.invariant.range }
+    record { stage = stage-more c.args.on.now.guide.now.model.now (suc c.loop-k.k) 4000 c.loop-k.stage (omega (arith, c.args.on.now.sound.few, c.loop-k.auto.k-end)) c.loop-k.invariant.range }
 
 pub loop-k-init : goal.loop-k-init
 loop-k-init c =
-    let g = c.args.led.now.guide.now in
+    let g = c.args.on.now.guide.now in
     let old : List Stage = c.args.self.now.stages.items in
     let stage : Stage = c.standing-stage.result in
     let items : c.push.new.self.items ≡ stage ∷ [] = c.push.ensures.items ∙ ap (λ l. l ++ stage ∷ []) (nothing old c.requires.none) in
@@ -54,7 +54,7 @@ loop-k-init c =
     ap (λ s. setting_out g.model.now g.d g.v (runs_of g) s) (sym c.requires.steps.first_is) ∙ ap (option_map (stage_at_start g.model.now g.d g.v)) (sym c.in-Some.ensures.value) ∙ ap (λ (s : Stage). Some s) (sym (c.standing-stage.ensures.value ∙ ap (stage_at_start g.model.now g.d g.v) (read-cumul c.in-Some.floor c.in-Some.ensures.range))) in
     record {
       many = ap length items;
-      stages = first-stage g.model.now g.d g.v (runs_of g) c.args.led.now.list.now (steps_of c.args.self.now) c.push.new.self.items stage items out c.standing-stage.ensures.range;
+      stages = first-stage g.model.now g.d g.v (runs_of g) c.args.on.now.list.now (steps_of c.args.self.now) c.push.new.self.items stage items out c.standing-stage.ensures.range;
       last = λ other. ap (λ (l : List Stage). slice_index_or l 0 other) items;
       range = c.standing-stage.ensures.range;
       trail = refl;
@@ -66,10 +66,10 @@ loop-k-init c =
 
 pub loop-k-preserved : goal.loop-k-preserved
 loop-k-preserved c =
-    let g = c.args.led.now.guide.now in
+    let g = c.args.on.now.guide.now in
     let k = c.loop-k.k in
     let i = c.loop-k.invariant in
-    let list : List ℕ = c.args.led.now.list.now in
+    let list : List ℕ = c.args.on.now.list.now in
     let low = c.loop-k-test.true in
     let end : Step = end_step g.model.now g.v (runs_of g) in
     let steps : List Step = steps_of c.args.self.now in
@@ -99,10 +99,10 @@ returns-in-Some-to_end-clause-all c L by feasible =
 
 pub returns-in-None-clause-all : goal.returns-in-None-clause-all
 returns-in-None-clause-all c L by feasible =
-    let g = c.args.led.now.guide.now in
+    let g = c.args.on.now.guide.now in
     let k = c.loop-k.k in
     let i = c.loop-k.invariant in
-    let list : List ℕ = c.args.led.now.list.now in
+    let list : List ℕ = c.args.on.now.list.now in
     let steps : List Step = steps_of c.args.self.now in
     let low = c.loop-k-test.true in
     let end : Step = end_step g.model.now g.v (runs_of g) in
@@ -118,17 +118,17 @@ returns-in-None-clause-all c L by feasible =
 
 pub returns-in_default-clause-all : goal.returns-in_default-clause-all
 returns-in_default-clause-all c L by feasible =
-    let g = c.args.led.now.guide.now in
+    let g = c.args.on.now.guide.now in
     let steps : List Step = steps_of c.args.self.now in
     let none = ap (λ s. setting_out g.model.now g.d g.v (runs_of g) s) (sym c.requires.steps.first_is) ∙ ap (option_map (stage_at_start g.model.now g.d g.v)) (sym c.in_default.ensures.value) in
-    absurd (whole-had g.model.now g.d g.v (runs_of g) c.args.led.now.list.now L by feasible.0 feasible.1 steps c.requires.steps.steps_are
+    absurd (whole-had g.model.now g.d g.v (runs_of g) c.args.on.now.list.now L by feasible.0 feasible.1 steps c.requires.steps.steps_are
     (ap (λ o. along_to_end g.model.now g.d g.v (runs_of g) o steps) none ∙ whole-none g.model.now g.d g.v (runs_of g) steps))
 
 pub returns-in_default-to_end-clause-all : goal.returns-in_default-to_end-clause-all
 returns-in_default-to_end-clause-all c L by feasible =
-    let g = c.args.led.now.guide.now in
+    let g = c.args.on.now.guide.now in
     let i = c.loop-k.invariant in
-    let list : List ℕ = c.args.led.now.list.now in
+    let list : List ℕ = c.args.on.now.list.now in
     let steps : List Step = steps_of c.args.self.now in
     let all : c.loop-k.k ≡ length list = omega (arith, c.loop-k.auto.k-end, c.loop-k-test.false) in
     let long = many-steps g.model.now g.d g.v (runs_of g) list steps c.requires.steps.steps_are in
@@ -139,9 +139,9 @@ returns-in_default-to_end-clause-all c L by feasible =
 
 pub returns-in-Some-to_end-clause-stages : goal.returns-in-Some-to_end-clause-stages
 returns-in-Some-to_end-clause-stages c =
-    let g = c.args.led.now.guide.now in
+    let g = c.args.on.now.guide.now in
     let i = c.loop-k.invariant in
-    let list : List ℕ = c.args.led.now.list.now in
+    let list : List ℕ = c.args.on.now.list.now in
     let steps : List Step = steps_of c.args.self.now in
     let long = many-steps g.model.now g.d g.v (runs_of g) list steps c.requires.steps.steps_are in
     let old : List Stage = c.loop-k.self.stages.items in

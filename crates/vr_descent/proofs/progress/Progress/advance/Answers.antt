@@ -7,7 +7,7 @@ use Rattle.vr_model.specs.moves.MoveTests.{is_move}
 use Rattle.vr_model.specs.search.Scans.Scan.{Complete as complete, Cut as cut}
 use Rattle.vr_model.specs.routes.Rules.{is_valid}
 use Rattle.vr_model.specs.tables.WellFormed.{IsWellFormed}
-use Rattle.vr_routes.specs.Judging.{HoldSame}
+use Rattle.vr_routes.specs.Judging.{HasCommitted}
 use Rattle.vr_routes.specs.Judging.{cost_change, moved}
 use Rattle.vr_watch.specs.Told.{Reported, ReportedInPart}
 use Rattle.vr_model.proofs.routes.CostFits.{costs_are_bounded}
@@ -32,12 +32,12 @@ use Rattle.vr_descent.proofs.progress.Progress.advance.Goals as goal
 same : (g : Over) (c : In_ok-ended g) → g.J.Judge.model c.scan.new.judge ≡ c.args.model.now
 same g c = c.in_ok-ended.ensures.keeps.model ∙ c.requires.judge.judge_model
 
-held : (g : Over) (c : In_ok-ended g) → HoldSame c.args.model.now (g.J.Judge.committed c.scan.new.judge) c.args.routes.now
-held g c = let before = c.requires.judge.holds in record { same = c.in_ok-ended.ensures.keeps.committed; of_model = before.of_model; valid = before.valid }
+held : (g : Over) (c : In_ok-ended g) → HasCommitted c.args.model.now (g.J.Judge.committed c.scan.new.judge) c.args.routes.now
+held g c = let before = c.requires.judge.holds in record { committed = c.in_ok-ended.ensures.keeps.committed; of_model = before.of_model; valid = before.valid }
 
 -- and so they stand once a move was made
-taken : (g : Over) (c : In_ok-ended g) (later : g.row.J.Denot) (tours : Tours) → g.J.Judge.model later ≡ g.J.Judge.model c.scan.new.judge → HoldSame (g.J.Judge.model c.scan.new.judge) (g.J.Judge.committed later) tours → CanJudge c.args.model.now tours (g.J.Judge.model later) (g.J.Judge.committed later)
-taken g c later tours stays holds = record { judge_model = stays ∙ same g c; holds = subst (λ k. HoldSame k (g.J.Judge.committed later) tours) (same g c) holds }
+taken : (g : Over) (c : In_ok-ended g) (later : g.row.J.Denot) (tours : Tours) → g.J.Judge.model later ≡ g.J.Judge.model c.scan.new.judge → HasCommitted (g.J.Judge.model c.scan.new.judge) (g.J.Judge.committed later) tours → CanJudge c.args.model.now tours (g.J.Judge.model later) (g.J.Judge.committed later)
+taken g c later tours stays holds = record { judge_model = stays ∙ same g c; holds = subst (λ k. HasCommitted k (g.J.Judge.committed later) tours) (same g c) holds }
 
 -- what the scan tells by its end
 accepted : (g : Over) (c : In-Accepted g) → AcceptedAt c.args.model.now (g.A.Accept.takes c.args.accept.now) c.args.routes.now.lists (c.args.limit.tries - c.args.self.now.used) c.in-Accepted.place c.in-Accepted.mv c.in-Accepted.difference
@@ -68,7 +68,7 @@ returns-in_err-ended-clause-told_in_part g c =
 pub returns-in_err-ended-clause-judge : goal.returns-in_err-ended-clause-judge
 returns-in_err-ended-clause-judge g c = record {
   judge_model = c.in_err-ended.ensures.keeps.model ∙ c.requires.judge.judge_model;
-  holds = let before = c.requires.judge.holds in record { same = c.in_err-ended.ensures.keeps.committed; of_model = before.of_model; valid = before.valid };
+  holds = let before = c.requires.judge.holds in record { committed = c.in_err-ended.ensures.keeps.committed; of_model = before.of_model; valid = before.valid };
 }
 
 pub returns-in_err-ended-clause-asked_at_most : goal.returns-in_err-ended-clause-asked_at_most
@@ -83,7 +83,7 @@ take-requires-clause-well_formed g c =
 pub take-requires-clause-holds : goal.take-requires-clause-holds
 take-requires-clause-holds g c =
     let stays = same g (goal.at.take-requires-clause-holds g c).In_ok-ended in
-    subst (λ k. HoldSame k (g.J.Judge.committed c.scan.new.judge) c.args.routes.now) (sym stays) (held g (goal.at.take-requires-clause-holds g c).In_ok-ended)
+    subst (λ k. HasCommitted k (g.J.Judge.committed c.scan.new.judge) c.args.routes.now) (sym stays) (held g (goal.at.take-requires-clause-holds g c).In_ok-ended)
 
 pub take-requires-clause-mv : goal.take-requires-clause-mv
 take-requires-clause-mv g c =

@@ -2,7 +2,7 @@ use Rattle.std.proofs.Common.{◌≡◌, ◌∙◌, rules, subst, sym, w64, to_z
 use Rattle.std.specs.Prelude.{IfSome}
 use Rattle.vr_model.specs.declared.records.Model.{Model}
 use Rattle.vr_model.specs.tables.WellFormed.{IsWellFormed}
-use Rattle.vr_routes.specs.Judging.{HoldSame, IsNoLess}
+use Rattle.vr_routes.specs.Judging.{HasCommitted, IsNoLess}
 use Rattle.vr_routes.specs.Runs.{with_last}
 use Rattle.vr_known.proofs.PassingLemmas.{told_of_each}
 use Rattle.vr_descent.specs.Refused.{IsPassed}
@@ -31,7 +31,7 @@ returns-in-Some-clause-passed g c =
 pub returns-in-Some-clause-can_ask : goal.returns-in-Some-clause-can_ask
 returns-in-Some-clause-can_ask g c = record {
   judge_model = c.first_below.ensures.model ∙ c.requires.can_ask.judge_model;
-  holds = let before = c.requires.can_ask.holds in record { same = c.first_below.ensures.committed; of_model = before.of_model; valid = before.valid };
+  holds = let before = c.requires.can_ask.holds in record { committed = c.first_below.ensures.committed; of_model = before.of_model; valid = before.valid };
 }
 
 pub first_below-requires-clause-well_formed : goal.first_below-requires-clause-well_formed
@@ -39,4 +39,4 @@ first_below-requires-clause-well_formed g c = subst IsWellFormed (sym c.requires
 
 pub first_below-requires-clause-holds : goal.first_below-requires-clause-holds
 first_below-requires-clause-holds g c =
-    subst (λ (m : Model). HoldSame m (g.J.Judge.committed c.args.judge.now) c.args.self.now.routes.now) (sym c.requires.can_ask.judge_model) c.requires.can_ask.holds
+    subst (λ (m : Model). HasCommitted m (g.J.Judge.committed c.args.judge.now) c.args.self.now.routes.now) (sym c.requires.can_ask.judge_model) c.requires.can_ask.holds

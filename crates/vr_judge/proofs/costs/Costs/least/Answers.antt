@@ -7,8 +7,8 @@ use Rattle.vr_routes.specs.Changes.{IsMadeOn}
 use Rattle.vr_routes.specs.Tours.{Tours}
 use Rattle.vr_earliest.specs.Earlies.{AreEarlies}
 use Rattle.vr_earliest.specs.declared.earlies.Early.{Early}
-use Rattle.vr_costfilter.specs.GlobalCosts.{global_cost_of, AreSpansTold}
-use Rattle.vr_costfilter.specs.PlanCosts.{soft_and_span, ArePlansTold}
+use Rattle.vr_costfilter.specs.GlobalCosts.{global_cost_of, AreSpansKnown}
+use Rattle.vr_costfilter.specs.PlanCosts.{soft_and_span, ArePlansKnown}
 use Rattle.vr_parts.proofs.PartLemmas.{below-after}
 use Rattle.vr_judge.specs.Costs.{AreChangesInRange, KeptCosts, StandsCosts}
 use Rattle.vr_judge.proofs.SumLemmas.{adds_as, adds_least, adds_least_as, read_bounded, read_sum}
@@ -29,10 +29,10 @@ module _ (inside kept : KeptCosts) (seen : inside ≡ kept) (tours : Tours) (h :
   old : StandsCosts inside tours
   old = subst (λ (k : KeptCosts). StandsCosts k tours) (sym seen) h
 
-  plans-told : ArePlansTold inside.plans rows parts tours
+  plans-told : ArePlansKnown inside.plans rows parts tours
   plans-told = record { stands = old.plans; made = made; earlies = subst (λ (m : Model). AreEarlies m tours.lists parts rows) (old.earliest_model ∙ sym old.plans_model) told }
 
-  spans-told : AreSpansTold inside.spans rows parts tours
+  spans-told : AreSpansKnown inside.spans rows parts tours
   spans-told = record { stands = old.spans; made = made; earlies = subst (λ (m : Model). AreEarlies m tours.lists parts rows) (old.earliest_model ∙ sym old.spans_model) told }
 
 pub least-plans-requires : goal.least-plans-requires

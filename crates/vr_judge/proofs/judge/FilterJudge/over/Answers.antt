@@ -8,7 +8,7 @@ returns-clause-holds c =
     let filters = c.in_ok-filter.ensures.first in
     let costs = c.in_ok-filter.ensures.second in
     rw (c.in_ok-new.ensures.ok) (record {
-      same = record {
+      committed = record {
         of_model = c.requires.of_model;
         rules = of_value _ _ _ filters c.filters_of-filters.ensures.rules;
         weights = of_value _ _ _ filters c.filters_of-filters.ensures.weights;

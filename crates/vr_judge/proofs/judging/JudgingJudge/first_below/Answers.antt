@@ -7,7 +7,7 @@ use Rattle.vr_known.proofs.PassingLemmas.{told_of_each}
 use Rattle.vr_judge.proofs.judging.JudgingJudge.first_below.Goals as goal
 
 pub first_below-requires-clause-stands : goal.first_below-requires-clause-stands
-first_below-requires-clause-stands g c = c.requires.holds.same.costs_stand
+first_below-requires-clause-stands g c = c.requires.holds.committed.costs_stand
 
 pub returns-clause-no_less : goal.returns-clause-no_less
 returns-clause-no_less g c =
@@ -18,5 +18,5 @@ returns-clause-no_less g c =
     let lists = c.args.routes.now.lists in
     told_of_each (λ k. IsNoLess self.costs.model lists (with_last c.args.mv k) bound) (λ k. IsNoLess self.model.now lists (with_last c.args.mv k) c.args.bound)
     (λ k told. subst (λ b. IsNoLess self.model.now lists (with_last c.args.mv k) b) read
-    (subst (λ (m : Model). IsNoLess m lists (with_last c.args.mv k) bound) c.requires.holds.same.costs_model told))
+    (subst (λ (m : Model). IsNoLess m lists (with_last c.args.mv k) bound) c.requires.holds.committed.costs_model told))
     c.args.from c.first_below.result c.first_below.ensures.no_less

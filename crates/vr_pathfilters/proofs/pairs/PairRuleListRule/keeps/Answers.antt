@@ -7,7 +7,7 @@ use Rattle.vr_pathfilters.specs.Pairs.{KnowsPairs}
 use Rattle.vr_pathfilters.proofs.pairs.PairRuleListRule.keeps.Goals as goal
 
 pub keeps-requires-clause-knows : goal.keeps-requires-clause-knows
-keeps-requires-clause-knows c = subst (λ m. KnowsPairs m c.args.self.now.kept.turns.listed c.args.routes.now) (sym c.nodes.ensures) c.requires.knows
+keeps-requires-clause-knows c = subst (λ m. KnowsPairs m c.args.self.now.tables.turns.listed c.args.routes.now) (sym c.nodes.ensures) c.requires.knows
 
 pub keeps-requires-clause-before : goal.keeps-requires-clause-before
 keeps-requires-clause-before c = subst (λ m. IsTrue (holds_of_each (keeps_pairs m) c.args.routes.now.lists)) (sym c.nodes.ensures) c.requires.before

@@ -7,7 +7,7 @@ use Rattle.vr_pathfilters.proofs.policies.counts.write_counts.Goals as goal
 
 pub loop-k-preserved : goal.loop-k-preserved
 loop-k-preserved c =
-    let model = c.args.lookups.now in
+    let model = c.args.node_tables.now in
     let list = c.args.list.now in
     let table = c.loop-k.table in
     let k = c.loop-k.k in

@@ -5,7 +5,7 @@ pub returns-clause-model : goal.returns-clause-model
 returns-clause-model g c = c.step.ensures.looked.ready.judge_model ∙ sym c.requires.judge.model_is
 
 pub returns-clause-committed : goal.returns-clause-committed
-returns-clause-committed g c = c.step.ensures.looked.ready.holds.same
+returns-clause-committed g c = c.step.ensures.looked.ready.holds.committed
 
 pub returns-clause-asked : goal.returns-clause-asked
 returns-clause-asked g c = c.step.ensures.looked.judges_none

@@ -1,17 +1,17 @@
-use Rattle.std.proofs.Common.{◌≡◌, ◌∙◌, ℕ, suc, ◌+◌, ◌^◌, ◌<◌, ◌≤◌, length, refl, sym, ap, arith}
+use Rattle.std.proofs.Common.{◌≡◌, ◌∙◌, ℕ, suc, ◌+◌, ◌^◌, ◌<◌, ◌≤◌, length, refl, sym, ap, subst, arith}
 use Rattle.std.specs.Prelude.{None}
 use Rattle.std.specs.List.{list_all}
 use Rattle.vr_model.specs.deciding.Testing.{and_right}
 use Rattle.vr_model.specs.moves.MoveTests.{is_move}
 use Rattle.vr_model.specs.moves.Moves.{moves}
-use Rattle.vr_tabu.specs.Rounds.{tries_of}
+use Rattle.vr_tabu.specs.Rounds.{tries_of, IsChangeOfBest}
 use Rattle.vr_tabu.specs.Tabus.{tabus_of}
 use Rattle.vr_model.proofs.tables.Refusals.{on_err}
 use Rattle.vr_descent.specs.Asking.{AsksFor}
 use Rattle.vr_descent.proofs.AskingLemmas.{asks_all, asks_as, asks_none, asks_so_far, asks_tried, keeps_then}
 use Rattle.vr_descent.proofs.PassedLemmas.{at_or_behind}
 use Rattle.vr_descent.proofs.ScanLemmas.{all_moves}
-use Rattle.vr_tabu.proofs.RoundLemmas.{IsLeft, all_tried, at_most, best_of, cut_off, exact, one_more, one_tried, pass_over, tries_end}
+use Rattle.vr_tabu.proofs.RoundLemmas.{IsLeft, all_tried, at_most, best_of, change_at_end, cut_off, exact, one_more, one_tried, pass_over, tries_end}
 use Rattle.vr_tabu.proofs.rounds.Round.run_over.Given.{Over}
 use Rattle.vr_tabu.proofs.rounds.Round.run_over.Goals.{After-end_of, In-Some, In_default}
 use Rattle.vr_tabu.proofs.rounds.Round.run_over.Goals as goal
@@ -57,12 +57,13 @@ loop-mv-init g c =
     let lists = c.args.self.now.routes.now.lists in
     let list = c.requires.list in
     record {
-      keeps = record { model = refl; committed = c.requires.judge.same };
+      keeps = record { model = refl; committed = c.requires.judge.committed };
       asked = asks_none _;
       within = omega arith;
       counted = (let same = ap length list in omega (arith, same));
       moves = ap (list_all (is_move model lists)) list ∙ all_moves model lists;
       known = tt;
+      kept = tt;
       left = ap (best_of model (tabus_of c.args.self.now.state.now.tabus) c.args.self.now.state.now.best.routes.lists lists None) list;
     }
 
@@ -95,6 +96,7 @@ loop-mv-preserved g c =
       counted = one_more c.next_open.new.length (length c.next_open.new.list) (length (moves c.args.self.now.model.now c.args.self.now.routes.now.lists)) (ap (λ n. n + suc (length c.next_open.new.list)) at ∙ (ap (λ ms. is.at + length ms) (sym t.first) ∙ is.sum));
       moves = and_right (is_move c.args.self.now.model.now c.args.self.now.routes.now.lists c.in-Some.mv) (list_all (is_move c.args.self.now.model.now c.args.self.now.routes.now.lists) c.next_open.new.list) (ap (list_all (is_move c.args.self.now.model.now c.args.self.now.routes.now.lists)) (sym t.first) ∙ is.moves);
       known = e.known;
+      kept = e.kept;
       left = one_tried c.args.self.now.model.now (tabus_of c.args.self.now.state.now.tabus) c.args.self.now.state.now.best.routes.lists c.args.self.now.routes.now.lists c.loop-mv.best c.in_ok-best.best c.in-Some.mv t.behind c.next_open.new.list t.first e.best is.left;
     }
 
@@ -114,6 +116,12 @@ returns-clause-ends g c =
     let under = c.if-length-rest-2.false in
     let at = counted_at_end g here (omega (arith, under, c.requires.rest)) in
     c.end_of.ensures ∙ all_tried c.args.self.now.model.now (tabus_of c.args.self.now.state.now.tabus) c.args.self.now.state.now.best.routes.lists c.args.self.now.routes.now.lists c.next_open.new.length c.args.rest c.loop-mv.best t.behind t.first.0 (ap (λ n. n + length t.behind) at ∙ is.sum) (omega (arith, under)) c.loop-mv.invariant.known is.left
+
+pub returns-clause-kept : goal.returns-clause-kept
+returns-clause-kept g c =
+    let model = c.args.self.now.model.now in
+    let lists = c.args.self.now.routes.now.lists in
+    subst (λ ended. IsChangeOfBest model lists ended c.loop-mv.kept) (sym c.end_of.ensures) (change_at_end model lists c.loop-mv.kept c.next_open.new.length c.loop-mv.best c.loop-mv.invariant.kept)
 
 -- ---- how often the judge was asked
 

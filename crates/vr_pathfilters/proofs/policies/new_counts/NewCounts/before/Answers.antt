@@ -15,7 +15,7 @@ returns-then-place-front-2-clause-value c =
     let at_front = subst (λ (r : Replaced). a ≡ pair_counts r.model (take s.front r.old)) seen c.listed-at_front.ensures.value in
     let inside = subst (λ (r : Replaced). b ≡ pair_counts r.model (take (c.args.place - s.front) r.middle)) seen c.between-inside.ensures.value in
     subst (λ (r : Replaced). ◌≡◌ {A = Counts} (record { pickups = a.pickups + b.pickups; deliveries = a.deliveries + b.deliveries }) (pair_counts r.model (take c.args.place (replaced_list r)))) c.self.view_is
-    (counts_between s.lookups.now s.old.now s.middle.now s.front s.behind c.self.invariant.seams c.args.place a b at_front inside
+    (counts_between s.node_tables.now s.old.now s.middle.now s.front s.behind c.self.invariant.seams c.args.place a b at_front inside
     (omega (arith, c.if-place-front.false)) (omega (arith, c.if-place-front-2.true)))
 
 -- what was counted before the stretch is among what is counted in all
@@ -52,6 +52,6 @@ returns-clause-value c =
     let at_behind = subst (λ (r : Replaced). e ≡ pair_counts r.model (take s.behind r.old)) seen c.listed-at_behind.ensures.value in
     let past = subst (λ (r : Replaced). d ≡ pair_counts r.model (take (s.behind + (c.args.place - s.front - length s.middle.now)) r.old)) seen c.listed-past.ensures.value in
     subst (λ (r : Replaced). ◌≡◌ {A = Counts} (record { pickups = a.pickups + b.pickups + d.pickups - e.pickups; deliveries = a.deliveries + b.deliveries + d.deliveries - e.deliveries }) (pair_counts r.model (take c.args.place (replaced_list r)))) c.self.view_is
-    (counts_behind s.lookups.now s.old.now s.middle.now s.front s.behind c.self.invariant.seams c.args.place a b at_front inside
+    (counts_behind s.node_tables.now s.old.now s.middle.now s.front s.behind c.self.invariant.seams c.args.place a b at_front inside
     _ refl e d at_behind past
     (omega (arith, c.if-place-front.false)) (omega (arith, c.if-place-front-2.false)))
