@@ -23,7 +23,8 @@ use vr_plan::Lookups;
 use vr_routes::{Judge, Routes};
 
 /// What the search that the model names makes of its first solution, by a judge of filters that stands at it. The
-/// watchers are told of each event. The only refusal is want of memory.
+/// watchers are told of each event. The only refusal is want of memory. Beside `search_watched` a test of
+/// `vr_app_tests` calls it, which shows by its types that the program searches by this judge.
 pub fn improve_judged<L: Ledger>(
     alloc: Global,
     lookups: &Lookups<'_>,
@@ -87,7 +88,7 @@ pub(crate) fn search_watched(
     best
 }
 
-/// The same, where no event is told.
+/// The same with no watcher, for the mode `Solve` and for `demo`.
 pub(crate) fn search_unwatched(
     alloc: Global,
     lookups: &Lookups<'_>,

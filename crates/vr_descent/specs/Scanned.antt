@@ -1,5 +1,6 @@
 -- What a scan answers.
-use Rattle.std.specs.Prelude.{◌≡◌, ℕ, Bool, false, ◌&&◌, cond, IsTrue, List, ℤ, ◌≤ℤ◌, int_lt, pos, Option, Some, None}
+use Rattle.std.specs.Prelude.{◌≡◌, ⊤, ℕ, Bool, false, ◌&&◌, cond, IsTrue, List, ℤ, ◌≤ℤ◌, int_lt, pos, Option, Some}
+use Rattle.std.specs.Prelude.{None}
 use Rattle.vr_model.specs.moves.Moves.{apply}
 use Rattle.vr_model.specs.moves.MoveTests.{is_move}
 use Rattle.vr_model.specs.routes.Rules.{is_valid}
@@ -7,7 +8,9 @@ use Rattle.vr_model.specs.search.Scans.{Scan}
 use Rattle.vr_model.specs.search.Scans.Scan.{Accepted as accepted, Complete as complete, Cut as cut}
 use Rattle.vr_model.specs.declared.records.Model.{Model}
 use Rattle.vr_model.specs.declared.neighbours.Move.{Move}
+use Rattle.vr_routes.specs.Changes.{IsChange}
 use Rattle.vr_routes.specs.Judging.{cost_change}
+use Rattle.vr_routes.specs.Pieces.{ListAfter}
 use Rattle.vr_routes.specs.Runs.{with_last}
 use Rattle.vr_descent.specs.declared.scanning.ScanEnd.{ScanEnd}
 use Rattle.vr_descent.specs.declared.scanning.ScanEnd.TheVariants.{Accepted, Complete, Cut}
@@ -42,6 +45,12 @@ abbrev pub scan_end : Model → List (List ℕ) → Scan → ScanEnd
 scan_end model lists (accepted place mv) = Accepted place mv (cost_change model lists mv)
 scan_end model lists (complete n) = Complete n
 scan_end model lists cut = Cut
+
+-- where a scan accepts a move, a change is the one that it makes
+abbrev pub IsChangeAtEnd : Model → List (List ℕ) → ScanEnd → List ListAfter → Type 0
+IsChangeAtEnd model lists (Accepted place mv difference) change = IsChange model lists mv change
+IsChangeAtEnd model lists (Complete n) change = ⊤
+IsChangeAtEnd model lists Cut change = ⊤
 
 -- how many moves were tried in a scan that could try `rest` moves
 abbrev pub tries_in_scan : ℕ → ScanEnd → ℕ

@@ -26,7 +26,8 @@ pub trait Accept {
     /// Whether a move of lists is taken that makes this difference in cost.
     ghost takes: { Self → List (List ℕ) → Step → ℤ → Bool };
 
-    /// Whether the move is taken. Takes no memory.
+    /// Whether the move is taken. A scan asks `accepts_change`, which asks this only where it has no body of its own.
+    /// Takes no memory.
     fn accepts(&self, routes: &Routes, mv: Move, difference: i64) -> bool
         requires asks { CanAsk (model self.now) (stands_at self.now routes.now.lists) routes.now mv }
         requires after { IsTrue (is_valid (model self.now) (apply (model self.now) routes.now.lists mv)) }

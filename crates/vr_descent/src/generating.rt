@@ -67,6 +67,7 @@ impl<'a> Generating<'a> {
         ensures looked { Looked (S.can_ask sieve.now) S.judged S.looked (S.tries sieve.now)
             judge.old passed.old judge.new (passed.new + tries_taken result) }
     {
+        // To read the count is to know that it fits.
         let _count = *passed;
         loop {
             if let Some(mv) = self.current.step(sieve, judge, passed) {

@@ -43,7 +43,8 @@ pub fn moves<'a>(model: &'a RoutingModel, routes: &'a Routes) -> MoveList<'a>
 }
 
 impl<'a> MoveList<'a> {
-    /// Takes the first of the moves that are left, where it goes on a run of which nothing could be told.
+    /// Takes the first of the moves that are left, where it goes on a run of which nothing could be told. A scan asks
+    /// it before `step`, which does the same, so that it goes along such a run without that longer call.
     #[inline(always)]
     pub fn go_along(&mut self) -> Option<Move>
         ensures { MatchOption result (self.new ≡ self.old) (λ mv. self.old ≡ mv ∷ self.new) }
@@ -89,6 +90,7 @@ impl<'a> Iterator for MoveList<'a> {
 
     #[inline(always)]
     fn next(&mut self) -> Option<Move> {
+        // Nothing is known, so none is passed over. `vr_bench` alone goes along a list so.
         let mut passed = 0;
         self.step(&Known::none(), &mut (), &mut passed)
     }

@@ -10,6 +10,7 @@ ghost use Rattle.vr_descent.specs.Searching.{progress_after, routes_after, scan_
 ghost use Rattle.vr_known.specs.Blocks.{Learns};
 ghost use Rattle.vr_model.specs.routes.CostLaws.{HasBoundedCost};
 ghost use Rattle.vr_model.specs.routes.Costs.{cost};
+ghost use Rattle.vr_routes.specs.Changes.{IsChange};
 ghost use Rattle.vr_routes.specs.Judging.{HasCommitted, cost_change, moved};
 ghost use Rattle.vr_model.specs.moves.Moves.{apply};
 ghost use Rattle.vr_model.specs.moves.MoveTests.{is_move};
@@ -17,14 +18,16 @@ ghost use Rattle.vr_model.specs.routes.Rules.{is_valid};
 ghost use Rattle.vr_model.specs.tables.WellFormed.{IsWellFormed};
 ghost use Rattle.vr_watch.specs.Told.{Reported, ReportedInPart};
 
-use crate::{Accept, ScanEnd, scan};
+use crate::scanning::Scanning;
+use crate::{Accept, ScanEnd};
+use std::marker::PhantomData;
 use std::sync::ledger::Ledger;
 use vr_known::{Known, Touched};
-use vr_model::{End, Event, Kind, Limit, Model, Move, NoMemory, Report, Steps};
-use vr_routes::{Judge, Routes};
+use vr_model::{Closed, End, Event, Kind, Limit, Model, Move, NoMemory, Report, Steps};
+use vr_routes::{Change, Judge, Routes};
 use vr_watch::{Watch, note_all};
 
-/// Where a search stands: the tries used, the solutions found, and the cost of the lists.
+/// Where a search stands: the tries used, the solutions found, the first one among them, and the cost of the lists.
 #[derive(Clone, Copy)]
 pub struct Progress {
     pub used: u64,
@@ -32,13 +35,24 @@ pub struct Progress {
     pub cost: i64,
 }
 
+// What a scan found: an acceptable move, at which place of the list, what it makes of the cost, and what it changes.
+#[derive(Clone, Copy)]
+struct Found<'a> {
+    place: u64,
+    mv: Move,
+    difference: i64,
+    change: &'a Change,
+}
+
 impl Progress {
     /// One scan: the first acceptable move is made and told to the watchers; the tries are counted. The rows that the
     /// scan refused whole are known then, where anything is learned, but for what names a vehicle whose list the move
-    /// changed, or changes activity as it did.
+    /// changed, moves a pair that such a vehicle serves, or changes activity as it did. It owns the change of the move
+    /// in hand: the scan writes it, and the judge makes it.
     ///
     /// The only refusal is want of memory. The judge then stands at the lists of the routes, which are valid, and of
-    /// the event in hand some watchers at the front were told.
+    /// the event in hand some watchers at the front were told; what is known may then be of the lists before, and is
+    /// not to be asked again.
     pub fn advance<J: Judge, A: Accept, L: Ledger>(
         &mut self,
         model: &Model,
@@ -79,15 +93,15 @@ impl Progress {
             (scan_of model.now (A.takes accept.now) limit routes.old.lists self.old.used))) }
         ensures asked_at_most { OnErr result (AsksOn J.asked J.looked judge.old judge.new self.old.used limit.tries) }
     {
-        let ended = scan(
-            model,
-            judge,
+        let scanning: Scanning<'_, J, A> = Scanning {
             routes,
             accept,
-            limit.tries - self.used,
-            steps,
             known,
-        )?;
+            rest: limit.tries - self.used,
+            judge: PhantomData,
+        };
+        let mut change = Change::blank();
+        let ended = scanning.run(Closed { model }, judge, &mut change, steps)?;
         match ended {
             ScanEnd::Accepted {
                 place,
@@ -95,8 +109,15 @@ impl Progress {
                 difference,
             } => {
                 known.note(model.search.neighbourhoods.as_slice(), mv);
+                // found before the move is made: a pair that it takes out stands in no list behind it
                 let touched = Touched::of(model, routes, mv);
-                self.take(judge, routes, watch, place, mv, difference)?;
+                let found = Found {
+                    place,
+                    mv,
+                    difference,
+                    change: &change,
+                };
+                self.take(judge, routes, watch, found)?;
                 known.change(model, routes, mv, touched);
                 Ok(ended)
             }
@@ -112,41 +133,41 @@ impl Progress {
         }
     }
 
-    // Makes an accepted move at a place of a scan, and tells the watchers. Where memory is wanting, the judge stands at
-    // the lists of the routes all the same.
+    // Makes the move that a scan found, and tells the watchers. Where memory is wanting, the judge stands at the lists
+    // of the routes all the same.
     fn take<J: Judge>(
         &mut self,
         judge: &mut J,
         routes: &mut Routes,
         watch: &mut Vec<Box<dyn Watch>>,
-        place: u64,
-        mv: Move,
-        difference: i64,
+        found: Found<'_>,
     ) -> Result<(), NoMemory>
         requires well_formed { IsWellFormed (J.model judge.old) }
         requires holds { HasCommitted (J.model judge.old) (J.committed judge.old) routes.old }
-        requires mv { IsTrue (is_move (J.model judge.old) routes.old.lists mv) }
-        requires valid { IsTrue (is_valid (J.model judge.old) (apply (J.model judge.old) routes.old.lists mv)) }
-        requires fits { HasBoundedCost (J.model judge.old) (apply (J.model judge.old) routes.old.lists mv) }
+        requires mv { IsTrue (is_move (J.model judge.old) routes.old.lists found.mv) }
+        requires change { IsChange (J.model judge.old) routes.old.lists found.mv found.change.now }
+        requires valid { IsTrue (is_valid (J.model judge.old) (apply (J.model judge.old) routes.old.lists found.mv)) }
+        requires fits { HasBoundedCost (J.model judge.old) (apply (J.model judge.old) routes.old.lists found.mv) }
         requires cost { self.old.cost ≡ cost (J.model judge.old) routes.old.lists }
-        requires difference { difference ≡ cost_change (J.model judge.old) routes.old.lists mv }
-        requires tries { self.old.used + place < 2 ^ 64 }
-        requires found { self.old.found + 1 < 2 ^ 64 }
-        ensures progress { OnOk result (self.new ≡ after_move (J.model judge.old) routes.old.lists mv place self.old) }
-        ensures routes { OnOk result (routes.new ≡ moved (J.model judge.old) routes.old mv) }
+        requires difference { found.difference ≡ cost_change (J.model judge.old) routes.old.lists found.mv }
+        requires tries { self.old.used + found.place < 2 ^ 64 }
+        requires more { self.old.found + 1 < 2 ^ 64 }
+        ensures progress { OnOk result (self.new
+            ≡ after_move (J.model judge.old) routes.old.lists found.entry.mv found.entry.place self.old) }
+        ensures routes { OnOk result (routes.new ≡ moved (J.model judge.old) routes.old found.entry.mv) }
         ensures holds { HasCommitted (J.model judge.old) (J.committed judge.new) routes.new }
         ensures model { J.model judge.new ≡ J.model judge.old }
         ensures asked { J.asked judge.new ≡ J.asked judge.old }
         ensures looked { J.looked judge.new ≡ J.looked judge.old }
         ensures told { OnOk result (Reported (λ w later. after w later) watch.old.items watch.new.items
-            (move_event (J.model judge.old) routes.old.lists mv (self.old.used + place) ∷ [])) }
+            (move_event (J.model judge.old) routes.old.lists found.entry.mv (self.old.used + found.entry.place) ∷ [])) }
         ensures told_in_part { OnErr result (ReportedInPart (λ w later. after w later) watch.old.items watch.new.items
-            (move_event (J.model judge.old) routes.old.lists mv (self.old.used + place) ∷ [])) }
+            (move_event (J.model judge.old) routes.old.lists found.entry.mv (self.old.used + found.entry.place) ∷ [])) }
     {
-        judge.commit(routes, mv)?;
-        self.used += place;
+        judge.commit_change(routes, found.mv, found.change)?;
+        self.used += found.place;
         self.found += 1;
-        self.cost += difference;
+        self.cost += found.difference;
         note_all(watch, self.event(Kind::Move))?;
         Ok(())
     }

@@ -3,12 +3,13 @@
 ghost use Rattle.std.specs.Prelude.{◌≡◌, ◌+◌, ◌≤◌, false, IsTrue, IfOk, OnErr};
 ghost use Rattle.vr_descent.specs.Asking.{AsksFor, Keeps};
 ghost use Rattle.vr_descent.specs.Refused.{AreRefused, CanJudge, CanSift, IsPassed};
-ghost use Rattle.vr_descent.specs.Scanned.{is_acceptable, scan_end, taken_difference, tries_in_scan};
+ghost use Rattle.vr_descent.specs.Scanned.{is_acceptable, scan_end, taken_difference, tries_in_scan, IsChangeAtEnd};
 ghost use Rattle.vr_known.specs.Passing.{Takes, tries_taken, tries_within};
 ghost use Rattle.vr_model.specs.moves.Moves.{moves};
 ghost use Rattle.vr_model.specs.moves.MoveTests.{is_move};
 ghost use Rattle.vr_model.specs.search.Scans.{scan};
 ghost use Rattle.vr_model.specs.tables.WellFormed.{IsWellFormed};
+ghost use Rattle.vr_routes.specs.Changes.{IsChange};
 ghost use Rattle.vr_routes.specs.Judging.{HasCommitted};
 
 use crate::{Accept, MoveList, moves};
@@ -35,21 +36,23 @@ pub enum ScanEnd {
     Cut,
 }
 
-// So many tries are counted exactly, whatever is passed over.
+// So many tries are counted exactly, whatever is passed over, though the count stops at the greatest number that it can
+// be; where more are left nothing is passed over. `advance` asks for no more than these.
 const FEW: u64 = 1_000_000_000;
 
-// The sieve of a scan with so many tries left: it tells which moves are not acceptable, by what is known and by its
-// judge.
+/// A scan in hand: the routes, what takes moves, what is known to be refused, and how many tries are left. As a sieve
+/// it tells which moves are not acceptable, by what is known and by the judge that each call is lent; of this it holds
+/// the type alone.
 #[derive(Drop)]
-struct Refusals<'a, J: Judge, A: Accept> {
-    routes: &'a Routes,
-    accept: &'a A,
-    known: &'a Known,
-    rest: u64,
-    judge: PhantomData<J>,
+pub(crate) struct Scanning<'a, J: Judge, A: Accept> {
+    pub(crate) routes: &'a Routes,
+    pub(crate) accept: &'a A,
+    pub(crate) known: &'a Known,
+    pub(crate) rest: u64,
+    pub(crate) judge: PhantomData<J>,
 }
 
-impl<'a, J: Judge, A: Accept> Sieve for Refusals<'a, J, A> {
+impl<'a, J: Judge, A: Accept> Sieve for Scanning<'a, J, A> {
     type Judge = J;
 
     ghost is_ready = { λ s. CanSift (A.model s.accept.now) (A.stands_at s.accept.now s.routes.now.lists)
@@ -90,6 +93,146 @@ impl<'a, J: Judge, A: Accept> Sieve for Refusals<'a, J, A> {
     }
 }
 
+impl<'a, J: Judge, A: Accept> Scanning<'a, J, A> {
+    /// Scans, as `scan` says. What the accepted move changes is written over `change`; where none is accepted, nothing
+    /// is said of it.
+    #[inline(never)]
+    pub(crate) fn run<L: Ledger>(
+        &self,
+        closed: Closed<'_>,
+        judge: &mut J,
+        change: &mut Change,
+        steps: &mut Steps<L>,
+    ) -> Result<ScanEnd, NoMemory>
+        requires judge { CanJudge closed.model.now self.now.routes.now (J.model judge.old) (J.committed judge.old) }
+        requires accept_model { A.model self.now.accept.now ≡ closed.model.now }
+        requires accept_stands { A.stands_at self.now.accept.now self.now.routes.now.lists }
+        requires known { AreRefused closed.model.now (A.takes self.now.accept.now) self.now.routes.now.lists
+            self.now.known.now }
+        ensures ends { IfOk result (λ ended. ended ≡ scan_end closed.entry.model.now self.now.routes.now.lists
+            (scan (moves closed.entry.model.now self.now.routes.now.lists)
+            (is_acceptable closed.entry.model.now (A.takes self.now.accept.now) self.now.routes.now.lists)
+            self.now.rest)) }
+        ensures change { IfOk result (λ ended.
+            IsChangeAtEnd closed.entry.model.now self.now.routes.now.lists ended change.new) }
+        ensures keeps { Keeps J.model J.committed self.now.routes.now judge.old judge.new }
+        ensures asked { IfOk result (λ ended.
+            AsksFor J.asked J.looked judge.old judge.new (tries_in_scan self.now.rest ended)) }
+        ensures asked_at_most { OnErr result (AsksFor J.asked J.looked judge.old judge.new self.now.rest) }
+    {
+        let rest = self.rest;
+        let mut list = moves(closed.model, self.routes);
+        let mut place: u64 = 0;
+        while let Some(mv) = self.next_open(&mut list, judge, &mut place) {
+            // all tries are used up, by moves that were tried or passed over
+            if place >= rest {
+                return Ok(ScanEnd::Cut);
+            }
+            place += 1;
+            let tried = self.try_move(closed, judge, mv, change, steps)?;
+            if let Some(difference) = tried {
+                return Ok(ScanEnd::Accepted {
+                    place,
+                    mv,
+                    difference,
+                });
+            }
+        }
+        // a list of just as many moves as there were tries is complete
+        if place > rest {
+            return Ok(ScanEnd::Cut);
+        }
+        Ok(ScanEnd::Complete { length: place })
+    }
+
+    // The next move of a list that is to be tried: the next of a stretch in hand, of which nothing can be told, or else
+    // the first behind moves that are passed over since they are not acceptable, which are counted.
+    #[inline(always)]
+    fn next_open(&self, list: &mut MoveList, judge: &mut J, place: &mut u64) -> Option<Move>
+        requires ready { CanSift (A.model self.now.accept.now) (A.stands_at self.now.accept.now
+            self.now.routes.now.lists) (A.takes self.now.accept.now) self.now.routes.now self.now.known.now }
+        requires can_judge { CanJudge (A.model self.now.accept.now) self.now.routes.now (J.model judge.old)
+            (J.committed judge.old) }
+        ensures takes { Takes (IsPassed (A.model self.now.accept.now) (A.takes self.now.accept.now)
+            self.now.routes.now.lists self.now.rest) list.old place.old result list.new place.new }
+        ensures model { J.model judge.new ≡ J.model judge.old }
+        ensures committed { J.committed judge.new self.now.routes.now }
+        ensures asked { J.asked judge.new ≡ J.asked judge.old }
+        ensures looked { J.looked judge.new + tries_within self.now.rest place.old
+            ≤ J.looked judge.old + tries_within self.now.rest (place.new + tries_taken result) }
+    {
+        // To read the count is to know that it fits.
+        let _count = *place;
+        if let Some(mv) = list.go_along() {
+            return Some(mv);
+        }
+        self.next_by_sieve(list, judge, place)
+    }
+
+    // The same where no stretch is in hand: what is known says which blocks are passed over, and the judge which moves
+    // of a run. It is not inlined: what a list holds is large, and stays where it lies.
+    #[inline(never)]
+    fn next_by_sieve(&self, list: &mut MoveList, judge: &mut J, place: &mut u64) -> Option<Move>
+        requires ready { CanSift (A.model self.now.accept.now) (A.stands_at self.now.accept.now
+            self.now.routes.now.lists) (A.takes self.now.accept.now) self.now.routes.now self.now.known.now }
+        requires can_judge { CanJudge (A.model self.now.accept.now) self.now.routes.now (J.model judge.old)
+            (J.committed judge.old) }
+        ensures takes { Takes (IsPassed (A.model self.now.accept.now) (A.takes self.now.accept.now)
+            self.now.routes.now.lists self.now.rest) list.old place.old result list.new place.new }
+        ensures model { J.model judge.new ≡ J.model judge.old }
+        ensures committed { J.committed judge.new self.now.routes.now }
+        ensures asked { J.asked judge.new ≡ J.asked judge.old }
+        ensures looked { J.looked judge.new + tries_within self.now.rest place.old
+            ≤ J.looked judge.old + tries_within self.now.rest (place.new + tries_taken result) }
+    {
+        list.step(self, judge, place)
+    }
+
+    // The difference that a move makes, where it is acceptable. What it changes is written over `change`. The move is
+    // judged only where it may be taken by what it makes at least.
+    #[inline(always)]
+    fn try_move<L: Ledger>(
+        &self,
+        closed: Closed<'_>,
+        judge: &mut J,
+        mv: Move,
+        change: &mut Change,
+        steps: &mut Steps<L>,
+    ) -> Result<Option<i64>, NoMemory>
+        requires judge_model { J.model judge.old ≡ closed.model.now }
+        requires accept_model { A.model self.now.accept.now ≡ closed.model.now }
+        requires accept_stands { A.stands_at self.now.accept.now self.now.routes.now.lists }
+        requires holds { HasCommitted closed.model.now (J.committed judge.old) self.now.routes.now }
+        requires mv { IsTrue (is_move closed.model.now self.now.routes.now.lists mv) }
+        ensures answer { IfOk result (λ answer. answer ≡ taken_difference closed.entry.model.now
+            (A.takes self.now.accept.now) self.now.routes.now.lists mv) }
+        ensures change { IsChange closed.entry.model.now self.now.routes.now.lists mv change.new }
+        ensures model { J.model judge.new ≡ J.model judge.old }
+        ensures committed { J.committed judge.new self.now.routes.now }
+        ensures asked { J.asked judge.new ≤ J.asked judge.old + 1 }
+        ensures looked { J.looked judge.new ≤ J.looked judge.old + 1 }
+    {
+        Change::write(closed.model, self.routes, mv, change);
+        let least = judge.least_difference(self.routes, mv, change);
+        if !self.accept.may_accept(self.routes, mv, change, least) {
+            return Ok(None);
+        }
+        match judge.judge_change(self.routes, mv, change, steps)? {
+            Verdict::Refused => Ok(None),
+            Verdict::Difference(difference) => {
+                if self
+                    .accept
+                    .accepts_change(self.routes, mv, change, difference)
+                {
+                    Ok(Some(difference))
+                } else {
+                    Ok(None)
+                }
+            }
+        }
+    }
+}
+
 /// Tries the moves of the model's neighbourhoods in order, at most `rest` of them, up to the first that is acceptable:
 /// the lists after it are valid, and `accept` takes it. Each try is judged at most once, and adds at most two to how
 /// often the judge is asked what moves make at least: a run of them, and a move. What a move changes is written once,
@@ -101,7 +244,6 @@ impl<'a, J: Judge, A: Accept> Sieve for Refusals<'a, J, A> {
 /// are tries as well. Where more than 10^9 tries are left, no move is passed over so.
 ///
 /// The only refusal is want of memory, which is taken by the judge alone; it still stands at the same lists then.
-#[inline(never)]
 pub fn scan<J: Judge, A: Accept, L: Ledger>(
     model: &Model,
     judge: &mut J,
@@ -123,138 +265,13 @@ pub fn scan<J: Judge, A: Accept, L: Ledger>(
     ensures asked { IfOk result (λ ended. AsksFor J.asked J.looked judge.old judge.new (tries_in_scan rest ended)) }
     ensures asked_at_most { OnErr result (AsksFor J.asked J.looked judge.old judge.new rest) }
 {
-    let mut list = moves(model, routes);
-    let mut change = Change::blank();
-    let mut place: u64 = 0;
-    while let Some(mv) = next_open(&mut list, judge, routes, accept, known, rest, &mut place) {
-        if place >= rest {
-            return Ok(ScanEnd::Cut);
-        }
-        place += 1;
-        let tried = try_move(
-            Closed { model },
-            judge,
-            routes,
-            accept,
-            mv,
-            &mut change,
-            steps,
-        )?;
-        if let Some(difference) = tried {
-            return Ok(ScanEnd::Accepted {
-                place,
-                mv,
-                difference,
-            });
-        }
-    }
-    if place > rest {
-        return Ok(ScanEnd::Cut);
-    }
-    Ok(ScanEnd::Complete { length: place })
-}
-
-// The next move of a list that is to be tried: the next of a stretch in hand, of which nothing can be told, or else the
-// first behind moves that are passed over since they are not acceptable, which are counted.
-#[inline(always)]
-fn next_open<J: Judge, A: Accept>(
-    list: &mut MoveList,
-    judge: &mut J,
-    routes: &Routes,
-    accept: &A,
-    known: &Known,
-    rest: u64,
-    place: &mut u64,
-) -> Option<Move>
-    requires ready { CanSift (A.model accept.now) (A.stands_at accept.now routes.now.lists) (A.takes accept.now)
-        routes.now known.now }
-    requires can_judge { CanJudge (A.model accept.now) routes.now (J.model judge.old) (J.committed judge.old) }
-    ensures takes { Takes (IsPassed (A.model accept.now) (A.takes accept.now) routes.now.lists rest)
-        list.old place.old result list.new place.new }
-    ensures model { J.model judge.new ≡ J.model judge.old }
-    ensures committed { J.committed judge.new routes.now }
-    ensures asked { J.asked judge.new ≡ J.asked judge.old }
-    ensures looked { J.looked judge.new + tries_within rest place.old
-        ≤ J.looked judge.old + tries_within rest (place.new + tries_taken result) }
-{
-    // To read the count is to know that it fits.
-    let _count = *place;
-    if let Some(mv) = list.go_along() {
-        return Some(mv);
-    }
-    open_next(list, judge, routes, accept, known, rest, place)
-}
-
-// The same where no stretch is in hand: what is known says which blocks are passed over, and the judge which moves of a
-// run. It is not inlined: what a list holds is large, and stays where it lies.
-#[inline(never)]
-fn open_next<J: Judge, A: Accept>(
-    list: &mut MoveList,
-    judge: &mut J,
-    routes: &Routes,
-    accept: &A,
-    known: &Known,
-    rest: u64,
-    place: &mut u64,
-) -> Option<Move>
-    requires ready { CanSift (A.model accept.now) (A.stands_at accept.now routes.now.lists) (A.takes accept.now)
-        routes.now known.now }
-    requires can_judge { CanJudge (A.model accept.now) routes.now (J.model judge.old) (J.committed judge.old) }
-    ensures takes { Takes (IsPassed (A.model accept.now) (A.takes accept.now) routes.now.lists rest)
-        list.old place.old result list.new place.new }
-    ensures model { J.model judge.new ≡ J.model judge.old }
-    ensures committed { J.committed judge.new routes.now }
-    ensures asked { J.asked judge.new ≡ J.asked judge.old }
-    ensures looked { J.looked judge.new + tries_within rest place.old
-        ≤ J.looked judge.old + tries_within rest (place.new + tries_taken result) }
-{
-    let refusals: Refusals<'_, J, A> = Refusals {
+    let scanning: Scanning<'_, J, A> = Scanning {
         routes,
         accept,
         known,
         rest,
         judge: PhantomData,
     };
-    list.step(&refusals, judge, place)
-}
-
-// The difference that a move makes, where it is acceptable. What it changes is written over `change`. The move is
-// judged only where it may be taken by what it makes at least.
-#[inline(always)]
-fn try_move<J: Judge, A: Accept, L: Ledger>(
-    closed: Closed<'_>,
-    judge: &mut J,
-    routes: &Routes,
-    accept: &A,
-    mv: Move,
-    change: &mut Change,
-    steps: &mut Steps<L>,
-) -> Result<Option<i64>, NoMemory>
-    requires judge_model { J.model judge.old ≡ closed.model.now }
-    requires accept_model { A.model accept.now ≡ closed.model.now }
-    requires accept_stands { A.stands_at accept.now routes.now.lists }
-    requires holds { HasCommitted closed.model.now (J.committed judge.old) routes.now }
-    requires mv { IsTrue (is_move closed.model.now routes.now.lists mv) }
-    ensures answer { IfOk result (λ answer. answer
-        ≡ taken_difference closed.entry.model.now (A.takes accept.now) routes.now.lists mv) }
-    ensures model { J.model judge.new ≡ J.model judge.old }
-    ensures committed { J.committed judge.new routes.now }
-    ensures asked { J.asked judge.new ≤ J.asked judge.old + 1 }
-    ensures looked { J.looked judge.new ≤ J.looked judge.old + 1 }
-{
-    Change::write(closed.model, routes, mv, change);
-    let least = judge.least_difference(routes, mv, change);
-    if !accept.may_accept(routes, mv, change, least) {
-        return Ok(None);
-    }
-    match judge.judge_change(routes, mv, change, steps)? {
-        Verdict::Refused => Ok(None),
-        Verdict::Difference(difference) => {
-            if accept.accepts_change(routes, mv, change, difference) {
-                Ok(Some(difference))
-            } else {
-                Ok(None)
-            }
-        }
-    }
+    let mut change = Change::blank();
+    scanning.run(Closed { model }, judge, &mut change, steps)
 }

@@ -38,7 +38,7 @@ pub(crate) struct Costs<'m> {
     plans: PlanCost<'m>,
     // global spans
     spans: GlobalSpan<'m>,
-    // how early vehicles can end lists, for what `plans` and `spans` add at least
+    // how early vehicles can end lists and how short their spans can be, for what `plans` and `spans` add at least
     earliest: Earliest<'m>,
     // room for that of the lists after a change
     earlies: Earlies,
@@ -145,8 +145,9 @@ impl<'m> Costs<'m> {
 
     // What each move of a run saves at most beside what it adds to the cost of arcs: 0 where the committed lists have
     // no penalty to pay, or moves of the kind leave the penalties as they are; else the penalties of what it puts into
-    // a list, less those of what it takes out. The moves of a run differ in their last number. `None` where more is
-    // paid than arcs and penalties, and where it is not known of all at once.
+    // a list, less those of what it takes out; where each move of a run puts another visit in, the greatest that any
+    // visit saves. The moves of a run differ in their last number. `None` where more is paid than arcs and penalties,
+    // and where it is not known of all at once.
     #[inline(always)]
     fn saved_by_run(&self, routes: &Routes, mv: Move) -> Option<i64>
         requires stands { StandsCosts self.now routes.now }
@@ -165,8 +166,8 @@ impl<'m> Costs<'m> {
 
     /// Goes over a run of moves of the committed lists, which differ in their last number: those of the numbers from
     /// `from` on, below `end`. Says from which number on some may make a difference below a bound, by the cost of arcs,
-    /// less the most of the penalties that any of them saves. `None` where more may be paid than these, and of a
-    /// kind of which no run is gone over.
+    /// less the most of the penalties that any of them saves. `None` where more may be paid than these, of a kind of
+    /// which no run is gone over, and where the bound and what is saved together do not fit.
     #[inline(always)]
     pub fn first_below(
         &self,

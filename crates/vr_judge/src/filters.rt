@@ -21,7 +21,7 @@ pub type Filters<'m> = Both<
 >;
 
 /// The filters of a model, over what was looked up of it, which stand at these routes. The only refusal is want of
-/// memory.
+/// memory. [`crate::FilterJudge::over`] alone calls it.
 pub fn filters_of<'m>(
     alloc: Global,
     lookups: &Lookups<'m>,

@@ -31,7 +31,8 @@ pub struct FilterJudge<'m> {
 }
 
 impl<'m> FilterJudge<'m> {
-    /// A judge that has committed the lists of these routes, which are valid. The only refusal is want of memory.
+    /// A judge that has committed the lists of these routes, which are valid. The only refusal is want of memory. Tests
+    /// and benches open it so; `vr_app` has looked the model up already and calls [`FilterJudge::over`].
     pub fn open(
         alloc: Global,
         model: &'m RoutingModel,
@@ -68,7 +69,6 @@ impl<'m> FilterJudge<'m> {
             model: lookups.closed.model,
             filter,
             costs,
-            change: Change::blank(),
         };
         Ok(FilterJudge {
             judging: Box::new(alloc, judging)?,
@@ -90,23 +90,8 @@ impl<'m> Judge for FilterJudge<'m> {
 
     ghost weight = { λ judge. ⟦<Judging<'static, Filters<'static>> as Judge>⟧.weight judge.judging.value };
 
-    fn judge<L: Ledger>(
-        &mut self,
-        routes: &Routes,
-        mv: Move,
-        steps: &mut Steps<L>,
-    ) -> Result<Verdict, NoMemory> {
-        self.judging.judge(routes, mv, steps)
-    }
-
-    fn judge_change<L: Ledger>(
-        &mut self,
-        routes: &Routes,
-        mv: Move,
-        change: &Change,
-        steps: &mut Steps<L>,
-    ) -> Result<Verdict, NoMemory> {
-        self.judging.judge_change(routes, mv, change, steps)
+    fn routing_model(&self) -> &RoutingModel {
+        self.judging.routing_model()
     }
 
     #[inline]
@@ -126,7 +111,22 @@ impl<'m> Judge for FilterJudge<'m> {
         self.judging.first_below(routes, mv, from, end, bound)
     }
 
-    fn commit(&mut self, routes: &mut Routes, mv: Move) -> Result<(), NoMemory> {
-        self.judging.commit(routes, mv)
+    fn judge_change<L: Ledger>(
+        &mut self,
+        routes: &Routes,
+        mv: Move,
+        change: &Change,
+        steps: &mut Steps<L>,
+    ) -> Result<Verdict, NoMemory> {
+        self.judging.judge_change(routes, mv, change, steps)
+    }
+
+    fn commit_change(
+        &mut self,
+        routes: &mut Routes,
+        mv: Move,
+        change: &Change,
+    ) -> Result<(), NoMemory> {
+        self.judging.commit_change(routes, mv, change)
     }
 }

@@ -1,12 +1,12 @@
 //! Judging a move by a filter of what it changes, and by the parts of the cost.
 
-ghost use Rattle.std.specs.Prelude.{◌≡◌, ◌+◌, ◌≤◌, IfOk};
+ghost use Rattle.std.specs.Prelude.{◌≡◌, ◌+◌, ◌≤◌, IfOk, IsTrue, OnErr, OnOk};
 ghost use Rattle.vr_filter.specs.Filters.{IsSameRule, IsSameWeight};
 ghost use Rattle.vr_model.specs.moves.Moves.{apply};
 ghost use Rattle.vr_model.specs.routes.Rules.{is_valid};
 ghost use Rattle.vr_judge.specs.Costs.{StandsCosts};
 ghost use Rattle.vr_judge.specs.Verdicts.{verdict_by};
-ghost use Rattle.vr_routes.specs.Changes.{IsMadeOn};
+ghost use Rattle.vr_routes.specs.Changes.{after, IsMadeOn};
 ghost use Rattle.vr_routes.specs.Pieces.{changed};
 ghost use Rattle.vr_judge.specs.Rules.{total_weight};
 ghost use Rattle.vr_judge.specs.Standing.{IsJudging};
@@ -23,8 +23,6 @@ pub(crate) struct Judging<'m, F: PathFilter + Drop> {
     pub(crate) model: &'m RoutingModel,
     pub(crate) filter: F,
     pub(crate) costs: Costs<'m>,
-    // room for the change of a move that is asked about or made without it
-    pub(crate) change: Change,
 }
 
 // Judges a change of lists at which a filter and costs stand: the filter says whether they are valid after it.
@@ -57,6 +55,36 @@ fn judge_by<F: PathFilter, L: Ledger>(
     Ok(Verdict::Difference(difference))
 }
 
+// Makes a change of lists at which a filter and costs stand, and after which they are valid: they are made ready first,
+// then all are changed, which takes no memory. Where memory is wanting, none of them is.
+fn commit_by<F: PathFilter>(
+    filter: &mut F,
+    costs: &mut Costs<'_>,
+    routes: &mut Routes,
+    change: &Change,
+) -> Result<(), NoMemory>
+    requires made { IsMadeOn routes.old change.now }
+    requires filter { F.stands_at filter.old routes.old }
+    requires passes { IsTrue (F.holds filter.old (changed routes.old.lists change.now)) }
+    requires costs { StandsCosts costs.old routes.old }
+    requires valid { IsTrue (is_valid costs.old.model (changed routes.old.lists change.now)) }
+    ensures routes { OnOk result (routes.new ≡ after routes.old change.now) }
+    ensures routes_stay { OnErr result (routes.new ≡ routes.old) }
+    ensures visits { routes.new.visits ≡ routes.old.visits }
+    ensures same_rule { IsSameRule (F.holds filter.old) (F.holds filter.new) }
+    ensures same_weight { IsSameWeight (F.weight filter.old) (F.weight filter.new) }
+    ensures filter { F.stands_at filter.new routes.new }
+    ensures model { costs.new.model ≡ costs.old.model }
+    ensures costs { StandsCosts costs.new routes.new }
+{
+    filter.prepare(routes, change)?;
+    costs.commit(routes, change)?;
+    filter.commit(routes, change);
+    // last: filters and costs still read the lists before the change
+    routes.commit(change);
+    Ok(())
+}
+
 impl<'m, F: PathFilter + Drop> Judge for Judging<'m, F> {
     ghost model = { λ judging. judging.model.now };
 
@@ -69,30 +97,8 @@ impl<'m, F: PathFilter + Drop> Judge for Judging<'m, F> {
 
     ghost weight = { λ judging lists mv. total_weight judging.model.now lists (apply judging.model.now lists mv) };
 
-    fn judge<L: Ledger>(
-        &mut self,
-        routes: &Routes,
-        mv: Move,
-        steps: &mut Steps<L>,
-    ) -> Result<Verdict, NoMemory> {
-        Change::write(self.model, routes, mv, &mut self.change);
-        judge_by(
-            &mut self.filter,
-            &mut self.costs,
-            routes,
-            &self.change,
-            steps,
-        )
-    }
-
-    fn judge_change<L: Ledger>(
-        &mut self,
-        routes: &Routes,
-        _mv: Move,
-        change: &Change,
-        steps: &mut Steps<L>,
-    ) -> Result<Verdict, NoMemory> {
-        judge_by(&mut self.filter, &mut self.costs, routes, change, steps)
+    fn routing_model(&self) -> &RoutingModel {
+        self.model
     }
 
     #[inline]
@@ -112,13 +118,22 @@ impl<'m, F: PathFilter + Drop> Judge for Judging<'m, F> {
         self.costs.first_below(routes, mv, from, end, bound)
     }
 
-    /// Filters and parts of the cost are made ready first; then all are changed, which takes no memory.
-    fn commit(&mut self, routes: &mut Routes, mv: Move) -> Result<(), NoMemory> {
-        Change::write(self.model, routes, mv, &mut self.change);
-        self.filter.prepare(routes, &self.change)?;
-        self.costs.commit(routes, &self.change)?;
-        self.filter.commit(routes, &self.change);
-        routes.commit(&self.change);
-        Ok(())
+    fn judge_change<L: Ledger>(
+        &mut self,
+        routes: &Routes,
+        _mv: Move,
+        change: &Change,
+        steps: &mut Steps<L>,
+    ) -> Result<Verdict, NoMemory> {
+        judge_by(&mut self.filter, &mut self.costs, routes, change, steps)
+    }
+
+    fn commit_change(
+        &mut self,
+        routes: &mut Routes,
+        _mv: Move,
+        change: &Change,
+    ) -> Result<(), NoMemory> {
+        commit_by(&mut self.filter, &mut self.costs, routes, change)
     }
 }

@@ -7,7 +7,9 @@
 //!
 //! Filters and costs stand at the same valid lists of the model, those of the routes that the judge is handed
 //! (`IsJudging`): it keeps no lists. A commit makes all of them ready before it changes one. `vr_app` opens a judge for
-//! each search, and searches ask it, through the trait `vr_routes::Judge`, about runs of moves and about moves.
+//! each search, and searches ask it what runs of moves and moves make at least, and then have moves judged and made
+//! (`vr_routes::Judge`); path neighbourhoods, which have no moves, ask nothing of theirs. The change of a move is lent
+//! to it.
 #![tactic(auto)]
 
 mod costs;

@@ -4,8 +4,9 @@ ghost use Rattle.std.specs.Prelude.{◌≡◌, Ok, IfOk};
 
 use vr_model::NoMemory;
 
-/// Both of two values, or want of memory where making either wanted it. A function that opens several large values asks
-/// it once for all of them, and so owns none of them where it ends early.
+/// Both of two values, or want of memory where making either wanted it. A function that opens several large values
+/// joins them by it, two by two, and ends early at one place for all of them, where it owns none of them. Those behind
+/// one that wanted memory are opened all the same.
 pub(crate) fn try_both<A: Drop, B: Drop>(
     first: Result<A, NoMemory>,
     second: Result<B, NoMemory>,

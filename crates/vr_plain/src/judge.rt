@@ -1,14 +1,12 @@
 //! The judge that rebuilds.
 
 ghost use Rattle.std.specs.Prelude.{◌≡◌, IfOk, IsTrue, length};
-ghost use Rattle.vr_model.specs.moves.MoveTests.{is_move};
 ghost use Rattle.vr_model.specs.routes.Costs.{cost};
-ghost use Rattle.vr_model.specs.routes.Routes.{are_lists};
 ghost use Rattle.vr_model.specs.routes.Rules.{is_valid};
 ghost use Rattle.vr_model.specs.tables.Tables.{visits};
 ghost use Rattle.vr_model.specs.tables.WellFormed.{IsWellFormed};
-ghost use Rattle.vr_routes.specs.Changes.{IsChange, IsMadeOn};
-ghost use Rattle.vr_routes.specs.Judging.{HasCommitted, moved};
+ghost use Rattle.vr_routes.specs.Changes.{after, IsMadeOn};
+ghost use Rattle.vr_routes.specs.Judging.{HasCommitted};
 ghost use Rattle.vr_plain.specs.Committed.{AreCommitted};
 
 use std::alloc::Global;
@@ -27,9 +25,8 @@ pub struct PlainJudge<'m> {
     rules: Rules<'m>,
     // what the lists cost that are committed
     total: i64,
-    // the lists after the move in hand, and what it changes: written over for each move
+    // the lists after the move in hand, written over for each move
     scratch: Routes,
-    change: Change,
 }
 
 impl<'m> PlainJudge<'m> {
@@ -53,7 +50,6 @@ impl<'m> PlainJudge<'m> {
             rules,
             total,
             scratch,
-            change: Change::blank(),
         })
     }
 }
@@ -69,20 +65,19 @@ impl<'m> Judge for PlainJudge<'m> {
 
     ghost weight = { λ judge lists mv. 0 };
 
+    fn routing_model(&self) -> &RoutingModel {
+        self.rules.model()
+    }
+
     /// Memory is taken by the rules alone.
-    fn judge<L: Ledger>(
+    fn judge_change<L: Ledger>(
         &mut self,
         routes: &Routes,
-        mv: Move,
+        _mv: Move,
+        change: &Change,
         _steps: &mut Steps<L>,
     ) -> Result<Verdict, NoMemory> {
-        rebuild(
-            self.rules.model(),
-            routes,
-            mv,
-            &mut self.change,
-            &mut self.scratch,
-        );
+        rebuild(routes, change, &mut self.scratch);
         if !self.rules.valid(&self.scratch)? {
             return Ok(Verdict::Refused);
         }
@@ -91,36 +86,27 @@ impl<'m> Judge for PlainJudge<'m> {
     }
 
     /// The cost is worked out first; then routes and judge are changed, which takes no memory.
-    fn commit(&mut self, routes: &mut Routes, mv: Move) -> Result<(), NoMemory> {
-        rebuild(
-            self.rules.model(),
-            routes,
-            mv,
-            &mut self.change,
-            &mut self.scratch,
-        );
+    fn commit_change(
+        &mut self,
+        routes: &mut Routes,
+        _mv: Move,
+        change: &Change,
+    ) -> Result<(), NoMemory> {
+        rebuild(routes, change, &mut self.scratch);
         let total = self.rules.total(&self.scratch)?;
-        routes.commit(&self.change);
+        routes.commit(change);
         self.total = total;
         Ok(())
     }
 }
 
-// Writes what a move changes over `change`, and the lists after it over those of `after`.
-fn rebuild(model: &RoutingModel, routes: &Routes, mv: Move, change: &mut Change, after: &mut Routes)
-    requires well_formed { IsWellFormed model.now }
-    requires of_model { routes.now.visits ≡ visits model.now }
-    requires valid { IsTrue (is_valid model.now routes.now.lists) }
-    requires mv { IsTrue (is_move model.now routes.now.lists mv) }
-    requires same_visits { after.old.visits ≡ visits model.now }
-    requires for_all { length after.old.lists ≡ length model.now.vehicles }
-    ensures made { IsMadeOn routes.now change.new }
-    ensures change { IsChange model.now routes.now.lists mv change.new }
-    ensures after { after.new ≡ moved model.now routes.now mv }
-    ensures lists { IsTrue (are_lists model.now after.new.lists) }
-    ensures for_all { length after.new.lists ≡ length model.now.vehicles }
+// Writes the lists after a change of routes over those of `scratch`.
+fn rebuild(routes: &Routes, change: &Change, scratch: &mut Routes)
+    requires made { IsMadeOn routes.now change.now }
+    requires same_visits { scratch.old.visits ≡ routes.now.visits }
+    requires as_many { length scratch.old.lists ≡ length routes.now.lists }
+    ensures { scratch.new ≡ after routes.now change.now }
 {
-    after.assign(routes);
-    Change::write(model, routes, mv, change);
-    after.commit(change);
+    scratch.assign(routes);
+    scratch.commit(change);
 }

@@ -50,7 +50,7 @@ impl Change {
         }
     }
 
-    /// The change that a move makes, where it is a move of the lists.
+    /// The change that a move makes, where it is a move of the lists. Tests alone ask it.
     pub fn of(model: &RoutingModel, routes: &Routes, mv: Move) -> Option<Change>
         requires well_formed { IsWellFormed model.now }
         requires of_model { routes.now.visits ≡ visits model.now }
@@ -67,7 +67,8 @@ impl Change {
     }
 
     /// Writes the change that a move makes over another one, and answers whether it is a move of the lists. Where it is
-    /// none, the other one stays.
+    /// none, the other one stays. Tests and benches ask it; searches, whose moves are listed as moves of the lists,
+    /// call [`Change::write`].
     pub fn of_into(model: &RoutingModel, routes: &Routes, mv: Move, out: &mut Change) -> bool
         requires well_formed { IsWellFormed model.now }
         requires of_model { routes.now.visits ≡ visits model.now }

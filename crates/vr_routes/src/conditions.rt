@@ -16,7 +16,8 @@ use crate::pairs::{
 use crate::routes::Routes;
 use vr_model::{Model, Move};
 
-/// Whether a move is one of the lists.
+/// Whether a move is one of the lists. `Change::of_into` alone asks it, so no search does: its moves are listed as
+/// such.
 #[inline]
 pub fn is_move(model: &Model, routes: &Routes, mv: Move) -> bool
     requires of_model { routes.now.visits ≡ visits model.now }
@@ -51,7 +52,7 @@ fn is_or_opt(routes: &Routes, v: u32, a: u32, k: u32, t: u32) -> bool
     v < routes.vehicles() && ((1 <= k && k <= 3) && is_chain_moved(routes.len(v), a, k, t))
 }
 
-// A list of `n` nodes has `k` from place `a` on, and place `t` is another one before which they can be put.
+// A list of `n` nodes has `k` from place `a` on, and place `t` of the rest is another one before which they can be put.
 #[inline]
 fn is_chain_moved(n: u32, a: u32, k: u32, t: u32) -> bool
     ensures { result ≡ (nat_le (a + k) n && (nat_le t (n - k) && is_other a t)) }

@@ -1,4 +1,4 @@
-//! The trait of what judges moves.
+//! The trait of what judges moves and makes them.
 
 ghost use Rattle.std.specs.Prelude.{◌≡◌, ◌+◌, ◌<◌, ◌≤◌, ℕ, List, IsTrue, IfOk, IfSome, OnOk, OnErr};
 ghost use Rattle.vr_model.specs.moves.Moves.{apply};
@@ -14,7 +14,7 @@ ghost use Rattle.vr_routes.specs.Tours.{Tours};
 
 use crate::{Change, Routes};
 use std::sync::ledger::Ledger;
-use vr_model::{Move, NoMemory, Steps};
+use vr_model::{Model, Move, NoMemory, Steps};
 
 /// What a judge says of a move.
 #[derive(Clone, Copy, Debug, PartialEq, Eq)]
@@ -25,7 +25,9 @@ pub enum Verdict {
     Difference(i64),
 }
 
-/// Judges moves of the lists that it has committed.
+/// Judges moves of the lists that it has committed, and makes them. What a move changes is handed in by who asks, so
+/// that it is written once (`judge_change`, `commit_change`); for who has the move alone it is written here (`judge`,
+/// `commit`).
 pub trait Judge {
     /// The model, which no call changes.
     ghost model: { Self → RoutingModel };
@@ -33,7 +35,8 @@ pub trait Judge {
     /// The judge has committed the lists of these routes: what it keeps is so of them.
     ghost committed: { Self → Tours → Type 0 };
 
-    /// A number that rises by at most one where a move is judged.
+    /// A number that rises by at most one where a move is judged. The judges of `vr_judge` and `vr_plain` leave it and
+    /// `looked` at 0; one of tests counts.
     ghost asked: { Self → ℕ };
 
     /// A number that rises by at most one where it is asked what a move, or a run of moves, makes at least.
@@ -42,45 +45,9 @@ pub trait Judge {
     /// How many steps it takes at most to judge a move of lists that it has committed.
     ghost weight: { Self → List (List ℕ) → Step → ℕ };
 
-    /// Judges a move of the lists. The committed lists stay, whatever the answer. Searches ask `judge_change`.
-    fn judge<L: Ledger>(
-        &mut self,
-        routes: &Routes,
-        mv: Move,
-        steps: &mut Steps<L>,
-    ) -> Result<Verdict, NoMemory>
-        requires well_formed { IsWellFormed (model self.old) }
-        requires holds { HasCommitted (model self.old) (committed self.old) routes.now }
-        requires mv { IsTrue (is_move (model self.old) routes.now.lists mv) }
-        ensures verdict { IfOk result (λ verdict. verdict ≡ verdict_of (model self.old) routes.now.lists mv) }
-        ensures model { model self.new ≡ model self.old }
-        ensures committed { committed self.new routes.now }
-        ensures asked { asked self.new ≤ asked self.old + 1 }
-        ensures looked { looked self.new ≡ looked self.old }
-        ensures steps { steps.new ≤ steps.old + weight self.old routes.now.lists mv };
-
-    /// Judges a move of the lists, as `judge` does. The caller hands in the change that the move makes, so that it need
-    /// not be written again.
-    fn judge_change<L: Ledger>(
-        &mut self,
-        routes: &Routes,
-        mv: Move,
-        change: &Change,
-        steps: &mut Steps<L>,
-    ) -> Result<Verdict, NoMemory>
-        requires well_formed { IsWellFormed (model self.old) }
-        requires holds { HasCommitted (model self.old) (committed self.old) routes.now }
-        requires mv { IsTrue (is_move (model self.old) routes.now.lists mv) }
-        requires change { IsChange (model self.old) routes.now.lists mv change.now }
-        ensures verdict { IfOk result (λ verdict. verdict ≡ verdict_of (model self.old) routes.now.lists mv) }
-        ensures model { model self.new ≡ model self.old }
-        ensures committed { committed self.new routes.now }
-        ensures asked { asked self.new ≤ asked self.old + 1 }
-        ensures looked { looked self.new ≡ looked self.old }
-        ensures steps { steps.new ≤ steps.old + weight self.old routes.now.lists mv }
-    {
-        self.judge(routes, mv, steps)
-    }
+    /// The model. It takes no memory.
+    fn routing_model(&self) -> &Model
+        ensures { result.now ≡ model self.now };
 
     /// A number that the difference of a move is never below, where the lists after it are valid; of other moves it
     /// says nothing. A search asks it before it has a move judged, since it takes few moves and most can be passed
@@ -129,9 +96,71 @@ pub trait Judge {
         None
     }
 
-    /// Makes a move after which the lists are valid: the routes then have the lists after it, and the judge has
-    /// committed them. Where memory is wanting, both are as before.
-    fn commit(&mut self, routes: &mut Routes, mv: Move) -> Result<(), NoMemory>
+    /// Judges a move of the lists, of which the caller hands in the change. The committed lists stay, whatever the
+    /// answer.
+    fn judge_change<L: Ledger>(
+        &mut self,
+        routes: &Routes,
+        mv: Move,
+        change: &Change,
+        steps: &mut Steps<L>,
+    ) -> Result<Verdict, NoMemory>
+        requires well_formed { IsWellFormed (model self.old) }
+        requires holds { HasCommitted (model self.old) (committed self.old) routes.now }
+        requires mv { IsTrue (is_move (model self.old) routes.now.lists mv) }
+        requires change { IsChange (model self.old) routes.now.lists mv change.now }
+        ensures verdict { IfOk result (λ verdict. verdict ≡ verdict_of (model self.old) routes.now.lists mv) }
+        ensures model { model self.new ≡ model self.old }
+        ensures committed { committed self.new routes.now }
+        ensures asked { asked self.new ≤ asked self.old + 1 }
+        ensures looked { looked self.new ≡ looked self.old }
+        ensures steps { steps.new ≤ steps.old + weight self.old routes.now.lists mv };
+
+    /// Makes a move after which the lists are valid, of which the caller hands in the change: the routes then have the
+    /// lists after it, and the judge has committed them. Where memory is wanting, both are as before.
+    fn commit_change(
+        &mut self,
+        routes: &mut Routes,
+        mv: Move,
+        change: &Change,
+    ) -> Result<(), NoMemory>
+        requires well_formed { IsWellFormed (model self.old) }
+        requires holds { HasCommitted (model self.old) (committed self.old) routes.old }
+        requires mv { IsTrue (is_move (model self.old) routes.old.lists mv) }
+        requires change { IsChange (model self.old) routes.old.lists mv change.now }
+        requires valid { IsTrue (is_valid (model self.old) (apply (model self.old) routes.old.lists mv)) }
+        ensures routes { OnOk result (routes.new ≡ moved (model self.old) routes.old mv) }
+        ensures committed { OnOk result (committed self.new routes.new) }
+        ensures routes_stay { OnErr result (routes.new ≡ routes.old) }
+        ensures committed_stay { OnErr result (committed self.new routes.new) }
+        ensures model { model self.new ≡ model self.old }
+        ensures asked { asked self.new ≡ asked self.old }
+        ensures looked { looked self.new ≡ looked self.old };
+
+    /// Judges a move of the lists, as `judge_change` does, and writes its change for that.
+    final fn judge<L: Ledger>(
+        &mut self,
+        routes: &Routes,
+        mv: Move,
+        steps: &mut Steps<L>,
+    ) -> Result<Verdict, NoMemory>
+        requires well_formed { IsWellFormed (model self.old) }
+        requires holds { HasCommitted (model self.old) (committed self.old) routes.now }
+        requires mv { IsTrue (is_move (model self.old) routes.now.lists mv) }
+        ensures verdict { IfOk result (λ verdict. verdict ≡ verdict_of (model self.old) routes.now.lists mv) }
+        ensures model { model self.new ≡ model self.old }
+        ensures committed { committed self.new routes.now }
+        ensures asked { asked self.new ≤ asked self.old + 1 }
+        ensures looked { looked self.new ≡ looked self.old }
+        ensures steps { steps.new ≤ steps.old + weight self.old routes.now.lists mv }
+    {
+        let mut change = Change::blank();
+        Change::write(self.routing_model(), routes, mv, &mut change);
+        self.judge_change(routes, mv, &change, steps)
+    }
+
+    /// Makes a move after which the lists are valid, as `commit_change` does, and writes its change for that.
+    final fn commit(&mut self, routes: &mut Routes, mv: Move) -> Result<(), NoMemory>
         requires well_formed { IsWellFormed (model self.old) }
         requires holds { HasCommitted (model self.old) (committed self.old) routes.old }
         requires mv { IsTrue (is_move (model self.old) routes.old.lists mv) }
@@ -142,5 +171,10 @@ pub trait Judge {
         ensures committed_stay { OnErr result (committed self.new routes.new) }
         ensures model { model self.new ≡ model self.old }
         ensures asked { asked self.new ≡ asked self.old }
-        ensures looked { looked self.new ≡ looked self.old };
+        ensures looked { looked self.new ≡ looked self.old }
+    {
+        let mut change = Change::blank();
+        Change::write(self.routing_model(), routes, mv, &mut change);
+        self.commit_change(routes, mv, &change)
+    }
 }

@@ -164,7 +164,9 @@ impl Part {
         self.end(behind + 2, n);
     }
 
-    // Adds the nodes from place `i` up to but not including place `j` of what a list is without a pair.
+    // Adds the nodes from place `i` up to but not including place `j` of what a list is without a pair, the rest. A
+    // place of the rest is the same one in the list in front of the pickup, the next one between the two nodes, and the
+    // next but one behind the delivery.
     #[inline]
     fn add_rest(&mut self, at: PairPlaces, i: u32, j: u32)
         requires order { at.pickup < at.delivery }
@@ -188,7 +190,7 @@ impl Part {
         self.some_chain(v, greatest(i, mid) + 2, j + 2);
     }
 
-    /// Writes the list in which a pair stands without it.
+    /// Writes the list in which a pair stands without it. In lists that are not valid its delivery may stand first.
     #[inline]
     pub fn take_pair(&mut self, on: Standing<'_, '_>)
         requires { on.at.pickup ≢ on.at.delivery }

@@ -4,16 +4,21 @@
 //! pieces of the lists before it, chains and nodes, so that no list is copied to write it; who needs its nodes has them
 //! written out.
 //!
-//! `changes` writes the change of each kind of move, its lists by `kinds` over `pieces` (`pairs` says how the nodes of
-//! a pair stand); `routes` makes it, over `seats`; `judging` has the trait of judges.
+//! `conditions` says whether the numbers of a move are those of one, and `pairs` how the nodes of a pair stand.
+//! `changes` writes the change of each kind of move, its lists by `kinds` over `pieces`; `filling` writes out the nodes
+//! of pieces, into a list in place (`rows`). `routes` makes a change, over `seats`, which has such lists with the place
+//! of each node beside them. `judging` has the traits of judges, and `runs` gives a move another last number, as in the
+//! runs that they are asked about. `indices` has numbers for visits, starts and ends, for users of the library.
 //!
 //! Invariant: each visit stands in one list at most, where the look-ups say, and the visits in no list are a list of
 //! their own. A change is made on the routes from which it was written (`IsMadeOn`); its pieces, joined, are the lists
-//! that the definition of the move gives. `Judge` is the trait of what judges moves: what it keeps is so of the
-//! routes that it is asked about.
+//! that the definition of the move gives. `Judge` is the trait of what judges moves and makes them: what it keeps is so
+//! of the routes that it is asked about.
 //!
 //! All searches, filters and cost terms stand on this crate, and constructions end in it. A search writes a change for
-//! each move ([`Change::write`]), and a judge makes it ([`Routes::commit`]).
+//! each move that it does not pass over ([`Change::write`]) and lends it to its judge, which makes it where the move is
+//! taken ([`Routes::commit`]). Path neighbourhoods have no moves, and take whole lists over ([`Routes::set_lists`],
+//! [`Routes::assign`]).
 #![tactic(auto)]
 
 mod changes;

@@ -77,7 +77,7 @@ pub fn is_pair_inactive(model: &Model, routes: &Routes, p: u32) -> bool
     !routes.is_active(pair.pickup) && !routes.is_active(pair.delivery)
 }
 
-/// Whether both nodes of a pair stand in one list.
+/// Whether both nodes of a pair stand in one list, whichever comes first: so it may be taken out.
 #[inline]
 pub fn is_pair_together(model: &Model, routes: &Routes, p: u32) -> bool
     requires pair { p < length model.now.pairs }

@@ -10,8 +10,8 @@ ghost use Rattle.vr_routes.specs.Pieces.{HasEnds, IsWithin, joined, middle_of, n
 use arrayvec::ArrayVec;
 use std::marker::Model;
 
-/// A piece of a list: a chain of the nodes that another list has from a place up to but not including a place, in their
-/// order or reversed; or one node.
+/// A piece of a list after a change: a chain of the nodes that a list before it, of whichever vehicle, has from a place
+/// up to but not including a place, in their order or reversed; or one node.
 #[derive(Clone, Copy, Debug, PartialEq, Eq)]
 pub enum Piece {
     Chain {
@@ -80,7 +80,8 @@ pub struct Part {
     front: u32,
     // The place from which on nodes stay at the end.
     behind: u32,
-    // The front, the pieces between and the end; behind them pieces of an earlier change, which are written over.
+    // The front, the pieces between and the end; behind them pieces of an earlier change, which are written over. No
+    // kind of move has more than eight; `move_pair` writes the most.
     pieces: ArrayVec<Piece, 8>,
     used: usize,
 }

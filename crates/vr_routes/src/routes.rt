@@ -212,7 +212,7 @@ impl Routes {
         Some(seat.vehicle)
     }
 
-    /// The place where a node stands, `None` where it stands in no list.
+    /// The place where a node stands, `None` where it stands in no list. Tests alone ask it.
     #[inline]
     pub fn place_of(&self, node: u32) -> Option<u32>
         ensures { MatchOption result (is_active self.now.lists node ≡ false)

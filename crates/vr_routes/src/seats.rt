@@ -186,6 +186,7 @@ impl Seating {
         ensures lists { self.new.lists ≡ with_route (with_route self.old.lists v nodes.now) w others.now }
         ensures nodes { self.new.nodes ≡ self.old.nodes }
     {
+        // its nodes may go to the list of `v`, which `set_list` empties itself
         self.clear(w);
         self.set_list(v, nodes);
         self.set_list(w, others);
@@ -204,7 +205,8 @@ impl Seating {
         }
     }
 
-    /// Gives each vehicle its list of `lists`, in which no node stands twice. A list that is the same is left alone.
+    /// Gives each vehicle its list of `lists`, in which no node stands twice. A list that is the same is left alone;
+    /// the others are all emptied before one is written, since a node may go from one to another.
     pub fn set_lists(&mut self, lists: &[Seq<u32>])
         requires { MayHaveAll self.old lists.now }
         ensures lists { self.new.lists ≡ lists.now }
@@ -241,7 +243,7 @@ impl Seating {
         }
     }
 
-    // Gives a vehicle a list, with which no node stands twice, where it has not got it: then it has none.
+    // Gives a vehicle a list, with which no node stands twice, where it has not got it: then its list is empty.
     fn fill(&mut self, v: u32, nodes: &[u32])
         requires may { MayHave self.old v nodes.now }
         requires there { IsSameOrEmpty nodes.now (route self.old.lists v) }

@@ -11,13 +11,14 @@ ghost use Rattle.vr_descent.specs.Refused.{CanJudge};
 ghost use Rattle.vr_routes.specs.Judging.{moved, verdict_of};
 
 use crate::judges::{self, Said};
+use crate::scans::{self, Ended};
 use crate::searches::{self, Sought};
 use crate::stopped;
 use std::alloc::Global;
 use std::marker::Brand;
 use std::sync::ledger::{Blank, Ledger};
 use vr_judge::FilterJudge;
-use vr_model::{Closed, Move, NoMemory, Steps};
+use vr_model::{Closed, Model, Move, NoMemory, Steps};
 use vr_plain::PlainJudge;
 use vr_routes::{Change, Judge, Routes, Verdict};
 
@@ -37,6 +38,8 @@ pub(crate) enum Question {
     Search(&'static Sought),
     /// That a watcher which refuses ends the descent.
     Stopper,
+    /// How one scan with so many tries ends.
+    Scan(u64, Ended),
 }
 
 /// A judge that counts the moves that it judges, and how often it is asked what moves make at least.
@@ -57,25 +60,8 @@ impl<J: Judge> Judge for Counting<J> {
 
     ghost weight = { λ counting. J.weight counting.judge };
 
-    fn judge<L: Ledger>(
-        &mut self,
-        routes: &Routes,
-        mv: Move,
-        steps: &mut Steps<L>,
-    ) -> Result<Verdict, NoMemory> {
-        self.count = self.count.saturating_add(1);
-        self.judge.judge(routes, mv, steps)
-    }
-
-    fn judge_change<L: Ledger>(
-        &mut self,
-        routes: &Routes,
-        mv: Move,
-        change: &Change,
-        steps: &mut Steps<L>,
-    ) -> Result<Verdict, NoMemory> {
-        self.count = self.count.saturating_add(1);
-        self.judge.judge_change(routes, mv, change, steps)
+    fn routing_model(&self) -> &Model {
+        self.judge.routing_model()
     }
 
     fn least_difference(&mut self, routes: &Routes, mv: Move, change: &Change) -> i64 {
@@ -95,8 +81,24 @@ impl<J: Judge> Judge for Counting<J> {
         self.judge.first_below(routes, mv, from, end, bound)
     }
 
-    fn commit(&mut self, routes: &mut Routes, mv: Move) -> Result<(), NoMemory> {
-        self.judge.commit(routes, mv)
+    fn judge_change<L: Ledger>(
+        &mut self,
+        routes: &Routes,
+        mv: Move,
+        change: &Change,
+        steps: &mut Steps<L>,
+    ) -> Result<Verdict, NoMemory> {
+        self.count = self.count.saturating_add(1);
+        self.judge.judge_change(routes, mv, change, steps)
+    }
+
+    fn commit_change(
+        &mut self,
+        routes: &mut Routes,
+        mv: Move,
+        change: &Change,
+    ) -> Result<(), NoMemory> {
+        self.judge.commit_change(routes, mv, change)
     }
 }
 
@@ -137,6 +139,9 @@ fn is_answered<J: Judge, L: Ledger>(
         Question::Stopper => stopped::ends_between_watchers(
             alloc, closed, counting, routes, &mut steps,
         ),
+        Question::Scan(tries, ended) => {
+            scans::scans(closed, counting, routes, tries, ended, &mut steps)
+        }
     }
 }
 

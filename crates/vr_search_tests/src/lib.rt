@@ -23,6 +23,8 @@ mod parts;
 #[cfg(test)]
 mod rows;
 #[cfg(test)]
+mod scans;
+#[cfg(test)]
 mod searches;
 #[cfg(test)]
 mod stopped;

@@ -29,7 +29,7 @@ impl<'r, 'a> Model for ListChange<'r, 'a> {
 }
 
 impl<'r, 'a> ListChange<'r, 'a> {
-    /// Whether a visit is changed in the list.
+    /// Whether a visit is changed in the list: it comes or goes, or the node just before it is another.
     #[inline]
     pub fn changes(&self, visit: u32) -> bool
         ensures { result ≡ is_changed_in self.now.start self.now.old self.now.new visit }
@@ -64,6 +64,7 @@ fn node_before(routes: &Routes, v: u32, origin: u32, visit: u32) -> Option<u32>
     requires distinct { IsTrue (is_distinct (route routes.now.lists v)) }
     ensures { result ≡ node_just_before origin (route routes.now.lists v) visit }
 {
+    // it does nothing: contracts learn that the visit stands nowhere else
     routes.know_once();
     match routes.seat(visit) {
         None => None,

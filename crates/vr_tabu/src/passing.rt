@@ -12,8 +12,9 @@ use vr_routes::{Judge, Routes};
 pub struct NoBetter<'a, J: Judge> {
     pub model: &'a Model,
     pub routes: &'a Routes,
+    /// Where there is none, no run is passed over.
     pub bound: Option<i64>,
-    /// How many moves may be tried.
+    /// How many moves the round may try.
     pub rest: u64,
     pub judge: PhantomData<J>,
 }
@@ -35,6 +36,7 @@ impl<'a, J: Judge> Sieve for NoBetter<'a, J> {
 
     #[inline(always)]
     fn has(&self, _neighbourhood: Neighbourhood, _v: u32, _w: u32) -> bool {
+        // no block is known: each round tries all moves anew
         false
     }
 

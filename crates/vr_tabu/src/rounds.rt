@@ -175,6 +175,7 @@ impl<'a> Round<'a> {
             length += 1;
             best = self.try_move(judge, mv, best, kept, &mut scratch, steps)?;
         }
+        // the moves behind the last try were passed over, and are tries as well
         if length > rest {
             return Ok(RoundEnd::Cut);
         }

@@ -1,4 +1,4 @@
-//! Tabu search.
+//! The search: round after round, the best candidate made, and the best routes kept.
 
 ghost use Rattle.std.specs.Prelude.{◌≡◌, ◌≢◌, ◌+◌, ◌-◌, ◌<◌, ◌≤◌, ◌^◌, ◌+ℤ◌, ◌≤ℤ◌, pos, ◌∷◌, [], length};
 ghost use Rattle.std.specs.Prelude.{Some, None, IsTrue, IfOk, OnOk, OnErr};
@@ -13,7 +13,7 @@ ghost use Rattle.vr_descent.specs.Ending.{CanBegin, HasEnded, HasStopped};
 ghost use Rattle.vr_descent.specs.Searching.{after_move, move_event, behind};
 ghost use Rattle.vr_routes.specs.Judging.{HasCommitted, moved};
 ghost use Rattle.vr_watch.specs.Told.{Reported, ReportedInPart};
-ghost use Rattle.vr_tabu.specs.Rounds.{IsChangeOfBest, IsDifferenceKnown, IsJudgeOf};
+ghost use Rattle.vr_tabu.specs.Rounds.{IsChangeOf, IsChangeOfBest, IsDifferenceKnown, IsJudgeOf};
 ghost use Rattle.vr_tabu.specs.Rounds.{tabu_round_end, tries_of};
 ghost use Rattle.vr_tabu.specs.Standing.{AreTabuParameters, IsTabuBegun, IsKnownState, TabuStands};
 ghost use Rattle.vr_descent.specs.Incumbents.{IsBest, kept};
@@ -178,9 +178,10 @@ impl State {
                     routes,
                     change: &change,
                 };
+                // before the move is made, since the lists before it tell what it changes
                 self.tabus
                     .follow(lists, parameters.tenure, &mut NewList::new());
-                self.take(judge, routes, watch, length, candidate)?;
+                self.take(judge, routes, watch, length, candidate, &change)?;
                 Ok(None)
             }
             RoundEnd::Stuck { length } => {
@@ -194,8 +195,8 @@ impl State {
         }
     }
 
-    // Makes the best candidate of a round of so many moves, and tells the watchers. Where memory is wanting, the judge
-    // stands at the lists of the routes all the same.
+    // Makes the best candidate of a round of so many moves, of which `change` is what it changes, and tells the
+    // watchers. Where memory is wanting, the judge stands at the lists of the routes all the same.
     fn take<J: Judge>(
         &mut self,
         judge: &mut J,
@@ -203,10 +204,12 @@ impl State {
         watch: &mut Vec<Box<dyn Watch>>,
         length: u64,
         candidate: Candidate,
+        change: &Change,
     ) -> Result<(), NoMemory>
         requires well_formed { IsWellFormed (J.model judge.old) }
         requires holds { HasCommitted (J.model judge.old) (J.committed judge.old) routes.old }
         requires mv { IsTrue (is_move (J.model judge.old) routes.old.lists candidate.mv) }
+        requires change { IsChangeOf (J.model judge.old) routes.old.lists change.now candidate }
         requires valid { IsTrue (is_valid (J.model judge.old)
             (apply (J.model judge.old) routes.old.lists candidate.mv)) }
         requires cost { self.old.at.cost ≡ cost (J.model judge.old) routes.old.lists }
@@ -229,7 +232,7 @@ impl State {
         ensures told_in_part { OnErr result (ReportedInPart (λ w later. after w later) watch.old.items watch.new.items
             (move_event (J.model judge.old) routes.old.lists candidate.mv (self.old.at.used + length) ∷ [])) }
     {
-        judge.commit(routes, candidate.mv)?;
+        judge.commit_change(routes, candidate.mv, change)?;
         self.follow(routes, length, candidate.difference);
         note_all(watch, self.at.event(Kind::Move))?;
         Ok(())

@@ -24,7 +24,7 @@ pub struct TabuList {
     pub until: Vec<u64>,
 }
 
-/// A change of all lists, which are those of a model before it and after it.
+/// A change, and the lists that it is of: all lists are those of a model, before it and after it.
 #[derive(Clone, Copy)]
 pub struct WholeChange<'m, 'r, 'c> {
     pub closed: Closed<'m>,
@@ -98,7 +98,8 @@ impl TabuList {
             .any(|&visit| !self.is_tabu_visit(visit) && list.changes(visit))
     }
 
-    // Whether a part of a change changes a visit that is not tabu.
+    // Whether a part of a change changes a visit that is not tabu. Those that leave the list stand in the old one
+    // alone.
     #[inline]
     fn frees(&self, list: &ListChange<'_, '_>) -> bool
         ensures { result ≡ frees (tabus_of self.now) list.now }

@@ -7,6 +7,7 @@ use Rattle.vr_model.specs.moves.MoveTests.{is_move}
 use Rattle.vr_model.specs.search.Scans.Scan.{Complete as complete, Cut as cut}
 use Rattle.vr_model.specs.routes.Rules.{is_valid}
 use Rattle.vr_model.specs.tables.WellFormed.{IsWellFormed}
+use Rattle.vr_routes.specs.Changes.{IsChange}
 use Rattle.vr_routes.specs.Judging.{HasCommitted}
 use Rattle.vr_routes.specs.Judging.{cost_change, moved}
 use Rattle.vr_watch.specs.Told.{Reported, ReportedInPart}
@@ -15,7 +16,7 @@ use Rattle.vr_model.proofs.tables.Refusals.{on_err}
 use Rattle.vr_watch.proofs.ToldLemmas.{none_behind, told_nothing}
 use Rattle.vr_model.specs.routes.CostLaws.{HasBoundedCost}
 use Rattle.vr_descent.specs.Asking.{AsksOn}
-use Rattle.vr_descent.specs.Scanned.{tries_in_scan}
+use Rattle.vr_descent.specs.Scanned.{tries_in_scan, IsChangeAtEnd}
 use Rattle.vr_descent.proofs.AskingLemmas.{on_by, on_same}
 use Rattle.vr_descent.specs.Searching.{after_move, events_after, move_event, progress_after, routes_after, scan_of}
 use Rattle.vr_descent.proofs.EndLemmas.{AcceptedAt, accepted_at, completed, was_cut}
@@ -29,14 +30,14 @@ use Rattle.vr_descent.proofs.progress.Progress.advance.Goals.{In-Accepted, In-Co
 use Rattle.vr_descent.proofs.progress.Progress.advance.Goals as goal
 
 -- the judge has the model still, and holds the lists
-same : (g : Over) (c : In_ok-ended g) → g.J.Judge.model c.scan.new.judge ≡ c.args.model.now
+same : (g : Over) (c : In_ok-ended g) → g.J.Judge.model c.run.new.judge ≡ c.args.model.now
 same g c = c.in_ok-ended.ensures.keeps.model ∙ c.requires.judge.judge_model
 
-held : (g : Over) (c : In_ok-ended g) → HasCommitted c.args.model.now (g.J.Judge.committed c.scan.new.judge) c.args.routes.now
+held : (g : Over) (c : In_ok-ended g) → HasCommitted c.args.model.now (g.J.Judge.committed c.run.new.judge) c.args.routes.now
 held g c = let before = c.requires.judge.holds in record { committed = c.in_ok-ended.ensures.keeps.committed; of_model = before.of_model; valid = before.valid }
 
 -- and so they stand once a move was made
-taken : (g : Over) (c : In_ok-ended g) (later : g.row.J.Denot) (tours : Tours) → g.J.Judge.model later ≡ g.J.Judge.model c.scan.new.judge → HasCommitted (g.J.Judge.model c.scan.new.judge) (g.J.Judge.committed later) tours → CanJudge c.args.model.now tours (g.J.Judge.model later) (g.J.Judge.committed later)
+taken : (g : Over) (c : In_ok-ended g) (later : g.row.J.Denot) (tours : Tours) → g.J.Judge.model later ≡ g.J.Judge.model c.run.new.judge → HasCommitted (g.J.Judge.model c.run.new.judge) (g.J.Judge.committed later) tours → CanJudge c.args.model.now tours (g.J.Judge.model later) (g.J.Judge.committed later)
 taken g c later tours stays holds = record { judge_model = stays ∙ same g c; holds = subst (λ k. HasCommitted k (g.J.Judge.committed later) tours) (same g c) holds }
 
 -- what the scan tells by its end
@@ -50,12 +51,12 @@ ran_out : (g : Over) (c : In-Cut g) → scan_of c.args.model.now (g.A.Accept.tak
 ran_out g c = was_cut c.args.model.now (g.A.Accept.takes c.args.accept.now) c.args.routes.now.lists (c.args.limit.tries - c.args.self.now.used) (sym c.in-Cut.is ∙ c.in_ok-ended.ensures.ends)
 
 -- the event of the move is that of the scan
-event : (g : Over) (c : In-Accepted g) → move_event (g.J.Judge.model c.scan.new.judge) c.args.routes.now.lists c.in-Accepted.mv (c.args.self.now.used + c.in-Accepted.place) ∷ [] ≡ events_after c.args.model.now c.args.routes.now.lists c.args.self.now.used (scan_of c.args.model.now (g.A.Accept.takes c.args.accept.now) c.args.limit c.args.routes.now.lists c.args.self.now.used)
+event : (g : Over) (c : In-Accepted g) → move_event (g.J.Judge.model c.run.new.judge) c.args.routes.now.lists c.in-Accepted.mv (c.args.self.now.used + c.in-Accepted.place) ∷ [] ≡ events_after c.args.model.now c.args.routes.now.lists c.args.self.now.used (scan_of c.args.model.now (g.A.Accept.takes c.args.accept.now) c.args.limit c.args.routes.now.lists c.args.self.now.used)
 event g c =
     ap (λ k. move_event k c.args.routes.now.lists c.in-Accepted.mv (c.args.self.now.used + c.in-Accepted.place) ∷ []) (c.in_ok-ended.ensures.keeps.model ∙ c.requires.judge.judge_model) ∙ ap (events_after c.args.model.now c.args.routes.now.lists c.args.self.now.used) (sym (accepted g c).scanned)
 
 -- the judge was asked by the scan alone
-asks : (g : Over) (c : In-Accepted g) (later : g.row.J.Denot) → g.J.Judge.asked later ≡ g.J.Judge.asked c.scan.new.judge → g.J.Judge.looked later ≡ g.J.Judge.looked c.scan.new.judge → (to : ℕ) → c.args.self.now.used + c.in-Accepted.place ≤ to
+asks : (g : Over) (c : In-Accepted g) (later : g.row.J.Denot) → g.J.Judge.asked later ≡ g.J.Judge.asked c.run.new.judge → g.J.Judge.looked later ≡ g.J.Judge.looked c.run.new.judge → (to : ℕ) → c.args.self.now.used + c.in-Accepted.place ≤ to
     → AsksOn g.J.Judge.asked g.J.Judge.looked c.args.judge.now later c.args.self.now.used to
 asks g c later asked looked to low =
     let tries = ap (tries_in_scan (c.args.limit.tries - c.args.self.now.used)) c.in-Accepted.is in
@@ -83,13 +84,19 @@ take-requires-clause-well_formed g c =
 pub take-requires-clause-holds : goal.take-requires-clause-holds
 take-requires-clause-holds g c =
     let stays = same g (goal.at.take-requires-clause-holds g c).In_ok-ended in
-    subst (λ k. HasCommitted k (g.J.Judge.committed c.scan.new.judge) c.args.routes.now) (sym stays) (held g (goal.at.take-requires-clause-holds g c).In_ok-ended)
+    subst (λ k. HasCommitted k (g.J.Judge.committed c.run.new.judge) c.args.routes.now) (sym stays) (held g (goal.at.take-requires-clause-holds g c).In_ok-ended)
 
 pub take-requires-clause-mv : goal.take-requires-clause-mv
 take-requires-clause-mv g c =
     let stays = same g (goal.at.take-requires-clause-mv g c).In_ok-ended in
     let made = accepted g (goal.at.take-requires-clause-mv g c).In-Accepted in
     subst (λ k. IsTrue (is_move k c.args.routes.now.lists c.in-Accepted.mv)) (sym stays) made.is_one
+
+pub take-requires-clause-change : goal.take-requires-clause-change
+take-requires-clause-change g c =
+    let stays = same g (goal.at.take-requires-clause-change g c).In_ok-ended in
+    subst (λ k. IsChange k c.args.routes.now.lists c.in-Accepted.mv c.run.new.change) (sym stays)
+    (subst (λ ended. IsChangeAtEnd c.args.model.now c.args.routes.now.lists ended c.run.new.change) c.in-Accepted.is c.in_ok-ended.ensures.change)
 
 pub take-requires-clause-valid : goal.take-requires-clause-valid
 take-requires-clause-valid g c =

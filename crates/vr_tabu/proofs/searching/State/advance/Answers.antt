@@ -72,6 +72,11 @@ take-requires-clause-mv g c =
     let same = c.in_ok-ended.ensures.keeps.model ∙ c.requires.judge_model in
     subst (λ m. IsTrue (is_move m c.args.routes.now.lists c.in-Best.candidate.mv)) (sym same) (least g (goal.at.take-requires-clause-mv g c).In-Best).is_one
 
+pub take-requires-clause-change : goal.take-requires-clause-change
+take-requires-clause-change g c =
+    let same = c.in_ok-ended.ensures.keeps.model ∙ c.requires.judge_model in
+    subst (λ m. IsChange m c.args.routes.now.lists c.in-Best.candidate.mv c.run_round.new.kept) (sym same) (changes g (goal.at.take-requires-clause-change g c).In-Best)
+
 pub take-requires-clause-valid : goal.take-requires-clause-valid
 take-requires-clause-valid g c =
     let same = c.in_ok-ended.ensures.keeps.model ∙ c.requires.judge_model in

@@ -32,8 +32,8 @@ made g c = c.follow.ensures.at ∙ ap {B = Progress} (λ k. record { used = c.ar
 tells : (g : Over) (c : After-event g) → c.follow.new.self.at ≡ after_move (g.J.Judge.model c.args.judge.now) c.args.routes.now.lists c.args.candidate.mv c.args.length c.args.self.now.at → c.event.result ≡ move_event (g.J.Judge.model c.args.judge.now) c.args.routes.now.lists c.args.candidate.mv (c.args.self.now.at.used + c.args.length)
 tells g c at = c.event.ensures ∙ ap (λ (p : Progress). record { tries = p.used; kind = kind.Move; cost = p.cost }) at
 
-pub returns-in_err-commit-clause-told_in_part : goal.returns-in_err-commit-clause-told_in_part
-returns-in_err-commit-clause-told_in_part g c = on_err c.from_residual.result
+pub returns-in_err-commit_change-clause-told_in_part : goal.returns-in_err-commit_change-clause-told_in_part
+returns-in_err-commit_change-clause-told_in_part g c = on_err c.from_residual.result
     (none_behind (λ w. (goal.Watch-dyn g (w.vtable, w.value)).after w.value) _ _ [] _ (told_nothing _ _))
 
 pub follow-requires-clause-cost : goal.follow-requires-clause-cost
@@ -46,12 +46,12 @@ follow-requires-clause-cost g c =
     }
 
 pub follow-requires-clause-visits : goal.follow-requires-clause-visits
-follow-requires-clause-visits g c = c.requires.best.same_visits ∙ sym (ap (λ r. r.visits) c.in_ok-commit.ensures.routes)
+follow-requires-clause-visits g c = c.requires.best.same_visits ∙ sym (ap (λ r. r.visits) c.in_ok-commit_change.ensures.routes)
 
 pub follow-requires-clause-many : goal.follow-requires-clause-many
 follow-requires-clause-many g c =
-    as_many (g.J.Judge.model c.args.judge.now) c.args.self.now.best.routes.lists c.commit.new.routes.lists c.requires.best.valid
-    (subst (λ r. IsTrue (is_valid (g.J.Judge.model c.args.judge.now) r.lists)) (sym c.in_ok-commit.ensures.routes) c.requires.valid)
+    as_many (g.J.Judge.model c.args.judge.now) c.args.self.now.best.routes.lists c.commit_change.new.routes.lists c.requires.best.valid
+    (subst (λ r. IsTrue (is_valid (g.J.Judge.model c.args.judge.now) r.lists)) (sym c.in_ok-commit_change.ensures.routes) c.requires.valid)
 
 pub returns-in_err-note_all-clause-told_in_part : goal.returns-in_err-note_all-clause-told_in_part
 returns-in_err-note_all-clause-told_in_part g c =
@@ -64,7 +64,7 @@ returns-clause-at g c =
 
 pub returns-clause-best : goal.returns-clause-best
 returns-clause-best g c =
-    c.follow.ensures.best ∙ ap (kept c.args.self.now.best c.commit.new.routes) (sum g (goal.at.returns-clause-best g c).After-follow ∙ sym (ap (λ r. cost (g.J.Judge.model c.args.judge.now) r.lists) c.in_ok-commit.ensures.routes))
+    c.follow.ensures.best ∙ ap (kept c.args.self.now.best c.commit_change.new.routes) (sum g (goal.at.returns-clause-best g c).After-follow ∙ sym (ap (λ r. cost (g.J.Judge.model c.args.judge.now) r.lists) c.in_ok-commit_change.ensures.routes))
 
 pub returns-clause-told : goal.returns-clause-told
 returns-clause-told g c =

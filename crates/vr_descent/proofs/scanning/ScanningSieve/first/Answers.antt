@@ -8,7 +8,7 @@ use Rattle.vr_known.proofs.PassingLemmas.{told_of_each}
 use Rattle.vr_descent.specs.Refused.{IsPassed}
 use Rattle.vr_descent.specs.Scanned.{IsEnough}
 use Rattle.vr_descent.proofs.TakenLemmas.{run_refused}
-use Rattle.vr_descent.proofs.scanning.RefusalsSieve.first.Goals as goal
+use Rattle.vr_descent.proofs.scanning.ScanningSieve.first.Goals as goal
 
 pub returns-in-Some-clause-passed : goal.returns-in-Some-clause-passed
 returns-in-Some-clause-passed g c =

@@ -1,5 +1,5 @@
 use Rattle.std.proofs.Common.{◌∙◌, sym}
-use Rattle.vr_descent.proofs.scanning.open_next.Goals as goal
+use Rattle.vr_descent.proofs.scanning.Scanning.next_by_sieve.Goals as goal
 
 pub returns-clause-model : goal.returns-clause-model
 returns-clause-model g c = c.step.ensures.looked.ready.judge_model ∙ sym c.requires.can_judge.judge_model
