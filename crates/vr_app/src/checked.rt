@@ -47,7 +47,7 @@ fn model_in(alloc: Global, value: &Value, path: &Path) -> Result<Model, ReadFail
     Fields { alloc, value, path }.required("model", &ModelField)
 }
 
-// The solution in an object, as it stands.
+// The solution in an object, as it stands: another shape is no fault of reading, it breaks the first rule of the check.
 fn solution_in<'a>(alloc: Global, value: &'a Value, path: &Path) -> Result<&'a Value, ReadFail>
     ensures { Answers (seen (λ v. view v.now) result)
         (field_of (codes "solution") any_tree path.now (view value.now)) }

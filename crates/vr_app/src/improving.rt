@@ -26,7 +26,7 @@ pub type Watchers = Vec<Box<dyn Watch>>;
 pub struct FirstSolution {
     /// Routes of valid lists.
     pub routes: Routes,
-    /// What they cost.
+    /// What they cost. Path neighbourhoods find it anew.
     pub cost: i64,
 }
 
@@ -75,7 +75,7 @@ fn tenure_of(closed: Closed<'_>) -> u32
     closed.model.search.tenure
 }
 
-// Greedy descent from the first solution.
+// Greedy descent from the first solution. The last lists are the best, since each move costs less.
 fn descend_from<J: Judge, L: Ledger>(
     closed: Closed<'_>,
     judge: &mut J,
@@ -162,7 +162,8 @@ fn tabu_from<J: Judge, L: Ledger>(
     })
 }
 
-// Path neighbourhoods from the first solution.
+// Path neighbourhoods from the first solution. The last lists are the best, since a cut is kept only where they cost
+// less.
 fn rebuild_from<R: Rebuild>(
     alloc: Global,
     lookups: &Lookups<'_>,

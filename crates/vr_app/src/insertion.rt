@@ -28,10 +28,12 @@ impl Insertion {
 }
 
 impl Rebuild for Insertion {
+    // nothing is counted here: the test that counts has its own (`vr_search_tests`)
     ghost made = { λ insertion. 0 };
 
     ghost knows = { λ insertion model. IsOpened model insertion.rebuilder };
 
+    /// As the trait says. Nothing calls it: path neighbourhoods ask `rebuild_known` alone.
     fn rebuild(&mut self, model: &Model, routes: &Routes) -> Result<Routes, NoMemory> {
         rebuild(self.alloc, model, routes)
     }

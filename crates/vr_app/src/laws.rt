@@ -1,5 +1,5 @@
-//! Laws that hold between what the program writes and what it reads. A call has no code: its contract is the law, and a
-//! proof that needs the law calls it.
+//! Laws that hold between what the program writes and what it reads. A call has no code: its contract is the law.
+//! Nothing calls them: a proof that needs a law names the proof of it.
 
 ghost use Rattle.vr_app.specs.ImportLaws.{ImportedTreesAreModels};
 ghost use Rattle.vr_app.specs.Printing.{PrintedMeets};

@@ -15,14 +15,17 @@
 //! Replied: `solving` works out the answer to an input, `demo` a summary of a search for a number, `checked` what is
 //! asked of a solution, `spans` the tree of least spans for it, `numbered` what has a number, `answer` what says a
 //! status alone and refusals, `logs` puts the reports of watchers behind the line of a solution, `texts` makes the
-//! trees that say no solution, and `laws` has the law that what is printed meets a check. `reply` ties these to the
-//! source and the sink, and `status` says how a run ends.
+//! trees of statuses, refusals, findings and summaries, and `laws` has the laws that what is printed meets a check and
+//! that what is imported is read as a model. `reply` ties these to the source and the sink, and `status` says how a run
+//! ends.
 //!
 //! Each call that answers says which reply of the definition it gives, or that memory was wanting. An input is let go
-//! as it is used: the bytes before its model is read, the value before that is solved. A function owns one large value
-//! and lends it on. The lists that a search begins with are valid, and the judge stands at them.
+//! as it is used: the bytes before its model is read, the value before that is solved; the bytes of a file that is
+//! imported, and the value of a question, whose solution is read from it, stay until the answer is made. A function
+//! owns one large value and lends it on. The lists that a search begins with are valid, and the judge stands at them.
 //!
-//! `vr_cli` calls [`run`] with the words of its command line and the two standard streams.
+//! `vr_cli` calls [`run`] with the words of its command line and the two standard streams. [`first_routes`],
+//! [`read_owned`], [`improve_judged`] and [`FirstSolution`] are public for a test of `vr_app_tests` alone.
 //!
 //! The way from `main` to a tried move, with what each frame adds:
 //!
@@ -47,14 +50,15 @@
 //!     improve              improving: the search that the model names, say
 //!     guide_from           improving: guided local search, by the limit and weights of the model
 //!     guide, search        vr_guided: rounds of scans, and penalties between them
-//!     advance, scan        vr_descent: one scan: the moves of the lists, one after another
+//!     advance, run         vr_descent: one scan: the moves of the lists, one after another
 //!     next_open            vr_descent: the next move, behind runs that are known or ruled out (`Judge::first_below`)
 //!     try_move             vr_descent: asks the judge, a `vr_judge::FilterJudge`, about a move
 //!
-//! `scan` owns the change of the move in hand and lends it down: `try_move` writes it over for each move, and hands it
-//! to all that is asked. Of an accepted move its place, the move and its difference go back to `advance`, where `take`
-//! has the judge make it (`commit`), counts the move and tells the watchers. Then `advance` stamps what the move
-//! touched (`vr_known`), and the search lets what it keeps follow the routes.
+//! `advance` owns the change of the move in hand and lends it down: `try_move` writes it over for each move, and hands
+//! it to all that is asked. Of an accepted move its place, the move and its difference go back to `advance`, which
+//! notes the rows that the scan refused whole (`vr_known`); `take` has the judge make the change (`commit_change`),
+//! counts the move and tells the watchers. Then `advance` stamps what the move touched, and the search lets what it
+//! keeps follow the routes.
 //!
 //! The way back from there to the printed line: after each move the search keeps the routes that cost less than any
 //! before (`vr_descent::Incumbent`); `guide` gives these and its report, `guide_from` makes a `Best` of them, and

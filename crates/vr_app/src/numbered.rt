@@ -1,4 +1,4 @@
-//! The answers to numbers: the model of a number, and a search in short.
+//! The answers to numbers: the model of a number, and the summary of a search that `demo` made.
 
 ghost use Rattle.std.specs.Prelude.{◌≡◌, Some, IfOk, IsTrue};
 ghost use Rattle.vr_model.specs.routes.Rules.{is_valid};
@@ -47,7 +47,7 @@ pub fn summarised(
     answer_of_tree(alloc, Status::Done, &tree)
 }
 
-// The same search as numbers.
+// What is reported of the search, as numbers. The cost is found anew, since `Best` does not keep it.
 fn summary_of(
     alloc: Global,
     number: u64,

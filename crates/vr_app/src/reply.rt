@@ -157,7 +157,8 @@ fn run_lent<S: Source, K: Sink>(
 /// | `demo N` | nothing | the line of a summary of the whole search of that model |
 ///
 /// N and K are written in decimal digits, with no 0 in front of others; N is at most 2^64 - 1, and K is 1 to 100. What
-/// is read is the source to its end. C is the cost of the solution, which keeps all rules of its model.
+/// is read is the source to its end, unless too many bytes come. C is the cost of the solution, which keeps all rules
+/// of its model.
 ///
 /// | status | comes | written |
 /// |---|---|---|
@@ -228,7 +229,8 @@ pub fn run<S: Source, K: Sink>(
         (K.written sink.old) (K.written sink.new) (K.faults sink.old) (K.faults sink.new) result) }
     ensures unwritten { (result ≡ 2) ⊎ (result ≡ 7) → sink.new ≡ sink.old }
 
-    // Words that read have the source read to its end; others leave it as it is.
+    // Words that read have the source read to its end, unless it failed, too many bytes came or memory was wanting;
+    // others leave it as it is.
     ensures emptied { let reports = joined_reports (λ w later. after w later) watch.items in
         IsEmptied reports (program_run (bytes_of words.now)
         (S.left source.old) (S.left source.new) (S.faults source.old) (S.faults source.new)

@@ -3,10 +3,10 @@
 ghost use Rattle.std.specs.Prelude.{◌≡◌};
 ghost use Rattle.vr_app.specs.Status.{IsStatus, status_number};
 
-/// The status of a run. Its number is what the program ends with.
+/// The status of a run. Its number is what the program ends with; `vr_cli` has 10 beside these.
 #[derive(Clone, Copy)]
 pub enum Status {
-    /// The answer was written.
+    /// What was asked for was written.
     Done = 0,
     /// The words are not accepted.
     Usage = 1,
@@ -16,7 +16,7 @@ pub enum Status {
     WriteFault = 3,
     /// The input is no JSON.
     NotJson = 4,
-    /// The input is refused.
+    /// The input is refused: reading finds a fault in it.
     Refused = 5,
     /// The construction gives no first solution.
     NoneFound = 6,

@@ -1,4 +1,4 @@
-//! The trees of the texts that say no solution.
+//! The trees of the texts that say no solution: statuses, refusals, findings and summaries. `spans` has its own.
 
 ghost use Rattle.std.specs.Prelude.{◌≡◌, IfOk, OnOk};
 ghost use Rattle.serde_json.specs.Data.{no_members, object, put, string};

@@ -133,7 +133,8 @@ fn import_of(vehicles: u64) -> Option<Request>
     }
 }
 
-// The number that a word writes: in decimal digits, with no 0 in front of others, and at most 2^64 - 1.
+// The number that a word writes: in decimal digits, with no 0 in front of others, and at most 2^64 - 1. The digits are
+// asked beside `parse`, so that each number has one word.
 fn number_in(word: &str) -> Option<u64>
     ensures { result ≡ words_of.number_in word.now }
 {

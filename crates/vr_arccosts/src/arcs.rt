@@ -12,8 +12,7 @@ ghost use Rattle.vr_arccosts.specs.ArcMoves.{costs_more, with_between, IsKnownPi
 ghost use Rattle.vr_parts.specs.Bounds.{IsAddedByList};
 
 use crate::costs::VehicleArcs;
-use crate::gaps::Line;
-use crate::lines::Along;
+use crate::lines::{Along, Line};
 use crate::walks::{Driven, Gap};
 use std::alloc::Global;
 use std::marker::Model;
@@ -27,6 +26,7 @@ use vr_routes::{Change, Piece, Routes, Row, Splice};
 #[derive(Drop)]
 pub struct ArcCost<'m> {
     model: &'m RoutingModel,
+    // the sums along the line of each vehicle
     along: Vec<Along>,
     // room for a list that a change makes
     row: Row,

@@ -8,9 +8,11 @@ ghost use Rattle.vr_arccosts.specs.Runs.{AddsNoLess};
 
 use crate::committed::Committed;
 use crate::fronts::{Fronts, first_front};
-use crate::gaps::{Asked, Ends, Put, first_gap, node_at};
+use crate::gaps::{Asked, Ends, Put, first_gap};
 
-/// The run of the front of the list of vehicle `v`, up to place `a`, that changes vehicles with those of vehicle `w`.
+/// The run that lets the nodes before place `a` of vehicle `v` change vehicles with those before place `b` of vehicle
+/// `w`, for the numbers `b` that are asked. They begin at 1: the empty front of `w` is asked alone (`first_crossed` in
+/// `runs`).
 #[derive(Clone, Copy)]
 pub(crate) struct CrossRun<'a, 'm> {
     pub(crate) lists: Committed<'a, 'm>,
@@ -40,7 +42,7 @@ impl<'a, 'm> CrossRun<'a, 'm> {
         self.first_unlike()
     }
 
-    // The same run, where the vehicles need not have the same costs.
+    // The same run, where the vehicles need not have the same costs: by going along the fronts (`first_front`).
     #[inline(always)]
     fn first_unlike(&self) -> u32
         ensures from { self.now.asked.from ≤ result }
@@ -53,7 +55,7 @@ impl<'a, 'm> CrossRun<'a, 'm> {
         first_front(&line, self.a, &other, self.asked)
     }
 
-    // The same run, where both vehicles have the same costs: fronts that leave one list empty are told alone.
+    // The same run, where both vehicles have the same costs: the move that leaves the list of `w` empty is asked alone.
     #[inline(always)]
     fn first_fronts(&self) -> u32
         requires costs { let run = self.now in (i j : ℕ) → arc_cost run.lists.kept.now.model run.w i j
@@ -84,7 +86,9 @@ impl<'a, 'm> CrossRun<'a, 'm> {
         asked.end
     }
 
-    // The same run, where neither list is left empty.
+    // The same run, where neither list is left empty. To cut the list of `w` at `b` costs what a chain put there would:
+    // its last node is the last of the front of `v`, which goes on to the rest of `w`, and its first is the stop at
+    // place `a` of `v`, to which the front of `w` goes on.
     #[inline(always)]
     fn first_left(&self) -> u32
         requires costs { let run = self.now in (i j : ℕ) → arc_cost run.lists.kept.now.model run.w i j
@@ -97,6 +101,7 @@ impl<'a, 'm> CrossRun<'a, 'm> {
             run.lists.kept.now.model run.lists.routes.now.lists (Cross run.v run.a run.w b) run.asked.bound }
     {
         let asked = self.asked;
+        // else `w` has a visit: `base` looks at its first one
         if asked.from == asked.end {
             return asked.end;
         }
@@ -109,7 +114,7 @@ impl<'a, 'm> CrossRun<'a, 'm> {
         };
         let base = fronts.base();
         let ends = Ends {
-            first: node_at(&line, self.a),
+            first: line.node_at(self.a),
             last: fronts.last(),
         };
         let put = Put {

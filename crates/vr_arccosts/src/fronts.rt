@@ -1,4 +1,7 @@
-//! Fronts of lists that change vehicles: what the arcs cost more, by the place behind one of them.
+//! Fronts of lists that change vehicles: what the arcs cost more, by the place behind one of them. Where both vehicles
+//! have the same costs, what a front adds is known but for the gap behind the other one (`Fronts::base`, for a loop of
+//! `gaps`); else `first_front` goes along the other front visit by visit, since the sums of its line are by the costs
+//! of another vehicle.
 
 ghost use Rattle.std.proofs.Props.{props};
 ghost use Rattle.std.specs.Prelude.{◌≡◌, ℕ, ◌+◌, ◌<◌, ◌≤◌, ◌≤ℤ◌, length, take};
@@ -10,7 +13,8 @@ ghost use Rattle.vr_arccosts.specs.Chains.{chain_sum};
 ghost use Rattle.vr_arccosts.specs.Runs.{cross_base, front_added, fronts_added};
 ghost use Rattle.vr_parts.specs.Bounds.{IsAddedByChange, IsAddedByList};
 
-use crate::gaps::{Asked, Line, node_at, node_before};
+use crate::gaps::Asked;
+use crate::lines::Line;
 use crate::walks::costs_along;
 
 /// The front of a list, up to place `a`, that changes vehicles with one of another list, of vehicles of one model.
@@ -44,7 +48,8 @@ impl<'l, 'k, 'a, 'm> Fronts<'l, 'k, 'a, 'm> {
         from - left + front
     }
 
-    // What the front costs the other vehicle up to its last node, less what the arcs cost there.
+    // What the front costs the other vehicle from its start to the last node of the front, less what the arcs of this
+    // list cost up to the stop at place `a`.
     #[inline(always)]
     fn front_added(&self) -> i64
         requires costs { let line = self.now.line.now in (i j : ℕ)
@@ -79,10 +84,10 @@ impl<'l, 'k, 'a, 'm> Fronts<'l, 'k, 'a, 'm> {
         if self.a == 0 {
             return self.other.costs.start();
         }
-        node_before(self.line, self.a)
+        self.line.node_before(self.a)
     }
 
-    // What the arcs of the other vehicle cost along the front.
+    // What the arcs of the other vehicle cost along the front, from its start to the last node.
     #[inline(always)]
     fn cost(&self) -> i64
         ensures value { let line = self.now.line.now in
@@ -190,11 +195,12 @@ impl<'l, 'k, 'a, 'm> BothFronts<'l, 'k, 'a, 'm> {
         let list = self.fronts.other.list;
         let to = line.costs.cost(line.costs.start(), list[0]);
         let last = list[(self.b - 1) as usize];
-        let on = line.costs.cost(last, node_at(line, self.fronts.a));
+        let on = line.costs.cost(last, line.node_at(self.fronts.a));
         to + self.inner + on
     }
 
-    // What the arcs of the other vehicle cost up to place `b` with the front of this list.
+    // What the arcs of the other vehicle cost up to place `b` with the front of this list: 0 where its list is left
+    // without a visit, since an unused vehicle costs nothing.
     #[inline(always)]
     fn with_other(&self) -> i64
         ensures value { let other = self.now.fronts.other.now in
@@ -206,7 +212,7 @@ impl<'l, 'k, 'a, 'm> BothFronts<'l, 'k, 'a, 'm> {
         if self.fronts.a == 0 && self.b as usize == other.list.len() {
             return 0;
         }
-        let on = other.costs.cost(self.fronts.last(), node_at(other, self.b));
+        let on = other.costs.cost(self.fronts.last(), other.node_at(self.b));
         self.front + on
     }
 

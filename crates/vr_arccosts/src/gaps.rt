@@ -1,17 +1,12 @@
 //! Loops along a list for the first place whose move adds less than a bound to the arc costs: of parts that are
 //! reversed, by their last place, of gaps into which a chain or a delivery is put, and of nodes that are exchanged.
 
-ghost use Rattle.std.proofs.Props.{props};
-ghost use Rattle.std.specs.Prelude.{◌≡◌, ℕ, ◌+◌, ◌<◌, ◌≤◌, ◌+ℤ◌, ◌≤ℤ◌, length, slice_index, take, All};
-ghost use Rattle.vr_model.specs.tables.Tables.{arc_cost, vehicle_at};
-ghost use Rattle.vr_model.specs.tables.WellFormed.{IsWellFormed};
+ghost use Rattle.std.specs.Prelude.{◌≡◌, ℕ, ◌+◌, ◌<◌, ◌≤◌, ◌+ℤ◌, ◌≤ℤ◌, length, slice_index};
 ghost use Rattle.vr_parts.specs.Bounds.{IsAddedByChange, IsAddedByList};
-ghost use Rattle.vr_balance.specs.Sums.{last_of};
-ghost use Rattle.vr_arccosts.specs.Runs.{at_place, before_place, ends_added, gap_added};
-ghost use Rattle.vr_arccosts.specs.Runs.{pair_added, swap_added, turn_added, IsLine, IsPut};
+ghost use Rattle.vr_arccosts.specs.Runs.{ends_added, gap_added};
+ghost use Rattle.vr_arccosts.specs.Runs.{pair_added, swap_added, turn_added, IsPut};
 
-use crate::costs::VehicleArcs;
-use crate::lines::Along;
+use crate::lines::Line;
 use vr_model::Pair;
 
 /// The numbers of a run that are asked: those from `from` on, below `end`, of which the first is wanted whose move may
@@ -56,15 +51,6 @@ impl Asked {
     }
 }
 
-/// The line of a vehicle with its list: what its arcs cost, and the sums along it.
-#[derive(Drop)]
-pub struct Line<'a, 'm> {
-    pub costs: VehicleArcs<'m>,
-    pub along: &'a Along,
-    pub list: &'a [u32],
-    pub ghost sound: { IsLine costs.model.now costs.vehicle list.now along.now } by { Prim.hlevel props },
-}
-
 /// The first and the last node of a chain.
 #[derive(Clone, Copy)]
 pub struct Ends {
@@ -94,8 +80,8 @@ impl<'a, 'm> Line<'a, 'm> {
             front behind ends.first ends.last }
         ensures range { IsAddedByList result }
     {
-        let to = self.costs.cost(node_before(self, front), ends.first);
-        let on = self.costs.cost(ends.last, node_at(self, behind));
+        let to = self.costs.cost(self.node_before(front), ends.first);
+        let on = self.costs.cost(ends.last, self.node_at(behind));
         let old = self.along.stretch(self.list.len() as u32, front, behind);
         to + on - old
     }
@@ -160,7 +146,8 @@ pub fn first_gap(put: &Put, asked: Asked) -> u32
 }
 
 /// The first number at which a chain of `k` nodes that leaves place `a` can be put, as [`first_gap`]: in front of its
-/// place, or behind it, where each number stands for the place that is `k` places behind it.
+/// place, or behind it, where each number stands for the place that is `k` places behind it. The number `a` is passed
+/// over: no move leaves the chain where it stands.
 #[inline(always)]
 pub fn first_around(put: &Put, a: u32, k: u32, asked: Asked) -> u32
     requires places { asked.end + k ≤ length put.now.line.now.list.now + 1 }
@@ -342,30 +329,4 @@ pub fn swapped(line: &Line, place: u32, node: u32) -> i64
         last: node,
     };
     line.ends_added(ends, place, place + 1)
-}
-
-/// The node of the stop before a place of the list of a vehicle.
-#[inline(always)]
-pub fn node_before(line: &Line, place: u32) -> u32
-    requires place { place ≤ length line.now.list.now }
-    ensures value { result ≡ before_place line.now.costs.model.now line.now.costs.vehicle line.now.list.now place }
-    ensures known { result < line.now.costs.model.now.nodes }
-{
-    if place == 0 {
-        return line.costs.start();
-    }
-    line.list[(place - 1) as usize]
-}
-
-/// The node of the stop at a place of the list of a vehicle.
-#[inline(always)]
-pub fn node_at(line: &Line, place: u32) -> u32
-    requires place { place ≤ length line.now.list.now }
-    ensures value { result ≡ at_place line.now.costs.model.now line.now.costs.vehicle line.now.list.now place }
-    ensures known { result < line.now.costs.model.now.nodes }
-{
-    if place as usize == line.list.len() {
-        return line.costs.end();
-    }
-    line.list[place as usize]
 }

@@ -9,8 +9,8 @@
 //!
 //! `runs` says which loop tells of a run (`gaps`, `puts`, `swaps`, `crosses`, over `fronts` and `rests`); `walks` goes
 //! along the pieces of a changed list, and `lines` has the sums. [`ArcCost`] (`arcs`) is the part of the cost;
-//! `VehicleArcs` (`costs`) has the arc costs of one vehicle. The sums are those of the committed lists. `vr_judge` asks
-//! about changes and runs.
+//! `VehicleArcs` (`costs`) has the arc costs of one vehicle, and `committed` what is kept of the lists with them. The
+//! sums are those of the committed lists. `vr_judge` asks about changes and runs.
 #![tactic(auto)]
 
 mod arcs;

@@ -1,5 +1,6 @@
-//! Sums of arc costs along the lines of vehicles.
+//! The lines of vehicles, and sums of arc costs along them.
 
+ghost use Rattle.std.proofs.Props.{props};
 ghost use Rattle.std.specs.Prelude.{◌≡◌, ◌<◌, ◌≤◌, ◌+◌, ◌^◌, ℕ, List, pos, neg_ℤ, All, length, slice_range};
 ghost use Rattle.vr_model.specs.declared.records.Model.{Model as RoutingModel};
 ghost use Rattle.vr_model.specs.tables.Tables.{arc_cost};
@@ -8,12 +9,15 @@ ghost use Rattle.vr_balance.specs.Sums.{HaveRange};
 ghost use Rattle.vr_arccosts.specs.Chains.{chain_of, chain_sum};
 ghost use Rattle.vr_arccosts.specs.Along.{between_cost, IsAlong, IsAlongTo, IsArc};
 ghost use Rattle.vr_arccosts.specs.Bounds.{HasRoomForStop};
+ghost use Rattle.vr_arccosts.specs.Runs.{at_place, before_place, IsLine};
 
+use crate::costs::VehicleArcs;
 use vr_balance::Sums;
 use vr_model::{Closed, Model};
 
 /// The sums of arc costs along the line of a vehicle, from its start through its list to its end, and those of the same
-/// arcs backwards.
+/// arcs backwards. The start is their place 0, and a node of the list stands one place behind its own. Of an empty list
+/// they have the arc from start to end, which `stretch` leaves out, since a vehicle that is not used drives none.
 #[derive(Drop)]
 pub struct Along {
     /// Of the arcs as they are driven.
@@ -104,5 +108,42 @@ impl Along {
         } else {
             self.ahead.between(from + 1, to)
         }
+    }
+}
+
+/// The line of a vehicle with its list: what its arcs cost, and the sums along it.
+#[derive(Drop)]
+pub struct Line<'a, 'm> {
+    pub costs: VehicleArcs<'m>,
+    pub along: &'a Along,
+    pub list: &'a [u32],
+    pub ghost sound: { IsLine costs.model.now costs.vehicle list.now along.now } by { Prim.hlevel props },
+}
+
+impl<'a, 'm> Line<'a, 'm> {
+    /// The node of the stop before a place of the list of a vehicle.
+    #[inline(always)]
+    pub fn node_before(&self, place: u32) -> u32
+        requires place { place ≤ length self.now.list.now }
+        ensures value { result ≡ before_place self.now.costs.model.now self.now.costs.vehicle self.now.list.now place }
+        ensures known { result < self.now.costs.model.now.nodes }
+    {
+        if place == 0 {
+            return self.costs.start();
+        }
+        self.list[(place - 1) as usize]
+    }
+
+    /// The node of the stop at a place of the list of a vehicle.
+    #[inline(always)]
+    pub fn node_at(&self, place: u32) -> u32
+        requires place { place ≤ length self.now.list.now }
+        ensures value { result ≡ at_place self.now.costs.model.now self.now.costs.vehicle self.now.list.now place }
+        ensures known { result < self.now.costs.model.now.nodes }
+    {
+        if place as usize == self.list.len() {
+            return self.costs.end();
+        }
+        self.list[place as usize]
     }
 }

@@ -116,6 +116,7 @@ impl<'a, 'm> Served<'a, 'm> {
             → AddsNoLess served.lists.kept.now.model served.lists.routes.now.lists
             (RelocatePair served.p served.at.vehicle s t) asked.bound) }
     {
+        // the list without the pair has two nodes less, and one gap more than nodes
         if s > asked.from || asked.end >= self.lists.routes.len(self.at.vehicle) {
             return None;
         }

@@ -1,4 +1,5 @@
-//! The list of a vehicle without a pair: what the pair adds where it is put into it.
+//! The list of a vehicle without a pair: what the pair adds where it is put into it. No sums are asked, since those of
+//! the list have the pair in them.
 
 ghost use Rattle.std.proofs.Props.{props};
 ghost use Rattle.std.specs.Prelude.{◌≡◌, ℕ, ◌+◌, ◌<◌, ◌≤◌, ◌+ℤ◌, ◌≤ℤ◌, length, slice_index_or};
@@ -10,7 +11,8 @@ use crate::costs::VehicleArcs;
 use crate::gaps::{Asked, Ends};
 use vr_model::Pair;
 
-/// The list of a vehicle without the nodes at two places, of which `lo` comes first, and what its arcs cost.
+/// The list of a vehicle without the nodes at two places, of which `lo` comes first, and what its arcs cost. `list`
+/// still has both nodes; a place of the rest is counted without them.
 #[derive(Drop)]
 pub struct Rest<'a, 'm> {
     pub costs: VehicleArcs<'m>,
@@ -95,6 +97,7 @@ fn put(rest: &Rest, ends: Ends, t: u32) -> i64
     let next = node_at(rest, t);
     let to = rest.costs.cost(before, ends.first);
     let on = rest.costs.cost(ends.last, next);
+    // nothing is left beside the pair, and a vehicle that is not used drives no arc
     if rest.list.len() == 2 {
         return to + on;
     }

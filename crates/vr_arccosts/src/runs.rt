@@ -1,5 +1,6 @@
 //! Runs of moves: the first of them that may add less than a bound to arc costs. Two moves of a run are asked about by
-//! themselves: neighbours that change places, and fronts that do where a list is left empty.
+//! themselves: neighbours that change places, and a front that changes with an empty one; `crosses` asks so about
+//! fronts that leave a list empty.
 
 ghost use Rattle.std.specs.Prelude.{◌≡◌, ℕ, ◌+◌, ◌<◌, ◌≤◌, ◌≤ℤ◌, IfSome, IsTrue, false, length, true};
 ghost use Rattle.vr_model.specs.routes.Routes.{route};
@@ -23,8 +24,9 @@ impl<'m> ArcCost<'m> {
     /// Goes over a run of moves of the committed lists, which differ in their last number: those of the numbers from
     /// `from` on, below `end`. Says from which number on some may add less than a bound, also where the lists after it
     /// are not valid: each move in front of it adds no less. The numbers of `mv`, of which the last is any, need not be
-    /// those of a move: of a vehicle, a pair or a place that there is not it says `from` or `None`. `None` of kinds
-    /// that it does not go over (`MakeInactive` and `PairInactive`); how near it comes to the first is not promised.
+    /// those of a move: of a vehicle, a node, a pair or a place that there is not it says `from` or `None`, and `None`
+    /// of a pair to be put elsewhere that is not served. `None` of kinds that it does not go over (`MakeInactive` and
+    /// `PairInactive`); how near it comes to the first is not promised.
     #[inline(always)]
     pub fn first_below(
         &self,
@@ -103,7 +105,7 @@ impl<'a, 'm> Committed<'a, 'm> {
         first_around(&put, a, k, asked)
     }
 
-    // What a chain adds where it leaves its place, without the arcs along it.
+    // What a chain adds where it leaves its place, without the arcs along it: it keeps them where it is put.
     #[inline(always)]
     fn left_added(self, v: u32, a: u32, k: u32) -> i64
         requires vehicle { v < length self.routes.now.lists }
@@ -168,6 +170,7 @@ impl<'a, 'm> Committed<'a, 'm> {
         if v != w || asked.from > a + 1 {
             return self.first_apart(v, a, w, asked);
         }
+        // within one list a move names the place in front first, so no run has a number up to `a`
         if asked.from <= a || asked.from == asked.end {
             return asked.from;
         }

@@ -6,7 +6,8 @@ ghost use Rattle.vr_model.specs.declared.neighbours.Move.TheVariants.{SwapActive
 ghost use Rattle.vr_arccosts.specs.Runs.{swap_added, AddsNoLess};
 
 use crate::committed::Committed;
-use crate::gaps::{Asked, Line, swapped};
+use crate::gaps::{Asked, swapped};
+use crate::lines::Line;
 
 impl<'a, 'm> Committed<'a, 'm> {
     // The run of an inactive visit that takes the place of a node, by the visit.

@@ -17,7 +17,7 @@ use crate::lines::Along;
 use vr_parts::is_left_empty;
 use vr_routes::{Piece, Routes, Splice};
 
-/// A vehicle of the committed lists: what its arcs cost, and the sums along the lines of all of them.
+/// A vehicle of the committed lists: what its arcs cost, and the sums along the lines of all vehicles.
 #[derive(Clone, Copy)]
 pub struct Driven<'a, 'm> {
     pub costs: &'a VehicleArcs<'m>,

@@ -13,9 +13,11 @@ use arrayvec::ArrayVec;
 use std::marker::Model;
 use vr_routes::{Change, Piece, Routes};
 
-/// What a change brings into lists, and what it takes out of them, as pieces of the lists before it. A piece that only
-/// changes its place or its direction does neither, so that for the change of a move these are few, however long the
-/// lists are: of two parts of eight pieces at most, with what is left behind each, 18 at most on a side.
+/// What a change brings into lists, and what it takes out of them, as pieces of the lists before it and inactive nodes.
+/// A piece that only changes its place or its direction does neither, where it goes and comes with the same ends (else
+/// it stands on both sides, and who counts nodes counts it on both), so that for the change of a move these are few,
+/// however long the lists are: of two parts of eight pieces at most, with what is left behind each, 18 at most on a
+/// side.
 #[derive(Drop)]
 pub struct Balance {
     come: ArrayVec<Piece, 18>,
@@ -156,16 +158,18 @@ impl Balance {
                 ..
             } => {
                 if vehicle == v && place <= from {
+                    // it stays, and what stood in front of it goes
                     self.leave(v, place, from);
                     return to;
                 }
+                // it comes from another list, or from in front of this place, where it was said to go
                 self.bring(vehicle, from, to);
                 place
             }
         }
     }
 
-    // A node comes, from where it stands or anew.
+    // A node comes: from where it stands, as a chain of one, so that it cancels out the chain that goes; or anew.
     fn bring_node(&mut self, routes: &Routes, node: u32)
         requires room { length self.old.come < 18 }
         requires within { IsTurnover routes.now.lists self.old }

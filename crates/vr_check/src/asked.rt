@@ -15,7 +15,8 @@ ghost use Rattle.vr_check.specs.Kept.{IsLineOfModel};
 
 use vr_model::{BreakRow, Dimension, Interval, Model, StopRow};
 
-/// The line of a vehicle with a list in a dimension.
+/// The line of vehicle `v` with a list in dimension `d`: what to look up, and no number of it. `vr_steps` has the line
+/// that schedules are built of, of which the check asks nothing.
 #[derive(Clone, Copy)]
 pub(crate) struct AskedLine<'a> {
     pub(crate) model: &'a Model,

@@ -56,6 +56,7 @@ fn lists_finding<'a>(
     if let Some(spot) = repeated(lists) {
         return Ok(Rule::Once.broken(spot));
     }
+    // made only here: that its lists hold visits, none of them twice, is known by the two rules before
     let solution = Solution {
         closed,
         printed,

@@ -1,4 +1,5 @@
-//! The parts of the cost that lists have by themselves: arcs, fixed costs and penalties, in 128 bits.
+//! The parts of the cost that lists have by themselves: arcs and fixed costs of one route, which `totals` adds up, and
+//! the penalties of all groups.
 
 ghost use Rattle.std.specs.Prelude.{◌≡◌, ◌^◌, ◌≤ℤ◌, ◌-ℤ◌, cond, pos};
 ghost use Rattle.vr_model.specs.routes.Costs.{penalty_for, penalty_part};
@@ -14,7 +15,7 @@ use crate::printed::VehicleRoute;
 use crate::visits::active_in as count_active;
 use vr_model::{Closed, Group, Seq};
 
-/// The costs of the arcs of a route, added up.
+/// The costs of the arcs of a route, added up; 0 of one without visits, whose vehicle is not used.
 pub(crate) fn arcs_of_route(on: &VehicleRoute<'_>) -> i128
     ensures value { result ≡ route_cost on.now.closed.model.now on.now.v on.now.list.now }
     ensures low { pos 0 ≤ℤ result }
@@ -50,7 +51,7 @@ pub(crate) fn fixed_of_route(on: &VehicleRoute<'_>) -> i64
     }
 }
 
-// How many nodes fewer of a group are active than may be.
+// How many nodes fewer of a group are active than may be: not negative, since the rule on groups was asked before.
 fn lacking(lists: &[Seq<u32>], group: &Group) -> i128
     ensures value { result ≡ pos group.now.max -ℤ pos (active_in lists.now group.now) }
     ensures range { IsAround (2 ^ 66) result }

@@ -1,4 +1,4 @@
-//! What a check finds.
+//! What a check finds: the rules in their order, and where one is broken.
 
 ghost use Rattle.std.specs.Prelude.{◌≡◌, ◌<◌, ◌^◌};
 ghost use Rattle.vr_check.specs.Check.{rule_word};
@@ -45,9 +45,10 @@ pub enum Rule {
     Policy,
     /// Each visit allows its vehicle. The vehicle, and the place in its nodes.
     Allowed,
-    /// Each stop allows its cumul. The vehicle and the stop.
+    /// Each stop allows its cumul. The vehicle and the stop, in the first dimension where it fails, which is not told.
     Cumul,
-    /// Each slack is what its cumuls leave, and within its bounds. The vehicle and the arc.
+    /// Each slack is what its cumuls leave, and within its bounds. The vehicle and the arc; the dimension is not told
+    /// either.
     Slack,
     /// Breaks are in range, in order and in place, and fit into the slacks. The vehicle, and the number of the
     /// dimension.

@@ -1,4 +1,4 @@
-//! Tests of lists.
+//! Whether a node stands in a list, or in some list.
 
 ghost use Rattle.std.specs.Prelude.{◌≡◌};
 ghost use Rattle.vr_model.specs.routes.Routes as routes;

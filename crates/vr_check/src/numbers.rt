@@ -18,7 +18,7 @@ use crate::totals::{arcs_of, fixed_of, soft_of, span_of};
 use vr_model::{Model, Parts};
 use vr_printed::Printed;
 
-/// A coefficient times a number.
+/// A coefficient or a penalty times a number.
 pub(crate) fn times(coefficient: i64, number: i128) -> i128
     requires coefficient { IsIn (pos 0) greatest_cost coefficient }
     requires number { IsAround (2 ^ 66) number }
@@ -50,7 +50,8 @@ fn earlier(first: Option<Spot>, second: Option<Spot>) -> Option<Spot>
     }
 }
 
-/// Where a printed part of the cost is not its value at the printed cumuls, the first in byte order of the names.
+/// Where a printed part of the cost is not its value at the printed cumuls, the first in byte order of the names. All
+/// six are added up in any case.
 pub(crate) fn wrong_parts(solution: &Solution<'_>) -> Option<Spot>
     ensures { result ≡ parts_broken solution.now.closed.model.now solution.now.printed.now }
 {
@@ -103,7 +104,8 @@ pub(crate) fn wrong_cost(printed: &Printed) -> Option<Spot>
     }
 }
 
-/// Where the first solution costs less.
+/// Where the printed cost of the first solution is less than the cost. That solution is not known, so no more is asked
+/// of it.
 pub(crate) fn wrong_first_cost(printed: &Printed) -> Option<Spot>
     ensures { result ≡ first_cost_broken printed.now }
 {

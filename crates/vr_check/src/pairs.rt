@@ -57,14 +57,15 @@ pub(crate) fn wrong_pair(closed: Closed<'_>, lists: &[Seq<u32>]) -> Option<Spot>
     None
 }
 
-/// The places of a pair in a list.
+/// The places of a pair in a list, from 0 at its first visit: unlike those of a spot, they do not count the start.
 #[derive(Clone, Copy)]
 pub(crate) struct PlacesOfPair {
     pub(crate) pickup: usize,
     pub(crate) delivery: usize,
 }
 
-// The place of a node in a list, its length where it is absent.
+// The place of a node in a list, its length where it is absent, which does not come: the rule on pairs was asked
+// before, so a list that has a pickup has its delivery.
 fn place_of(list: &[u32], node: u32) -> usize
     ensures { result ≡ rules.place_of list.now node }
 {
@@ -130,7 +131,8 @@ fn keeps_policy(alloc: Global, on: &VehicleRoute<'_>) -> Result<bool, NoMemory>
     Ok(all_in_order(policy, places.as_slice()))
 }
 
-/// Where the policy of a vehicle fails.
+/// Where the policy of a vehicle fails. It is the one rule behind `Shape` that takes memory, for the places of the
+/// pairs of a list.
 pub(crate) fn wrong_policy(alloc: Global, solution: &Solution<'_>) -> Result<Option<Spot>, NoMemory>
     ensures { IfOk result (λ spot. spot ≡ policy_broken solution.now.closed.model.now solution.now.lists.now) }
 {

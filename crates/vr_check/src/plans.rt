@@ -16,7 +16,7 @@ use crate::finding::Spot;
 use crate::printed::{LinePlan, Solution, VehicleRoute};
 use vr_printed::PrintedPlan;
 
-/// One of the rules that look at each plan.
+/// One of the rules that look at each plan. One is asked of the plans of all vehicles before the next is.
 #[derive(Clone, Copy)]
 pub(crate) enum PlanRule {
     Cumul,

@@ -82,7 +82,7 @@ fn widened(ends: Option<SpanEnds>, first: i64, last: i64) -> SpanEnds
     }
 }
 
-// The ends with a further route, where it is used.
+// The ends with a further route, where it is used: an unused one has no plans.
 fn ends_with(ends: Option<SpanEnds>, route: &PrintedRoute, d: usize) -> Option<SpanEnds>
     requires { d < length route.now.plans → 0 < length (plan_in route.now d).cumuls }
     ensures { result ≡ terms.ends_with d ends route.now }
@@ -95,7 +95,7 @@ fn ends_with(ends: Option<SpanEnds>, route: &PrintedRoute, d: usize) -> Option<S
     }
 }
 
-// From the least start to the greatest end, 0 where there is no route.
+// From the least start to the greatest end, 0 where no route is used.
 fn span_of_ends(ends: Option<SpanEnds>) -> i128
     ensures value { result ≡ terms.span_of_ends ends }
     ensures range { IsAround (2 ^ 66) result }

@@ -29,6 +29,7 @@ fn is_next(list: &[u32], k: usize, node: u32) -> bool
 pub(crate) fn wrong_dropped(model: &Model, lists: &[Seq<u32>], dropped: &[u32]) -> Option<Spot>
     ensures { result ≡ dropped_broken model.now lists.now dropped.now }
 {
+    // how many inactive visits were met, each of which stood at its place
     let mut k = 0;
     for node in 0..model.nodes {
         if is_inactive(model, lists, node) {

@@ -20,6 +20,7 @@ use vr_routes::{Piece, Routes, Splice};
 pub struct Asked<'a, 'm, 's> {
     pub guide: &'a Guide<'m>,
     pub routes: &'a Routes,
+    /// All pieces of the list, for a walk along the whole of it.
     pub pieces: &'a [Piece],
     /// The list as a splice of the one that the vehicle has.
     pub splice: Splice<'s>,
@@ -34,8 +35,8 @@ impl<'a, 'm, 's> Asked<'a, 'm, 's> {
     ghost use Rattle.vr_costfilter.specs.KeptWays.{AreWays, HasCumuls};
     ghost use Rattle.vr_costfilter.specs.Runs.{between_runs};
 
-    /// What its chosen schedule comes to between these ends; nothing exactly where there is none. The whole list is
-    /// walked, and the trail is written over.
+    /// What its chosen schedule comes to between these ends; nothing exactly where there is none, which does not come
+    /// between the ends of its tight schedule. The whole list is walked, and the trail is written over.
     pub fn timing_between(&self, ends: TightEnds, trail: &mut Trail) -> Option<Timing>
         requires allows { ChoiceAllows self.now
             (between_runs (runs_of self.now.guide.now) ends.start ends.last) }
@@ -76,7 +77,7 @@ impl<'a, 'm, 's> Asked<'a, 'm, 's> {
         })
     }
 
-    /// The ends of its tight schedule. What is kept of the list that the vehicle has is not walked.
+    /// The ends of its tight schedule. What stays at the ends of the list that the vehicle has is not walked.
     pub fn ends_of(&self, kept: &KeptWays) -> TightEnds
         requires runs { HasItsRuns self.now.guide.now }
         requires kept { AreWays self.now.guide.now.model.now self.now.guide.now.d self.now.guide.now.v

@@ -1,4 +1,4 @@
-//! What is kept in all dimensions.
+//! What is kept of committed lists in all dimensions, for the costs that ask it.
 
 ghost use Rattle.std.specs.Prelude.{◌≡◌, ◌↔◌, ◌<◌, ◌≤◌, ◌+◌, ℕ, List, IfOk, IfSome, IsTrue, false, is_some, length};
 ghost use Rattle.std.specs.Prelude.{slice_index_or};
@@ -35,8 +35,9 @@ pub enum Paid {
     Together,
 }
 
-/// What is kept of committed lists, in the dimensions that have a coefficient of the costs for which it is kept; in the
-/// others nothing is. Contracts see what is kept in each dimension.
+/// What is kept of committed lists, in the dimensions where the costs for which it is kept may be paid; in the others
+/// nothing is. `PlanCost` and `GlobalSpan` have one each, so that a dimension with costs of both is kept twice.
+/// Contracts see what is kept in each dimension.
 #[derive(Drop)]
 pub struct AllCumuls {
     dimensions: Vec<KeptCumuls>,
@@ -77,9 +78,9 @@ impl AllCumuls {
         })
     }
 
-    /// What the chosen schedule of the new list of a part of a change comes to, in dimension `d`.
-    /// Nothing exactly where what is kept does not tell; then it has to be looked for. The trail is scratch that the
-    /// caller lends: it is written over.
+    /// What the chosen schedule of the new list of a part of a change comes to, in dimension `d`. Nothing exactly where
+    /// what is kept does not tell; then it has to be looked for. The trail is scratch that the caller lends: it is
+    /// written over.
     pub fn timing_after(
         &self,
         part: &PartAfter,
@@ -130,7 +131,8 @@ impl AllCumuls {
     }
 }
 
-// Whether a dimension has a coefficient of such costs.
+// Whether such costs may be paid in a dimension: some span has a coefficient or some stop a soft upper bound, also one
+// with the coefficient 0; or the global span has a coefficient.
 fn is_paid(closed: Closed<'_>, table: &Table, d: u32, paid: Paid) -> bool
     requires dimension { d < length closed.model.now.dimensions }
     ensures { IsTrue result ↔ IsPaid paid table.now (dimension_at closed.entry.model.now d) }

@@ -1,4 +1,4 @@
-//! Global spans.
+//! What global spans cost, and what a change adds to it.
 
 ghost use Rattle.std.specs.Prelude.{◌≡◌, ◌-ℤ◌, ◌≤ℤ◌, ◌<◌, ◌*◌, ℕ, List, false, not, IsTrue};
 ghost use Rattle.std.specs.Prelude.{IfOk, OnOk, OnErr, length};
@@ -32,17 +32,18 @@ use vr_routes::{Change, Routes};
 
 /// What global spans cost (`SetGlobalSpanCostCoefficient` in OR-Tools). A change is known, in the dimensions whose
 /// global span has a coefficient, by the floors and cumuls that are kept of the committed lists: along what it puts in,
-/// in front of that until a floor is as it was, and behind it until a cumul is; only where they do not say it are the
-/// schedules of the changed lists built. Where the other lists start and end is known by the first entries of the
-/// used vehicles as they are sorted by both.
+/// in front of that until a floor is as it was, and behind it until a cumul is; of tight vehicles as `PlanCost` says;
+/// only where they do not say it are the schedules of the changed lists built. Where the other lists start and end is
+/// known by the first entries of the used vehicles as they are sorted by both.
 #[derive(Drop)]
 pub struct GlobalSpan<'m> {
     rules: SpanRules<'m>,
-    // the used vehicles by starts and by ends, in each dimension
+    // the used vehicles by starts and by ends, in each dimension that pays; none in the others
     orders: Vec<SortedEnds>,
     // what the global spans cost
     cost: i64,
-    // what the lists of a change that is ready come to, the sorted ends after it, and what the global spans cost then
+    // what the lists of a change that is ready come to, the sorted ends after it, and what the global spans cost then;
+    // a difference writes over the first of these, and makes none ready: sorting is for changes that are made
     next: ArrayVec<ListTimings, 2>,
     next_orders: Vec<SortedEnds>,
     next_cost: i64,
@@ -73,6 +74,7 @@ impl<'m> Model for GlobalSpan<'m> {
 
 impl<'m> GlobalSpan<'m> {
     /// What the global spans cost with the lists of routes. The only refusal is want of memory, as of each other call.
+    /// Tests alone call it: `vr_judge` shares what it looked up (`over`).
     pub fn open(
         alloc: Global,
         model: &'m RoutingModel,
@@ -158,6 +160,7 @@ impl<'m> GlobalSpan<'m> {
             (joined routes.now.lists (part_at change.now k).pieces)) }
         ensures stays { self.new ≡ self.old }
     {
+        // `difference` asked it before, `prepare` did not
         if self.rules.is_idle() {
             return Ok([None; 4]);
         }
@@ -237,6 +240,7 @@ impl<'m> CostPart for GlobalSpan<'m> {
 
     fn commit(&mut self, routes: &Routes, change: &Change) {
         self.rules.commit(&mut self.cumuls, routes, change);
+        // those before the change are room for the next one
         mem::swap(&mut self.orders, &mut self.next_orders);
         self.cost = self.next_cost;
     }

@@ -37,8 +37,9 @@ pub struct Stage {
     pub soft: i64,
 }
 
-/// What is looked up once for many arcs of vehicle `v` in dimension `d`, where it has no breaks and each stop allows
-/// one run of cumuls.
+/// What is looked up once for many arcs of vehicle `v` in dimension `d`, where it has no breaks and no stop allows more
+/// than one run of cumuls: not its start, its end or any visit of the model, whether it is in its list or not. The run
+/// of a stop that allows no cumul has no number.
 #[derive(Drop)]
 pub struct Guide<'m> {
     pub model: &'m Model,

@@ -46,11 +46,14 @@ use vr_routes::{Piece, Routes, Splice};
 /// What is kept of the list of a vehicle.
 #[derive(Drop)]
 pub struct KeptList {
-    // the steps and the stages of its chosen schedule; none where that is tight and no soft bound may cost anything
+    // the steps and the stages of its chosen schedule; none where there is no guide (breaks, or a stop with several
+    // runs), or where that is tight and no soft bound may cost anything
     steps: KeptSteps,
-    // the cumuls of its start and of its end, between which they are, where it chooses its tight schedule
+    // the cumuls of its start and of its end, between which they are, where it chooses its tight schedule and a soft
+    // bound may cost anything; else 0
     between: TightEnds,
-    // the ways to the ends of its list, of a vehicle that chooses its tight schedule one, and else none
+    // the ways and the rests that tell the ends of its schedule: one entry, where it chooses its tight one, and else
+    // none
     ends: Vec<KeptWays>,
 }
 
@@ -105,6 +108,7 @@ impl KeptList {
         ensures room { length self.new.ends.items ≡ length self.old.ends.items }
     {
         self.forget();
+        // there is room: this was opened for the rule of the vehicle
         if self.ends.is_empty() {
             return;
         }
@@ -141,7 +145,8 @@ impl KeptList {
         });
     }
 
-    // What the tight schedule of the changed list comes to; nothing exactly where what is kept does not tell.
+    // What the tight schedule of the changed list comes to; nothing exactly where what is kept does not tell, which
+    // does not come: there is a guide, and so all ways of the list are kept.
     fn tight_after(&self, asked: &Asked, trail: &mut Trail) -> Option<Timing>
         requires kept { IsKeptBy Tight asked.now self.now }
         requires feasible { IsFeasible (new_line asked.now) }
@@ -168,8 +173,8 @@ impl KeptList {
         self.timing_between(asked, ends, trail)
     }
 
-    // The same between its two ends: by what is kept, where the list ended as it does now. Nothing exactly where there
-    // is no such schedule.
+    // The same between its two ends: by what is kept, where the list ended as it does now, and else along the whole
+    // list. Nothing exactly where there is no such schedule, which does not come between these ends.
     fn timing_between(&self, asked: &Asked, ends: TightEnds, trail: &mut Trail) -> Option<Timing>
         requires allows { ChoiceAllows asked.now
             (between_runs (runs_of asked.now.guide.now) ends.start ends.last) }
@@ -205,7 +210,8 @@ impl KeptList {
         self.steps.after(&asked, Some(start), trail)
     }
 
-    // What the earliest schedule of the changed list comes to; nothing exactly where what is kept does not tell.
+    // What the earliest schedule of the changed list comes to; nothing exactly where what is kept does not tell, which
+    // does not come: there is a guide, and so all stages of the list, which is valid, are kept.
     fn earliest_after(&self, asked: &Asked, trail: &mut Trail) -> Option<Timing>
         requires { IsKeptBy Earliest asked.now self.now }
         ensures known { IsFeasible (new_line asked.now)
@@ -231,8 +237,8 @@ fn is_tight(rule: ScheduleRule) -> bool
     }
 }
 
-/// What is kept of the lists of all vehicles in one dimension; of no list where nothing is to be known. Contracts see
-/// what is kept of each.
+/// What is kept of the lists of all vehicles in one dimension; of no list where the costs for which they are kept are
+/// not paid. Contracts see what is kept of each.
 #[derive(Drop)]
 pub struct KeptCumuls {
     lists: Vec<KeptList>,
@@ -284,7 +290,7 @@ impl KeptCumuls {
         Ok(KeptCumuls { lists })
     }
 
-    /// A vehicle gets another list. It takes no memory.
+    /// A vehicle gets another list. Nothing is done where nothing is kept. It takes no memory.
     pub fn write(&mut self, tour: &Tour, table: &Table, d: u32)
         requires known { IsLookedUp tour.now.closed.model.now d table.now }
         ensures kept { (lists : List (List ℕ)) → AreKept tour.now.closed.model.now d lists self.old
@@ -302,8 +308,9 @@ impl KeptCumuls {
     /// of the list that its vehicle has. Nothing exactly where what is kept does not tell: where nothing is kept, the
     /// vehicle has breaks, or a stop allows several runs of cumuls. Of an earliest schedule what the change keeps of
     /// the front of the list is walked as far back as it gets another floor, and of its end as much as gets another
-    /// cumul. Of a tight one what it keeps is not walked; where soft upper bounds may cost anything it is, from the
-    /// start until a cumul is as kept, and wholly where the list ends at another cumul. The trail is written over.
+    /// cumul. Of a tight one what it keeps is not walked for its two ends. Where soft upper bounds may cost anything
+    /// and the list ends at the cumul that is kept, it is walked as an earliest one is, but from its start on, until a
+    /// cumul is as kept; where it ends at another cumul, the whole list is. The trail is written over.
     pub fn timing_after(
         &self,
         at: &KnownDimension,
@@ -341,7 +348,8 @@ impl KeptCumuls {
     }
 }
 
-// Writes what is kept of the list of a vehicle in dimension `d`.
+// Writes what is kept of the list of a vehicle in dimension `d`: nothing where there is no guide, since the vehicle has
+// breaks or a stop allows several runs of cumuls.
 fn write_list(tour: &Tour, table: &Table, d: u32, kept: &mut KeptList)
     requires known { IsLookedUp tour.now.closed.model.now d table.now }
     ensures kept { IsKept tour.now.closed.model.now d tour.now.v tour.now.list.now kept.new }

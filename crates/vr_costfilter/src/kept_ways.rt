@@ -20,6 +20,7 @@ use vr_model::limits::HORIZON;
 /// What is kept of the list of a vehicle; no way where the vehicle has breaks, or a stop allows several runs of cumuls.
 pub type KeptWays = vr_earliest::KeptWays<Way, Rest>;
 
+// the walk of a vehicle that waits for the begins of runs alone, whatever the greatest slack is
 impl<'m> Walk for Guide<'m> {
     type Way = Way;
 

@@ -16,8 +16,20 @@
 //! the first visits of the committed list are kept, and what is left behind each place. Between its ends a tight
 //! schedule is an earliest one. Where soft upper bounds may cost anything, floors and cumuls are kept of it too: where
 //! the list ends as it did, its start alone may be another, and what was kept is met as soon as a cumul is as it was;
-//! where it ends at another cumul, the whole list is walked. What is kept is always of the committed lists
-//! (`AreAllKept`): who changes them commits the change here first.
+//! where it ends at another cumul, the whole list is walked.
+//!
+//! `trails` has steps, which are stops with their floors; `guides` has what is looked up of a vehicle to go along them,
+//! and stages: how far it has come, and what it has paid. `with_guide` finds floors back along the visits that a
+//! vehicle gets. `steps` keeps the steps and the stages of a list, and tells what a change makes of them. `tight` has
+//! the way of a vehicle that waits so, and the two ends that a whole way tells, `rests` what is left of a line, and
+//! `kept_ways` keeps ways and rests of a list. `asked` has a list that comes in the place of another: the two ends of
+//! its tight schedule, and the walk along all of it. All that is kept in one dimension is in `kept`, in all dimensions
+//! in `dimensions`. What the schedules cost is told by `schedule_costs` for `plan_cost`, and by `reaches` for
+//! `global_span`, with the sorted ends of `orders` (over `order`). What a change costs at least is told from how early
+//! its lists can end (`early_change`), for global spans by `spreads`. `tours` has the list of a vehicle, `parts_after`
+//! the list that a change gives it, and `scratch` the room that calls are lent.
+//!
+//! What is kept is always of the committed lists (`AreAllKept`): who changes them commits the change here first.
 #![tactic(auto)]
 
 mod asked;
@@ -42,6 +54,7 @@ mod tours;
 mod trails;
 mod with_guide;
 
+// `vr_judge` takes `PlanCost` and `GlobalSpan`, and the other parts from their own crates; all else is for tests alone.
 pub use dimensions::{AllCumuls, Paid};
 pub use global_span::GlobalSpan;
 pub use parts_after::PartAfter;

@@ -1,4 +1,4 @@
-//! Soft upper bounds and spans.
+//! What soft upper bounds and spans cost, and what a change adds to it.
 
 ghost use Rattle.std.specs.Prelude.{◌≡◌, ◌-ℤ◌, ◌≤ℤ◌, ◌<◌, false, IsTrue, IfOk, OnOk, OnErr, length};
 ghost use Rattle.vr_model.specs.tables.Tables.{visits};
@@ -34,9 +34,10 @@ use vr_routes::{Change, Routes};
 #[derive(Drop)]
 pub struct PlanCost<'m> {
     rules: PlanRules<'m>,
-    // what each list costs
+    // what the committed list of each vehicle costs
     costs: Vec<i64>,
-    // what the lists of a change that is ready cost
+    // what the lists of a change that is ready cost; a difference makes its change ready too, since it asks for the
+    // same
     next: ArrayVec<i64, 2>,
     // whether a change was made ready: contracts alone read it
     is_prepared: bool,
@@ -62,7 +63,7 @@ impl<'m> Model for PlanCost<'m> {
 
 impl<'m> PlanCost<'m> {
     /// What soft upper bounds and spans cost with the lists of routes. The only refusal is want of memory, as of each
-    /// other call.
+    /// other call. Tests alone call it: `vr_judge` shares what it looked up (`over`).
     pub fn open(
         alloc: Global,
         model: &'m RoutingModel,
@@ -112,9 +113,9 @@ impl<'m> PlanCost<'m> {
     }
 
     /// What a change adds at least, where the lists after it are valid: what the spans of the changed lists cost at
-    /// least, less what the lists of these vehicles cost now. The caller hands in what the chosen schedules of the
-    /// changed lists come to at least. No schedule is built. The change must have been made on routes at which this
-    /// stands; they themselves are not needed.
+    /// least, and their soft upper bounds nothing, less what the lists of these vehicles cost now. The caller hands in
+    /// what the chosen schedules of the changed lists come to at least. No schedule is built. The change must have been
+    /// made on routes at which this stands; they themselves are not needed.
     pub fn least(&self, earlies: &Earlies, change: &Change) -> i64
         requires { (tours : Tours) × ArePlansKnown self.now earlies.now change.now tours }
         ensures value { (tours : Tours) → ArePlansKnown self.now earlies.now change.now tours
@@ -145,6 +146,7 @@ impl<'m> PlanCost<'m> {
         ensures range { IfOk result IsPlanCost }
         ensures stays { self.new ≡ self.old }
     {
+        // `difference` asked it before, `prepare` did not
         if self.rules.is_idle() {
             return Ok(0);
         }

@@ -36,7 +36,8 @@ use vr_model::{Closed, Model as RoutingModel, NoMemory};
 use vr_plan::{Extent, Lookups, Table, Timer, Timing, global_cost, timing_of};
 use vr_routes::{Change, Routes};
 
-/// What the schedule of a list comes to in each dimension whose global span has a coefficient, none of an empty one.
+/// What the schedule of a list comes to in each dimension whose global span has a coefficient; none in the others, and
+/// none of an empty list.
 pub type ListTimings = [Option<Timing>; 4];
 
 /// Asks about global spans, over what was looked up of a model. Contracts see the model.
@@ -132,7 +133,7 @@ impl<'m> SpanRules<'m> {
         Ok(orders)
     }
 
-    /// What is kept becomes that of the lists after a change.
+    /// The kept cumuls become those of the lists after a change; the sorted ends are the caller's to change.
     pub fn commit(&self, cumuls: &mut AllCumuls, routes: &Routes, change: &Change)
         requires { IsValidChange (AreCumulsAt self.now cumuls.old) self.now routes.now change.now }
         ensures { AreAllKept self.now (changed routes.now.lists change.now) cumuls.new }
@@ -164,7 +165,8 @@ impl<'m> SpanRules<'m> {
         row_of_part(&part, self.lookups.tables(), cumuls, scratch)
     }
 
-    /// What the global spans cost, where these vehicles get lists of which these rows tell.
+    /// What the global spans cost, where these vehicles get lists of which these rows tell; of no vehicles what they
+    /// cost with the lists as they are.
     pub fn cost(&self, orders: &[SortedEnds], vehicles: &[u32], next: &[ListTimings]) -> i64
         requires ranged { AreRanged self.now orders.now next.now }
         ensures value { result ≡ spans_cost_after self.now orders.now vehicles.now next.now }
@@ -230,7 +232,7 @@ fn is_some_spanned(model: &RoutingModel) -> bool
         .any(|dimension| dimension.global_span_cost != 0)
 }
 
-// What the chosen schedules of a list come to.
+// What the chosen schedules of a list come to: asked at opening alone, where nothing is kept yet.
 fn row_of_list(tour: &Tour, tables: &[Table], timer: &mut Timer) -> Result<ListTimings, NoMemory>
     requires tables { AreTables tour.now.closed.model.now tables.now }
     ensures { IfOk result (IsRow tour.now.closed.model.now tour.now.v tour.now.list.now) }
@@ -353,7 +355,8 @@ fn cost_of_span(
     global_cost(dimension, reach(orders, vehicles, next, d))
 }
 
-// From where to where all lists reach in dimension `d`, `None` where none is used.
+// From where to where all lists reach in dimension `d`, where these vehicles get lists of which these rows tell; `None`
+// where no vehicle is used then.
 fn reach(orders: &SortedEnds, vehicles: &[u32], next: &[ListTimings], d: u32) -> Option<Extent>
     requires { AreRangedIn d orders.now next.now }
     ensures value { result ≡ extent_after d vehicles.now next.now orders.now }

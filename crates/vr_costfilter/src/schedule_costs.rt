@@ -38,7 +38,7 @@ use vr_routes::{Change, Piece, Routes};
 #[derive(Drop)]
 pub struct PlanRules<'m> {
     lookups: Lookups<'m>,
-    // whether no plan is paid
+    // whether no list costs anything so: no span has a coefficient, and no stop a soft upper bound
     idle: bool,
 }
 
@@ -117,7 +117,7 @@ impl<'m> PlanRules<'m> {
         Ok(costs)
     }
 
-    /// What is kept becomes that of the lists after a change.
+    /// The kept cumuls become those of the lists after a change; the costs are the caller's to change.
     pub fn commit(&self, cumuls: &mut AllCumuls, routes: &Routes, change: &Change)
         requires { IsValidChange (AreCumulsAt self.now cumuls.old) self.now routes.now change.now }
         ensures { AreAllKept self.now (changed routes.now.lists change.now) cumuls.new }
@@ -174,7 +174,8 @@ impl<'m> PlanRules<'m> {
     }
 }
 
-// What the list of a vehicle costs by the soft upper bounds of its stops and by its spans, in all dimensions.
+// What the list of a vehicle costs by the soft upper bounds of its stops and by its spans, in all dimensions: asked at
+// opening alone, where nothing is kept yet.
 fn cost_of_plans(tour: &Tour, tables: &[Table], timer: &mut Timer) -> Result<i64, NoMemory>
     requires tables { AreTables tour.now.closed.model.now tables.now }
     ensures value { IfOk result (λ cost. cost
@@ -284,7 +285,8 @@ fn least_of_span(early: &EarlyChange, k: usize, d: u32) -> i64
     times(coefficient, early.earlies.at(d, k).span)
 }
 
-// What the list of a vehicle costs by soft upper bounds and by its span in one dimension.
+// What the list of a vehicle costs by soft upper bounds and by its span in one dimension. A schedule is built, unless
+// it cannot cost anything there.
 fn cost_of_plan(tour: &Tour, table: &Table, d: u32, timer: &mut Timer) -> Result<i64, NoMemory>
     requires known { IsLookedUp tour.now.closed.model.now d table.now }
     requires some { 0 < length tour.now.list.now }
@@ -315,7 +317,7 @@ fn cost_of_timing(closed: Closed<'_>, d: u32, v: u32, timing: Timing) -> i64
     timing.soft + span_cost(dimension, v, timing)
 }
 
-// Whether each table says that nothing is paid in its dimension.
+// Whether each table says that no schedule may cost anything by itself in its dimension (the global span is not asked).
 fn are_free(tables: &[Table]) -> bool
     ensures { result ≡ list_all (λ table. table.is_free) tables.now }
 {

@@ -20,11 +20,11 @@ use vr_routes::Piece;
 /// How far lists reach at least in one dimension.
 #[derive(Clone, Copy)]
 pub struct Spread {
-    /// The greatest end that is known of them, in `0..=2^36`.
+    /// One of them ends no earlier, in `0..=2^36`.
     pub last: i64,
-    /// The least start that is known of them, in `0..=2^36`.
+    /// The least start of those that stay, since of changed lists none is known; in `0..=2^36`.
     pub start: i64,
-    /// The greatest span that is known of one of them, in `-2^36..=2^36`.
+    /// One of the changed lists has no lesser span, in `-2^36..=2^36`.
     pub span: i64,
 }
 
@@ -85,6 +85,8 @@ fn spread_but(orders: &SortedEnds, vehicles: &[u32]) -> Spread
     ensures range { IsSpreadInRange result }
 {
     match orders.extent_but(vehicles) {
+        // numbers that tell nothing: beside them the spans of changed lists count alone; where no list is used then,
+        // they are below the cost 0
         None => Spread {
             last: 0,
             start: HORIZON,
@@ -98,7 +100,8 @@ fn spread_but(orders: &SortedEnds, vehicles: &[u32]) -> Spread
     }
 }
 
-// It reaches over the new list of part `k` of the change too.
+// It reaches over the new list of part `k` of the change too. No start is known of that list, so its span is kept
+// beside.
 #[inline]
 fn with_changed(paid: &EarlyIn, k: usize, spread: Spread) -> Spread
     requires part { k < length paid.now.early.now.change.now }

@@ -72,7 +72,7 @@ impl KeptSteps {
         }
     }
 
-    /// Forgets the list.
+    /// Forgets the list: steps are looked at only where there is a stage for each stop.
     pub fn forget(&mut self)
         ensures { length self.new.stages.items ≡ 0 }
     {
@@ -140,8 +140,8 @@ impl KeptSteps {
         }
     }
 
-    /// What the chosen schedule of the list comes to that is asked of, where its start is at a cumul that is given, or
-    /// else at its floor; nothing exactly where there is none.
+    /// What the chosen schedule of the list comes to that is asked of, where its start is at a cumul that is given (of
+    /// a tight schedule), or else at its floor (of an earliest one); nothing exactly where there is none.
     pub fn after(&self, asked: &Asked, start: Option<i64>, trail: &mut Trail) -> Option<Timing>
         requires allows { ChoiceAllows asked.now (starting (runs_of asked.now.guide.now)
             (start_run (runs_of asked.now.guide.now) start)) }
@@ -218,8 +218,8 @@ impl<'a, 'm> KnownSteps<'a, 'm> {
         }
     }
 
-    // Back along the first `front` visits of the list, which come before the next step, until a floor is as kept.
-    // Nothing exactly where some stop allows no cumul from its floor on.
+    // Back along the first `front` visits of the list, which come before the next step, until a floor is as kept: puts
+    // the steps with other floors on the trail. Nothing exactly where some stop allows no cumul from its floor on.
     fn lead(&self, front: usize, next: Step, trail: &mut Trail) -> Option<Lead>
         requires place { front ≤ length self.now.list.now }
         requires next { IsStep self.now.guide.now.model.now next }

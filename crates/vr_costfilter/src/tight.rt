@@ -1,7 +1,7 @@
 //! Tight schedules of changed lists. A walk along the stops, where a vehicle waits for the begins of runs alone, tells
-//! how early it can end and how late it can then start; what is kept of its list is not walked. Between these two
-//! cumuls the tight schedule is the earliest one, and is found as that is: by floors from the end backwards, and along
-//! them.
+//! how early it can end and how late it can then start; what a change leaves at the ends of its list is not walked.
+//! Between these two cumuls the tight schedule is the earliest one, and is found as that is: by floors from the end
+//! backwards, and along them.
 
 ghost use Rattle.std.specs.Prelude.{◌≡◌, pos};
 ghost use Rattle.vr_model.specs.tables.Numbers.{horizon};
@@ -81,7 +81,8 @@ impl<'m> Guide<'m> {
     }
 }
 
-/// The ends that a whole way tells.
+/// The ends that a whole way tells: the time at which it comes to its end, and the start from which it then need not
+/// wait, or an earlier one where the run of some stop would be over.
 #[inline]
 pub fn ends_by(whole: Way) -> TightEnds
     requires { (model : Model) × IsTightWayOf model 10001 whole }

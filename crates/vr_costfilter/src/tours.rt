@@ -1,4 +1,4 @@
-//! Lists that vehicles have.
+//! Lists that vehicles have or get, written out.
 
 ghost use Rattle.vr_costfilter.specs.Tours.{IsTourOf};
 

@@ -1,4 +1,4 @@
-//! How early the lists after a change can end, told once for all that ask.
+//! How early the lists after a change can end and how short their spans can be, told once for all that ask.
 
 ghost use Rattle.std.specs.Prelude.{◌≡◌, ◌<◌, length, slice_set};
 ghost use Rattle.vr_earliest.specs.Earlies.{early_at};
@@ -15,8 +15,9 @@ pub struct Early {
 }
 
 /// What the chosen schedules of the lists after a change come to at least, in each dimension where anything is paid for
-/// spans: room that is written over for each change. It takes no memory. Contracts see what is told in each dimension
-/// of each list.
+/// spans: room that is written over for each change; in the other dimensions, and of a second part that a change does
+/// not have, it tells nothing. What it tells of an empty list is read by no one: a vehicle that is not used pays for no
+/// span. It takes no memory. Contracts see what is told in each dimension of each list.
 #[derive(Drop)]
 pub struct Earlies {
     // of each dimension, of each part of a change

@@ -1,4 +1,4 @@
-//! How early vehicles can end lists, in all dimensions of a model.
+//! How early vehicles can end lists and how short their spans can be, in all dimensions of a model.
 
 ghost use Rattle.std.specs.Prelude.{◌≡◌, ◌<◌, ◌≤◌, ℕ, List, All, IfOk, IsTrue, length};
 ghost use Rattle.vr_model.specs.moves.Moves.{with_route};
@@ -22,9 +22,9 @@ use vr_model::limits::HORIZON;
 use vr_model::{Closed, Model as RoutingModel, NoMemory};
 use vr_routes::{Change, Routes, Row};
 
-/// How early vehicles can end lists. It keeps ways along the committed lists, so that in the dimensions where anything
-/// is paid for spans it walks along what a change puts between the kept ends of lists alone. Contracts see the model,
-/// and what is kept of the committed lists.
+/// How early vehicles can end lists. It keeps ways along the committed lists and what is left behind each place of
+/// them, so that in the dimensions where anything is paid for spans it walks along what a change puts between the kept
+/// ends of lists alone. Contracts see the model, and what is kept of the committed lists.
 #[derive(Drop)]
 pub struct Earliest<'m> {
     model: &'m RoutingModel,
@@ -32,7 +32,7 @@ pub struct Earliest<'m> {
     floors: Vec<Floors>,
     // of each dimension
     kept: Vec<KeptLists>,
-    // room for a list that a change makes
+    // room for a list that is committed
     row: Row,
 }
 
@@ -71,7 +71,7 @@ impl<'m> Earliest<'m> {
     }
 
     // What the chosen schedule of the list comes to at least that part `k` of a change gives its vehicle, in dimension
-    // `d`. No schedule is built, and what stays of the list is not walked.
+    // `d`. No schedule is built, and what stays at the ends of the list is not walked.
     fn after(&self, d: u32, routes: &Routes, change: &Change, k: usize) -> Early
         requires may { MayTell self.now routes.now.lists change.now d }
         requires part { k < length change.now }
@@ -185,7 +185,8 @@ fn write_list(closed: Closed<'_>, floors: &[Floors], kept: &mut [KeptLists], v: 
     }
 }
 
-// What the whole way along a list tells of it.
+// What the whole way along a list tells of it, brought into the ranges that `Early` names: it stays a bound, since no
+// schedule has cumuls outside of `0..=2^36`.
 #[inline(always)]
 fn early_of(guide: &Guide, whole: Way) -> Early
     requires { IsWholeWay guide.now.model.now whole }

@@ -1,4 +1,4 @@
-//! Floors of stops, looked up once.
+//! Floors of stops, and which vehicles start freely, looked up once.
 
 ghost use Rattle.std.specs.Prelude.{◌≡◌, ◌<◌, ◌≤◌, ◌≤ℤ◌, pos, All, IfOk, fold, length};
 ghost use Rattle.std.specs.Option.{option_copied};
@@ -25,7 +25,8 @@ pub struct Floors {
     /// By vehicle.
     pub ends: Vec<i64>,
     /// Of each vehicle, whether it chooses its earliest schedule, has no breaks, and its start has no forbidden
-    /// interval.
+    /// interval. Such a vehicle starts no later than the floor of its start, or has the greatest slack on its first
+    /// arc: so its span is bounded by its end too (`Guide::span_by`), that of another by its transits alone.
     pub free: Vec<bool>,
 }
 
@@ -104,7 +105,7 @@ fn forbids_none(row: Option<&StopRow>) -> bool
     row.forbidden.is_empty()
 }
 
-// The floor of a stop with this row.
+// The floor of a stop with this row, a cumul also where the row allows none.
 fn floor_of(row: Option<&StopRow>) -> i64
     requires { WherePresent IsStopRow (option_copied row) }
     ensures value { result ≡ floor_of_row (option_copied row.entry) }

@@ -85,7 +85,7 @@ fn how_many(dimension: &Dimension, routes: &Routes) -> u32
     }
 }
 
-// Whether anything is paid for spans in a dimension.
+// Whether anything is paid for spans in a dimension: for that of some vehicle, or for the global span.
 fn pays(dimension: &Dimension) -> bool
     ensures unpaid { result ≡ false → IsUnpaid dimension.now }
     ensures none { IsUnpaid dimension.now → result ≡ false }

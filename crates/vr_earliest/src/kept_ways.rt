@@ -26,7 +26,7 @@ impl<W: Copy + Default + Drop, R: Copy + Default + Drop> KeptWays<W, R> {
         }
     }
 
-    /// Forgets the list.
+    /// Forgets the list. `vr_costfilter` alone calls it, which keeps no ways of some lists.
     pub fn forget(&mut self)
         ensures { length self.new.ways.items ≡ 0 }
     {
@@ -34,7 +34,8 @@ impl<W: Copy + Default + Drop, R: Copy + Default + Drop> KeptWays<W, R> {
         self.rests.clear();
     }
 
-    /// Whether the ways along a list of `n` visits are kept.
+    /// Whether the ways along a list of `n` visits are kept. `vr_costfilter` alone asks it: here ways are kept of every
+    /// list for which there is room.
     #[inline]
     pub fn has_ways(&self, n: usize) -> bool
         requires { n ≤ 1000 }
@@ -52,7 +53,7 @@ impl<W: Copy + Default + Drop, R: Copy + Default + Drop> KeptWays<W, R> {
         self.ways[place as usize]
     }
 
-    /// What is left from a place of the list on.
+    /// What is left from a place of the list on, or from the end on, which is the place behind the last visit.
     #[inline(always)]
     pub fn rest(&self, place: u32) -> R
         requires place { place < length self.now.rests.items }

@@ -5,7 +5,8 @@ ghost use Rattle.vr_routes.specs.Pieces.{joined, nodes_of, IsWithin};
 
 use vr_routes::{Piece, Routes};
 
-/// Goes along lists of a vehicle, one visit at a time.
+/// Goes along lists of a vehicle, one visit at a time. There are two: the guide of `ways`, whose ways and rests tell
+/// bounds for any vehicle, and that of `vr_costfilter`, whose ways and rests tell the ends of tight schedules.
 pub trait Walk {
     /// How far the vehicle is on its way.
     type Way: Copy + Default + Drop;

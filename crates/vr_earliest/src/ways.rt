@@ -1,4 +1,4 @@
-//! Ways of vehicles along lists.
+//! Ways of vehicles along lists and what is left of their lines, and the guide that makes each step of them.
 
 ghost use Rattle.std.proofs.Props.{props};
 ghost use Rattle.std.specs.Prelude.{◌≡◌, ◌<◌, length};
@@ -36,7 +36,8 @@ pub struct Rest {
     pub least_end: i64,
 }
 
-/// What is looked up of vehicle `v` in dimension `d` once for many arcs.
+/// What is looked up of vehicle `v` in dimension `d` once for many arcs, of any vehicle (the guide of `vr_costfilter`
+/// is of one without breaks, with one run a stop).
 #[derive(Drop)]
 pub struct Guide<'m> {
     pub model: &'m Model,
@@ -100,7 +101,9 @@ impl<'m> Guide<'m> {
         }
     }
 
-    /// What a whole way tells of the span.
+    /// What a whole way tells of the span: it is no less than the transits, and of a vehicle that starts freely no less
+    /// than the lesser of the time from the floor of its start to its end and the greatest slack with the transits
+    /// (`Floors::free`).
     #[inline(always)]
     pub fn span_by(&self, way: Way) -> i64
         requires way { IsWholeWay self.now.model.now way }

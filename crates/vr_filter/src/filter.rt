@@ -24,7 +24,8 @@ pub trait PathFilter {
     /// Whatever a commit of this change of these routes needs is there.
     ghost ready: { Self → Tours → List ListAfter → Type 0 };
 
-    /// How many steps a change of lists may cost: the lists before it and after it.
+    /// How many steps `passes` may count for a change, by the lists before it and after it. Of the filters of a model
+    /// those of dimensions alone count any, and none of these where it is a load.
     ghost weight: { Self → List (List ℕ) → List (List ℕ) → ℕ };
 
     /// Whether the rule holds of the lists after a change. After `false` or `NoMemory` no change is ready.

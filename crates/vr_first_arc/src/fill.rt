@@ -39,7 +39,8 @@ fn consider(
     }
 }
 
-// The better of the best choice so far and a candidate, which counts only where its first node is not marked.
+// The better of the best choice so far and a candidate, which counts only where its first node is not marked: a pair
+// stands in a list with both nodes, or in none.
 fn consider_candidate(
     growing: &Growing<'_, '_, '_, '_>,
     room: &mut Room,
@@ -100,7 +101,8 @@ fn next_item(
     Ok(item_of(best))
 }
 
-// Puts an item at the end of the list of vehicle `v`, and moves its fronts there.
+// Puts an item at the end of the list of vehicle `v`, and moves its fronts there. The fronts move first, since they ask
+// for the list as it was.
 fn place(
     fronts: &mut Fronts,
     room: &mut Room,
@@ -122,7 +124,7 @@ fn place(
 }
 
 // Appends items to the list of vehicle `v`, as long as one may be appended: each time the one of the least class, the
-// cheapest arc to it, and the least number.
+// cheapest arc to it, and the least number. Each step appends one, so as many steps as there are items are enough.
 fn fill(
     filling: &Filling<'_, '_, '_>,
     v: u32,
@@ -153,7 +155,8 @@ fn fill(
     Ok(())
 }
 
-// The same, where what the list reaches at its end is not known yet.
+// The same, where what the list reaches at its end is not known yet. The list is empty here, since the construction
+// begins with empty ones.
 fn fill_from_start(
     filling: &Filling<'_, '_, '_>,
     v: u32,

@@ -65,7 +65,7 @@ pub fn first_over(alloc: Global, lookups: &Lookups<'_>) -> Result<Option<Routes>
 }
 
 /// The same of a model that nobody has looked up yet: looks it up, and asks [`first_over`]. The program, which has it
-/// looked up, asks that itself.
+/// looked up, asks that itself; tests and `vr_bench` ask this.
 pub fn first(alloc: Global, model: &Model) -> Result<Option<Routes>, NoMemory>
     requires well_formed { IsWellFormed model.now }
     ensures first { IfOk result (λ first. lists_in first

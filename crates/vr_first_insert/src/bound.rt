@@ -59,8 +59,8 @@ pub(crate) fn least_place(list: &LookedUpList<'_, '_, '_>, node: u32) -> usize
     at.place
 }
 
-/// Writes the least that a visit adds to a list before its last places: before the last one, before
-/// the last two, and so on up to all.
+/// Writes the least that a visit adds to a list before its last places: before the last one, before the last two, and
+/// so on up to all. Entry `k` is that of the last `k + 1` places, of which the last is before the end.
 pub(crate) fn write_ahead(
     list: &LookedUpList<'_, '_, '_>,
     node: u32,
@@ -113,8 +113,8 @@ pub(crate) fn least_behind(
     together.min(apart)
 }
 
-/// What a pair adds at least with its pickup before place `s` and its delivery behind, where the delivery alone adds
-/// `least` at least.
+/// What a pair adds at least with its pickup before place `s` and its delivery before a later one, where the delivery
+/// alone adds `least` at least.
 pub(crate) fn least_further(
     list: &LookedUpList<'_, '_, '_>,
     pickup: u32,
@@ -135,7 +135,8 @@ pub(crate) fn least_further(
     visit_increase(list, pickup, s) + least
 }
 
-/// The least that a pair adds to a list.
+/// What a pair adds at least to a list: the delivery counts with the least that it adds before any place, so each two
+/// places may add more.
 pub(crate) fn least_pair(list: &LookedUpList<'_, '_, '_>, pickup: u32, delivery: u32) -> i64
     requires pickup { pickup < (list_model list.now).nodes }
     requires delivery { delivery < (list_model list.now).nodes }

@@ -7,7 +7,7 @@ ghost use Rattle.vr_first_insert.specs.Placings.{item_in, key_of, may_improve as
 
 use vr_rules::Item;
 
-/// An item at its places in a list.
+/// An item at its places in a list, which are counted in the list without it.
 #[derive(Clone, Copy)]
 pub(crate) enum Placing {
     /// A visit, and the place that it is put before.
@@ -43,6 +43,7 @@ fn places_before(one: Placing, other: Placing) -> bool
 {
     match (one, other) {
         (Placing::One(_, t), Placing::One(_, u)) => t < u,
+        // a visit and a pair do not come here: they differ in their first nodes, which are compared before
         (Placing::One(_, t), Placing::Two(_, _, s, _)) => t <= s,
         (Placing::Two(_, _, s, _), Placing::One(_, t)) => s < t,
         (Placing::Two(_, _, s, t), Placing::Two(_, _, r, u)) => s < r || (s <= r && t < u),
@@ -80,7 +81,8 @@ pub(crate) fn improves(best: Option<InsertionChoice>, next: InsertionChoice) -> 
     }
 }
 
-/// Whether choices of a class that add at least so much may be better than the best so far.
+/// Whether choices of a class that add at least so much may be better than the best so far. One that adds as much may
+/// be, by item, vehicle or places.
 pub(crate) fn may_improve(best: Option<InsertionChoice>, class: u32, least: i64) -> bool
     ensures { result ≡ may_improve_by best class least }
 {

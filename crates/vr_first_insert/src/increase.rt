@@ -44,7 +44,7 @@ fn node_behind(list: &LookedUpList<'_, '_, '_>, t: usize) -> u32
     }
 }
 
-// What the arc between two neighbours costs, nothing in an empty list.
+// What the arc between two neighbours costs, nothing in an empty list, whose vehicle takes no arc.
 fn arc_between(list: &LookedUpList<'_, '_, '_>, a: u32, b: u32) -> i64
     requires first { a < (list_model list.now).nodes }
     requires second { b < (list_model list.now).nodes }

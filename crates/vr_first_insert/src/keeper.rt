@@ -23,7 +23,8 @@ use vr_plan::Lookups;
 use vr_routes::Routes;
 use vr_rules::{Candidate, active_marks, candidates, empty_lists};
 
-/// Lists of a model, and what is kept of them: what each reaches, and the best place of each item in each.
+/// Lists of a model, those at which the last rebuild ended, and what is kept of them: what each reaches, and the best
+/// place of each item in each.
 #[derive(Drop)]
 pub(crate) struct Keeper {
     candidates: Vec<Candidate>,
@@ -120,7 +121,7 @@ impl Keeper {
     }
 
     /// Makes the lists those at which insertion ends when it begins with open routes. What is known of a list that is
-    /// the same as before is not found again. After want of memory nothing is said of the lists.
+    /// as the rebuild before left it is not found again. After want of memory nothing is said of the lists.
     pub(crate) fn rebuild(&mut self, lookups: &Lookups<'_>, routes: &Routes) -> Result<(), NoMemory>
         requires keeper { IsKeeper lookups.now.closed.model.now self.old }
         requires built { AreBuilt lookups.now.closed.model.now routes.now.lists }

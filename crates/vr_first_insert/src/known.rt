@@ -1,4 +1,4 @@
-//! What is known of items in lists that have not changed since.
+//! What is known of an item in a list, and whether the list has to be searched for it (`find_out`).
 
 ghost use Rattle.std.specs.Prelude.{◌≡◌, ◌<◌, IfOk, length, replicate};
 ghost use Rattle.vr_first_insert.specs.Kept.{begun_with as begun_with_of, best_of, better_choice};
@@ -80,7 +80,8 @@ fn least_in(of: &CandidateIn<'_, '_, '_>) -> i64
     }
 }
 
-// What a search tells that began with the best so far: what is better is the best of the list.
+// What a search tells that began with the best so far: what is better is the best of the list. One that began with
+// nothing tells the best of the list, or that none is allowed; one that began with a best ends with one.
 fn known_by_search(best: Option<InsertionChoice>, found: Option<InsertionChoice>) -> KnownItem
     ensures { result ≡ known_by_search_of best found }
 {

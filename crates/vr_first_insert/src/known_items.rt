@@ -66,7 +66,8 @@ impl KnownItems {
         self.found.set(i, FoundItem { known, since });
     }
 
-    /// Nothing is known any more. It takes no memory.
+    /// Nothing is known any more: what was found counts as of an older list. Only where the count of changes is at its
+    /// end is all cleared. It takes no memory. The count then goes on from 1, since what is cleared stands at 0.
     pub(crate) fn forget(&mut self)
         ensures many { length self.new ≡ length self.old }
         ensures nothing { (i : ℕ) → slice_index_or self.new i Nothing ≡ Nothing }

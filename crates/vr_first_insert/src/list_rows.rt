@@ -19,7 +19,7 @@ pub(crate) struct ListRows {
 }
 
 impl ListRows {
-    // The rows of lists in dimension `d`.
+    // The rows of lists in dimension `d`. The keeper begins with empty lists, which have none.
     fn build(
         alloc: Global,
         lookups: &Lookups<'_>,
@@ -116,7 +116,7 @@ pub(crate) fn rewrite(
 }
 
 /// Makes a list that of its vehicle, with its rows written over those of the list before. After want of memory nothing
-/// is said of the lists.
+/// is said of the lists. The rows are written first, since they ask for the list before.
 pub(crate) fn change_list(
     alloc: Global,
     list_rows: &mut [ListRows],

@@ -178,8 +178,8 @@ struct Begun<'l, 'm, 'k, 's> {
 }
 
 // The better of the best so far and a pickup before a place with its delivery before each place behind, where what the
-// list with the pickup reaches at the next node is known. Once nothing is reached, no place further on is allowed; and
-// none is looked at where none from there on can be better.
+// list with the pickup reaches at the stop behind the pickup is known. Once nothing is reached, no place further on is
+// allowed; and none is looked at where none from there on can be better.
 fn best_further(
     trying: &mut Trying,
     probes: &mut Probes,
@@ -221,7 +221,8 @@ fn best_further(
 }
 
 // The better of the best so far and a pickup before a place with its delivery before each place from there on. Once
-// nothing is reached, no place further on is allowed; and none is looked at behind the first where none can be better.
+// nothing is reached, no place further on is allowed; and none is looked at behind the first where none can be better
+// (`least` is what the delivery adds at least, before any place).
 fn best_behind(
     alloc: Global,
     trying: &mut Trying,

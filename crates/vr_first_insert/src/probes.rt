@@ -17,7 +17,7 @@ use vr_steps::Levels;
 /// What a list reaches at one stop in each dimension.
 #[derive(Drop)]
 pub(crate) struct Probes {
-    // of the dimensions, and behind them some that are not used
+    // of the dimensions; contracts allow more behind them, which one model does not make
     pub(crate) here: Vec<Levels>,
 }
 
@@ -32,7 +32,7 @@ impl Probes {
     /// Stands behind the first `front` nodes of a list and one arc more, where it shares those nodes with the list of
     /// the vehicle before, whose rows are kept. Afterwards nothing is said of where the walk stands.
     ///
-    /// `NoMemory` as of `is_feasible_between`, and where the model has more dimensions than any before.
+    /// `NoMemory` as of `is_feasible_between`, and the first time, when no levels are there yet.
     pub(crate) fn leave(
         &mut self,
         alloc: Global,

@@ -1,4 +1,4 @@
-//! The insertion that is made next.
+//! Which insertion is made next, and one after another as long as one may be made.
 
 ghost use Rattle.std.specs.Prelude.{◌≡◌, IfOk, IfSome, OnOk, length, option_map};
 ghost use Rattle.vr_model.specs.first.CheapestInsertion.{next_inserted, rebuilt};
@@ -114,7 +114,8 @@ fn best_in_lists(
     Ok(best)
 }
 
-// Whether an item may count: its first node is not marked, and the groups have room for it.
+// Whether an item may count: its first node is not marked, since a pair stands in a list with both nodes or in none,
+// and the groups have room for it.
 fn may_be_placed(items: &Items<'_, '_, '_>, marks: &[bool], candidate: Candidate) -> bool
     requires { MayCount items.now marks.now candidate }
     ensures { result ≡ counts_of (items_model items.now) marks.now candidate }

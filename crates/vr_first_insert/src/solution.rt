@@ -18,8 +18,8 @@ use vr_routes::Routes;
 use vr_rules::complete_routes;
 
 /// Rebuilds routes of one model, again and again. What it found of lists in one call it keeps for the next: the sets
-/// that a list reaches, and the best place of each item in it, so that only lists that are others than before are asked
-/// anew.
+/// that a list reaches, and the best place of each item in it, or what that adds at least. It serves for each list that
+/// is as the call before left it.
 #[derive(Drop)]
 pub struct Rebuilder {
     // on the heap, since it is large
@@ -37,10 +37,10 @@ impl Rebuilder {
         })
     }
 
-    /// Makes open routes of the model those at which parallel cheapest insertion ends when it begins with them, as
-    /// `rebuild` gives them.
+    /// Makes open routes of the model those at which parallel cheapest insertion ends when it begins with them: those
+    /// that the function [`rebuild`] gives. Each step inserts one item, so as many steps as there are items are enough.
     ///
-    /// After `NoMemory` the routes are as before, and nothing is said of what is kept.
+    /// After `NoMemory` the routes are as before, and nothing is said of what is kept: it may not be asked again.
     pub fn rebuild(&mut self, lookups: &Lookups<'_>, routes: &mut Routes) -> Result<(), NoMemory>
         requires rebuilder { IsRebuilder lookups.now.closed.model.now self.old }
         requires of_model { routes.old.visits ≡ visits lookups.now.closed.model.now }
@@ -97,6 +97,7 @@ fn rebuilt_routes(
     keeper.rebuild(lookups, routes)?;
     match Routes::from_lists(alloc, lookups.closed.model, &keeper.lists)? {
         Some(after) => Ok(after),
+        // they are lists of the model, so there are such routes
         None => unreachable!(),
     }
 }
@@ -115,7 +116,8 @@ fn rebuilt_over(alloc: Global, lookups: &Lookups<'_>, routes: &Routes) -> Result
 
 /// The routes at which parallel cheapest insertion ends when it begins with these open routes: as long as an item may
 /// be inserted into some list so that the lists stay open, the insertion of the least class is made, of those the one
-/// that adds least to the arc costs, and of those the first by item, vehicle and places.
+/// that adds least to the arc costs, and of those the first by item, vehicle and places. Path neighbourhoods ask a
+/// [`Rebuilder`] instead; tests ask this one, and `vr_app` has it for `Rebuild::rebuild`, which no search calls.
 ///
 /// `NoMemory` where there was no memory.
 pub fn rebuild(alloc: Global, model: &Model, routes: &Routes) -> Result<Routes, NoMemory>
@@ -142,7 +144,7 @@ fn rebuild_empty(alloc: Global, keeper: &mut Keeper, lookups: &Lookups<'_>) -> R
     Ok(())
 }
 
-// The first solution, over lists of which nothing is known.
+// The first solution, by any keeper of the model: what is kept in it does not change what it answers.
 fn first_kept(
     alloc: Global,
     keeper: &mut Keeper,
@@ -175,7 +177,7 @@ pub fn first_over(alloc: Global, lookups: &Lookups<'_>) -> Result<Option<Routes>
 }
 
 /// The same of a model that nobody has looked up yet: looks it up, and asks [`first_over`]. The program, which has it
-/// looked up, asks that itself.
+/// looked up, asks that itself; tests ask this.
 pub fn first(alloc: Global, model: &Model) -> Result<Option<Routes>, NoMemory>
     requires well_formed { IsWellFormed model.now }
     ensures first { IfOk result (λ first. lists_in first

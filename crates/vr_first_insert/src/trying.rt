@@ -58,7 +58,8 @@ fn keeps_its_pairs(trying: &mut Trying, list: &LookedUpList<'_, '_, '_>) -> bool
 }
 
 /// Whether the vehicle of a list may drive it with a visit before place `t`, as `longer` has it, found by walks over
-/// the two arcs that are new.
+/// the two arcs that are new. Whether it may visit the node was asked before (`best_in_list`), and whether the groups
+/// have room (`search`).
 pub(crate) fn may_visit(
     trying: &mut Trying,
     visit: &VisitIn<'_, '_, '_>,
@@ -76,6 +77,7 @@ pub(crate) fn may_visit(
     if !is_feasible_between(visit.list_rows, list, longer, t, back, &mut trying.walk)? {
         return Ok(false);
     }
+    // that the visit is in no pair is not known here, so the pairs are asked
     Ok(keeps_its_pairs(trying, list))
 }
 

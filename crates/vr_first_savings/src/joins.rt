@@ -17,7 +17,8 @@ use vr_model::{Closed, NoMemory, Seq};
 use vr_plan::Lookups;
 use vr_rules::{Driving, is_route_open};
 
-// What it saves to drive from the last node of one route to the first of another, and not over the end and the start.
+// What it saves to drive from the last node of one route to the first of another, and not over the end and the start,
+// at the arc costs of vehicle 0.
 fn saved(closed: Closed<'_>, front: EndsOfRoute, back: EndsOfRoute) -> i64
     requires front { AreRouteEnds closed.model.now front }
     requires back { AreRouteEnds closed.model.now back }
@@ -94,7 +95,7 @@ fn consider(
     }
 }
 
-// The best beside the joins of one route with each.
+// The better of the best so far and the joins of route `i`, in front, with each route behind it.
 fn best_behind(
     alloc: Global,
     lookups: &Lookups<'_>,

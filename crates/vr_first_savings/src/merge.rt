@@ -14,7 +14,7 @@ use vr_model::{Model, NoMemory, Seq};
 use vr_plan::Lookups;
 use vr_rules::Driving;
 
-// Puts a copy of a route behind others, where its first node is neither of two.
+// Puts a copy of a route behind others, where its first node is neither of two: a route is known by its first node.
 fn keep_other(
     alloc: Global,
     route: &[u32],
@@ -67,7 +67,8 @@ fn is_wanted(model: &Model, routes: usize, choice: JoinChoice) -> bool
     0 < choice.saving || model.vehicles.len() < routes
 }
 
-/// Joins routes as long as the best join saves, or there are more routes than vehicles.
+/// Joins routes as long as the best join saves, or there are more routes than vehicles. Each join leaves one route
+/// less, so as many steps as there are routes are enough.
 pub(crate) fn merged(
     alloc: Global,
     lookups: &Lookups<'_>,

@@ -41,7 +41,8 @@ fn lists_by_savings(alloc: Global, lookups: &Lookups<'_>) -> Result<Vec<Seq<u32>
     lists_joined(alloc, lookups, &mut driving)
 }
 
-// Whether routes of the model are valid.
+// Whether routes of the model are valid. All is asked, and not only what is missing: each list is open for vehicle 0,
+// and need not be for another that is not like it.
 fn are_valid(alloc: Global, lookups: &Lookups<'_>, routes: &Routes) -> Result<bool, NoMemory>
     requires { IsTrue (are_lists lookups.now.closed.model.now routes.now.lists) }
     ensures { IfOk result (λ answer. answer ≡ is_valid lookups.now.closed.model.now routes.now.lists) }
@@ -50,9 +51,9 @@ fn are_valid(alloc: Global, lookups: &Lookups<'_>, routes: &Routes) -> Result<bo
     rules.valid(routes)
 }
 
-/// The first solution of a model by savings (`SAVINGS` in OR-Tools, after Clarke and Wright): each item begins as a
-/// route of its own, and routes are joined where that saves most. Routes are built as if vehicle 0 drove each. A model
-/// that names this construction has vehicles that are alike; of another model it gives what it can.
+/// The first solution of a model by savings (`SAVINGS` in OR-Tools, after Clarke and Wright): each item that may be a
+/// route of its own begins as one, and routes are joined where that saves most. Routes are built as if vehicle 0 drove
+/// each. A model that names this construction has vehicles that are alike; of another model it gives what it can.
 ///
 /// `None` exactly where the lists at which this ends are not valid. `NoMemory` where there was no memory.
 pub fn first_over(alloc: Global, lookups: &Lookups<'_>) -> Result<Option<Routes>, NoMemory>
@@ -75,7 +76,7 @@ pub fn first_over(alloc: Global, lookups: &Lookups<'_>) -> Result<Option<Routes>
 }
 
 /// The same of a model that nobody has looked up yet: looks it up, and asks [`first_over`]. The program, which has it
-/// looked up, asks that itself.
+/// looked up, asks that itself; tests ask this.
 pub fn first(alloc: Global, model: &Model) -> Result<Option<Routes>, NoMemory>
     requires well_formed { IsWellFormed model.now }
     ensures first { IfOk result (λ first. lists_in first

@@ -171,7 +171,7 @@ fn demands(alloc: Global, customers: &[Customer]) -> Result<Vec<u32>, NoMemory>
     Ok(all)
 }
 
-// How long it takes from node to node: the distance and the visits.
+// How long it takes from node to node: the distance, and the visit where the arc begins.
 fn transit(alloc: Global, services: &[u32]) -> Result<Value, NoMemory>
     ensures { IfOk result (λ tree. view tree ≡ trees.transit services.now) }
 {
@@ -185,6 +185,7 @@ fn times(alloc: Global, customers: &[Customer]) -> Result<Value, NoMemory>
     requires { length customers.now ≤ 60 }
     ensures { IfOk result (λ tree. view tree ≡ trees.times customers.now) }
 {
+    // how long each visit takes: it adds to transits (`values`), and a break begins behind it (`visit`)
     let services = [30u32; 60];
     let mut tree = Tree::new(alloc);
     tree.put("breaks", rests(alloc)?)?;
@@ -248,6 +249,7 @@ pub fn generate(alloc: Global, number: u64) -> Result<Value, NoMemory>
     ensures { IfOk result (λ tree. view tree ≡ trees.generated number) }
 {
     let mut words = words_of(number);
+    // all sites are drawn before the first customer
     let sites = repeated::<Site>(alloc, &mut words, 61)?;
     let customers = repeated::<Customer>(alloc, &mut words, 60)?;
     model(alloc, sites.as_slice(), customers.as_slice())

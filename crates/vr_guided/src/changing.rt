@@ -178,6 +178,7 @@ impl<'m, 'p, 's, 'r, 'c> WeighedChange<'m, 'p, 's, 'r, 'c> {
         let new = stretches.new_stretch(start, splice.middle, next);
         let old = stretches.old_stretch(splice.front, splice.behind);
         let len = splice.front + new.nodes + (list.len() as u32 - splice.behind);
+        // both have the arc from start to end where the list is empty, and then it is not taken
         let before = old - arcs.unused(list.len() as u32);
         let after = new.total - arcs.unused(len);
         after - before
@@ -206,7 +207,8 @@ impl<'m, 'p, 's, 'r> WeighedRoutes<'m, 'p, 's, 'r> {
         first + self.saved_by_list(touched.second)
     }
 
-    // What the arcs of the list of a vehicle add at most.
+    // What the arcs of the list of a vehicle add at most: of an empty one the arc from start to end counts too, which
+    // is not taken.
     #[inline]
     fn saved_by_list(&self, v: u32) -> i128
         requires { v < length self.now.routes.now.lists }

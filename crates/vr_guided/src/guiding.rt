@@ -18,7 +18,11 @@ use vr_known::Touched;
 use vr_model::{Lambda, Move};
 use vr_routes::{Change, Routes};
 
-/// Takes each move that makes the augmented cost less.
+// So much of the penalised arc costs may be multiplied by `p` in 64 bits: `p` is at most 1000.
+const MOST_SAVED: i128 = 1_000_000_000_000_000;
+
+/// Takes each move that makes the augmented cost less, which is `q` times the cost and `p` times the penalised arc
+/// costs (`lambda` is `p / q`).
 #[derive(Drop)]
 pub struct Guiding<'m, 'p, 's> {
     pub weights: Weights<'m, 'p>,
@@ -35,6 +39,7 @@ impl<'m, 'p, 's> Accept for Guiding<'m, 'p, 's> {
 
     ghost takes = { λ s. makes_less s.weights.closed.model.now s.lambda (counted s.weights.penalties.now) };
 
+    // Nothing asks it: the trait wants it, and a scan asks `accepts_change`.
     fn accepts(&self, routes: &Routes, mv: Move, difference: i64) -> bool {
         let mut change = Change::blank();
         Change::write(self.weights.closed.model, routes, mv, &mut change);
@@ -58,6 +63,7 @@ impl<'m, 'p, 's> Accept for Guiding<'m, 'p, 's> {
             return None;
         };
         let vehicles = routes.vehicles();
+        // the numbers need not be those of a move
         if touched.first >= vehicles {
             return None;
         }
@@ -76,6 +82,8 @@ impl<'m, 'p, 's> Accept for Guiding<'m, 'p, 's> {
         };
         let weighed = WeighedChange { of, change };
         let saved = weighed.saved_at_most();
+        // what is saved at most is one subtraction for each part; only where that does not tell, the new pieces are
+        // walked
         if self.is_no_gain(least, saved) {
             return false;
         }
@@ -105,9 +113,9 @@ impl<'m, 'p, 's> Guiding<'m, 'p, 's> {
         weighed.saved_by_lists(touched)
     }
 
-    // A difference in cost that is no gain where so much of the penalised arc costs is saved: what this weighs over the
-    // weight of a cost, rounded up. `None` where it might not fit 64 bits. Where nothing is saved, as long as no arc is
-    // penalised, nothing is divided.
+    // A difference in cost that is no gain where so much of the penalised arc costs is saved: `p` times this over `q`,
+    // rounded up. `None` where it might not fit 64 bits. Where nothing can be saved, as until an arc is penalised,
+    // nothing is divided.
     #[inline]
     fn enough_against(&self, saved: i128) -> Option<i64>
         requires { IsIn (pos 0) (pos (2 ^ 90)) saved }
@@ -116,14 +124,15 @@ impl<'m, 'p, 's> Guiding<'m, 'p, 's> {
         if saved == 0 {
             return Some(0);
         }
-        if saved > 1_000_000_000_000_000 {
+        if saved > MOST_SAVED {
             return None;
         }
         let weighed = weighed(self.lambda.p, saved as i64);
         self.where_enough((weighed + (self.lambda.q - 1)) / self.lambda.q, saved)
     }
 
-    // A difference in cost, where it is no gain with so much saved of the penalised arc costs.
+    // A difference in cost, where it is no gain with so much saved of the penalised arc costs. Of the difference that
+    // is handed in it is so: it is asked again in place of a proof.
     #[inline]
     fn where_enough(&self, difference: i64, saved: i128) -> Option<i64>
         requires { IsIn (pos 0) (pos (2 ^ 90)) saved }
@@ -170,7 +179,7 @@ fn scaled(factor: i64, change: i128) -> i128
     factor as i128 * change
 }
 
-// What is saved times p.
+// What is saved, which is at most `MOST_SAVED`, times p.
 #[inline]
 fn weighed(factor: i64, saved: i64) -> i64
     requires factor { IsIn (pos 1) (pos 1000) factor }

@@ -9,7 +9,7 @@ use std::alloc::Global;
 use std::marker::Model;
 use vr_model::NoMemory;
 
-/// How often each arc was penalised.
+/// How often each arc was penalised, whichever vehicle took it.
 #[derive(Drop)]
 pub struct Penalties {
     nodes: u32,

@@ -143,6 +143,7 @@ impl Penalties {
             any |= self.raise_arc(list, at, node, greatest);
             at = node;
         }
+        // no `||`: the last arc is raised also where another one was
         any | self.raise_arc(list, at, ends.end, greatest)
     }
 

@@ -112,6 +112,8 @@ impl AllRouteSums {
             → AreAllRouteSums weights.entry.closed.model.now (counted weights.entry.penalties.now) routes.now.lists
             self.new }
     {
+        // none where a pair was taken out or put elsewhere: the move does not name the list that it left, and `routes`
+        // tell it no more
         let Some(touched) = Touched::named(mv) else {
             self.write(weights, routes);
             return;

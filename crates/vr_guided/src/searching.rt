@@ -1,4 +1,4 @@
-//! Guided local search.
+//! The search: scan after scan, the best routes kept, and penalties raised where a scan finds nothing.
 
 ghost use Rattle.std.specs.Prelude.{◌≡◌, ◌==◌, ◌||◌, not, ◌≤ℤ◌, pos, IsTrue, IfOk, OnOk, OnErr};
 ghost use Rattle.vr_descent.specs.Asking.{AsksFor, AsksOn};
@@ -103,8 +103,8 @@ struct State {
 }
 
 impl State {
-    // At the beginning these routes are the best, and no arc was penalised. The routes are copied last, so that where
-    // memory is wanting they are not to be let go.
+    // At the beginning these routes are the best, and no arc was penalised; the sums are of no list until `search`
+    // writes them. The routes are copied last, so that where memory is wanting they are not to be let go.
     fn open(
         alloc: Global,
         closed: Closed<'_>,

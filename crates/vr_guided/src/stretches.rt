@@ -18,8 +18,8 @@ use crate::walks::Walk;
 use crate::weights::VehicleWeights;
 use vr_routes::{Piece, Routes};
 
-/// The arcs of a vehicle, and the sums of all lists of valid routes, by which it goes along stretches of them at one
-/// go.
+/// The arcs of a vehicle, and the sums of all lists of valid routes, by which it goes at one go along stretches of them
+/// that are of vehicles with the same arc costs.
 #[derive(Clone, Copy)]
 pub struct Stretches<'m, 'p, 's, 'r> {
     pub arcs: VehicleWeights<'m, 'p>,
@@ -32,7 +32,7 @@ pub struct Stretches<'m, 'p, 's, 'r> {
         routes.now.lists route_sums.now },
 }
 
-/// How many nodes a stretch has, and what its arcs add.
+/// How many nodes the pieces of a stretch have, without the nodes at both its ends, and what its arcs add.
 #[derive(Clone, Copy)]
 pub struct Stretch {
     pub nodes: u32,
@@ -41,7 +41,8 @@ pub struct Stretch {
 
 impl<'m, 'p, 's, 'r> Stretches<'m, 'p, 's, 'r> {
     /// What the arcs of the vehicle add now, from the node before a place of its list up to the one at another place:
-    /// its start stands before the first node, and its end behind the last.
+    /// its start stands before the first node, and its end behind the last. Of an empty list that is the arc from start
+    /// to end, which is not taken (`VehicleWeights::unused`).
     #[inline]
     pub fn old_stretch(&self, front: u32, behind: u32) -> i128
         requires order { front ≤ behind }

@@ -39,7 +39,7 @@ pub struct VehicleEnds {
     pub end: u32,
 }
 
-/// Those of a vehicle with a list, of at most 1000 nodes.
+/// The weights of a vehicle with a list, of at most 1000 nodes.
 #[derive(Clone, Copy)]
 pub struct ListWeights<'m, 'p, 'r> {
     pub arcs: VehicleWeights<'m, 'p>,

@@ -12,7 +12,7 @@ pub trait Source {
     /// The bytes still to come, where they are known.
     ghost left: { Self → Option (List ℕ) };
 
-    /// How often the device has failed: a number that never falls.
+    /// How often the device has failed: a number that never falls. It may stand still at 2^64 - 1, as `Rose` allows.
     ghost faults: { Self → ℕ };
 
     /// Puts some of the bytes to come at the front of `buf` and gives their number. Zero on a `buf` that is not empty

@@ -2,7 +2,8 @@
 
 use std::alloc::{AllocError, AllocFailed};
 
-/// Want of memory. No contract ties it to a refused growth.
+/// Want of memory. No contract ties it to a refused growth. The making of a `MemSink` alone answers it; `read_all` has
+/// `ReadError::NoMemory`.
 #[derive(Clone, Copy, Debug, PartialEq, Eq)]
 pub struct NoMemory;
 

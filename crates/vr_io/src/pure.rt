@@ -1,4 +1,4 @@
-//! A source and a sink in memory that never fail.
+//! A source and a sink in memory that never fail: for tests alone.
 
 ghost use Rattle.std.specs.Prelude.{◌≡◌, ◌≤◌, ◌+◌, ◌++◌, List, ℕ, [], false, length, take, drop, min, Some, IfSome};
 ghost use Rattle.std.specs.Prelude.{IfOk, OnErr, Ok, vec_len};

@@ -11,6 +11,7 @@ use crate::{Failed, NoMemory, Sink, Source};
 use std::alloc::Global;
 use std::marker::Model;
 
+// The room of a sink for which none is named.
 const ROOM: usize = 1 << 20;
 
 /// Gives bytes that stand in memory, in pieces, and fails at the calls that its script names. What is left is known.
@@ -104,7 +105,7 @@ impl MemSink {
     }
 
     /// A sink with room for `room` bytes, which takes at most `piece` bytes a call and fails at the calls whose numbers
-    /// `fails` holds.
+    /// `fails` holds. `new` alone calls it.
     pub fn with_room(
         alloc: Global,
         room: usize,
@@ -136,7 +137,7 @@ impl Sink for MemSink {
 
     /// As the trait says. The bytes to take are as many as the least of the sink's piece and the length of `piece`. A
     /// call on a piece that is not empty fails exactly where `fails` holds its number or the bytes to take do not fit
-    /// the room that is left.
+    /// the room that is left. A call on an empty piece never fails, and is counted as any other.
     fn write(&mut self, piece: &[u8]) -> Result<usize, Failed>
         ensures fails { is_err result ≡ refuses self.old (length piece.now) }
         ensures number { IfOk result (λ n. n ≡ to_take self.old (length piece.now)) }

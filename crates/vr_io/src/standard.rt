@@ -12,11 +12,12 @@ use std::marker::Model;
 /// A reader of std as a source: each error of the reader is a fault.
 pub type StdSource<R> = StdDevice<R>;
 
-/// A writer of std as a sink, which is flushed after each write: each error of the writer or of its flush is a fault.
+/// A writer of std as a sink, which is flushed after each write, as nobody does it later: each error of the writer or
+/// of its flush is a fault.
 pub type StdSink<W> = StdDevice<W>;
 
 /// A reader or a writer of std. No bytes of it are known. Contracts see it as the reader or writer and the number of
-/// its errors, which stands still at 2^64 - 1.
+/// its errors, a write that takes nothing among them, which stands still at 2^64 - 1.
 #[derive(Drop)]
 pub struct StdDevice<D> {
     device: D,

@@ -35,7 +35,7 @@ const PIECE: usize = 1 << 16;
 /// All bytes up to the end of input, of which there are at most `max`.
 ///
 /// `TooLong` comes exactly where more came before the end; then more than `max` bytes were taken. `ReadFault` comes
-/// only where the source failed in this call. After any error some bytes of the front are gone.
+/// only where the source failed in this call. After any error some bytes of the front may be gone.
 pub fn read_all<S: Source>(alloc: Global, source: &mut S, max: u64) -> Result<Vec<u8>, ReadError>
     ensures ok { IfOk result (λ bytes. GaveAll (S.left source.old) (S.left source.new) bytes.items) }
     ensures short { IfOk result (λ bytes. length bytes.items ≤ max) }

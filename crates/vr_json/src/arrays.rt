@@ -71,7 +71,7 @@ fn entries<R: Reader>(
     Ok(found)
 }
 
-/// An array of two entries.
+/// An array of two entries, read as a pair. Unlike an entry of `Array`, the second one is not told of the first.
 #[derive(Drop)]
 pub struct TwoEntries<R> {
     pub entry: R,
@@ -90,7 +90,7 @@ impl<R: Reader> Reader for TwoEntries<R> {
     }
 }
 
-// What stands in an array of two entries.
+// What stands in an array of two entries. The other arm does not come, since `list` was asked for two.
 #[tactic(auto, unfolding(crate::specs::Reading::and_then, crate::specs::Reading::first_two))]
 fn first_two<R: Reader>(
     alloc: Global,
@@ -136,7 +136,7 @@ where
     }
 }
 
-/// `count` copies of a value.
+/// `count` copies of a value. `vr_read` asks them for arrays that are absent.
 pub fn copies<T: Copy + Drop>(alloc: Global, value: T, count: usize) -> Result<Seq<T>, NoMemory>
     ensures { IfOk result (λ all. all ≡ replicate count value) }
 {

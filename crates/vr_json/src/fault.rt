@@ -37,9 +37,9 @@ pub enum Cause {
     NegativeCost,
     /// A matrix that a dimension uses has an entry that is too large for it.
     LargeTransit,
-    /// A dimension with breaks or span costs has a negative transit between two different nodes.
+    /// A dimension with breaks or span costs has a negative transit of a vehicle between two different nodes.
     NegativeTransit,
-    /// The vehicles differ, or are restricted, where they must be alike.
+    /// The vehicles differ, or rows of allowed vehicles are there, where the first solution is to be built by savings.
     UnlikeVehicles,
 }
 
@@ -100,7 +100,7 @@ impl From<AllocError> for ReadFail {
     }
 }
 
-/// The refusal of the value at a place.
+/// The refusal of the value at a place; `NoMemory` where there is none for the path of the place.
 pub fn refusal(alloc: Global, cause: Cause, place: Place<'_>) -> ReadFail
     ensures { Refuses cause (place_path place.entry) result }
 {

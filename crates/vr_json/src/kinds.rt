@@ -1,4 +1,5 @@
-//! Values of one kind: whole numbers, strings, booleans and arrays.
+//! Values of one kind: whole numbers, strings, words, booleans and arrays. Readers go by `whole_in`, `flag_in`, `text`
+//! and `list`; `whole`, `flag` and `word` are asked by tests alone (`Choice` of `leaves` reads words).
 
 ghost use Rattle.std.specs.Prelude.{◌≡◌, ◌≤ℤ◌, ◌<◌, length, map, position, IfOk, IfSome};
 ghost use Rattle.std.specs.Str.{bytes_eq};

@@ -37,7 +37,7 @@ impl Path {
         }
     }
 
-    /// The path of the field of this key.
+    /// The path of the field of this key, a text of its own; `field` is the place without one.
     pub fn name(&self, key: &str) -> Result<Path, NoMemory>
         ensures { IfOk result (λ p. p ≡ name_path self.now key.now) }
     {
@@ -50,7 +50,7 @@ impl Path {
         })
     }
 
-    /// The path of entry `k`, from 0.
+    /// The path of entry `k`, from 0, a text of its own; `entry` is the place without one.
     pub fn item(&self, k: usize) -> Result<Path, NoMemory>
         ensures { IfOk result (λ p. p ≡ item_path self.now k) }
     {

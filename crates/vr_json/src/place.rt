@@ -17,8 +17,9 @@ pub enum Step<'a> {
     Entry(usize),
 }
 
-/// A place: a path and one more step. It holds no memory of its own, so readers pass places on, and
-/// make the path of one only below it or for a fault.
+/// A place: a path and at most one more step. It holds no memory of its own, so readers pass places on: those of arrays
+/// and objects make the path of one for what stands below it, that of a text (`TextOf`) makes it in any case, and the
+/// others for a fault alone.
 #[derive(Clone, Copy)]
 pub struct Place<'a> {
     pub parent: &'a Path,

@@ -1,4 +1,4 @@
-//! Readers of one value.
+//! The trait of readers, what one is handed, and what becomes of a cause at the place of a value.
 
 ghost use Rattle.std.specs.Prelude.{List, [], ℕ, Result};
 ghost use Rattle.serde_json.specs.Data.{Data};
@@ -45,7 +45,8 @@ pub trait Reader {
 
     ghost reads: { Self → List Self.Item → List ℕ → Data → Result Self.Item FaultOf };
 
-    /// What the value is, beside the entries that stand before it in its array.
+    /// What the value is. `earlier` are the entries before it, where it is an entry of an `Array` or a `ForEach`, else
+    /// none; readers ask them that refuse a value for the second time.
     fn read(&self, earlier: &[Self::Item], datum: Datum<'_, '_>) -> Result<Self::Item, ReadFail>
         ensures { Answers result
             (reads self.now earlier.now (place_path datum.entry.place) (view datum.entry.value.now)) };
@@ -68,7 +69,7 @@ pub(crate) fn read_alone<R: Reader>(
     reader.read(&[], datum)
 }
 
-/// What was read at a place, where a refusal lies at that very place.
+/// What was read at a place, where a refusal lies at that very place: `Datum::settle`, for who has no `Datum`.
 #[tactic(auto, unfolding(crate::specs::Reading::at_path))]
 pub fn settle<T>(alloc: Global, outcome: Result<T, Cause>, place: Place<'_>) -> Result<T, ReadFail>
     ensures { Answers result (at_path (place_path place.entry) outcome) }
@@ -79,7 +80,7 @@ pub fn settle<T>(alloc: Global, outcome: Result<T, Cause>, place: Place<'_>) -> 
     }
 }
 
-/// Refuses the value at a place where a rule is broken.
+/// Refuses the value at a place where a rule is broken: `Datum::refuse_if`, for who has no `Datum`.
 #[tactic(auto, unfolding(crate::specs::Reading::refuse_if))]
 pub fn refuse_if(
     alloc: Global,

@@ -14,8 +14,8 @@ use serde_json::Value;
 use std::alloc::Global;
 use vr_model::Seq;
 
-/// The fields of a value that stands at a path. A value that is no object has none, and is refused by whatever is asked
-/// of its fields.
+/// The fields of a value that stands at a path. A value that is no object has none, and is refused by each call that
+/// looks for a field or at their names.
 #[derive(Clone, Copy)]
 pub struct Fields<'v, 'p> {
     pub alloc: Global,
@@ -113,13 +113,14 @@ pub trait Table {
 
     ghost reads: { Self → List Self.Row → List ℕ → Data → Result Self.Row FaultOf };
 
-    /// The row of these fields, beside the rows that stand before it in its array.
+    /// The row of these fields, beside the rows that stand before it in its array. The order of its calls is the order
+    /// of the faults; that no other field is there (`known`) is asked behind all fields.
     fn read(&self, earlier: &[Self::Row], fields: Fields<'_, '_>) -> Result<Self::Row, ReadFail>
         ensures { Answers result
             (reads self.now earlier.now fields.entry.path.now (view fields.entry.value.now)) };
 }
 
-/// An object of which a table reads the fields.
+/// An object of which a table reads the fields. The path of its place is made here, once for all of them.
 #[derive(Drop)]
 pub struct Object<T>(pub T);
 

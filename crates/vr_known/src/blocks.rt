@@ -97,7 +97,8 @@ pub(crate) fn rows_of(kind: u32) -> u32
     if kind == 5 || kind == 7 { 500 } else { 1 }
 }
 
-/// Where the stamp of a row of a kind stands.
+/// Where the stamp of a row of a kind stands: of each of the first five kinds 100 rows, of `RelocatePair` 500 from 500
+/// on, of `PairInactive` 500 from 1000 on, and of each other kind one behind 1500.
 #[inline(always)]
 pub(crate) fn stamp_of(kind: u32, row: u32) -> usize
     requires kind { kind < 11 }

@@ -41,7 +41,8 @@ impl Known {
     }
 
     /// Nothing is known yet of the moves of a model. Something is learned where nothing is paid for global spans: only
-    /// there does what a move makes depend on the lists of its vehicles alone.
+    /// there does what a move makes depend on the lists of its vehicles, and on which visits are active where it
+    /// changes that, and on nothing else.
     pub fn of(model: &RoutingModel) -> Known
         ensures none { (kind v w : ℕ) → is_known result kind v w ≡ false }
         ensures learns { Learns result → HasNoGlobalSpans model.now }
@@ -69,7 +70,9 @@ impl Known {
         }
     }
 
-    /// The moves in front of one were refused, in the list of the moves of some neighbourhoods.
+    /// A scan of the moves of some neighbourhoods has refused all in front of this one: learned are the rows that stand
+    /// in front of it as a whole, and not its own. That they were refused is for the caller to keep (`AreRefused` of
+    /// `Progress::advance`).
     pub fn note(&mut self, neighbourhoods: &[Neighbourhood], mv: Move)
         requires first { first_of mv < rows_of (kind_of mv) }
         ensures learned { (k u w : ℕ) → u < rows_of k → IsTrue (is_known self.new k u w)
@@ -92,8 +95,8 @@ impl Known {
         }
     }
 
-    /// A move was made, and `routes` are those after it: those moves stay known that name no vehicle whose list it
-    /// changed, and which change no activity where it did.
+    /// A move was made, and `routes` are those after it: those moves alone stay known that name no vehicle whose list
+    /// it changed, put elsewhere or take out no pair that such a vehicle serves, and change no activity where it did.
     pub fn change(&mut self, model: &RoutingModel, routes: &Routes, mv: Move, touched: Touched)
         requires well_formed { IsWellFormed model.now }
         requires first { touched.first < 100 }
@@ -109,8 +112,8 @@ impl Known {
         }
     }
 
-    /// Something else than its list changed of a vehicle: those moves stay known that do not name it, but for those of
-    /// pairs that it serves, which are forgotten by [`Known::settle`].
+    /// Something else than its list changed of a vehicle: those moves alone stay known that do not name it, but for
+    /// those of pairs that it serves, which are forgotten by [`Known::settle`].
     pub fn forget(&mut self, v: u32)
         requires vehicle { v < 100 }
         ensures fewer { (k u w : ℕ) → IsTrue (is_known self.new k u w) → IsTrue (is_known self.old k u w) }

@@ -8,7 +8,7 @@ ghost use Rattle.vr_model.specs.tables.Numbers.{each};
 use crate::{Each, Family, Listed, Moves};
 use vr_routes::Routes;
 
-/// Moves that are made of one list.
+/// Moves that are made of one list, listed by its vehicle and its length alone.
 pub trait OfList: Drop {
     type Inner: Listed;
 

@@ -66,7 +66,7 @@ impl<L: Listed> Iterator for Moves<L> {
 
     ghost remaining = { item_count (λ moves. moves) };
 
-    // Nothing is known, so none is passed over.
+    // Nothing is known, so none is passed over. Tests alone go along the moves of one neighbourhood so.
     #[inline]
     fn next(&mut self) -> Option<Move> {
         let mut passed = 0;

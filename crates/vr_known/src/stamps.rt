@@ -15,12 +15,13 @@ use vr_routes::Routes;
 /// A clock, and what was stamped with it.
 #[derive(Drop)]
 pub(crate) struct Stamps {
-    // For each row of a kind, when its moves were last refused.
+    // For each row of a kind, when its moves were last refused, 0 where they never were or are forgotten.
     seen: [u64; 1511],
     // For each vehicle, when its list, or a penalty of its arcs, last changed.
     changed: [u64; 100],
-    // When it last changed which visits are active.
+    // When a move last changed which visits are active.
     active: u64,
+    // It begins at 1, so that what is refused before anything changes is later than the 0 of `changed` and `active`.
     clock: u64,
 }
 
@@ -67,7 +68,8 @@ impl Stamps {
     }
 
     // When what the moves of a row have in common last changed: of the first five kinds the list of the vehicle of the
-    // row, of `relocate_pair` nothing (`settle` forgets its rows), of the kinds that change activity that.
+    // row, of `relocate_pair` nothing (`settle` forgets its rows), of the kinds that change activity that (of these
+    // `settle` forgets rows of `pair_inactive` too).
     #[inline(always)]
     fn common_change(&self, kind: u32, row: u32) -> u64
         requires row { row < rows_of kind }
@@ -101,7 +103,7 @@ impl Stamps {
         }
     }
 
-    /// The moves in front of one were refused, in the list of the moves of some neighbourhoods.
+    /// The rows are learned that stand as a whole in front of a move, in the list of some neighbourhoods.
     pub(crate) fn note(&mut self, neighbourhoods: &[Neighbourhood], mv: Move)
         requires first { first_of mv < rows_of (kind_of mv) }
         ensures { (k u w : ℕ) → u < rows_of k → IsTrue (is_known self.new k u w)
@@ -194,6 +196,7 @@ impl Stamps {
         ensures settled { AreSettled closed.entry.model.now routes.now.lists self.new }
     {
         routes.know_once();
+        // To ask how many there are is to know that they are few.
         let _few = routes.vehicles();
         for p in 0..closed.model.pairs.len() {
             let pair = closed.model.pairs.get(p);
@@ -202,6 +205,7 @@ impl Stamps {
                     self.settle_row(5, p as u32, v);
                     self.settle_row(7, p as u32, v);
                 }
+                // A pair that stands nowhere has no moves of these kinds.
                 None => {}
             }
         }

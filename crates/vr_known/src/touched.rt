@@ -20,8 +20,9 @@ pub struct Touched {
 }
 
 impl Touched {
-    /// Those that a move names by its numbers alone. `None` of a move that takes a pair out, since it does not name the
-    /// list where the pair stands.
+    /// Those that a move names by its numbers alone. `None` of a move that takes a pair out or puts one elsewhere,
+    /// since it does not name the list where the pair stands. `vr_guided` asks it once the move is made, when that list
+    /// is found no more.
     #[inline]
     pub fn named(mv: Move) -> Option<Touched>
         ensures { result ≡ named_by mv }
@@ -42,7 +43,8 @@ impl Touched {
     }
 
     /// Those that a move names, and the one that serves the pair that it puts elsewhere. `None` of `pair_inactive`, and
-    /// where that pair stands nowhere.
+    /// where there is no such pair or its pickup stands nowhere: the numbers need not be those of a move, since
+    /// `vr_guided` asks it about runs.
     #[inline]
     pub fn found(model: &Model, routes: &Routes, mv: Move) -> Option<Touched>
         ensures { AreFound model.now routes.now.lists mv result }
@@ -63,10 +65,11 @@ impl Touched {
             → route (apply model.now routes.now.lists mv) u ≡ route routes.now.lists u }
     {
         routes.know_once();
+        // To ask how many there are is to know that they are few.
         let _few = routes.vehicles();
         match Touched::found(model, routes, mv) {
             Some(touched) => touched,
-            // It takes a pair out, or puts one elsewhere that stands nowhere.
+            // It takes a pair out. (No move of the routes puts one elsewhere that stands nowhere.)
             None => Touched::one(serving(model, routes, first_of(mv))),
         }
     }
@@ -111,6 +114,7 @@ fn serving(model: &Model, routes: &Routes, p: u32) -> u32
 {
     match routes.vehicle_of(model.pairs.get(p as usize).pickup) {
         Some(v) => v,
+        // does not come, since the pair stands in one list
         None => 0,
     }
 }

@@ -105,7 +105,7 @@ impl<'m> NodeTables<'m> {
         number_or(&self.rows, node, self.model.allowed.len() as u32)
     }
 
-    /// Whether vehicle `v` may visit a node (`SetAllowedVehiclesForIndex` in OR-Tools).
+    /// Whether vehicle `v` may visit a node (`SetAllowedVehiclesForIndex` in OR-Tools); any may where it has no row.
     pub fn allows_vehicle(&self, v: u32, node: u32) -> bool
         ensures { result ≡ allows_vehicle_of self.now v node }
     {
@@ -164,7 +164,8 @@ fn no_numbers(alloc: Global, model: &RoutingModel) -> Result<Vec<u32>, NoMemory>
     Ok(numbers)
 }
 
-// Writes over the numbers of the groups of all nodes, from the last group to the first.
+// Writes over the numbers of the groups of all nodes, from the last group to the first. The first group with a node
+// counts then, as in the definition; a model has no node in two, nor in two pairs, nor with two rows.
 fn write_groups(closed: Closed<'_>, numbers: &mut [u32])
     requires long { length numbers.old ≡ closed.model.now.nodes }
     ensures { AreNumbers closed.entry.model.now numbers.new }

@@ -47,6 +47,7 @@ fn serves(list: &[u32], places: &[u32], pair: Pair) -> bool
     let pickup = places[pair.pickup as usize];
     let delivery = places[pair.delivery as usize];
     let absent = list.len();
+    // no place is greater than `absent`: a pickup that is not in front of an absent delivery is absent too
     if pickup < delivery {
         (delivery as usize) < absent
     } else {
@@ -68,7 +69,8 @@ fn serves_all(closed: Closed<'_>, list: &[u32], places: &[u32]) -> bool
     true
 }
 
-// Writes the pairs of the list over those that were served, by their places.
+// Writes the pairs of the list over those that were served, by their places. A pair is in the list where its pickup is,
+// since each is served (`serves_all` is asked before).
 fn write_served(
     closed: Closed<'_>,
     list: &[u32],
@@ -89,8 +91,8 @@ fn write_served(
     }
 }
 
-// Whether a policy allows each two pairs of the list. The pairs of the list are put by their places, since they are few
-// beside those of the model.
+// Whether a policy allows each two pairs of the list. The pairs of the list are written down first, by their places,
+// since they are few beside those of the model.
 fn allows_pairs(closed: Closed<'_>, policy: Policy, list: &[u32], places: &[u32]) -> bool
     requires places { ArePlaces closed.model.now.nodes list.now places.now }
     ensures { result ≡ list_all (allows_beside policy (served_in list.now closed.entry.model.now.pairs))
@@ -112,7 +114,8 @@ fn asks_nothing(policy: Policy) -> bool
     }
 }
 
-// Whether a policy allows x beside y.
+// Whether a policy allows x beside y, of which it asks only where y is picked up behind x: under `Lifo` a y that is
+// picked up in front of the delivery of x is delivered in front of that too, under `Fifo` each y is delivered behind x.
 fn allows(policy: Policy, x: Served, y: Served) -> bool
     ensures { result ≡ places_allow policy x y }
 {

@@ -12,6 +12,7 @@ pub fn write_places(list: &[u32], places: &mut [u32])
 {
     let mut place = list.len();
     places.fill(place as u32);
+    // backwards, so that the first place of a number is written last
     while place > 0 {
         place -= 1;
         places[list[place] as usize] = place as u32;

@@ -20,8 +20,8 @@ use vr_plan::Lookups;
 use vr_routes::Routes;
 use vr_rules::Rules;
 
-/// What cuts are made by, and their results judged. Contracts see the model, and how many visits a cut takes out at
-/// most.
+/// What cuts are made by, and their results judged. Contracts see the model, and how many visits the chain of a cut has
+/// at most.
 #[derive(Drop)]
 pub(crate) struct Cutter<'m> {
     alloc: Global,
@@ -76,7 +76,8 @@ impl<'m> Cutter<'m> {
     }
 
     /// Makes routes of the model the result of a cut: what it leaves, rebuilt. Answers whether there is one, which is
-    /// where what is left is open.
+    /// where what is left is open: a list that loses visits need not be, as where an arc takes longer than the way over
+    /// a visit.
     pub(crate) fn write_result<R: Rebuild>(
         &mut self,
         rebuild: &mut R,
@@ -111,7 +112,8 @@ impl<'m> Cutter<'m> {
         Ok(true)
     }
 
-    /// Takes the lists of a result over where they are valid and cost less.
+    /// Takes the lists of a result over where they are valid and cost less. Answers whether it does. The result is
+    /// open, so it is valid where nothing is missing.
     pub(crate) fn take(
         &mut self,
         after: &Routes,

@@ -15,14 +15,15 @@ use vr_model::NoMemory;
 use vr_plan::Lookups;
 use vr_routes::Routes;
 
-/// A cut: the vehicle whose list a chain of visits is taken out of, and the place there where the chain begins.
+/// A cut: the vehicle whose list a chain of visits is taken out of, and the place there where the chain begins. The
+/// chain has as many visits as a cut may take, or those up to the end of the list.
 #[derive(Clone, Copy)]
 pub struct Cut {
     pub vehicle: u32,
     pub place: u32,
 }
 
-/// What cuts are made and tried by. Contracts see the model, and how many visits a cut takes out at most.
+/// What cuts are made and tried by. Contracts see the model, and how many visits the chain of a cut has at most.
 #[derive(Drop)]
 pub(crate) struct Cutting<'m> {
     cutter: Cutter<'m>,
@@ -41,7 +42,7 @@ impl<'m> Model for Cutting<'m> {
 }
 
 impl<'m> Cutting<'m> {
-    /// What cuts of at most `most` visits of a model are tried by. The only refusal is want of memory.
+    /// What cuts of a model with chains of at most `most` visits are tried by. The only refusal is want of memory.
     pub(crate) fn open(
         alloc: Global,
         lookups: &Lookups<'m>,

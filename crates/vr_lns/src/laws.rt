@@ -3,7 +3,7 @@
 ghost use Rattle.vr_lns.specs.Answering.{PathLnsIsSound};
 
 /// The lists of a search by cuts from valid lists are valid and cost no more than these, and its tries and its
-/// solutions are within the limit.
+/// solutions are within the limit. `vr_app` rests its answer on the law; no code calls it.
 pub fn path_lns_is_sound()
     ensures { PathLnsIsSound }
 {}

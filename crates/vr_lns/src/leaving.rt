@@ -13,7 +13,7 @@ use vr_model::{NoMemory, Pair, Seq};
 use vr_plan::Lookups;
 use vr_routes::{Routes, Seat};
 
-/// A cut of routes, of at most `most` visits.
+/// A cut of routes, its chain of at most `most` visits: the other nodes of their pairs do not count.
 #[derive(Clone, Copy)]
 pub(crate) struct CutOf<'l, 'm, 'r> {
     pub(crate) lookups: &'l Lookups<'m>,
@@ -78,7 +78,8 @@ fn without_chain(alloc: Global, cut: &CutOf<'_, '_, '_>, list: &[u32]) -> Result
     Ok(left)
 }
 
-// The lists that a cut leaves.
+// The lists that a cut leaves. Those of other vehicles stay as they are where the routes are open, since a pair stands
+// in one list there.
 fn lists_left(alloc: Global, cut: &CutOf<'_, '_, '_>) -> Result<Vec<Seq<u32>>, NoMemory>
     ensures { IfOk result (λ left. left.items ≡ left_by cut.now.lookups.now.closed.model.now cut.now.most
         cut.now.routes.now.lists cut.now.at) }

@@ -17,7 +17,8 @@ use vr_routes::Routes;
 /// Rebuilds open routes. It may keep from call to call what it knows of a model and of lists: what it answers does not
 /// depend on it. Who asks again and again lets it know the model once, and then asks for that model alone.
 pub trait Rebuild {
-    /// A number that rises by at most one where routes are rebuilt.
+    /// A number that rises by at most one where routes are rebuilt: by it a search says how often it rebuilds. That of
+    /// `vr_app` stays 0; tests count.
     ghost made: { Self → ℕ };
 
     /// What it keeps is of this model.
@@ -25,7 +26,8 @@ pub trait Rebuild {
 
     /// The routes at which parallel cheapest insertion ends when it begins with these open routes: as long as an item
     /// may be inserted into some list so that the lists stay open, the insertion of the least class is made, of those
-    /// the one that adds least to the arc costs, and of those the first by item, vehicle and places.
+    /// the one that adds least to the arc costs, and of those the first by item, vehicle and places. No search calls
+    /// this: it calls `rebuild_known`, which a test makes of this.
     ///
     /// The only refusal is want of memory.
     fn rebuild(&mut self, model: &Model, routes: &Routes) -> Result<Routes, NoMemory>
@@ -46,7 +48,7 @@ pub trait Rebuild {
     /// Makes open routes those that `rebuild` gives, of the model that it knows: what it found of lists in the call
     /// before it may keep for lists that are the same.
     ///
-    /// The only refusal is want of memory. The routes are as before then.
+    /// The only refusal is want of memory. The routes are as before then, and nothing is said of what it keeps.
     fn rebuild_known(&mut self, lookups: &Lookups<'_>, routes: &mut Routes) -> Result<(), NoMemory>
         requires knows { knows self.old lookups.now.closed.model.now }
         requires of_model { routes.old.visits ≡ visits lookups.now.closed.model.now }

@@ -18,11 +18,12 @@ pub enum RoundEnd {
     Accepted { place: u64 },
     /// No cut is acceptable; there are so many.
     Complete { length: u64 },
-    /// The tries ran out.
+    /// The tries ran out before the cuts did.
     Short,
 }
 
-// Tries the cuts of the list of vehicle `v`, behind `tried` others of which none is acceptable.
+// Tries the cuts of the list of vehicle `v`, behind `tried` others of which none is acceptable. These count in `rest`,
+// and in the place or the number that it ends with.
 fn cut_list<R: Rebuild>(
     cutting: &mut Cutting<'_>,
     rebuild: &mut R,

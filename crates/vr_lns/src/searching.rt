@@ -21,9 +21,10 @@ use vr_routes::Routes;
 use vr_watch::{Watch, note_all};
 
 /// Makes the first cut whose result costs less, again and again, and tells the watchers of the first solution and of
-/// each cut. A cut takes a chain of at most `cut` visits, from 1 to 100, out of a list, and with each of them the other
-/// node of its pair; its result is what is left, rebuilt, where that is open. The routes then hold the last lists,
-/// which are the best. `limit` allows up to 10^9 tries, which are cuts, and from 1 to 10^9 solutions.
+/// each cut that it makes. A cut takes a chain of at most `cut` visits, from 1 to 100, out of a list, and with each of
+/// them the other node of its pair; its result is what is left, rebuilt, where that is open. The routes then hold the
+/// last lists, which are the best. `limit` allows up to 10^9 tries, which are cuts, and from 1 to 10^9 solutions. Tests
+/// ask this one; `vr_app` has the model looked up, and calls [`lns_over`].
 ///
 /// The report's end is `Solutions` where as many solutions were found as the limit allows, which is asked first; else
 /// `Optimum` where no cut of the last lists gives valid lists that cost less, and `Tries` where the tries ran out
@@ -117,6 +118,7 @@ fn search<R: Rebuild>(
     cutting.know(rebuild)?;
     let mut at = Progress {
         used: 0,
+        // the first solution counts
         found: 1,
         cost,
     };

@@ -2,10 +2,11 @@
 //! the committed lists, with one subtraction for each piece of a change that is of a vehicle with the same evaluator.
 //!
 //! A dimension is a load where it has no slack, no rows of stops and no breaks, and its evaluators give values of nodes
-//! alone, none of them negative (`is_load`): then a line has a schedule exactly where what the list takes in all fits
-//! the capacity of its vehicle (`laws`). Invariant: the sums of each vehicle are those of its committed list, up to
-//! each of its nodes. The filter of a dimension (`vr_pathfilters`) asks them where it is a load, and `vr_judge` which
-//! dimensions are loads, to put their filters first.
+//! alone, none of them negative (`kind`): then no cumul of a line is greater than the last, and the line of a list with
+//! a visit has a schedule exactly where what its vehicle takes at its start and along the list fits the capacity
+//! (`laws`). Invariant: the sums of each vehicle (`loads`, which has them written by `sums`) are those of its committed
+//! list, up to each of its nodes. The filter of a dimension (`vr_pathfilters`) asks them where it is a load, and
+//! `vr_judge` which dimensions are loads, to put their filters first.
 #![tactic(auto)]
 
 mod kind;

@@ -21,7 +21,8 @@ use vr_routes::{Piece, Routes};
 pub struct Carried {
     /// The number of its evaluator.
     pub evaluator: u32,
-    /// How much it may take along its list: its capacity, less what it takes at its start.
+    /// How much it may take along its list: its capacity, less what it takes at its start. Below 0 it can have the
+    /// empty list alone.
     pub room: i64,
     /// What it takes before each place of its list.
     pub sums: Sums,
@@ -134,6 +135,7 @@ impl Loads {
         if sum <= self.vehicles[v as usize].room {
             return true;
         }
+        // a vehicle that is not used takes nothing, also where it would take too much at its start
         Piece::nodes_in(pieces) == 0
     }
 

@@ -10,7 +10,7 @@ ghost use Rattle.vr_loads.specs.Loads.{HasLoad, value_of};
 use vr_balance::Sums;
 use vr_model::Model as RoutingModel;
 
-/// Writes what is taken along a list by an evaluator.
+/// Writes what is taken along a list by an evaluator: before each place, and in all at the end.
 pub fn write_sums(model: &RoutingModel, d: u32, evaluator: u32, list: &[u32], sums: &mut Sums)
     requires load { HasLoad model.now d }
     requires evaluator { evaluator < length (dimension_at model.now d).evaluators }
@@ -24,7 +24,7 @@ pub fn write_sums(model: &RoutingModel, d: u32, evaluator: u32, list: &[u32], su
     }
 }
 
-/// What an evaluator gives for the nodes of a list, added up.
+/// What an evaluator gives for the nodes of a list, added up: asked of lists whose sums are by another evaluator.
 pub fn sum_of(model: &RoutingModel, d: u32, evaluator: u32, list: &[u32]) -> i64
     requires load { HasLoad model.now d }
     requires evaluator { evaluator < length (dimension_at model.now d).evaluators }

@@ -1,5 +1,5 @@
-//! Laws over the definitions. A call has no code: its contract is the law, and a proof that needs
-//! the law calls it.
+//! Laws over the definitions. A call has no code: its contract is the law. Nothing calls them: a proof that needs a law
+//! names the proof of it.
 
 ghost use Rattle.vr_model.specs.routes.AssignmentLaws.{ChosenPlansAreThere, OpenMeetsItsLines};
 ghost use Rattle.vr_model.specs.routes.CostLaws.{CostsAreBounded};

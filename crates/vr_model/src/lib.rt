@@ -1,11 +1,18 @@
 //! The records of a routing model, and the definitions that every layer above cites.
 //!
 //! A model is plain records of whole numbers, as a file gives them (`records`); a look-up stands at the smallest record
-//! that answers it. Beside the code, `specs/` says what the whole product means: which lists are open and valid, which
-//! schedule a line chooses, what routes cost, what each move and each search makes of lists.
+//! that answers it (`lookups`). Beside the code, `specs/` says what the whole product means: which lists are open and
+//! valid, which schedule a line chooses, what routes cost, what each move and each search makes of lists; `laws` says
+//! what follows from it.
+//!
+//! `neighbours` has the neighbourhoods that a model names and the moves of each, `search` the limits and the lambda of
+//! a search and the events that it tells. The rest is what records and crates above are made of: lists (`Seq`, in
+//! `sequence`), texts (`Text`, in `words`), a counter of steps (`Steps`, in `steps`) and the refusal for want of memory
+//! (`memory`).
 //!
 //! All above holds of models that are well formed: each number is in its range (`limits`), each index in its table.
-//! `Closed` is such a model as a value. `Seq`, `Text` and `Steps` are what contracts see as a list, bytes and a number.
+//! `Closed` is such a model as a value (`closed`). `Seq`, `Text` and `Steps` are what contracts see as a list, bytes
+//! and a number.
 #![tactic(auto)]
 
 mod closed;

@@ -1,4 +1,4 @@
-//! The limits of a model, as code above counts on them.
+//! The limits of a model: `vr_read` holds a model to them, and code above counts on them.
 //!
 //! Times, loads and distances are in units of the model's own. The definitions have the same numbers
 //! (`specs/tables/Limits`), and a law holds these constants to them (`limits_as_defined`).
@@ -23,10 +23,10 @@ pub const GREATEST_COEFFICIENT: i64 = 10_000;
 /// The greatest numerator and denominator of lambda.
 pub const GREATEST_LAMBDA: i64 = 1_000;
 
-/// How many visits a cut takes out of a path at most.
+/// The greatest number of visits that a model may let a cut take out of a path.
 pub const MOST_CUT: u32 = 100;
 
-/// For how many rounds a changed visit may be tabu.
+/// For how many rounds a changed visit may be tabu at most.
 pub const MOST_TENURE: u32 = 1_000;
 
 /// How many moves may be tried, and how many solutions may be found, at most.

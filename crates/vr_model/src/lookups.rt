@@ -44,8 +44,9 @@ impl Evaluator {
         }
     }
 
-    /// What it gives from node `i` to node `j` of a model, in `-2^31..=2^40 + 2^30`: the entry of its
-    /// matrix and the value of node `i`, each 0 where it is absent.
+    /// What it gives from node `i` to node `j` of a model, in `-2^31..=2^40 + 2^30`: the entry of its matrix and the
+    /// value of node `i`, each 0 where it is absent. `vr_read` asks it of a model that is not yet known to be well
+    /// formed; others ask `Model::transit` and `Model::transit_by`, which are in a smaller range.
     #[inline]
     pub fn transit(&self, model: &Model, i: u32, j: u32) -> i64
         requires evaluator { IsEvaluator model.now self.now }
@@ -59,8 +60,8 @@ impl Evaluator {
 }
 
 impl StopRow {
-    /// The row of a key, the first of several: of a visit by its node, of a start or an end by its
-    /// vehicle.
+    /// The row of a key, the first of several, which a well-formed model does not have: of a visit by its node, of a
+    /// start or an end by its vehicle.
     pub fn of_key(rows: &Seq<StopRow>, key: u32) -> Option<&StopRow>
         ensures value { option_copied result ≡ row_of rows.now key }
         ensures valid { All IsStopRow rows.now → WherePresent IsStopRow (option_copied result) }

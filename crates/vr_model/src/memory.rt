@@ -2,8 +2,8 @@
 
 use std::alloc::{AllocError, AllocFailed};
 
-/// Want of memory. No contract ties it to a refused growth; of other refusals only a count of
-/// sharers that is full comes as it (`vr_plan::Lookups::share`).
+/// Want of memory. No contract ties it to a refused growth; of other refusals only a count of sharers that is full
+/// (`vr_plan::Lookups::share`) comes as it, and in tests an event that `vr_watch::Stopper` refuses.
 #[derive(Clone, Copy, Debug, PartialEq, Eq)]
 pub struct NoMemory;
 

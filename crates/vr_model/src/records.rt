@@ -16,7 +16,7 @@ pub struct Model {
     pub vehicles: Seq<Vehicle>,
     /// Up to 4 dimensions.
     pub dimensions: Seq<Dimension>,
-    /// Up to 1000 groups, with no node in two.
+    /// Up to 1000 groups, with no node in two. A visit in no group has to be active.
     pub groups: Seq<Group>,
     /// Up to 500 pairs, with no node in two.
     pub pairs: Seq<Pair>,
@@ -198,7 +198,7 @@ pub struct SearchRow {
     pub p: i64,
     /// The denominator of lambda, in `1..=1000`.
     pub q: i64,
-    /// The neighbourhoods in the order in which their moves are tried, none twice.
+    /// The neighbourhoods in the order in which their moves are tried, none twice; `PathLns` does not ask for them.
     pub neighbourhoods: Seq<Neighbourhood>,
     /// How many visits a cut takes out of a path at most, in `1..=100`.
     pub cut: u32,
@@ -221,7 +221,9 @@ pub enum First {
 #[derive(Clone, Copy)]
 pub enum Improve {
     None,
+    /// The first move that costs less is made, again and again.
     GreedyDescent,
+    /// The same by the cost with penalised arcs; where none is left, arcs are penalised and it goes on.
     GuidedLocalSearch,
     /// A chain of a path is taken out, and all unplaced items are inserted anew.
     PathLns,
@@ -229,14 +231,15 @@ pub enum Improve {
     TabuSearch,
 }
 
-/// The six parts of the cost of a solution. None is negative.
+/// The six parts of the cost of a solution. None is negative where the lists are valid; what `vr_printed` reads as
+/// parts may be any numbers.
 #[derive(Clone, Copy)]
 pub struct Parts {
     /// The arc costs of the used vehicles.
     pub arcs: i64,
     /// The fixed costs of the used vehicles.
     pub fixed: i64,
-    /// For each dimension, the coefficient times the span from the first start to the last end.
+    /// For each dimension, the coefficient times the span from the first start to the last end of the used vehicles.
     pub global: i64,
     /// The penalties of the groups.
     pub penalty: i64,
@@ -251,7 +254,7 @@ pub struct Parts {
 pub enum End {
     /// There was no search: the first solution was asked for, or the model names none.
     First,
-    /// No move was acceptable, and nothing else was left to do.
+    /// No move, or no cut, was acceptable, and nothing else was left to do.
     Optimum,
     /// No try was left.
     Tries,

@@ -94,7 +94,7 @@ impl<T> Seq<T> {
         Ok(())
     }
 
-    /// Takes the last value out, where there is one.
+    /// Takes the last value out, where there is one. Tests alone call it.
     pub fn pop(&mut self) -> Option<T>
         ensures none { IfNone result (self.old ≡ []) }
         ensures some { IfSome result (λ t. self.old ≡ self.new ++ t ∷ []) }
@@ -102,8 +102,8 @@ impl<T> Seq<T> {
         self.items.pop()
     }
 
-    /// Puts a value before the value at a place, or at the end. Where memory is wanting the list stays
-    /// as it was, and the value is dropped.
+    /// Puts a value before the value at a place, or at the end. Where memory is wanting the list stays as it was, and
+    /// the value is dropped. Tests alone call it.
     pub fn insert(&mut self, k: usize, t: T) -> Result<(), NoMemory>
     where
         T: Drop,
@@ -126,7 +126,7 @@ impl<T> Seq<T> {
         Ok(())
     }
 
-    /// Takes the value at a place out. Those behind it move one place to the front.
+    /// Takes the value at a place out. Those behind it move one place to the front. Tests alone call it.
     pub fn remove(&mut self, k: usize) -> T
         requires { k < length self.old }
         ensures value { slice_get self.old k ≡ Some result }

@@ -1,13 +1,14 @@
 //! A counter of steps, which contracts see as a number. `vr_app` makes one for a search, and what a judged move walks
-//! over in `vr_steps` and `vr_reach` ticks it; `docs/DECISIONS.md` says why.
+//! over in `vr_steps` and `vr_reach` ticks it; calls of `vr_reach` and `vr_pathfilters` that are handed none make their
+//! own. `docs/DECISIONS.md` says why.
 
 ghost use Rattle.std.specs.Prelude.{◌≡◌, ◌+◌, ◌<◌};
 
 use std::marker::Model;
 use std::sync::ledger::{Blank, Book, Ledger, Share};
 
-/// How many steps were taken, of the kind that a call names: runs carried over an arc, tries, lists written. Contracts
-/// bound it. It holds no bytes at run time, and only `tick` changes it.
+/// How many steps were taken, of the kind that a call names: runs carried over an arc, arcs of walks that are tried
+/// first without a break, lists written. Contracts bound it. It holds no bytes at run time, and only `tick` changes it.
 #[derive(Drop)]
 pub struct Steps<L: Ledger> {
     book: Book<L>,

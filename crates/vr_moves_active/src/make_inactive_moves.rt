@@ -7,7 +7,8 @@ use vr_known::{Block, Each, Lists, Moves, Numbered, OfList, Run, of_each_list};
 use vr_model::{Move, Neighbourhood};
 use vr_routes::Routes;
 
-/// The places of `v`.
+/// The places of `v`. Their moves are not said to be a run (`Numbered::run`), so that no judge is asked about many at
+/// once: `vr_arccosts` goes over none of this kind.
 #[derive(Drop)]
 pub struct Places {
     v: u32,

@@ -49,6 +49,7 @@ impl<'a> Numbered for Newcomers<'a> {
         }
         let lowest = self.nodes[from as usize];
         let highest = self.nodes[end as usize - 1];
+        // does not come, since inactive visits are ascending
         if lowest > highest {
             return None;
         }
@@ -84,7 +85,8 @@ fn end_within(nodes: &[u32], from: u32, end: u32, lowest: u32, first: u32) -> u3
     end
 }
 
-/// The places of `v`; at each one each of the inactive `nodes` may come in.
+/// The places of `v`; at each one each of the inactive `nodes` may come in. How many places there are the range over
+/// them says (`Vehicles::open`).
 #[derive(Drop)]
 pub struct Places<'a> {
     v: u32,

@@ -39,7 +39,8 @@ impl Pattern for Fronts {
     ghost differ_in_last = { λ s k. refl };
 }
 
-/// The vehicles that may change fronts with `v`.
+/// The vehicles that may change fronts with `v`, of which the front ends before place `a`: those behind it, so that
+/// each two come once.
 #[derive(Drop)]
 pub struct Targets<'a> {
     routes: &'a Routes,

@@ -8,7 +8,7 @@ use vr_known::{AnyLast, Block, Each, Family, Moves, Pattern, Run};
 use vr_model::{Move, Neighbourhood};
 use vr_routes::Routes;
 
-/// The nodes of `w` with which that at place `a` of `v` may change places.
+/// The nodes of `w` with which that at place `a` of `v` may change places; in its own list those behind it alone.
 #[derive(Drop)]
 pub struct Partners {
     v: u32,
@@ -39,7 +39,8 @@ impl Pattern for Partners {
     ghost differ_in_last = { λ s k. refl };
 }
 
-/// The vehicles with whose nodes that at place `a` of `v` may change places.
+/// The vehicles with whose nodes that at place `a` of `v` may change places: `v` and those behind it, so that each two
+/// nodes come once.
 #[derive(Drop)]
 pub struct Targets<'a> {
     routes: &'a Routes,

@@ -32,7 +32,8 @@ impl<'a> Numbered for Pairs<'a> {
         Move::PairInactive { p: k }
     }
 
-    // Each pair is a row of its own.
+    // Each pair is a row of its own, so the sieve is asked about each. Its move names no vehicle, for which 0 stands,
+    // and the judge is not asked: `vr_arccosts` goes over no runs of this kind.
     #[inline]
     fn first<S: Sieve>(
         &self,

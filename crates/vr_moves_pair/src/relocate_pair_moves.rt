@@ -55,6 +55,7 @@ impl Numbered for Deliveries {
 
     #[inline]
     fn many(&self, from: u32, to: u32) -> u32 {
+        // the one number that may be left out: before this place of the rest the delivery stands now
         let own = self.at.delivery - 1;
         if own < from || own >= to || self.has(own) {
             return to - from;

@@ -7,7 +7,7 @@ use vr_known::{AnyLastBut, Block, Each, Family, Lists, Moves, OfList, Pattern, R
 use vr_model::{Move, Neighbourhood};
 use vr_routes::Routes;
 
-/// The places before which the `k` nodes of `v` from place `a` on may be put.
+/// The places before which the `k` nodes of `v` from place `a` on may be put, in the rest of its list.
 #[derive(Drop)]
 pub struct Gaps {
     v: u32,
@@ -31,6 +31,7 @@ impl Pattern for Gaps {
 
     #[inline]
     fn block(&self) -> Block {
+        // the one vehicle that a move names is its first and its last
         Block::new(Neighbourhood::OrOpt, self.v, self.v)
     }
 
@@ -66,6 +67,7 @@ impl Family for Chains {
             a: self.a,
             k,
         };
+        // before place `a` of the rest they stand already
         let others = AnyLastBut {
             pattern,
             but: self.a,

@@ -29,6 +29,7 @@ impl Pattern for Parts {
 
     #[inline]
     fn block(&self) -> Block {
+        // the one vehicle that a move names is its first and its last
         Block::new(Neighbourhood::TwoOpt, self.v, self.v)
     }
 

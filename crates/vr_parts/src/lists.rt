@@ -15,7 +15,8 @@ ghost use Rattle.vr_parts.specs.Sums.{sum_over_routes};
 
 use vr_routes::{Change, Routes, Splice};
 
-/// A part of the cost that adds up what each vehicle's list costs by itself.
+/// A part of the cost that adds up what each vehicle's list costs by itself: arc costs and fixed costs are such. Soft
+/// upper bounds and spans are such a sum too, but may want memory (`PlanCost` of `vr_costfilter`).
 pub trait ListCost {
     /// The model.
     ghost of_model: { Self → RoutingModel };
@@ -55,7 +56,7 @@ pub fn added_by<C: ListCost>(cost: &C, routes: &Routes, change: &Change) -> i64
 {
     let mut total = 0;
     for k in 0..change.parts() {
-        // That a part has few pieces says that few come between its ends.
+        // That a part has few pieces says that few come between its ends: for the clauses alone.
         let _few = change.pieces(k);
         total += cost.list_adds(routes, change.splice(k));
     }

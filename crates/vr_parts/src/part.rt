@@ -28,7 +28,7 @@ pub trait CostPart {
     /// What each difference lies within.
     ghost range: { ℤ → Type 0 };
 
-    /// What a change of the committed lists adds to the part.
+    /// What a change of the committed lists adds to the part. Nothing is promised after it of a change that was ready.
     fn difference(&mut self, routes: &Routes, change: &Change) -> Result<i64, NoMemory>
         requires stands { stands_at self.old routes.now }
         requires made { IsMadeOn routes.now change.now }
@@ -39,7 +39,8 @@ pub trait CostPart {
         ensures stands { stands_at self.new routes.now }
         ensures model { model self.new ≡ model self.old };
 
-    /// Makes a change of the committed lists ready. After `NoMemory` no change is ready.
+    /// Makes a change of the committed lists ready: all that may want memory is done here, so that all parts are ready
+    /// before the first one commits. After `NoMemory` no change is ready.
     fn prepare(&mut self, routes: &Routes, change: &Change) -> Result<(), NoMemory>
         requires stands { stands_at self.old routes.now }
         requires made { IsMadeOn routes.now change.now }

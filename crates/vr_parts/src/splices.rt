@@ -1,4 +1,4 @@
-//! Lists after a splice.
+//! Whether a list is empty after a splice.
 
 ghost use Rattle.std.specs.Prelude.{◌≡◌};
 ghost use Rattle.vr_model.specs.routes.Routes.{is_empty};
@@ -7,6 +7,8 @@ ghost use Rattle.vr_parts.specs.Splices.{spliced, MayBeSpliced};
 use vr_routes::{Piece, Routes, Splice};
 
 /// Whether a list has no nodes after a splice. Its pieces are looked at only where no node stays at either end.
+/// `vr_arccosts` and `vr_usecosts` ask it: an empty list is that of a vehicle that is not used, which pays for neither
+/// arcs nor its use.
 #[inline(always)]
 pub fn is_left_empty(routes: &Routes, splice: Splice<'_>) -> bool
     requires { MayBeSpliced routes.now.lists splice.vehicle splice.front splice.behind splice.middle.now }

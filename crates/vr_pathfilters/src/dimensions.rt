@@ -39,7 +39,7 @@ use vr_routes::{Change, Routes, Row};
 /// filter of a `RoutingDimension` in OR-Tools). Of a load it keeps sums of the committed lists, and judges a change by
 /// them in a time that does not depend on how long the lists are, where the vehicles have the same evaluator. Of any
 /// other dimension it keeps the rows of the committed lists, and walks only through what a change changes: `passes`
-/// takes memory only where a set has more than four runs, or where there are breaks.
+/// takes memory only where a set has more than four runs, or a vehicle more breaks than any before.
 #[derive(Drop)]
 pub struct DimensionFilter<'m> {
     lookups: Lookups<'m>,
@@ -59,7 +59,7 @@ pub struct DimensionFilter<'m> {
 
 impl<'m> DimensionFilter<'m> {
     /// A filter that stands at the lists of routes, whose lines in dimension `d` are feasible. The only refusal is want
-    /// of memory.
+    /// of memory. Tests alone call it; `vr_judge` calls `over`.
     pub fn open(
         alloc: Global,
         model: &'m Model,
@@ -98,6 +98,7 @@ impl<'m> DimensionFilter<'m> {
         ensures stands { IfOk result (λ filter.
             ⟦<DimensionFilter<'static> as PathFilter>⟧.stands_at filter routes.now) }
     {
+        // neither does anything: contracts learn that no visit stands twice, and that lists have visits alone
         routes.know_once();
         routes.know_entries();
         let at = RoutesIn {
@@ -130,7 +131,7 @@ impl<'m> DimensionFilter<'m> {
 
     /// The same as `passes`, where tries are counted too: the arcs that walks without a break go over, which are asked
     /// first of a vehicle with breaks. They go along what a change changes alone, at most once for each number of
-    /// breaks that may be taken before it.
+    /// breaks that may be taken before it. `passes` alone calls it, with a counter of tries that nobody reads.
     pub fn passes_within<L: Ledger, M: Ledger>(
         &mut self,
         routes: &Routes,
@@ -295,7 +296,8 @@ impl<'m> PathFilter for DimensionFilter<'m> {
     ghost keeps_rule = { λ f tours stands. stands.rule };
 }
 
-// Puts the rows of part `k` of a change in the place of those of its vehicle, where there is that part.
+// Puts the rows of part `k` of a change in the place of those of its vehicle, where there is that part. Those become
+// the room for the next ones.
 fn put_part(known: &mut Vec<Rows>, change: &Change, k: usize, rows: &mut Rows)
     requires vehicle { k < length change.now → (part_at change.now k).vehicle < length known.old.items }
     ensures some { 0 < length change.now }

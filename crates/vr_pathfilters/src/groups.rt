@@ -28,8 +28,9 @@ use vr_routes::{Change, Piece, Routes};
 #[derive(Drop)]
 pub struct GroupFilter<'m> {
     model: &'m Model,
-    // for each node the number of its group
+    // for each node the number of its group, that of all groups where it is in none
     numbers: Seq<u32>,
+    // what the change in hand brings and takes out: each question writes it over
     balance: Balance,
     // whether a change was made ready: contracts alone read it
     is_prepared: bool,
@@ -95,7 +96,9 @@ fn many_in_pieces(numbers: &Seq<u32>, routes: &Routes, pieces: &[Piece], g: u32)
     many
 }
 
-// Whether so many nodes of group g may come and go.
+// Whether so many nodes of group g may come and go. A visit in no group, of which g is the number of all groups, is
+// active, so it can only go, which is refused. A group without a penalty has as many active nodes as it may have, and
+// keeps so many.
 fn allows(closed: Closed<'_>, routes: &Routes, g: u32, come: usize, gone: usize) -> bool
     requires few { IsInPieces come }
     requires few_too { IsInPieces gone }
@@ -191,7 +194,8 @@ fn all_allow(filter: &GroupFilter<'_>, routes: &Routes) -> bool
 }
 
 impl<'m> GroupFilter<'m> {
-    /// A filter that stands at the lists of routes, of which the rule holds. The only refusal is want of memory.
+    /// A filter that stands at the lists of routes, of which the rule holds. There is no `over` beside it: it looks up
+    /// the groups of nodes by itself, also for `vr_judge`. The only refusal is want of memory.
     pub fn open(
         alloc: Global,
         model: &'m Model,
@@ -208,6 +212,7 @@ impl<'m> GroupFilter<'m> {
         ensures weight { IfOk result (λ filter. (before later : List (List ℕ))
             → ⟦<GroupFilter<'static> as PathFilter>⟧.weight filter before later ≡ 0) }
     {
+        // neither does anything: contracts learn that no visit stands twice, and that lists have visits alone
         routes.know_once();
         routes.know_entries();
         let numbers = group_numbers(alloc, model)?;

@@ -5,7 +5,14 @@
 //! Rows are made where a filter is opened or a change made ready, sums of loads and counts of turns are written over by
 //! the commit; nothing that is kept of committed lists is written where a filter is asked. The commit takes no memory.
 //!
-//! `vr_judge` opens the filters of a model and asks them of each move, those first that ask least.
+//! `dimensions` has the filter of the lines of one dimension: of a load it keeps what vehicles take along their lists
+//! (`loads`), of any other dimension the rows of the lists (`rows`). `vehicles` and `pairs` have rules that each list
+//! keeps by itself, which `lists` makes filters of. Pairs are asked of the list after a change (`new_lists`), which is
+//! not joined for that, and whether they keep the policy of a vehicle is told by counts (`policies`). What a change
+//! puts between the ends that it keeps of a list is written out by `parts`. `groups` asks the groups of the nodes that
+//! become active or inactive.
+//!
+//! `vr_judge` opens the filters of a model and asks them of each move that it judges, those first that ask least.
 #![tactic(auto)]
 
 mod dimensions;

@@ -58,8 +58,8 @@ pub(crate) fn all_carried(
     true
 }
 
-// Whether a vehicle can carry what it takes with the list of one part of a change: exactly where the line of the list
-// is feasible.
+// Whether a vehicle can carry what it takes with the list of one part of a change: exactly where the list is empty or
+// its line feasible.
 #[inline]
 fn part_carried(
     model: &Model,

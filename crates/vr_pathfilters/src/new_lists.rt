@@ -123,7 +123,7 @@ impl<'r, 'n> NewList<'r, 'n> {
     fn serves(&self, pair: Pair) -> bool
         ensures { result ≡ serves_pair self.now pair }
     {
-        // no node stands twice; the place of a node that is absent is the length
+        // the read tells contracts that no node stands twice; the place of a node that is absent is the length
         let _ = &self.ends;
         let pickup = self.place(pair.pickup);
         let delivery = self.place(pair.delivery);
@@ -154,8 +154,8 @@ impl<'r, 'n> NewList<'r, 'n> {
             .all(|&node| self.serves_node(node_tables, node))
     }
 
-    /// Whether the list serves the pairs that some nodes are in, but for nodes that `marks` tells to be in `marked`:
-    /// both are handed in, since contracts see of this the list alone.
+    /// Whether the list serves the pairs that some nodes are in, but for nodes that `marks` tells to be in `marked`,
+    /// which `serves_each` is asked about: both are handed in, since contracts see of this the list alone.
     pub(crate) fn serves_unmarked(
         &self,
         node_tables: &NodeTables<'_>,

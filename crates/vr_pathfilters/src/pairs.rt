@@ -68,7 +68,7 @@ fn serves_between(node_tables: &NodeTables<'_>, ends: &Between) -> bool
 }
 
 // Whether the pairs of the list of a vehicle come in turn, with other nodes between the ends that it keeps, where they
-// came in turn before.
+// came in turn before. It asks the pairs of the new nodes alone.
 fn takes_turns(node_tables: &NodeTables<'_>, turns: &Turns, policy: Policy, ends: &Between) -> bool
     requires listed { AreCounted node_tables.now (list_before ends.now) turns.now.listed }
     requires between { AreCounted node_tables.now ends.now.middle.now turns.now.between }
@@ -140,6 +140,7 @@ impl PairTables {
             middle: self.list.as_slice(),
             marks: &self.marks,
         };
+        // asked before the turns, which tell of the policy only where the list serves its pairs
         if !serves_between(node_tables, &between) {
             return false;
         }
@@ -218,7 +219,8 @@ fn count_all(node_tables: &NodeTables<'_>, routes: &Routes, turns: &mut Turns)
 pub type PairFilter<'m> = ListFilter<PairRule<'m>>;
 
 impl<'m> PairFilter<'m> {
-    /// A filter that stands at the lists of routes, which keep the rule. The only refusal is want of memory.
+    /// A filter that stands at the lists of routes, which keep the rule. The only refusal is want of memory. Tests
+    /// alone call it; `vr_judge` calls `over`.
     pub fn open(
         alloc: Global,
         model: &'m Model,
@@ -248,6 +250,7 @@ impl<'m> PairFilter<'m> {
         ensures weight { IfOk result (λ filter. (before later : List (List ℕ))
             → ⟦<PairFilter<'static> as PathFilter>⟧.weight filter before later ≡ 0) }
     {
+        // neither does anything: contracts learn that no visit stands twice, and that lists have visits alone
         routes.know_once();
         routes.know_entries();
         let mut turns = Turns::new();

@@ -1,6 +1,6 @@
 //! The rows of lists, as a filter of a dimension makes them: of all lists where it is opened, and of the lists of a
-//! change that is made ready. Each list whose rows are written is counted, and the question about a change has no
-//! counter for them: it makes no rows.
+//! change that is made ready. Each list that is handed over for its rows is counted, an empty one too, though nobody
+//! reads the count: the question about a change has no such counter, so it makes no rows.
 
 ghost use Rattle.std.specs.Prelude.{◌≡◌, ◌+◌, ◌<◌, IfOk, OnOk, None};
 ghost use Rattle.vr_routes.specs.Changes.{IsMadeOn};
@@ -26,15 +26,15 @@ pub(crate) struct RoutesIn<'m, 's, 'r> {
     pub(crate) routes: &'r Routes,
 }
 
-/// What is written over while changes are asked about and made ready. Nothing is said of it.
+/// What is written over while changes are asked about, made ready and, of a load, committed. Nothing is said of it.
 #[derive(Drop)]
 pub(crate) struct Room {
     pub(crate) walk: Walk,
     pub(crate) list: Row,
 }
 
-// Writes the rows of a vehicle with a list over others, where the list is not empty, and counts it. After `NoMemory`
-// nothing is said of the rows.
+// Writes the rows of a vehicle with a list over others, where the list is not empty, and counts the list, also an empty
+// one. After `NoMemory` nothing is said of the rows.
 fn write_list<L: Ledger>(
     alloc: Global,
     stops: &StopsFor,

@@ -86,7 +86,7 @@ pub type VehicleFilter<'m> = ListFilter<VehicleRule<'m>>;
 
 impl<'m> VehicleFilter<'m> {
     /// A filter that stands at the lists of routes, whose visits allow their vehicles. The only refusal is want of
-    /// memory.
+    /// memory. Tests alone call it; `vr_judge` calls `over`.
     pub fn open(
         alloc: Global,
         model: &'m Model,
@@ -118,6 +118,7 @@ impl<'m> VehicleFilter<'m> {
         ensures weight { IfOk result (λ filter. (before later : List (List ℕ))
             → ⟦<VehicleFilter<'static> as PathFilter>⟧.weight filter before later ≡ 0) }
     {
+        // neither does anything: contracts learn that no visit stands twice, and that lists have visits alone
         routes.know_once();
         routes.know_entries();
         Ok(ListFilter {

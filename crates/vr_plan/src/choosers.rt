@@ -18,10 +18,12 @@ use vr_model::{NoMemory, ScheduleRule, Seq};
 use vr_reach::Sweep;
 use vr_steps::Line;
 
-/// The chosen cumuls of one line after another. Contracts see those that are kept.
+/// The chosen cumuls of one line after another, where `schedule` makes a new plan for each. Contracts see those that
+/// are kept.
 ///
 /// They are chosen in places that are written over, which takes memory only where a line has more stops than any
-/// before, or a set more runs than its place has room for. Under `Tight` a narrower line is made each time besides.
+/// before, a vehicle has breaks, or a set more runs than its place has room for. Under `Tight` a narrower line is made
+/// each time besides, and swept back in a place of its own.
 #[derive(Drop)]
 pub struct Chooser {
     // what is reached at each stop, from one end of a line or the other
@@ -107,7 +109,7 @@ impl Chooser {
         self.cumuls.as_slice()
     }
 
-    // The cumuls that were kept.
+    // The cumuls that were kept. `chosen_cumuls` alone asks for them so, which tests alone ask.
     pub(crate) fn into_cumuls(self) -> Seq<i64>
         ensures { result ≡ self }
     {

@@ -79,7 +79,8 @@ fn begin(
 }
 
 // Settles the cumul of each stop, one after another: the least that schedules with the cumuls before it have there.
-// Answers whether there is a schedule.
+// Answers whether there is a schedule, which the start tells already. Each arc is crossed twice: to all that the stop
+// allows, for the least of it, and then to this cumul alone, from which it goes on.
 pub(crate) fn settle(
     sound: SoundLine<'_>,
     behind: &Sweep,

@@ -72,6 +72,7 @@ pub(crate) fn tight_line(
     let mut behind = Sweep::new(alloc);
     behind.backward(alloc, &narrow)?;
     let ending = SoundLine { line: &narrow };
+    // `None` does not come: some schedule ends at the least end
     let Some(start) = latest_start(alloc, ending, behind.levels(0))? else {
         return Ok(None);
     };

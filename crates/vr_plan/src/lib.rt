@@ -1,14 +1,17 @@
 //! The schedule of a line that is chosen under the rule of its vehicle, and what it comes to.
 //!
-//! Each stop in turn is settled at the least cumul that is reached there and from which the end is reached. The line
-//! that allows the settled cumuls alone keeps the same chosen schedule, which is what its proof carries from stop to
-//! stop. The tight schedule is found in the same way, where the end of the line was first narrowed to its least cumul
-//! and then the start to its greatest.
+//! Each stop in turn is settled at the least cumul that is reached there and from which the end is reached (`cumuls`).
+//! The line that allows the settled cumuls alone keeps the same chosen schedule, which is what its proof carries from
+//! stop to stop. The tight schedule is found in the same way, where the end of the line was first narrowed to its least
+//! cumul and then the start to its greatest (`ends`, over the copies that `narrow` makes). Where the cumuls are
+//! settled, the break starts are, break by break (`starts`). `plans` has a schedule, with the slacks that its cumuls
+//! leave, and `schedules` puts it together. A line that is known to be sound is handed on as one (`sound`).
 //!
-//! What is looked up of a dimension for all lists is a [`Table`], and what is looked up once of a whole model is
-//! [`Lookups`], which all that ask it share. A [`Timing`] is what the chosen schedule of one list comes to, found by
-//! the earliest cumuls where those tell it and by a [`Chooser`] else; an [`Extent`] is from where to where the
-//! schedules of several lists reach.
+//! What is looked up of a dimension for all lists is a [`Table`] (`tables`), also whether its schedules may cost
+//! anything (`paying`); what is looked up once of a whole model is [`Lookups`] (`lookups`), which all that ask it
+//! share. A [`Timing`] (`timings`) is what the chosen schedule of one list comes to, found by the earliest cumuls where
+//! those tell it and by a [`Chooser`] (`choosers`) else, which looks for no break starts; an [`Extent`] (`extents`) is
+//! from where to where the schedules of several lists reach.
 //!
 //! `vr_print` and `vr_span` ask for whole schedules, `vr_rules` and `vr_costfilter` for what they come to. `vr_app`
 //! opens the [`Lookups`] of a run, which constructions (`vr_first_arc`, `vr_first_insert`, `vr_first_savings`),

@@ -1,4 +1,5 @@
-//! Whether the schedules of a list may cost anything.
+//! Whether the schedules of a list, or of any list in a dimension, may cost anything by themselves: by soft upper
+//! bounds and by the spans of vehicles, global spans left out.
 
 ghost use Rattle.std.specs.Prelude.{◌≡◌, ◌<◌, All, IsTrue, length};
 ghost use Rattle.std.specs.List.{list_all};
@@ -13,7 +14,8 @@ use crate::tables::{Table, row_of};
 use vr_model::{Dimension, Model, Seq, StopRow};
 
 /// Whether schedules of a list may cost anything by themselves in dimension `d`: the vehicle has a coefficient of spans
-/// that is not 0, or some stop has a soft upper bound.
+/// that is not 0, or some stop has a soft upper bound. Where nothing may, `vr_costfilter` times no list for it, and
+/// `vr_rules` none where global spans cost nothing either.
 pub fn may_pay_alone(model: &Model, table: &Table, d: u32, v: u32, list: &[u32]) -> bool
     requires well_formed { IsWellFormed model.now }
     requires dimension { d < length model.now.dimensions }
@@ -35,7 +37,8 @@ pub(crate) fn is_free(dimension: &Dimension) -> bool
     are_zero(&dimension.span_costs) && is_hard(dimension)
 }
 
-// Whether no stop of a dimension has a soft upper bound.
+// Whether no stop of a dimension has a soft upper bound. Where it is so, of a tight schedule the two ends alone matter:
+// `vr_costfilter` asks it (`Table::is_hard`) and keeps no cumuls between them.
 pub(crate) fn is_hard(dimension: &Dimension) -> bool
     ensures { result ≡ is_hard dimension.now }
 {
@@ -52,7 +55,7 @@ fn are_zero(coefficients: &Seq<i64>) -> bool
         .all(|&coefficient| coefficient == 0)
 }
 
-// Whether no row of stops has a soft upper bound.
+// Whether no row of stops has a soft upper bound: what `is_hard` asks of all rows of a dimension.
 fn are_free(rows: &Seq<StopRow>) -> bool
     ensures { result ≡ are_free rows.now }
 {

@@ -1,4 +1,4 @@
-//! Schedules.
+//! A schedule of a line, and the slacks that its cumuls leave.
 
 ghost use Rattle.std.specs.Prelude.{◌≡◌, ◌<◌, suc, pos, All, IfOk, length};
 ghost use Rattle.vr_model.specs.tables.Numbers.{horizon};

@@ -19,7 +19,8 @@ use vr_model::{BreakRow, NoMemory, Seq};
 use vr_reach::{Walk, lesser};
 use vr_steps::{Hop, Line};
 
-// Whether the line has a schedule whose break `i` starts at `first`, which is in its range.
+// Whether the line has a schedule whose break `i` starts at `first`, which is in its range. The line is changed for the
+// question and set back after it.
 fn can_start(line: &mut Line, walk: &mut Walk, i: usize, first: i64) -> Result<bool, NoMemory>
     requires sound { IsSoundLine line.old }
     requires place { i < length line.old.breaks }
@@ -72,7 +73,8 @@ fn try_start(
     Ok(Some(first))
 }
 
-// Where a place of a break begins: before the first stop, inside an arc, or after the last stop.
+// Where a place of a break begins: place 0 is before the first stop, place `k + 1` inside arc `k`, and the last one
+// after the last stop.
 fn place_begin(hops: &[Hop], cumuls: &[i64], place: usize) -> i64
     requires stops { length cumuls.now ≡ suc (length hops.now) }
     requires range { All (IsIn (pos 0) horizon) cumuls.now }
@@ -89,7 +91,9 @@ fn place_begin(hops: &[Hop], cumuls: &[i64], place: usize) -> i64
     cumuls[hops.len()]
 }
 
-// The least start that schedules of the line have for break `i`, which may not start before `ready`.
+// The least start that schedules of the line have for break `i`, which may not start before `ready`, when the break
+// before it is over. The cumuls are settled, so in each place the first moment alone is tried: what starts later there
+// could start then.
 fn least_start(
     line: &mut Line,
     walk: &mut Walk,
@@ -165,7 +169,7 @@ fn settle_starts(
 }
 
 // The break starts of the chosen schedule of a line, which has these cumuls; `None` only where the line has no
-// schedule.
+// schedule, which does not come, since the cumuls are those of a schedule.
 pub(crate) fn chosen_starts(
     alloc: Global,
     sound: SoundLine<'_>,

@@ -28,7 +28,7 @@ pub struct Table {
     pub is_hard: bool,
 }
 
-/// A dimension of a model, and what is looked up of it.
+/// A dimension of a model, and what is looked up of it. `vr_costfilter` alone makes it.
 #[derive(Drop)]
 pub struct KnownDimension<'m> {
     /// The model.
@@ -64,7 +64,7 @@ fn row_places(alloc: Global, closed: Closed<'_>, d: u32) -> Result<Vec<u32>, NoM
     Ok(places)
 }
 
-/// The row of a node among rows, by the places that were looked up.
+/// The row of a node among rows, by the places that were looked up, where `StopRow::of_key` would search the rows.
 pub fn row_of<'r>(rows: &'r Seq<StopRow>, places: &[u32], node: u32) -> Option<&'r StopRow>
     requires places { ArePlaces (length places.now) (keys_of_rows rows.now) places.now }
     requires node { node < length places.now }
@@ -87,7 +87,7 @@ fn table_of(alloc: Global, closed: Closed<'_>, d: u32) -> Result<Table, NoMemory
     })
 }
 
-/// What is looked up of all dimensions. The only refusal is want of memory.
+/// What is looked up of all dimensions, for `Lookups`; beside it tests alone ask. The only refusal is want of memory.
 pub fn tables_of(alloc: Global, model: &Model) -> Result<Vec<Table>, NoMemory>
     requires { IsWellFormed model.now }
     ensures { IfOk result (λ tables. AreTables model.now tables.items) }

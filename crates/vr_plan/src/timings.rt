@@ -108,7 +108,7 @@ pub fn timing_of(
 }
 
 // Writes the cumuls of the chosen schedule of a list over others, where the rule of its vehicle is that they are least
-// and they are found stop by stop.
+// and they are found stop by stop. Where they are not, also for want of a schedule, a chooser is asked next.
 fn write_early(
     closed: Closed<'_>,
     table: &Table,

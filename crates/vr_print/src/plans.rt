@@ -20,7 +20,8 @@ use vr_plan::{Plan, schedule};
 use vr_routes::Routes;
 use vr_steps::Line;
 
-// The plan that the rule of vehicle `v` chooses for a list in dimension `d`, empty where the list has no schedule.
+// The plan that the rule of vehicle `v` chooses for a list in dimension `d`, empty where the list has no schedule,
+// which does not come, since the routes are valid; no clause here asks for that.
 fn chosen_plan(
     alloc: Global,
     closed: Closed<'_>,

@@ -1,4 +1,4 @@
-//! The trees of routes.
+//! The trees of routes, and the visits that stand in none.
 
 ghost use Rattle.std.specs.Prelude.{◌≡◌, ◌<◌, ◌++◌, ◌&&◌, ◌∷◌, [], cond, not, IfOk, IsTrue, OnOk, length};
 ghost use Rattle.serde_json.specs.View.{view};

@@ -99,7 +99,8 @@ fn tree_of(
     Ok(tree.finish())
 }
 
-/// The tree of a solution, as `solution_tree` gives it, over what was looked up of the model.
+/// The tree of a solution, as `solution_tree` gives it, over what was looked up of the model. No other crate calls it:
+/// `vr_app` asks for its line (`solution_line_over`).
 pub fn solution_tree_over(
     alloc: Global,
     lookups: &Lookups<'_>,
@@ -133,7 +134,7 @@ fn parts_of(alloc: Global, lookups: &Lookups<'_>, routes: &Routes) -> Result<Par
 /// The tree of valid routes of a model: their cost with its six parts, the visits that are dropped, ascending, and for
 /// each vehicle its nodes from start to end and, in each dimension, the cumuls, slacks and break starts of the schedule
 /// that its rule chooses; beside these what the first solution cost and how the search went. It looks the model up for
-/// that; the program, which has it looked up, asks `solution_line_over`.
+/// that: tests alone ask it, and the program, which has it looked up, asks `solution_line_over`.
 ///
 /// `NoMemory` where there was no memory.
 pub fn solution_tree(
@@ -172,7 +173,8 @@ pub fn solution_line_over(
     to_line(alloc, &tree)
 }
 
-/// The line of valid routes of a model: the text of their tree, and a line feed. Reading it gives the tree back.
+/// The line of valid routes of a model: the text of their tree, and a line feed. Reading it gives the tree back. Tests
+/// alone ask it.
 ///
 /// `NoMemory` where there was no memory.
 pub fn solution_line(

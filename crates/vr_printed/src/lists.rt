@@ -7,7 +7,7 @@ use crate::PrintedRoute;
 use std::alloc::Global;
 use vr_model::{NoMemory, Seq};
 
-// The visits between the ends of a route.
+// The nodes between the ends of a route, none of fewer than three; whether they are visits is not asked here.
 fn visits_of(alloc: Global, nodes: &[u32]) -> Result<Seq<u32>, NoMemory>
     ensures { IfOk result (λ list. list ≡ visits_between nodes.now) }
 {

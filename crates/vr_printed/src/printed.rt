@@ -1,4 +1,5 @@
-//! A printed solution, as its tree says it.
+//! A printed solution, as its tree says it. How many routes, plans, cumuls, slacks and breaks there are is as said here
+//! where the shape was found right (`shape`), so in each that `read_printed` gives.
 
 use vr_model::{Parts, Seq, Text};
 
@@ -37,7 +38,7 @@ pub struct Printed {
     pub first_cost: i64,
     /// The six printed parts of the cost.
     pub parts: Parts,
-    /// A route for each vehicle, where the shape is right.
+    /// A route for each vehicle.
     pub routes: Seq<PrintedRoute>,
     /// What is printed as the number of solutions.
     pub solutions: i64,

@@ -1,4 +1,4 @@
-//! The shape of a printed solution.
+//! The shape of a printed solution: the tables read it, then its routes are asked for their numbers and lengths.
 
 ghost use Rattle.std.specs.Prelude.{◌≡◌, ◌≤◌, ◌<◌, [], length, Ok, IfOk};
 ghost use Rattle.std.specs.List.{list_all};
@@ -45,7 +45,7 @@ fn are_plans_shaped(model: &Model, vehicle: usize, route: &PrintedRoute) -> bool
     true
 }
 
-// Whether a route with nodes has enough of them, and a plan for each dimension.
+// Whether a route with nodes has enough of them, a start, a visit and an end, and a plan for each dimension.
 fn is_used_shaped(model: &Model, vehicle: usize, route: &PrintedRoute) -> bool
     requires { vehicle < 100 }
     ensures { result ≡ shapes.is_used_shaped model.now vehicle route.now }

@@ -1,4 +1,4 @@
-//! The tables of a printed solution.
+//! The tables of a printed solution: each reads the fields of an object into a record.
 
 ghost use Rattle.vr_printed.specs.Tables as tables;
 
@@ -26,7 +26,7 @@ pub struct SolutionTable {
     pub nodes: u32,
 }
 
-// Any whole number of 64 bits.
+// Any whole number of 64 bits: what it has to be, the rules of the check say.
 const ANY_WHOLE: Whole = Whole {
     lo: i64::MIN,
     hi: i64::MAX,

@@ -8,7 +8,8 @@ use crate::stops::{ListStops, hop_from, set_at};
 use vr_model::NoMemory;
 use vr_steps::{Levels, Way, cross_uncounted, end_levels_into, start_levels_into};
 
-// Writes what a list reaches at its first stop.
+// Writes what a list reaches at its first stop. It is found anew, in place: a copy of `Ends::start_levels` would take
+// memory each time where there are breaks.
 fn write_start(stops: &ListStops, row: &mut Levels) -> Result<(), NoMemory>
     ensures { OnOk result (IsReachedOn stops.now.of 0 row.new) }
 {

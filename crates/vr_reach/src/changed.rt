@@ -13,10 +13,11 @@ use crate::stretches::Stretch;
 use std::alloc::Global;
 use vr_model::NoMemory;
 
-/// Writes the rows of a vehicle with a list in a dimension over others, where the list is not empty. After `NoMemory`
-/// nothing is said of the rows.
+/// Writes the rows of a vehicle with a list in a dimension over others, where the list is not empty; of an empty one
+/// they stay as they are, and nothing is said of them. After `NoMemory` nothing is said of the rows.
 ///
-/// It takes memory only where a list has more stops than any before, or a set more than four runs.
+/// It takes memory only where a list has more stops than any before, a vehicle has breaks, or a set more than four
+/// runs.
 pub fn write_rows(
     alloc: Global,
     stops: &StopsFor,
@@ -32,7 +33,9 @@ pub fn write_rows(
 }
 
 /// Writes the rows of a list over those of another, as `write_rows` does. What both lists reach at stops that they
-/// share at the front stays, and so does what their end is reached from at those that they share at the back.
+/// share at the front stays, and so does what their end is reached from at those that they share at the back, unless
+/// the list is longer than all before: then that is written anew at all stops. `vr_first_insert` alone calls it with a
+/// list before.
 pub fn rewrite_rows(
     alloc: Global,
     stops: &StopsFor,

@@ -23,7 +23,7 @@ use crate::stops::{StopsFor, node_at};
 use arrayvec::ArrayVec;
 use vr_spans::Run;
 
-/// The cumuls of the stops of one list.
+/// The cumuls of the stops of one list: of 1000 visits at most, and of its two ends. They take no memory.
 pub type Cumuls = ArrayVec<i64, 1002>;
 
 /// The run of cumuls that each stop of a vehicle allows.
@@ -66,7 +66,8 @@ pub fn single_runs<'s>(stops: &StopsFor<'_, 's>) -> Option<StopRuns<'s>>
 
 /// Writes the cumuls of the earliest schedule of a list over others, where they are found stop by stop, each the least
 /// that the one before leaves: where the vehicle has no breaks, no stop allows more than one run of cumuls, and no
-/// slack would be too great. False exactly where they are not found so, also where there is no schedule.
+/// slack would be too great. False exactly where they are not found so, also where there is no schedule; then nothing
+/// is said of the cumuls.
 pub fn write_earliest(stops: &StopsFor, list: &[u32], cumuls: &mut Cumuls) -> bool
     requires stops { AreStopsFor stops.now }
     requires used { IsUsed stops.now.closed.model.now list.now }

@@ -16,9 +16,10 @@ use std::sync::ledger::Ledger;
 use vr_model::Steps;
 
 // Whether the line of a list is feasible, where walks along a leg without a break on the way tell: it is not where what
-// is reached with no break taken misses all from which the end is reached with all of them taken, and it is where a
-// walk with some number of breaks taken before it serves. Nothing is told where more than one run is reached at first,
-// and where neither is so. It counts a try for each arc that such a walk goes over.
+// is reached with no break taken misses all from which the end is reached with all of them taken (breaks can but narrow
+// both), and it is where a walk with some number of breaks taken before it serves. Nothing is told where at first not
+// exactly one run is reached with no break taken, and where neither is so. It counts a try for each arc that such a
+// walk goes over.
 pub(crate) fn told_without_breaks<L: Ledger>(walk: &RunWalk, tries: &mut Steps<L>) -> Option<bool>
     ensures told { IfSome result (λ passed. passed ≡ is_feasible (line_along walk.now)) }
     ensures untold { result ≡ None → IsTrue (is_run (level_at walk.now.from.now 0))
@@ -35,6 +36,7 @@ pub(crate) fn told_without_breaks<L: Ledger>(walk: &RunWalk, tries: &mut Steps<L
     if !shares_with(run, walk.to.level(all)) {
         return Some(false);
     }
+    // no break taken before: the same walk serves, so the other numbers begin at 1
     if shares_with(run, walk.to.level(0)) {
         return Some(true);
     }

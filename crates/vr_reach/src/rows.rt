@@ -20,8 +20,8 @@ use vr_steps::{Levels, Line};
 /// The forward and backward levels of each stop of a line: with `b` breaks taken, the cumuls that are reached at the
 /// stop, and those from which the end is reached with the other breaks taken.
 ///
-/// Rows may be built anew in place, which takes memory only where the line has more stops than any before, or a set
-/// more runs than its place has room for.
+/// Rows may be built anew in place, which takes memory only where the line has more stops than any before, its vehicle
+/// has breaks, or a set more runs than its place has room for.
 #[derive(Drop)]
 pub struct Rows {
     // from the start on: the forward levels
@@ -59,7 +59,8 @@ impl Rows {
         })
     }
 
-    /// The rows of a line. In this repository tests alone ask for them so; others write over rows that they have.
+    /// The rows of a line. In this repository tests alone ask for them so; others write rows by lists, over those that
+    /// they have (`write_rows`).
     pub fn build(alloc: Global, line: &Line) -> Result<Rows, NoMemory>
         requires { IsSoundLine line.now }
         ensures { IfOk result (AreRows line.now) }
@@ -69,7 +70,7 @@ impl Rows {
         Ok(rows)
     }
 
-    /// Writes the rows of a line over these. After `NoMemory` nothing is said of them.
+    /// Writes the rows of a line over these. After `NoMemory` nothing is said of them. Nobody but `build` calls it.
     pub fn rebuild(&mut self, alloc: Global, line: &Line) -> Result<(), NoMemory>
         requires { IsSoundLine line.now }
         ensures { OnOk result (AreRows line.now self.new) }
@@ -98,7 +99,7 @@ impl Rows {
         Ok(())
     }
 
-    /// The number of stops. It takes no memory.
+    /// The number of stops. It takes no memory. In this repository nobody asks it.
     pub fn stops(&self) -> usize
         ensures { result ≡ length self.now.forward }
     {
@@ -129,7 +130,8 @@ impl Rows {
         self.behind.levels(k)
     }
 
-    /// The levels of all stops from which the end is reached. It takes no memory.
+    /// The levels of all stops from which the end is reached. It takes no memory. `vr_plan::schedule_over` alone asks
+    /// it.
     pub fn backward_sweep(&self) -> &Sweep
         ensures { result.now ≡ self.now.backward }
     {

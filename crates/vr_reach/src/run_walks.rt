@@ -15,7 +15,8 @@ use vr_model::Evaluator;
 use vr_spans::Run;
 use vr_steps::Levels;
 
-// A list of a vehicle, where no visit and not the end allows more than one run: the runs, and what the arcs take.
+// A list of a vehicle, where no visit and not the end allows more than one run: the runs, and what the arcs take. The
+// earliest cumuls are found along one too (`early`).
 #[derive(Clone, Copy)]
 pub(crate) struct RunLine<'m, 'l, 's> {
     pub(crate) of: Driven<'m, 'l>,

@@ -95,8 +95,8 @@ pub(crate) fn finish_of(model: &Model, v: u32, ends: &Ends) -> Option<Ahead>
     Some(Ahead { node, allowed })
 }
 
-// Whether the line of a list is feasible, where there are no breaks: found by a walk along a leg that carries one run,
-// as `walk_through` counts.
+// Whether the line of a list is feasible, where there are no breaks: found by a walk along a leg that carries one run.
+// It counts as `passes_along` says: a step for each arc, and two where it joins the rows.
 pub(crate) fn walk_by_runs<L: Ledger>(
     walk: &RunWalk,
     between: Between,

@@ -21,7 +21,9 @@ use vr_model::NoMemory;
 use vr_steps::Levels;
 
 /// Whether the line of a list of a vehicle is feasible, found by a walk through what differs from the list before,
-/// whose rows are known: all but the nodes that both share. Afterwards nothing is said of where the walk stands.
+/// whose rows are known: all but the nodes that both share. Beside `passes_along` it is told how many these are, has
+/// the list written out, and counts no steps, and the list before need not be feasible. Afterwards nothing is said of
+/// where the walk stands.
 ///
 /// `NoMemory` as of `passes_along`.
 pub fn goes_between(

@@ -1,4 +1,6 @@
-//! What changes between two lists.
+//! What two lists share at their ends, between which they differ: a walk leaves the rows behind the shared front and
+//! meets them before the shared back (`walking`), and rows are written anew between (`changed`). A splice may put nodes
+//! back where they were, so more may be shared than it says.
 
 ghost use Rattle.std.specs.Prelude.{◌+◌, ◌≤◌, length};
 ghost use Rattle.vr_reach.specs.Stretches.{SharesFront, SharesBack, DifferAtFront, DifferAtBack, IsStretchBetween};

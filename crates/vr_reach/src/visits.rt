@@ -11,7 +11,8 @@ use vr_model::{Closed, NoMemory, Seq};
 use vr_spans::Spans;
 use vr_steps::{StopName, allowed_at};
 
-// The cumuls that each visit allows, in a table for each capacity that some vehicle has: those of no visit are none.
+// The cumuls that each visit allows, in a table for each capacity that some vehicle has, by its node; a node that is no
+// visit allows none.
 #[derive(Drop)]
 pub(crate) struct VisitSets {
     // the capacity of each table

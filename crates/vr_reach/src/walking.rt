@@ -49,7 +49,8 @@ fn walk_through<L: Ledger, M: Ledger>(
     walk_by_sets(leg, walk, steps)
 }
 
-// The same, where walks that carry one run tell.
+// The same, where walks that carry one run tell; `None` where some visit or the end allows more than one, or walks
+// without a break leave it open.
 fn told_by_runs<L: Ledger, M: Ledger>(
     leg: &Leg,
     steps: &mut Steps<L>,
@@ -114,9 +115,10 @@ fn walk_by_sets<L: Ledger>(
 /// for each run on both sides where it joins the rows: at most the weight that the definitions give the changed list.
 /// Afterwards nothing is said of where the walk stands.
 ///
-/// Where no visit allows more than one run, it carries one run in place of sets; of a vehicle with breaks, walks
-/// without a break are tried before, one for each number of breaks taken before it, which tell of most moves. They
-/// count a try for each arc that they go over, none of which lies outside the changed stretch.
+/// Where neither a visit nor the end allows more than one run, and one run is reached where it leaves the rows, it
+/// carries one run in place of sets; of a vehicle with breaks, walks without a break are tried before, at most one for
+/// each number of breaks taken before it, which tell of most moves. They count a try for each arc that they go over,
+/// none of which lies outside the changed stretch.
 ///
 /// `NoMemory` where there was no memory: it is taken only where a set has more than four runs, or a vehicle more breaks
 /// than any before.
@@ -152,6 +154,7 @@ pub fn passes_along<L: Ledger, M: Ledger>(
     let front = splice.front;
     let told = Stretch { front, back };
     let stretch = Stretch::of(old, &new, told);
+    // the list is as it was, and passed then
     if stretch.front == old.len() && stretch.front == n {
         return Ok(true);
     }
@@ -220,7 +223,8 @@ fn walk_uncounted<L: Ledger, M: Ledger>(
     walk_through(leg, walk, &mut steps, &mut tries)
 }
 
-// The levels at which the last stop is reached that a list shares at the front with the one whose rows are known.
+// The levels at which the last stop is reached that a list shares at the front with the one whose rows are known. With
+// no node shared that is the start: its levels are those of `ends`, since of the rows of an empty list nothing is said.
 pub(crate) fn levels_before<'a>(ends: &'a Ends, rows: &'a Rows, front: usize) -> &'a Levels
     requires row { 0 < front → front < length rows.now.forward }
     ensures start { front ≡ 0 → result.now ≡ ends.now.start_levels }
@@ -233,7 +237,7 @@ pub(crate) fn levels_before<'a>(ends: &'a Ends, rows: &'a Rows, front: usize) ->
 }
 
 // The levels from which the end is reached at the first stop that a list shares at the back with the one of `n` visits
-// whose rows are known.
+// whose rows are known; of the end where they share none.
 pub(crate) fn levels_behind<'a>(ends: &'a Ends, rows: &'a Rows, n: usize, back: usize) -> &'a Levels
     requires few { back ≤ n }
     requires row { 0 < back → n - back + 1 < length rows.now.backward }

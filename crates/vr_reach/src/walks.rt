@@ -1,4 +1,5 @@
-//! A walk along a changed line, from a stop that it shares with a line whose rows are known.
+//! What is reached at a stop, moved from stop to stop: along a whole line, or a changed or growing one from a stop that
+//! it shares with a line whose levels are known.
 
 ghost use Rattle.std.specs.Prelude.{◌≡◌, ◌+◌, ◌<◌, ◌≤◌, ◌↔◌, ℕ, [], ◌∷◌, All, IsTrue, IfOk, OnOk, OnErr, length};
 ghost use Rattle.vr_model.specs.schedules.Lines.{Line as Defined};
@@ -52,7 +53,7 @@ impl Walk {
         }
     }
 
-    /// Stands at a stop of a line with its forward levels.
+    /// Stands at a stop of a line with its forward levels. Tests alone ask for a walk so.
     pub fn open(alloc: Global, rows: &Rows, stop: usize) -> Result<Walk, NoMemory>
         requires stop { stop < length rows.now.forward }
         ensures { IfOk result (λ walk. walk ≡ row_at rows.now.forward stop) }
@@ -64,7 +65,7 @@ impl Walk {
         })
     }
 
-    /// Stands at a start that allows these cumuls.
+    /// Stands at a start that allows these cumuls. Tests alone ask for a walk so.
     pub fn fresh(alloc: Global, start: &Spans, breaks: &Breaks) -> Result<Walk, NoMemory>
         requires breaks { All IsBreak breaks.now }
         requires few { length breaks.now ≤ 8 }
@@ -79,8 +80,9 @@ impl Walk {
         })
     }
 
-    /// Whether a line has a schedule: goes along it from its start to its end. Afterwards nothing is said of where the
-    /// walk stands.
+    /// Whether a line has a schedule: goes along it from its start to its end. `vr_plan` alone asks it, for each start
+    /// of a break that it tries; of lists without a line `goes_through` answers it. Afterwards nothing is said of where
+    /// the walk stands.
     pub fn goes_along(&mut self, line: &Line) -> Result<bool, NoMemory>
         requires { IsSoundLine line.now }
         ensures { IfOk result (λ goes. (defined : Defined) → IsLineOf defined line.now →
@@ -182,7 +184,8 @@ impl Walk {
     }
 
     /// Whether the line on which the walk stands has a schedule, where from this stop on it is the line of the rows
-    /// from `stop` on. It takes no memory, and counts a step for each run of both levels.
+    /// from `stop` on. It takes no memory, and counts a step for each run of both levels. Tests alone ask it; walks ask
+    /// `meets`.
     pub fn joins<L: Ledger>(&self, rows: &Rows, stop: usize, steps: &mut Steps<L>) -> bool
         requires stop { stop < length rows.now.backward }
         ensures exact { (line : Defined) (k : ℕ) → Meets line k self.now (row_at rows.now.backward stop) →

@@ -1,4 +1,4 @@
-//! Vehicles that are alike.
+//! Whether vehicles are alike, which is asked where the first solution is to be built by savings.
 
 ghost use Rattle.std.specs.Prelude.{◌≡◌, ◌<◌, Bool, length, option_map};
 ghost use Rattle.std.specs.List.{All, list_all};
@@ -19,6 +19,7 @@ trait Alike {
         ensures { result ≡ same self.now other.now };
 }
 
+// What `==` says, in the two comparisons of its definition.
 impl Alike for i64 {
     ghost use Rattle.vr_model.specs.tables.Numbers.{is_same_number};
 
@@ -61,7 +62,7 @@ impl Alike for BreakRow {
     }
 }
 
-// Stop rows are the same but for their keys.
+// Stop rows are the same whatever their keys, which are the vehicles that are compared.
 impl Alike for StopRow {
     ghost use Rattle.vr_model.specs.tables.ModelRules.{is_same_row};
 
@@ -123,8 +124,8 @@ fn is_same_schedule_rule(one: ScheduleRule, other: ScheduleRule) -> bool
     }
 }
 
-// Whether two vehicles are alike in a dimension: the same capacity, evaluator, span coefficient,
-// start row, end row and breaks.
+// Whether two vehicles are alike in a dimension: the same capacity, number of an evaluator (two that say the same are
+// not the same), span coefficient, start row, end row and breaks.
 fn are_alike_in(dimension: &Dimension, v: u32, w: u32) -> bool
     requires one { HasVehicle v dimension.now }
     requires other { HasVehicle w dimension.now }
@@ -158,7 +159,7 @@ fn are_alike_in_all(dimensions: &[Dimension], v: u32, w: u32) -> bool
     true
 }
 
-// Whether two vehicles are alike: the same start, end, cost matrix, fixed cost, policy and rule of
+// Whether two vehicles are alike: the same start, end, number of a cost matrix, fixed cost, policy and rule of
 // schedules, and alike in each dimension.
 fn are_alike(of: Tabled<'_>, v: u32, w: u32) -> bool
     requires one { v < length of.model.now.vehicles }

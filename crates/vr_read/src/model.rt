@@ -22,7 +22,7 @@ use vr_model::limits::{
 };
 use vr_model::{Allowed, Dimension, Group, Matrix, Model, Pair, SearchRow, Seq, Vehicle};
 
-// The fields of a model up to its vehicles.
+// The fields of a model up to its vehicles, but for the format, which their table alone asks.
 #[derive(Drop)]
 pub struct ModelBase {
     pub nodes: u32,

@@ -36,7 +36,7 @@ pub(crate) fn keep_rules(alloc: Global, of: Tabled<'_>, path: &Path) -> Result<(
     keep_savings(alloc, of, path)
 }
 
-// Refuses the field of entry `k` of an array where a rule is broken.
+// Refuses the field of entry `k` of an array where a rule is broken. The path of the entry is made only then.
 #[tactic(auto, unfolding(vr_json::specs::Reading::refuse_if))]
 fn refuse_field(
     alloc: Global,
@@ -108,7 +108,8 @@ fn has_large(entries: &[i64]) -> bool
     entries.iter().any(|entry| GREATEST_VALUE < *entry)
 }
 
-// The matrix of each evaluator of a dimension, which stands at `path`, has no entry that is too large.
+// The matrix of each evaluator of a dimension, which stands at `path`, has no entry that is too large, whether a
+// vehicle uses the evaluator or not.
 fn keep_dimension_entries(
     alloc: Global,
     model: &Model,

@@ -57,11 +57,10 @@ const NEIGHBOURHOODS: [(&str, Neighbourhood); 11] = [
     ("swap_active", Neighbourhood::SwapActive),
 ];
 
-// How many moves a search tries where a model does not say it.
+// How many moves or cuts a search tries at most, where a model does not say it.
 const TRIES: u32 = 100_000;
 
-// The greatest number of tries, and of solutions; so many solutions are found where a model does not
-// say how many.
+// The greatest number of tries, and of solutions; so many solutions may be found where a model does not say how many.
 const MOST: u32 = MOST_TRIES as u32;
 
 // How many visits a cut takes out of a path at most, where a model does not say it.
@@ -100,8 +99,9 @@ impl Reader for NeighbourhoodTable {
     }
 }
 
-/// The search where a model says nothing of it: the cheapest arc first, then greedy descent over all
-/// neighbourhoods with at most 100000 tries; cut and tenure are 10.
+/// The search where a model says nothing of it: the cheapest arc first, then greedy descent over all neighbourhoods
+/// with at most 100000 tries and 10^9 solutions; lambda is 1/10, cut and tenure are 10. An empty object is read as the
+/// same.
 pub(crate) fn default_search(alloc: Global) -> Result<SearchRow, NoMemory>
     ensures { IfOk result (λ row. row ≡ search_tables.default_search) }
 {

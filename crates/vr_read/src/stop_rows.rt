@@ -24,7 +24,8 @@ pub struct IntervalTable;
 #[derive(Clone, Copy)]
 pub struct SoftTable;
 
-/// A row for a stop, whose key stands in the field that `name` names.
+/// A row for a stop, whose key stands in the field that `name` names: `node` of a visit, `vehicle` of a start or an
+/// end.
 #[derive(Clone, Copy)]
 pub struct StopTable<'a, K> {
     pub name: &'a str,
@@ -142,6 +143,7 @@ impl Table for BreakTable {
         let to = fields.required("to", &CUMUL)?;
         let duration = fields.required("duration", &length)?;
         fields.known(&["from", "to", "duration"])?;
+        // this fault lies at the break as a whole, and comes behind those of its fields
         refuse_if(fields.alloc, to < from, Cause::Reversed, fields.path.here())?;
         Ok(BreakRow { from, to, duration })
     }

@@ -59,6 +59,7 @@ pub fn complete_routes(
         IfSome answer (λ routes. routes.visits ≡ visits lookups.now.closed.model.now)) }
 {
     let model = lookups.closed.model;
+    // they are lists of the model, so there are such routes
     let Some(routes) = Routes::from_lists(alloc, model, lists)? else {
         return Ok(None);
     };

@@ -32,14 +32,16 @@ pub(crate) struct Front {
     dimension: u32,
     vehicle: u32,
     breaks: Breaks,
-    // of each node that is a visit
+    // of each node what it allows, nothing where it is no visit
     visits: Vec<Spans>,
+    // what the end of the vehicle allows
     ending: Spans,
     // at the last visit, or at the start of an empty list
     here: Levels,
 }
 
 /// Where the next arc begins: at the last visit of the list, at the start of vehicle `v` where the list is empty.
+/// `vr_first_arc` asks it too, for what that arc costs.
 pub fn last_stop(model: &Model, v: u32, list: &[u32]) -> u32
     requires { v < length model.now.vehicles }
     ensures { result ≡ tail_of model.now v list.now }
@@ -340,14 +342,14 @@ impl Room {
 }
 
 /// What a vehicle reaches in each dimension at the end of its list. It is kept while the list grows, so that an item is
-/// tried there without going along the list anew.
+/// tried there without going along the list anew; only pairs are asked of the whole list.
 #[derive(Drop)]
 pub struct Fronts {
     each: Vec<Front>,
 }
 
 impl Fronts {
-    /// Those of vehicle `v` with a list.
+    /// Those of vehicle `v` with a list. Cheapest arcs asks for those of an empty one; along any other it goes once.
     pub fn open(
         room: &mut Room,
         closed: Closed<'_>,
@@ -364,7 +366,8 @@ impl Fronts {
     }
 
     /// Whether vehicle `v`, which may drive its list, may drive it with an item at its end, as `route_open` says it. It
-    /// takes no memory where the model has no pairs, a vehicle no breaks, and a set of cumuls at most four runs.
+    /// takes no memory where the model has no pairs, a vehicle no breaks, and a set of cumuls at most four runs. Pairs
+    /// are asked last, since for them the list is written out.
     pub fn may_append(
         &self,
         room: &mut Room,

@@ -59,7 +59,7 @@ pub struct Candidate {
     /// What is placed.
     pub item: Item,
     /// 0 where it must be placed, 1 where it is in a group without a penalty, 2 where it is in one with a penalty; of a
-    /// pair the lesser of the classes of its two nodes.
+    /// pair the lesser of the classes of its two nodes. Constructions place items of a lesser class first.
     pub class: u32,
 }
 
@@ -73,7 +73,8 @@ fn is_free_of_penalty(group: &Group) -> bool
     }
 }
 
-/// The class of a node: 0 outside all groups, 1 in a group without a penalty, 2 in another.
+/// The class of a node: 0 outside all groups, 1 in a group without a penalty, 2 in another. Savings asks it of each
+/// node of a route.
 pub fn node_class(node_tables: &NodeTables<'_>, node: u32) -> u32
     ensures { result ≡ node_class_of node_tables.now node }
 {
@@ -89,7 +90,7 @@ pub fn node_class(node_tables: &NodeTables<'_>, node: u32) -> u32
     }
 }
 
-// The class of an item: the least of its nodes.
+// The class of an item: the least of its nodes, and of 2, which is the greatest.
 fn item_class(node_tables: &NodeTables<'_>, item: Item) -> u32
     ensures { result ≡ class node_tables.now (item_nodes item) }
 {
@@ -101,7 +102,8 @@ fn item_class(node_tables: &NodeTables<'_>, item: Item) -> u32
     }
 }
 
-// The item of a node: the node alone, or the pair of which it is the pickup.
+// The item of a node: the node alone, or the pair of which it is the pickup. A delivery has none: it is in the item of
+// its pickup.
 fn item_at(node_tables: &NodeTables<'_>, node: u32) -> Option<Item>
     ensures { item_lists result ≡ items_at (pair_of_node node_tables.now node) node }
 {

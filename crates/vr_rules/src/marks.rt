@@ -92,7 +92,8 @@ fn mark_list(marks: &mut [bool], list: &[u32])
     }
 }
 
-/// For each node whether it is active.
+/// For each node whether it is active, in new memory: insertion and `complete_routes` ask it. `Rules` writes over marks
+/// that it keeps (`with_marks`).
 pub fn active_marks(alloc: Global, model: &Model, routes: &Routes) -> Result<Vec<bool>, NoMemory>
     ensures { IfOk result (λ marks. AreMarks model.now.nodes routes.now.lists marks.items) }
 {

@@ -1,4 +1,4 @@
-//! What groups cost whose nodes are not all active.
+//! What groups with a penalty cost that have fewer active nodes than they may have.
 
 ghost use Rattle.std.specs.Prelude.{◌≡◌, ◌<◌, ◌≤◌, ◌*◌, ◌^◌, ◌-ℤ◌, ◌≤ℤ◌};
 ghost use Rattle.std.specs.Prelude.{pos, All, IsTrue, count_by, length};

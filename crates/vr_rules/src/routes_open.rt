@@ -30,7 +30,8 @@ impl Driving {
     }
 }
 
-/// Whether vehicle `v` may drive a list, as `Rules::route_open` answers it, over what was looked up of the model.
+/// Whether vehicle `v` may drive a list, as `Rules::route_open` answers it, over what was looked up of the model. What
+/// takes least is asked first.
 ///
 /// The list holds distinct visits. `NoMemory` where there was no memory.
 pub fn is_route_open(

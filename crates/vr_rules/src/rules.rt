@@ -1,4 +1,4 @@
-//! The rules of one model, ready to be asked.
+//! The rules of one model, ready to be asked; and functions that look a model up for one question, for tests alone.
 
 ghost use Rattle.std.specs.Prelude.{◌≡◌, ◌<◌, ◌≤ℤ◌, IfOk, IsTrue, length, pos};
 ghost use Rattle.std.specs.List.{list_all};
@@ -26,8 +26,8 @@ use vr_routes::Routes;
 ///
 /// What its stops ask is looked up once, and the group, the pair and the allowed vehicles of each node, and all that a
 /// question needs is kept and written over: after the first questions an answer takes memory only where a set of cumuls
-/// has more than four runs, where a list is longer, has more pairs, or its vehicle more breaks, than any before, or
-/// where a tight schedule is built, for which a line is copied.
+/// has more than four runs, where a list is longer, or its vehicle has more breaks, than any before, or where a tight
+/// schedule is built, for which a line is copied.
 #[derive(Drop)]
 pub struct Rules<'m> {
     lookups: Lookups<'m>,
@@ -53,7 +53,8 @@ impl<'m> Model for Rules<'m> {
 }
 
 impl<'m> Rules<'m> {
-    /// The rules of a model. The only refusal is want of memory, as of each question.
+    /// The rules of a model. The only refusal is want of memory, as of each question. `vr_plain` calls it, and the
+    /// functions below; the program has the model looked up, and calls `over`.
     pub fn open(alloc: Global, model: &'m RoutingModel) -> Result<Rules<'m>, NoMemory>
         requires { IsWellFormed model.now }
         ensures { IfOk result (λ rules. rules ≡ model.now) }
@@ -90,7 +91,8 @@ impl<'m> Rules<'m> {
     /// Whether vehicle `v` may drive a list: the list is empty, or its line in each dimension has a schedule, it serves
     /// each pair in order and as the vehicle's policy asks, and the vehicle may visit each of its nodes.
     ///
-    /// The list holds distinct visits.
+    /// The list holds distinct visits. Tests alone ask it, by the function `route_open`; all else asks `is_route_open`,
+    /// over room of its own.
     pub fn route_open(&mut self, v: u32, list: &[u32]) -> Result<bool, NoMemory>
         requires vehicle { v < length self.old.vehicles }
         requires visits { IsTrue (list_all (is_visit self.old) list.now) }
@@ -102,7 +104,7 @@ impl<'m> Rules<'m> {
     }
 
     /// Whether routes of the model are open: each vehicle may drive its list, and no group has more active nodes than
-    /// it may have.
+    /// it may have. Tests alone ask it, by the function `open`.
     pub fn open_routes(&mut self, routes: &Routes) -> Result<bool, NoMemory>
         requires lists { IsTrue (are_lists self.old routes.now.lists) }
         ensures answer { IfOk result (λ answer. answer ≡ is_open_of self.old routes.now.lists) }
@@ -113,7 +115,8 @@ impl<'m> Rules<'m> {
         is_open(&of, None, &mut kept.driving)
     }
 
-    /// The same, where other routes of the model are open. A list that is the same there is not asked again.
+    /// The same, where other routes of the model are open. A list that is the same there is not asked again. `vr_lns`
+    /// asks it of what a cut leaves, beside the routes that are cut.
     pub fn open_beside(&mut self, others: &Routes, routes: &Routes) -> Result<bool, NoMemory>
         requires others { AreBuilt self.old others.now.lists }
         requires lists { IsTrue (are_lists self.old routes.now.lists) }
@@ -126,7 +129,8 @@ impl<'m> Rules<'m> {
     }
 
     /// Whether routes of the model are valid, where they are open: each visit in no group is active, and each group
-    /// without a penalty has exactly as many active nodes as it may have.
+    /// without a penalty has exactly as many active nodes as it may have. `vr_lns` asks it of what is rebuilt, which is
+    /// open.
     pub fn valid_where_open(&mut self, routes: &Routes) -> Result<bool, NoMemory>
         requires built { AreBuilt self.old routes.now.lists }
         ensures answer { IfOk result (λ answer. answer ≡ is_valid_of self.old routes.now.lists) }

@@ -17,7 +17,7 @@ use vr_plan::{Extent, Lookups, Timer, Timing, may_pay_alone, span_cost, timing_o
 use vr_routes::Routes;
 
 // What soft upper bounds and spans cost, and the extent of the routes that may pay, `None` where none does. It is that
-// of all routes where the coefficient of the global span is not 0, and asked for only then.
+// of all used routes where the coefficient of the global span is not 0, and costs nothing where that is 0.
 #[derive(Clone, Copy)]
 pub(crate) struct Sums {
     pub(crate) soft: i64,
@@ -36,7 +36,7 @@ pub(crate) struct RoutesIn<'l, 'm, 'r> {
 }
 
 // Whether schedules of a list may cost anything: the global span has a coefficient, or they may cost something by
-// themselves.
+// themselves. Where they may not, no schedule is looked for.
 fn may_pay(of: &RoutesIn<'_, '_, '_>, v: u32, list: &[u32]) -> bool
     requires vehicle { v < length of.now.lookups.now.closed.model.now.vehicles }
     requires visits { IsTrue (list_all (is_visit of.now.lookups.now.closed.model.now) list.now) }

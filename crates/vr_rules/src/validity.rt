@@ -65,7 +65,8 @@ fn are_routes_open(
     Ok(true)
 }
 
-// Whether routes of the model are open. No list is asked again that is the same in others, which are open.
+// Whether routes of the model are open. No list is asked again that is the same in others, which are open. The groups
+// are asked first, since that takes no walk.
 pub(crate) fn is_open(
     of: &Marked<'_, '_, '_, '_>,
     others: Option<&Routes>,
@@ -88,7 +89,7 @@ pub(crate) fn is_valid_where_open(of: &Marked<'_, '_, '_, '_>) -> bool
     is_complete(of.lookups, of.marks)
 }
 
-// Whether routes of the model are valid.
+// Whether routes of the model are valid. Whether anything is missing is asked first, since that takes no walk.
 pub(crate) fn is_valid(of: &Marked<'_, '_, '_, '_>, driving: &mut Driving) -> Result<bool, NoMemory>
     ensures { IfOk result (λ answer. answer ≡ is_valid_of of.now.lookups.now.closed.model.now of.now.routes.now.lists) }
 {

@@ -19,7 +19,8 @@ use vr_steps::Line;
 /// The least span of a line, and the schedule that has it.
 #[derive(Drop)]
 pub struct Least {
-    /// The cumul of the end less that of the start, in the unit of the dimension. It is negative where transits are.
+    /// The cumul of the end less that of the start, in the unit of the dimension. It may be negative where transits
+    /// are.
     pub span: i64,
     /// Of the schedules of this span the one whose cumuls, compared from the start on, are least.
     pub plan: Plan,
@@ -39,6 +40,7 @@ pub fn span(alloc: Global, line: &Line) -> Result<Option<Least>, NoMemory>
     let Some(way) = shortest_way(alloc, line)? else {
         return Ok(None);
     };
+    // `None` does not come: the two ends are those of a schedule
     let Some(plan) = schedule_between(alloc, line, way.first, way.lo)? else {
         return Ok(None);
     };

@@ -6,7 +6,8 @@ ghost use Rattle.vr_spans.specs.Build.{HasReached, IsWayNear};
 
 use crate::{LIMIT, NoMemory, Run, Spans};
 
-/// No way that `reach_into` takes is longer than this, in either direction.
+/// No way that `reach_into` takes is longer than this, in either direction. Contracts say so by `farthest`; no code
+/// asks this number.
 pub const FARTHEST: i64 = 1 << 60;
 
 /// All numbers that a set may have.
@@ -44,7 +45,8 @@ impl Spans {
         out.reach(self.runs.as_slice(), 0, 0, &[bounds])
     }
 
-    /// The set with every number moved by `by`; no number may leave `-LIMIT..=LIMIT`.
+    /// The set with every number moved by `by`; no number may leave `-LIMIT..=LIMIT`. Tests alone ask it; an arc is
+    /// crossed by `reach_into`, which moves, widens and meets at once.
     pub fn shift(&self, by: i64) -> Result<Spans, NoMemory>
         requires { StaysWithin by by self.now }
         ensures exact { IfOk result (λ moved. (x : ℤ) → has moved x ≡ has self.now (x -ℤ by)) }
@@ -55,7 +57,8 @@ impl Spans {
         Ok(moved)
     }
 
-    /// Writes the set with every number moved by `by` over `out`; no number may leave `-LIMIT..=LIMIT`.
+    /// Writes the set with every number moved by `by` over `out`; no number may leave `-LIMIT..=LIMIT`. Nobody but
+    /// `shift` calls it.
     pub fn shift_into(&self, by: i64, out: &mut Spans) -> Result<(), NoMemory>
         requires { StaysWithin by by self.now }
         ensures exact { OnOk result ((x : ℤ) → has out.new x ≡ has self.now (x -ℤ by)) }
@@ -65,6 +68,7 @@ impl Spans {
     }
 
     /// Every number of the set plus each number from 0 to `by`, which is not negative; none may leave `-LIMIT..=LIMIT`.
+    /// Tests alone ask it.
     pub fn grow(&self, by: i64) -> Result<Spans, NoMemory>
         requires rises { pos 0 ≤ℤ by }
         requires within { StaysWithin (pos 0) by self.now }
@@ -76,7 +80,8 @@ impl Spans {
         Ok(grown)
     }
 
-    /// Writes every number of the set plus each number from 0 to `by` over `out`, as `grow` answers it.
+    /// Writes every number of the set plus each number from 0 to `by` over `out`, as `grow` answers it, which alone
+    /// calls it.
     pub fn grow_into(&self, by: i64, out: &mut Spans) -> Result<(), NoMemory>
         requires rises { pos 0 ≤ℤ by }
         requires within { StaysWithin (pos 0) by self.now }
@@ -117,6 +122,7 @@ impl Spans {
         ensures exact { OnOk result (HasReached first last from.now within.now self.new) }
         ensures normal { IsNormal self.new }
     {
+        // of one run each it is one meet, without a builder
         if from.len() == 1 && within.len() == 1 {
             return self.put(from[0].stretch(first, last).meet(within[0]));
         }

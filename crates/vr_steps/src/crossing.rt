@@ -92,7 +92,8 @@ pub fn cross_back<L: Ledger>(
     Ok(out)
 }
 
-/// Writes the levels before an arc over `out`, as `cross_back` answers them. After `NoMemory` nothing is said of `out`.
+/// Writes the levels before an arc over `out`, as `cross_back` answers them, which alone calls it. After `NoMemory`
+/// nothing is said of `out`.
 #[inline]
 pub fn cross_back_into<L: Ledger>(
     to: &Levels,
@@ -115,7 +116,7 @@ pub fn cross_back_into<L: Ledger>(
 }
 
 /// Writes the levels to which an arc leads in one direction over `out`, as `cross_into` and `cross_back_into`, where
-/// nobody counts steps. After `NoMemory` nothing is said of `out`.
+/// nobody counts steps; those count first, and then call it. After `NoMemory` nothing is said of `out`.
 #[inline]
 pub fn cross_uncounted(
     way: Way,
@@ -159,7 +160,8 @@ fn write_plain(
     }
 }
 
-// An arc, and the breaks that may be taken on it.
+// An arc, and all breaks of the vehicle: any that follow one another may be taken inside it (`HopOver` has an arc with
+// those that are).
 #[derive(Clone, Copy)]
 struct ArcBreaks<'r> {
     hop: Hop,

@@ -65,7 +65,7 @@ pub fn end_levels_into(allowed: &Spans, breaks: &Breaks, out: &mut Levels) -> Re
 }
 
 /// Whether, with some number of breaks taken, a cumul of the levels is there after which the other breaks can all be
-/// taken. It takes no memory.
+/// taken. It takes no memory, and needs no levels of the end: `vr_reach::Walk::ends` asks it at a last stop.
 pub fn can_end(levels: &Levels, breaks: &Breaks) -> bool
     requires breaks { All IsBreak breaks.now }
     requires few { length breaks.now ≤ 8 }

@@ -62,13 +62,15 @@ impl Passage {
         Passage::over(over.hop, chain)
     }
 
-    // The passage over the breaks of a chain.
+    // The passage over the breaks of a chain; `None` where no two cumuls are what it asks: the breaks take more than
+    // visit and slack leave them, or have to begin before even a visit at 0 is over, or end beyond the horizon.
     fn over(hop: Hop, chain: Chain) -> Option<Passage>
         requires hop { IsSoundHop hop }
         requires small { IsSmall chain }
         ensures some { IsSome result ↔ HasWay hop chain }
         ensures value { IfSome result (IsOver hop chain) }
     {
+        // breaks are taken out of the slack, beside the transit, and none begins before the visit is over
         let least = chain.total + hop.visit.max(hop.transit);
         let greatest = hop.transit + hop.slack;
         if least > greatest {
@@ -135,7 +137,8 @@ impl Passage {
     }
 }
 
-// Sets that are written over while an arc with breaks is crossed.
+// Sets that are written over while an arc with breaks is crossed: the numbers from which it may lead and those to which
+// it may, where it leads, and this together with what was found before.
 #[derive(Drop)]
 pub(crate) struct Scratch {
     left: Spans,

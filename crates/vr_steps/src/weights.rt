@@ -1,4 +1,5 @@
-//! What a change of lists weighs: how many images of runs a walk takes through it, in worked cases.
+//! What a change of lists weighs: how many images of runs a walk takes through it, in worked cases. As in `laws`, a
+//! function has no code, and nobody calls it.
 
 ghost use Rattle.vr_steps.specs.Even.{SomeModelIsEven, SwapIsFeasible, SwapWeighsFive};
 

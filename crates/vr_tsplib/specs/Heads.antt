@@ -161,7 +161,7 @@ abbrev pub weights_wanted : Option WeightFormat → ℕ → Option ℕ
 weights_wanted None n = None
 weights_wanted (Some format) n = weights_of format n
 
--- a section of weights, of which so many are to come
+-- where the next line stands where so many weights are to come
 abbrev pub weights_left : ℕ → LinePlace
 weights_left left = if left == 0 then Outside else Weights left
 

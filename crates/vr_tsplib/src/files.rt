@@ -61,7 +61,8 @@ impl State {
         Ok(())
     }
 
-    // Takes a row of weights, of so many that are to come.
+    // Takes a line of weights, of which so many are to come: weights and not lines, since a line has any number of
+    // them.
     fn weights_line(&mut self, left: u64, line: &[u8]) -> Result<(), LineFail>
         ensures { AnswersLine (seen (λ u. self.new) result) (files.weights_line left self.old line.now) }
     {

@@ -21,7 +21,7 @@ pub enum Flaw {
     UnknownWord,
     /// A number lies outside its range.
     OutOfRange,
-    /// A node stood earlier in its section, or a line of the depot should be -1.
+    /// A node stood earlier in its section, or the number behind the depot is not -1.
     NodeAgain,
     /// Something that must come earlier, or before the end, is missing.
     Missing,

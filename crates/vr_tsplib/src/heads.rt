@@ -1,4 +1,5 @@
-//! Keywords with their values: what the lines outside sections say.
+//! Keywords with their values, and the head, in which all is kept that lines say beside the rows of sections;
+//! `sections` and `rows` have the rest of its steps.
 
 ghost use Rattle.std.specs.Prelude.{◌≡◌, ◌≤◌, IfOk};
 ghost use Rattle.vr_tsplib.specs.Heads as heads;
@@ -74,17 +75,23 @@ pub enum LinePlace {
 /// What is known beside the rows of sections: the keywords and sections that stood, and where the next line stands.
 #[derive(Clone, Copy)]
 pub struct Head {
+    /// Whether `NAME` stood, and so the two below: their values are not used, but none may stand twice.
     pub name: bool,
     pub node_coord_type: bool,
     pub display_data_type: bool,
+    /// Whether `TYPE` stood; its only value is `CVRP`.
     pub is_cvrp: bool,
     pub nodes: Option<u32>,
     pub capacity: Option<u64>,
     pub weight_type: Option<WeightType>,
     pub weight_format: Option<WeightFormat>,
+    /// Whether the section of coordinates began.
     pub has_sites: bool,
+    /// Whether the section of weights began.
     pub has_weights: bool,
+    /// Whether the section of demands began.
     pub has_demands: bool,
+    /// Whether the section of depots began.
     pub has_depot: bool,
     /// The depot, as the file numbers the nodes, from 1.
     pub depot: Option<u32>,
@@ -102,7 +109,8 @@ const WEIGHT_FORMATS: [(&str, WeightFormat); 3] = [
     ("FUNCTION", WeightFormat::Function),
 ];
 
-// A number as the value of a keyword, which must not have stood before.
+// A number as the value of a keyword, which must not have stood before. Its flaws come in the order of their codes: no
+// number, then stood before, then out of range.
 #[tactic(auto, unfolding(vr_json::specs::Reading::and_then, crate::specs::Heads::once_number))]
 fn once_number(stood: bool, lo: u64, hi: u64, value: &[u8]) -> Result<u64, Flaw>
     ensures value { result ≡ heads.once_number stood lo hi value.now }
@@ -136,7 +144,7 @@ impl Head {
         }
     }
 
-    /// How many nodes there are; none before `DIMENSION`.
+    /// How many nodes there are; 0 before `DIMENSION`, where no row asks, since sections begin only behind it.
     pub(crate) fn node_count(self) -> u32
         ensures { result ≡ heads.nodes_of self }
     {

@@ -4,6 +4,11 @@
 //! stood, and where the next line stands) and the rows of the sections. Nothing of the file's text is kept. The state
 //! behind each line is that of the definition `read_lines`, so the first faulty line gives the answer. A whole file
 //! becomes the tree of a model of format 1. `vr_app` calls `import`.
+//!
+//! `files` goes over the lines. Those outside sections are read by `sections`, by the keywords of `heads`; those inside
+//! by `rows` and `weights`; what stands in a line by `texts`, `words` and `numbers`. `flaws` has what is refused.
+//! `summaries` says what a whole file says, `roots` has its distances, and `trees` makes the tree; `imports` is all of
+//! that.
 #![tactic(auto)]
 
 mod files;

@@ -9,7 +9,8 @@ use std::num::saturating_f64_to_u64;
 // The greatest root that is asked for.
 const GREATEST_ROOT: u64 = 2_828_427;
 
-// The square root, rounded down. It is guessed in floating point, and looked for where that guess is another number.
+// The square root, rounded down. It is guessed in floating point, and looked for where that guess is another number
+// (the first test keeps its square within 64 bits).
 fn floor_root(n: u64) -> u64
     requires { n ≤ 8000000000000 }
     ensures { IsFloorRoot n result }
@@ -34,8 +35,8 @@ fn rounded(n: u64, root: u64) -> u64
     }
 }
 
-/// The whole number nearest to the square root of `n`. The root is never halfway between two whole numbers. It takes
-/// no memory.
+/// The whole number nearest to the square root of `n`. The root is never halfway between two whole numbers. It takes no
+/// memory. Outside of this crate tests alone ask it.
 pub fn nearest_root(n: u64) -> u64
     requires { n ≤ 8000000000000 }
     ensures root { (r : ℕ) → r * r ≤ n → n < (r + 1) * (r + 1) → result ≡ roots.rounded n r }

@@ -1,4 +1,4 @@
-//! The rows of sections.
+//! The rows of the sections of coordinates, of demands and of the depot.
 
 ghost use Rattle.std.specs.Prelude.{◌≡◌};
 ghost use Rattle.vr_tsplib.specs.Rows as row_tables;

@@ -1,4 +1,4 @@
-//! The lines outside sections: keyword lines, and the lines with which sections begin.
+//! The lines outside sections: keyword lines, the lines with which sections begin, and `EOF`.
 
 ghost use Rattle.std.specs.Prelude.{◌≡◌};
 ghost use Rattle.vr_tsplib.specs.Heads as heads;
@@ -50,7 +50,7 @@ fn weights_wanted(format: Option<WeightFormat>, n: u32) -> Option<u64>
     }
 }
 
-/// The section of weights where so many are to come.
+/// Where the next line stands where so many weights are to come: in their section, and outside it where none are.
 pub(crate) fn weights_left(left: u64) -> LinePlace
     ensures { result ≡ heads.weights_left left }
 {

@@ -30,7 +30,7 @@ pub struct Problem {
     pub distances: Distances,
 }
 
-/// The demand of a node; 0 where it has no row.
+/// The demand of a node; 0 where it has no row, which does not come behind a whole section.
 pub(crate) fn demand_of(rows: &[DemandRow], node: u32) -> u32
     ensures { result ≡ row_tables.demand_of rows.now node }
 {
@@ -73,7 +73,8 @@ fn of_formats(format: Option<WeightFormat>) -> Option<Distances>
     }
 }
 
-// How the distances are given, where the section of the weights stood.
+// How the distances are given; `None` where the section that they come from, of coordinates or of weights, did not
+// stand.
 fn distances_of(weights: WeightType, head: Head) -> Option<Distances>
     ensures { result ≡ files.distances_of weights head }
 {

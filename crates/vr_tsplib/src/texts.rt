@@ -1,4 +1,4 @@
-//! The words of a text.
+//! The words of a text, and what stands before and behind a mark in it.
 
 ghost use Rattle.std.specs.Prelude.{◌≡◌, ◌==◌, ◌≤◌, ◌<◌, [], ◌∷◌, length, MatchOption, IfNone, IfSome, true, false};
 ghost use Rattle.std.specs.List.{position_or_len};

@@ -29,7 +29,7 @@ fn distance(a: SiteRow, b: SiteRow) -> u64
     nearest_root(dx * dx + dy * dy)
 }
 
-// The row of a node; the origin where it has none.
+// The row of a node; the origin where it has none, which does not come: a whole section has a row of each node.
 fn site_of(rows: &[SiteRow], node: u32) -> SiteRow
     ensures { result ≡ row_tables.site_of rows.now node }
 {
@@ -77,7 +77,8 @@ fn plane(alloc: Global, places: &[SiteRow]) -> Result<Value, NoMemory>
     Ok(Value::Array(rows))
 }
 
-// The weight at a place of the weights.
+// The weight at a place of the weights; 0 behind the last, which does not come: a whole section has all that its format
+// asks.
 fn weight_at(weights: &[u64], k: u64) -> u64
     ensures { result ≡ trees.weight_at weights.now k }
 {
@@ -251,6 +252,7 @@ pub(crate) fn tree(
     let matrix = matrix(alloc, problem.distances, problem.nodes, state)?;
     tree.put("matrices", one_entry(alloc, matrix)?)?;
     tree.put("nodes", Value::from(problem.nodes))?;
+    // the model numbers nodes from 0
     let depot = problem.depot.saturating_sub(1);
     tree.put("vehicles", fleet(alloc, vehicles, depot)?)?;
     Ok(tree.finish())

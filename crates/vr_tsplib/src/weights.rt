@@ -49,8 +49,8 @@ fn push_weights(weights: &mut Seq<u64>, line: &[u8]) -> Result<(), LineFail>
     Ok(())
 }
 
-/// Puts a row of weights, of which `left` are still to come, behind the others. After an error nothing is said of the
-/// weights.
+/// Puts a row of weights, of which `left` are still to come, behind the others. All its words are looked at before any
+/// is put, since in a line `FaultyLine` comes before `OutOfRange`. After an error nothing is said of the weights.
 pub(crate) fn push_row(weights: &mut Seq<u64>, left: u64, line: &[u8]) -> Result<(), LineFail>
     ensures { AnswersLine (seen (λ u. weights.new) result) (row_tables.row_behind left weights.old (words line.now)) }
 {

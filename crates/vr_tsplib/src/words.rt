@@ -1,4 +1,5 @@
-//! Texts of so many words or numbers.
+//! Texts that are one word or one to three numbers, any other having the flaw `FaultyLine`; and what a word of a table
+//! stands for.
 
 ghost use Rattle.std.specs.Prelude.{◌≡◌, option_map, find, map};
 ghost use Rattle.std.specs.Str.{bytes_eq};

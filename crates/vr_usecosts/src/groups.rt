@@ -28,18 +28,20 @@ use vr_parts::InfallibleCost;
 use vr_routes::{Change, Piece, Routes};
 
 /// The penalties of groups that have fewer active nodes than they may have (`AddDisjunction` in OR-Tools). For a change
-/// it looks at the nodes that become active or inactive alone.
+/// it looks at the pieces that come and those that go alone, where the same piece on both sides cancels out: not at
+/// nodes that only stand elsewhere in such a piece.
 #[derive(Drop)]
 pub struct GroupCost<'m> {
     model: &'m RoutingModel,
-    // for each node what it saves where it is active: the penalty of its group
+    // for each node what it saves where it is active: the penalty of its group, 0 where it is in none or that has none
     saved: Seq<i64>,
-    // none of these is more
+    // none of these is more: what a visit saves at most of which it is not known which one it is (`SwapActive`)
     most: i64,
     // whether some group has a penalty that is not 0
     pays: bool,
-    // the penalties at the committed lists
+    // the penalties at the committed lists: where they are 0, no change saves anything
     total: i64,
+    // scratch: the pieces that a change brings in and takes out
     balance: Balance,
 }
 
@@ -57,7 +59,7 @@ impl<'m> Model for GroupCost<'m> {
     } };
 }
 
-// What an active node of a group saves.
+// What an active node of a group saves: 0 where the group has no penalty, as it is never short of nodes then.
 fn penalty(group: &Group) -> i64
     requires present { WherePresent (IsIn (pos 0) greatest_cost) group.now.penalty }
     ensures value { result ≡ pos (pay group.now.penalty) }
@@ -122,7 +124,7 @@ fn is_some_paid(model: &RoutingModel) -> bool
         .any(|group| has_penalty(group))
 }
 
-// What a node saves.
+// What a node saves; 0 of a number that is no node, since what a run saves may be asked of moves that are none.
 #[inline]
 fn saved_at(saved: &Seq<i64>, node: u32) -> i64
     requires few { AreFew saved.now }
@@ -262,7 +264,8 @@ impl<'m> GroupCost<'m> {
         })
     }
 
-    /// Whether no group has a penalty: all lists cost the same then.
+    /// Whether no group has a penalty other than 0: all valid lists cost the same then. Nothing asks it: `vr_judge`
+    /// asks `pays_none`.
     pub fn is_idle(&self) -> bool
         requires well_formed { IsWellFormed self.now.model }
         requires pays { self.now.pays ≡ penalties_of.is_some_paid self.now.model }
@@ -303,8 +306,8 @@ impl<'m> GroupCost<'m> {
     }
 
     /// What each move of a run saves of the penalties, where the lists after it are valid: what a visit or a pair saves
-    /// that is put into a list. The moves of a run differ in their last number. `None` of moves of other kinds
-    /// (that it is given of these alone is not promised).
+    /// that is put into a list. The moves of a run differ in their last number. `None` of moves of other kinds, and
+    /// where there is no such pair. Called by `saved_at_most_by_run` alone.
     #[inline]
     pub fn saved_by_run(&self, mv: Move) -> Option<i64>
         requires well_formed { IsWellFormed self.now.model }
@@ -322,7 +325,8 @@ impl<'m> GroupCost<'m> {
 
     /// What each move of a run saves of the penalties at most, where the lists after it are valid: what a visit or a
     /// pair saves that is put into a list, and, where a visit takes the place of a node, the most that a visit saves
-    /// less what the node does. The moves of a run differ in their last number. `None` of moves of other kinds.
+    /// less what the node does. The moves of a run differ in their last number, which is the visit where it takes the
+    /// place of a node. `None` of moves of other kinds, and where there is no such pair or place.
     #[inline]
     pub fn saved_at_most_by_run(&self, routes: &Routes, mv: Move) -> Option<i64>
         requires stands { StandsGroups self.now routes.now }

@@ -53,7 +53,7 @@ fn with_node(node_tables: &NodeTables<'_>, before: Counts, node: u32) -> Counts
     }
 }
 
-/// Writes, for each node of a list of distinct nodes, what stands in the list up to it.
+/// Writes, for each node of a list of distinct nodes, what stands in the list up to it, itself included.
 pub(crate) fn write_counts(node_tables: &NodeTables<'_>, list: &[u32], table: &mut [Counts; 1000])
     requires { CanBeCounted list.now }
     ensures counted { AreCounted node_tables.now list.now table.new }

@@ -12,7 +12,7 @@ use vr_model::Policy;
 /// place, 16 kilobytes, and takes no memory.
 #[derive(Drop)]
 pub struct Turns {
-    /// For each node of the lists that were put, what stands in its list up to it.
+    /// For each node of the lists that were put, what stands in its list up to it, itself included.
     pub listed: [Counts; 1000],
     /// For each node that a change puts in, what stands among these up to it.
     pub between: [Counts; 1000],

@@ -1,7 +1,7 @@
 use Rattle.std.proofs.Common.{arith}
 use Rattle.std.proofs.lemmas.Int.{ints}
 use Rattle.vr_arccosts.proofs.RunLemmas.{ends-told}
-use Rattle.vr_arccosts.proofs.gaps.Line.ends_added.Goals as goal
+use Rattle.vr_arccosts.proofs.lines.Line.ends_added.Goals as goal
 
 pub returns-clause-value : goal.returns-clause-value
 returns-clause-value c =
