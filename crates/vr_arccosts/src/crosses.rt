@@ -37,7 +37,7 @@ impl<'a, 'm> CrossRun<'a, 'm> {
             run.lists.kept.now.model run.lists.routes.now.lists (Cross run.v run.a run.w b) run.asked.bound }
     {
         if self.lists.kept.have_same_costs(self.v, self.w) {
-            return self.first_fronts();
+            return self.first_alike();
         }
         self.first_unlike()
     }
@@ -57,7 +57,7 @@ impl<'a, 'm> CrossRun<'a, 'm> {
 
     // The same run, where both vehicles have the same costs: the move that leaves the list of `w` empty is asked alone.
     #[inline(always)]
-    fn first_fronts(&self) -> u32
+    fn first_alike(&self) -> u32
         requires costs { let run = self.now in (i j : ℕ) → arc_cost run.lists.kept.now.model run.w i j
             ≡ arc_cost run.lists.kept.now.model run.v i j }
         ensures from { self.now.asked.from ≤ result }

@@ -14,7 +14,7 @@ use Rattle.vr_model.proofs.schedules.LineArcs.{arc_through, arcs_of_line}
 use Rattle.vr_model.specs.deciding.Testing.{within_is, test_of_within}
 use Rattle.vr_model.specs.declared.records.Model.{Model}
 use Rattle.vr_model.specs.declared.records.StopRow.{StopRow}
-use Rattle.vr_check.specs.Asked.{arc_count, is_let, is_start_free, asked_line}
+use Rattle.vr_check.specs.Asked.{arc_count, is_let, keeps_fixed_start, asked_line}
 use Rattle.vr_check.specs.declared.asked.AskedLine.{AskedLine}
 
 ends_and_middle : {B : Type 0} (f : ℕ → B) (list : List ℕ) (first last : B) → length (first ∷ (map f list ++ last ∷ [])) ≡ length list + 2
@@ -74,5 +74,5 @@ capacity_high model well d v dimension vehicle =
     (of.capacities_in_range v (pos 0) (omega (arith, vehicle, of.capacity_of_each_vehicle))).at_most
 
 -- what a line allows that is asked
-pub asked_allows : (it : AskedLine) (k : ℕ) (x : ℤ) → k ≤ arc_count it → (is_let it k x && is_start_free it k x) ≡ allows (asked_line it) k x
+pub asked_allows : (it : AskedLine) (k : ℕ) (x : ℤ) → k ≤ arc_count it → (is_let it k x && keeps_fixed_start it k x) ≡ allows (asked_line it) k x
 asked_allows it k x stop = allows_by_its_row it.model.now it.d it.v it.list.now (capacity_high it.model.now it.known.well_formed it.d it.v it.known.dimension it.known.vehicle) k x stop

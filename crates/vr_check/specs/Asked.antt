@@ -33,5 +33,5 @@ abbrev pub is_let : AskedLine → ℕ → ℤ → Bool
 is_let it k x = stop_allows (number_at (dimension_at it.model.now it.d).capacities it.v) (row_at_stop it k) x
 
 -- the start is 0 where the dimension fixes it
-abbrev pub is_start_free : AskedLine → ℕ → ℤ → Bool
-is_start_free it k x = not (k == 0) || (not (dimension_at it.model.now it.d).fix_start || is_same_number x (pos 0))
+abbrev pub keeps_fixed_start : AskedLine → ℕ → ℤ → Bool
+keeps_fixed_start it k x = not (k == 0) || (not (dimension_at it.model.now it.d).fix_start || is_same_number x (pos 0))

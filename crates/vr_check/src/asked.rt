@@ -127,8 +127,8 @@ impl<'a> AskedLine<'a> {
     }
 
     // Whether a cumul is 0 where it must be.
-    fn is_start_free(&self, k: usize, x: i64) -> bool
-        ensures { result ≡ asked_lines.is_start_free self.now k x }
+    fn keeps_fixed_start(&self, k: usize, x: i64) -> bool
+        ensures { result ≡ asked_lines.keeps_fixed_start self.now k x }
     {
         k != 0 || !self.dimension().fix_start || x == 0
     }
@@ -138,7 +138,7 @@ impl<'a> AskedLine<'a> {
         requires stop { k ≤ arc_count self.now }
         ensures { result ≡ schedules.allows (asked_line self.now) k x }
     {
-        self.is_let(k, x) && self.is_start_free(k, x)
+        self.is_let(k, x) && self.keeps_fixed_start(k, x)
     }
 
     /// How many arcs there are.

@@ -26,7 +26,7 @@ pub record IsRunGuide (model : Model) (d v : ℕ) (table : Table) (evaluator : E
   pub well_formed : IsWellFormed model
   pub dimension : d < length model.dimensions
   pub vehicle : v < length model.vehicles
-  pub places : ArePlaces model.nodes (keys_of (dimension_at model d).nodes) table.rows.items
+  pub places : ArePlaces model.nodes (keys_of (dimension_at model d).nodes) table.row_places.items
   pub hard : IsTrue table.is_hard → CostsNoSoft (dimension_at model d)
   pub evaluator_is : evaluator ≡ evaluator_of (dimension_at model d) v
   pub slack_is : slack ≡ (dimension_at model d).slack_max

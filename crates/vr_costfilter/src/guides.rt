@@ -234,7 +234,7 @@ impl<'m> Guide<'m> {
             → IsStageOf self.now.model.now (n + 1) next) }
     {
         let dimension = self.model.dimensions.get(self.d as usize);
-        let row = row_of(&dimension.nodes, &self.table.rows, step.node);
+        let row = row_of(&dimension.nodes, &self.table.row_places, step.node);
         let raised = Run {
             lo: step.floor,
             hi: self.visits[step.node as usize].hi,

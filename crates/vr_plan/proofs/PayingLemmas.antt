@@ -14,7 +14,7 @@ use Rattle.vr_model.specs.routes.Costs.{row_cost, soft_cost}
 use Rattle.vr_model.specs.schedules.Lines.{stop_rows}
 use Rattle.vr_model.specs.deciding.Testing.{and_left, and_right}
 use Rattle.vr_model.proofs.tables.Tests.{all-from_list_all, fails_not, or-false_left, or-false_right}
-use Rattle.vr_plan.specs.Paying.{are_free, are_zero, has_soft, is_free, is_hard, may_pay_alone, visits_soft, CostsNoSoft, PaysNothing}
+use Rattle.vr_plan.specs.Paying.{are_hard, are_zero, has_soft, is_free, is_hard, may_pay_alone, visits_soft, CostsNoSoft, PaysNothing}
 
 no_cost : (row : Option StopRow) (x : ℤ) → has_soft row ≡ false → row_cost row x ≡ pos 0
 no_cost None x h = refl
@@ -93,7 +93,7 @@ pays_nothing_where dimension v list none =
     (none_at (λ node. has_soft (row_of dimension.nodes node)) list (or-false_right (cost || start || last) visits none))
 
 -- no row has a soft bound
-free_at : (rows : List StopRow) → are_free rows ≡ true → (k : ℕ) (d : StopRow) → k < length rows → is_some (get_or rows k d).soft ≡ false
+free_at : (rows : List StopRow) → are_hard rows ≡ true → (k : ℕ) (d : StopRow) → k < length rows → is_some (get_or rows k d).soft ≡ false
 free_at rows all k d low = fails_not (is_some (get_or rows k d).soft) (all-from_list_all (λ (row : StopRow). not (is_some row.soft)) rows all k d low)
 
 -- of a dimension without soft bounds no row that is found has one
@@ -104,9 +104,9 @@ pub record AreHard (dimension : Dimension) : Type 0 where
 
 rows_hard : (dimension : Dimension) → is_hard dimension ≡ true → AreHard dimension
 rows_hard dimension hard =
-    let starts = are_free dimension.starts in
-    let nodes = are_free dimension.nodes in
-    let last = are_free dimension.ends in
+    let starts = are_hard dimension.starts in
+    let nodes = are_hard dimension.nodes in
+    let last = are_hard dimension.ends in
     let front = and_left (starts && nodes) last hard in
     record {
       starts = row_free dimension.starts (free_at dimension.starts (and_left starts nodes front));

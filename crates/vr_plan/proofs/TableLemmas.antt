@@ -47,7 +47,7 @@ pub table_at : (model : Model) (tables : List Table) → AreTables model tables 
 table_at model tables are d table is low = subst (IsTable model d) (sym is) (are.each d table (let n = are.one_of_each in omega (arith, low, n)))
 
 -- the places that it has, beside the rows of the dimension
-module _ (model : Model) (d : ℕ) (table : Table) (is : IsTable model d table) (places : List ℕ) (read : places ≡ table.rows.items) where
+module _ (model : Model) (d : ℕ) (table : Table) (is : IsTable model d table) (places : List ℕ) (read : places ≡ table.row_places.items) where
   long : length places ≡ model.nodes
   long = ap length read ∙ is.places.one_of_each
 

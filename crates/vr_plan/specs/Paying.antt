@@ -28,12 +28,12 @@ abbrev pub are_zero : List ℤ → Bool
 are_zero coefficients = list_all (λ coefficient. int_eq coefficient (pos 0)) coefficients
 
 -- no row of stops has a soft upper bound
-abbrev pub are_free : List StopRow → Bool
-are_free rows = list_all (λ row. not (is_some row.soft)) rows
+abbrev pub are_hard : List StopRow → Bool
+are_hard rows = list_all (λ row. not (is_some row.soft)) rows
 
 -- no stop of a dimension has a soft upper bound
 abbrev pub is_hard : Dimension → Bool
-is_hard dimension = are_free dimension.starts && are_free dimension.nodes && are_free dimension.ends
+is_hard dimension = are_hard dimension.starts && are_hard dimension.nodes && are_hard dimension.ends
 
 -- no span has a coefficient, and no stop has a soft upper bound
 abbrev pub is_free : Dimension → Bool

@@ -18,7 +18,7 @@ keys_of rows = map (λ row. row.key) rows
 -- pays anything, and whether no stop has a soft upper bound, where soft upper bounds cost no list anything
 pub record IsTable (model : Model) (d : ℕ) (table : Table) : Type 0 where
   pub stops_ask : AreStops model d table.stops
-  pub places : ArePlaces model.nodes (keys_of (dimension_at model d).nodes) table.rows.items
+  pub places : ArePlaces model.nodes (keys_of (dimension_at model d).nodes) table.row_places.items
   pub is_free : table.is_free ≡ is_free (dimension_at model d)
   pub is_hard : table.is_hard ≡ is_hard (dimension_at model d)
   pub free : IsTrue table.is_free → (v : ℕ) (list : List ℕ) → PaysNothing (dimension_at model d) v list

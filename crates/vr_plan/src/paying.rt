@@ -6,7 +6,7 @@ ghost use Rattle.std.specs.List.{list_all};
 ghost use Rattle.std.specs.Option.{option_copied};
 ghost use Rattle.vr_model.specs.tables.Tables.{dimension_at, is_visit};
 ghost use Rattle.vr_model.specs.tables.WellFormed.{IsWellFormed};
-ghost use Rattle.vr_plan.specs.Paying.{are_free, are_zero, has_soft, is_free, is_hard, may_pay_alone, visits_soft};
+ghost use Rattle.vr_plan.specs.Paying.{are_hard, are_zero, has_soft, is_free, is_hard, may_pay_alone, visits_soft};
 ghost use Rattle.vr_lists.specs.Places.{ArePlaces};
 ghost use Rattle.vr_plan.specs.Tables.{keys_of, IsTable};
 
@@ -27,7 +27,7 @@ pub fn may_pay_alone(model: &Model, table: &Table, d: u32, v: u32, list: &[u32])
     if table.is_free {
         return false;
     }
-    list_pays(model.dimensions.get(d as usize), &table.rows, v, list)
+    list_pays(model.dimensions.get(d as usize), &table.row_places, v, list)
 }
 
 // Whether no schedule of any list may cost anything by itself in a dimension.
@@ -42,7 +42,7 @@ pub(crate) fn is_free(dimension: &Dimension) -> bool
 pub(crate) fn is_hard(dimension: &Dimension) -> bool
     ensures { result ≡ is_hard dimension.now }
 {
-    are_free(&dimension.starts) && are_free(&dimension.nodes) && are_free(&dimension.ends)
+    are_hard(&dimension.starts) && are_hard(&dimension.nodes) && are_hard(&dimension.ends)
 }
 
 // Whether all coefficients are 0.
@@ -56,8 +56,8 @@ fn are_zero(coefficients: &Seq<i64>) -> bool
 }
 
 // Whether no row of stops has a soft upper bound: what `is_hard` asks of all rows of a dimension.
-fn are_free(rows: &Seq<StopRow>) -> bool
-    ensures { result ≡ are_free rows.now }
+fn are_hard(rows: &Seq<StopRow>) -> bool
+    ensures { result ≡ are_hard rows.now }
 {
     rows.as_slice().iter().all(|row| row.soft.is_none())
 }

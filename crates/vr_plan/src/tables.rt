@@ -20,7 +20,7 @@ pub struct Table {
     /// What its stops ask.
     pub stops: Stops,
     /// For each node the place of its row among the rows of visits, the number of rows where it has none.
-    pub rows: Vec<u32>,
+    pub row_places: Vec<u32>,
     /// Whether no schedule of any list may cost anything by itself: no vehicle has a coefficient of spans that is not
     /// 0, and no stop a soft upper bound.
     pub is_free: bool,
@@ -81,7 +81,7 @@ fn table_of(alloc: Global, closed: Closed<'_>, d: u32) -> Result<Table, NoMemory
 {
     Ok(Table {
         stops: Stops::build(alloc, closed, d)?,
-        rows: row_places(alloc, closed, d)?,
+        row_places: row_places(alloc, closed, d)?,
         is_free: is_free(closed.model.dimensions.get(d as usize)),
         is_hard: is_hard(closed.model.dimensions.get(d as usize)),
     })

@@ -163,7 +163,7 @@ fn timing_at(
 {
     let dimension = closed.model.dimensions.get(d as usize);
     Timing {
-        soft: soft_cost(dimension, &table.rows, v, list, cumuls),
+        soft: soft_cost(dimension, &table.row_places, v, list, cumuls),
         start: cumuls[0],
         last: cumuls[list.len() + 1],
     }

@@ -3,7 +3,7 @@
 //! [`tabu`] (`searching`) goes on in rounds. A round (`rounds`) tries all moves of the lists and makes the best of
 //! them, also where it costs more; the visits that it changes are then tabu for some rounds (`tabu_list`): a move that
 //! changes no other visit is not made, unless it leads to lists that cost less than any before. Which visits a move
-//! changes is told by the lists that its change makes (`new_list`, `list_change`), without memory. Of a run of moves,
+//! changes is told by the lists that its change makes (`written_list`, `list_change`), without memory. Of a run of moves,
 //! those in front that cannot be better are tries that nothing more is asked about (`passing`). What the best candidate
 //! so far changes is kept for the commit: `State::advance` owns that change, the round that of the move in hand, and
 //! the two are swapped where a better candidate is found.
@@ -17,11 +17,11 @@
 
 mod laws;
 mod list_change;
-mod new_list;
 mod passing;
 mod rounds;
 mod searching;
 mod tabu_list;
+mod written_list;
 
 pub use laws::tabu_is_sound;
 pub use searching::{TabuAnswer, tabu};

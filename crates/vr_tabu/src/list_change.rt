@@ -4,7 +4,7 @@ ghost use Rattle.std.specs.Prelude.{◌≡◌, ◌<◌, IsTrue, length};
 ghost use Rattle.vr_model.specs.routes.Routes.{is_distinct, route};
 ghost use Rattle.vr_tabu.specs.Changed.{is_changed_in, node_just_before};
 
-use crate::new_list::{NewList, node_before_place};
+use crate::written_list::{WrittenList, node_before_place};
 use std::marker::Model;
 use vr_routes::Routes;
 
@@ -14,7 +14,7 @@ pub struct ListChange<'r, 'a> {
     pub routes: &'r Routes,
     pub vehicle: u32,
     pub start: u32,
-    pub after: &'a NewList,
+    pub after: &'a WrittenList,
 }
 
 impl<'r, 'a> Model for ListChange<'r, 'a> {

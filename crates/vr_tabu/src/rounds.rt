@@ -18,10 +18,10 @@ ghost use Rattle.vr_tabu.specs.Standing.{IsKnownState};
 ghost use Rattle.vr_tabu.specs.Tabus.{tabus_of};
 ghost use Rattle.vr_tabu.specs.TabuSearches.{is_tabu, round_of};
 
-use crate::new_list::NewList;
 use crate::passing::NoBetter;
 use crate::searching::State;
 use crate::tabu_list::WholeChange;
+use crate::written_list::WrittenList;
 use std::marker::PhantomData;
 use std::mem::swap;
 use std::sync::ledger::Ledger;
@@ -51,14 +51,14 @@ pub enum RoundEnd {
 #[derive(Drop)]
 struct Scratch {
     change: Change,
-    after: NewList,
+    after: WrittenList,
 }
 
 impl Scratch {
     fn new() -> Scratch {
         Scratch {
             change: Change::blank(),
-            after: NewList::new(),
+            after: WrittenList::new(),
         }
     }
 }
@@ -274,7 +274,7 @@ impl<'a> Round<'a> {
     }
 
     // Whether a change is tabu.
-    fn is_tabu(&self, change: &Change, after: &mut NewList) -> bool
+    fn is_tabu(&self, change: &Change, after: &mut WrittenList) -> bool
         requires made { IsMadeOn self.now.routes.now change.now }
         requires lists { IsTrue (are_lists self.now.model.now (changed self.now.routes.now.lists change.now)) }
         ensures { result ≡ is_tabu self.now.model.now (tabus_of self.now.state.now.tabus) self.now.routes.now.lists
@@ -292,7 +292,7 @@ impl<'a> Round<'a> {
     // Whether a change that makes a difference is tabu and leads to lists that cost no less than the best before. Where
     // they cost less, whether it is tabu is not asked.
     #[inline]
-    fn is_forbidden(&self, difference: i64, change: &Change, after: &mut NewList) -> bool
+    fn is_forbidden(&self, difference: i64, change: &Change, after: &mut WrittenList) -> bool
         requires made { IsMadeOn self.now.routes.now change.now }
         requires lists { IsTrue (are_lists self.now.model.now (changed self.now.routes.now.lists change.now)) }
         ensures { result ≡ (int_le (aspiration self.now.model.now self.now.state.now.best.routes.lists

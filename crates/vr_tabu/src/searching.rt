@@ -21,9 +21,9 @@ ghost use Rattle.vr_tabu.specs.Standing.{tabu_from_state, left_of, next_events};
 ghost use Rattle.vr_tabu.specs.TabuSearches.{next_round, round_of, tabu_search};
 ghost use Rattle.vr_tabu.specs.Tabus.{tabus_of};
 
-use crate::new_list::NewList;
 use crate::rounds::{Candidate, Round, RoundEnd};
 use crate::tabu_list::{TabuList, WholeChange};
+use crate::written_list::WrittenList;
 use std::alloc::Global;
 use std::sync::ledger::Ledger;
 use vr_descent::{Incumbent, Progress};
@@ -180,7 +180,7 @@ impl State {
                 };
                 // before the move is made, since the lists before it tell what it changes
                 self.tabus
-                    .follow(lists, parameters.tenure, &mut NewList::new());
+                    .follow(lists, parameters.tenure, &mut WrittenList::new());
                 self.take(judge, routes, watch, length, candidate, &change)?;
                 Ok(None)
             }

@@ -11,7 +11,7 @@ ghost use Rattle.vr_tabu.specs.Tabus.{AreAllTabu, tabus_of, until_at};
 ghost use Rattle.vr_tabu.specs.TabuSearches.{is_tabu, is_tabu_visit, next_round, none_tabu};
 
 use crate::list_change::ListChange;
-use crate::new_list::NewList;
+use crate::written_list::WrittenList;
 use std::alloc::Global;
 use vr_model::{Closed, Model, NoMemory};
 use vr_routes::{Change, Routes};
@@ -39,7 +39,7 @@ pub struct WholeChange<'m, 'r, 'c> {
 impl<'m, 'r, 'c> WholeChange<'m, 'r, 'c> {
     // What part `k` makes of the list of its vehicle, which was written out.
     #[inline]
-    fn list_change<'a>(self, k: usize, after: &'a NewList) -> ListChange<'r, 'a>
+    fn list_change<'a>(self, k: usize, after: &'a WrittenList) -> ListChange<'r, 'a>
         requires made { IsMadeOn self.routes.now self.change.now }
         requires part { k < length self.change.now }
         requires written { after.now ≡ joined self.routes.now.lists (part_at self.change.now k).pieces }
@@ -109,7 +109,7 @@ impl TabuList {
 
     /// Whether a change is tabu in this round: each visit that it changes is. The list is written over. Takes no
     /// memory.
-    pub fn is_tabu(&self, lists: WholeChange<'_, '_, '_>, after: &mut NewList) -> bool
+    pub fn is_tabu(&self, lists: WholeChange<'_, '_, '_>, after: &mut WrittenList) -> bool
         requires made { IsMadeOn lists.routes.now lists.change.now }
         ensures { result
             ≡ is_tabu lists.entry.closed.model.now (tabus_of self.now) lists.entry.routes.now.lists
@@ -168,7 +168,7 @@ impl TabuList {
 
     /// Goes on to the next round: the visits that a change of these lists changes are tabu for `tenure` rounds from
     /// then on. The list is written over. Takes no memory.
-    pub fn follow(&mut self, lists: WholeChange<'_, '_, '_>, tenure: u32, after: &mut NewList)
+    pub fn follow(&mut self, lists: WholeChange<'_, '_, '_>, tenure: u32, after: &mut WrittenList)
         requires made { IsMadeOn lists.routes.now lists.change.now }
         requires round { self.old.round ≤ 1000000000 }
         requires covers { length self.old.until.items ≡ lists.closed.model.now.nodes }

@@ -14,7 +14,6 @@ ghost use Rattle.vr_routes.specs.Changes.{IsMadeOn};
 ghost use Rattle.vr_routes.specs.Pieces.{changed, nodes_of, IsWithin};
 ghost use Rattle.vr_routes.specs.Runs.{with_last};
 ghost use Rattle.vr_parts.specs.Bounds.{IsAddedByChange};
-ghost use Rattle.vr_parts.specs.Parts.{CostAlike};
 ghost use Rattle.vr_balance.specs.Sums.{IsUpTo};
 ghost use Rattle.vr_usecosts.specs.Groups as penalties_of;
 ghost use Rattle.vr_usecosts.specs.Groups.{pay, saved_by, saved_in as saved_in_of, AreSaved, AreFew};
@@ -262,17 +261,6 @@ impl<'m> GroupCost<'m> {
             total,
             balance: Balance::new(),
         })
-    }
-
-    /// Whether no group has a penalty other than 0: all valid lists cost the same then. Nothing asks it: `vr_judge`
-    /// asks `pays_none`.
-    pub fn is_idle(&self) -> bool
-        requires well_formed { IsWellFormed self.now.model }
-        requires pays { self.now.pays ≡ penalties_of.is_some_paid self.now.model }
-        ensures idle { result ≡ not (penalties_of.is_some_paid self.now.model) }
-        ensures alike { IsTrue result → CostAlike penalty_part self.now.model }
-    {
-        !self.pays
     }
 
     /// Whether the committed lists have no penalty to pay: no lists have less to pay then.

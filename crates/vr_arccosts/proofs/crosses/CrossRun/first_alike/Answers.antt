@@ -5,7 +5,7 @@ use Rattle.std.proofs.lemmas.Bool.{cases_lt}
 use Rattle.vr_model.specs.declared.neighbours.Move.TheVariants.{Cross}
 use Rattle.vr_arccosts.specs.ArcMoves.{arcs_added}
 use Rattle.vr_arccosts.specs.Runs.{AddsNoLess}
-use Rattle.vr_arccosts.proofs.crosses.CrossRun.first_fronts.Goals as goal
+use Rattle.vr_arccosts.proofs.crosses.CrossRun.first_alike.Goals as goal
 
 pub returns-clause-no_less : goal.returns-clause-no_less
 returns-clause-no_less c b low high =

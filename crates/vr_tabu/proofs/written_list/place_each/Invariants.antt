@@ -1,7 +1,7 @@
 use Rattle.std.proofs.Common.{◌≡◌, ◌<◌, ℕ, length}
 use Rattle.std.specs.Prelude.{slice_index}
 use Rattle.vr_tabu.specs.Parts.{IsPlaced}
-use Rattle.vr_tabu.proofs.new_list.place_each.Given as goal
+use Rattle.vr_tabu.proofs.written_list.place_each.Given as goal
 
 -- the places of the visits so far are kept
 abbrev pub invariant-loop-k : goal.invariant-loop-k

@@ -2,7 +2,7 @@ use Rattle.std.proofs.Common.{◌≡◌, ◌∙◌, ap, sym, false, length}
 use Rattle.std.specs.Prelude.{◌==◌, ◌&&◌, nat_lt, slice_index}
 use Rattle.vr_tabu.specs.Changed.{node_just_before}
 use Rattle.vr_tabu.proofs.PlaceLemmas.{not_kept}
-use Rattle.vr_tabu.proofs.new_list.NewList.node_before.Goals as goal
+use Rattle.vr_tabu.proofs.written_list.WrittenList.node_before.Goals as goal
 
 pub returns : goal.returns
 returns c =

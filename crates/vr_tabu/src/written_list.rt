@@ -12,13 +12,13 @@ use vr_routes::{Change, Routes, Row};
 
 /// The list of a vehicle after a change, written out. Contracts see the list. Where a visit stands in it is looked up.
 #[derive(Drop)]
-pub struct NewList {
+pub struct WrittenList {
     row: Row,
     // the place of each visit of the row; those of others are of no account
     places: [u32; 1000],
 }
 
-impl Model for NewList {
+impl Model for WrittenList {
     ghost use Rattle.std.specs.Prelude.{ℕ, List};
     ghost use Rattle.vr_tabu.specs.Parts.{ArePlaced};
 
@@ -29,12 +29,12 @@ impl Model for NewList {
     ghost invariant = { λ l. ArePlaced l.row l.places };
 }
 
-impl NewList {
+impl WrittenList {
     /// The empty list.
-    pub fn new() -> NewList
+    pub fn new() -> WrittenList
         ensures { result ≡ [] }
     {
-        NewList {
+        WrittenList {
             row: Row::new(),
             places: [0; 1000],
         }
