@@ -1,4 +1,5 @@
--- What an input is, for each status of an accepted call.
+-- What an input is, for each status of an accepted call. JSON, a model or a file is here one of no more bytes than it
+-- may have.
 use Rattle.std.specs.Prelude.{◌≡◌, ◌<◌, ◌≤◌, ℕ, List, Some, None, Result, Ok, Err, IsSome, length}
 use Rattle.serde_json.specs.Data.{Data}
 use Rattle.vr_json.specs.declared.fault.Fault.{Fault}

@@ -1,4 +1,4 @@
--- What an input is, for each status of a question about its solution.
+-- What an input is, for each status of a question about its solution, where it has no more bytes than it may.
 use Rattle.std.specs.Prelude.{◌≡◌, ℕ, ℤ, List, false, IsTrue, Some}
 use Rattle.vr_json.specs.Trees.{text_line}
 use Rattle.vr_printed.specs.Printed.{assignment_of}

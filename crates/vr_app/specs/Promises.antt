@@ -1,4 +1,5 @@
--- What is promised of a run, by subject.
+-- What is promised of a run, by subject. When 0, 1, 4, 5, 6, 8 or 9 comes is said of runs whose status is none of 2, 3
+-- and 7; what is JSON, a model or a file is not too long.
 use Rattle.std.specs.Prelude.{◌≡◌, ◌≢◌, ◌⊎◌, ◌↔◌, ◌≤◌, ℕ, List, [], Option, Some, length}
 use Rattle.serde_json.specs.Data.{Data}
 use Rattle.vr_io.specs.Edges.{Rose, Took}
@@ -101,9 +102,10 @@ pub record IsSolving (reports : List Event → List ℕ) (run : Run) : Type 0 wh
       (fault : Fault) → HasFault model_of_value bytes fault → Wrote run (text_line (refused_tree fault)))
 
 -- Of `check` and `spans`, 0 comes exactly where the solution in the input meets the rules of its model, and then it
--- keeps them: valid lists, schedules, the parts of their cost. `spans` says of each line without breaks the least span
--- of all its schedules, with the first schedule of this span. 9 comes of these two alone, exactly where the solution
--- breaks a rule; the text says the first. 5 comes exactly where the input is refused; the text says code and path.
+-- keeps them: valid lists, schedules, the parts of their cost. `spans` says of the line of each used vehicle, in each
+-- dimension in which no vehicle has breaks, the least span of all its schedules, with the first schedule of this span.
+-- 9 comes of these two alone, exactly where the solution breaks a rule; the text says the first. 5 comes exactly where
+-- the input is refused; the text says code and path.
 pub record IsChecking (run : Run) : Type 0 where
   pub met : WhereAsked run.words run.left_before run.status (λ bytes. (run.status ≡ 0) ↔ IsMet bytes)
   pub kept : run.status ≡ 0 → AsksCheck run.words → WhereKnown run.left_before (λ bytes.

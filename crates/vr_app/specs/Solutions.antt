@@ -30,7 +30,7 @@ pub record IsSolution (model : Model) (first : List (List ℕ)) (assignment : As
   pub cost_is : sum_of (parts_at model assignment) ≡ cost model assignment.lists
   pub no_dearer_than_first : sum_of (parts_at model assignment) ≤ℤ cost model first
 
--- no more moves were tried and no more solutions found than the model allows, and one solution was found
+-- there were no more tries and no more solutions than the model allows, and at least one solution
 pub record IsInLimits (model : Model) (report : Report) : Type 0 where
   pub tries : report.tries ≤ model.search.tries
   pub some_solution : 1 ≤ report.solutions

@@ -79,7 +79,7 @@ printed_assignment (Some printed) = assignment_of printed.routes
 unfoldable pub spans_of : Checked → Data
 spans_of it = spans_tree it.model (printed_assignment (printed_in it.model it.solution))
 
--- of each line that is reported of, the shortest schedule is reported
+-- the line of each used vehicle in each dimension has a shortest schedule, and `shortest_plan` is this
 abbrev pub ReportsShortest : Model → Assignment → Type 0
 ReportsShortest model assignment =
     (v d : ℕ) → v < length assignment.lists → d < length model.dimensions

@@ -1,4 +1,4 @@
--- The trees of the lines that the program writes, but for solutions.
+-- The trees of the lines that the program writes, but for solutions, spans and models.
 use Rattle.std.specs.Prelude.{ℕ, suc, ℤ, List, [], ◌∷◌, cond, codes, length}
 use Rattle.serde_json.specs.Data.{Data, number, string, object, unsigned, no_members, member}
 use Rattle.vr_json.specs.declared.fault.Fault.{Fault}

@@ -58,7 +58,7 @@ fn solution_in<'a>(alloc: Global, value: &'a Value, path: &Path) -> Result<&'a V
     }
 }
 
-// A model and the solution beside it, in an object of these two.
+// A model and the solution beside it, in an object with these two fields and no other.
 fn model_and_solution<'a>(
     alloc: Global,
     value: &'a Value,
@@ -99,7 +99,8 @@ fn answer_met(
     }
 }
 
-// The answer that reports the first rule that a solution breaks.
+// The answer that reports the first rule that a solution breaks. What vehicle and place are, `Rule` says; -1 stands
+// where a number does not apply.
 fn answer_broken(alloc: Global, rule: Rule, vehicle: i64, place: i64) -> Result<Answer, NoMemory>
     ensures reply { IfOk result (AnswersReply (replies.broken rule vehicle place)) }
     ensures status { IfOk result (λ a. IsOfChecking a.status) }

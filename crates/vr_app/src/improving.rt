@@ -57,7 +57,7 @@ fn lambda_of(closed: Closed<'_>) -> Lambda
     }
 }
 
-// How many visits a cut takes out of a path at most.
+// How many visits the chain of a cut has at most.
 fn cut_of(closed: Closed<'_>) -> u32
     ensures cut { result ≡ closed.entry.model.now.search.cut }
     ensures one { 1 ≤ result }

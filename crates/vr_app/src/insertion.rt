@@ -9,7 +9,7 @@ use vr_model::{Model, NoMemory};
 use vr_plan::Lookups;
 use vr_routes::Routes;
 
-/// Parallel cheapest insertion of all items that stand in no list.
+/// Parallel cheapest insertion of items that stand in no list.
 #[derive(Drop)]
 pub(crate) struct Insertion {
     alloc: Global,
@@ -33,7 +33,7 @@ impl Rebuild for Insertion {
 
     ghost knows = { λ insertion model. IsOpened model insertion.rebuilder };
 
-    /// As the trait says. Nothing calls it: path neighbourhoods ask `rebuild_known` alone.
+    /// As the trait says. Nothing calls it: path neighbourhoods ask `rebuild_known` instead.
     fn rebuild(&mut self, model: &Model, routes: &Routes) -> Result<Routes, NoMemory> {
         rebuild(self.alloc, model, routes)
     }
@@ -50,6 +50,7 @@ impl Rebuild for Insertion {
     ) -> Result<(), NoMemory> {
         match &mut self.rebuilder {
             Some(rebuilder) => rebuilder.rebuild(lookups, routes),
+            // it knows a model: the trait asks for that
             None => unreachable!(),
         }
     }

@@ -8,9 +8,9 @@
 //! the judge that it chooses and by `insertion`, which rebuilds open routes; `best` is what a search gives. `improving`
 //! takes the search that the model names: nothing, greedy descent, guided local search, path neighbourhoods or tabu
 //! search. Each but nothing is a strategy over rounds: greedy descent and guided local search scan for the first move
-//! that they accept, tabu search makes the best move of all, and path neighbourhoods take the first cut whose
-//! rebuilding costs less. Each keeps valid lists of known cost between rounds, counts tries and solutions, tells the
-//! watchers, and stands in a crate of its own; what all four answer is put side by side here.
+//! that they accept, tabu search makes the best of the moves that may be made, and path neighbourhoods take the first
+//! cut whose rebuilding costs less. Each keeps valid lists of known cost between rounds, counts tries and solutions,
+//! tells the watchers, and stands in a crate of its own; what all four answer is put side by side here.
 //!
 //! Replied: `solving` works out the answer to an input, `demo` a summary of a search for a number, `checked` what is
 //! asked of a solution, `spans` the tree of least spans for it, `numbered` what has a number, `answer` what says a
@@ -51,8 +51,9 @@
 //!     guide_from           improving: guided local search, by the limit and weights of the model
 //!     guide, search        vr_guided: rounds of scans, and penalties between them
 //!     advance, run         vr_descent: one scan: the moves of the lists, one after another
-//!     next_open            vr_descent: the next move, behind runs that are known or ruled out (`Judge::first_below`)
+//!     next_open            vr_descent: the next move, behind those that are known or ruled out (`Judge::first_below`)
 //!     try_move             vr_descent: asks the judge, a `vr_judge::FilterJudge`, about a move
+//!     judge_change         vr_judge: the filters, and then what the move adds to each part of the cost
 //!
 //! `advance` owns the change of the move in hand and lends it down: `try_move` writes it over for each move, and hands
 //! it to all that is asked. Of an accepted move its place, the move and its difference go back to `advance`, which

@@ -26,7 +26,7 @@ use vr_model::NoMemory;
 use vr_model::limits::MOST_INPUT_BYTES;
 use vr_watch::Watch;
 
-// Why there is no answer to write.
+// Why there is no answer to write. Too many bytes are no such reason: there is a text for that.
 #[derive(Clone, Copy)]
 enum Stop {
     ReadFault,
@@ -157,8 +157,8 @@ fn run_lent<S: Source, K: Sink>(
 /// | `demo N` | nothing | the line of a summary of the whole search of that model |
 ///
 /// N and K are written in decimal digits, with no 0 in front of others; N is at most 2^64 - 1, and K is 1 to 100. What
-/// is read is the source to its end, unless too many bytes come. C is the cost of the solution, which keeps all rules
-/// of its model.
+/// is read is the source to its end, unless it fails, too many bytes come or memory is wanting. C is the cost of the
+/// solution, which keeps all rules of its model.
 ///
 /// | status | comes | written |
 /// |---|---|---|
@@ -179,8 +179,8 @@ fn run_lent<S: Source, K: Sink>(
 /// dimension in which no vehicle has breaks, the least span of all schedules of its line and the printed one, and of
 /// the schedules of the least span the one whose cumuls, compared from the start on, are least. With 5, C is the code
 /// and P the path of the first fault of reading, of `import` a `/` and the number of the line, `/0` for the file as a
-/// whole; with 9, R is the first rule (`vr_check::Rule`) that is broken, with its vehicle V and place L. The causes of
-/// 4, 5 and 8 are said of the words that read.
+/// whole; with 9, R is the first rule (`vr_check::Rule`) that is broken, with its vehicle V and place L, -1 where one
+/// does not apply. The causes of 4, 5 and 8 are said of the words that read.
 ///
 /// Only with `--log` is an event of the search noted, to every watcher in order; a watcher that finds no memory for it
 /// ends the run with status 7. All watchers are dropped at the end.

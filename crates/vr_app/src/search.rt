@@ -23,8 +23,9 @@ use vr_plan::Lookups;
 use vr_routes::{Judge, Routes};
 
 /// What the search that the model names makes of its first solution, by a judge of filters that stands at it. The
-/// watchers are told of each event. The only refusal is want of memory. Beside `search_watched` a test of
-/// `vr_app_tests` calls it, which shows by its types that the program searches by this judge.
+/// watchers are told of each event. The only refusal is want of memory. A counter of steps is made of `blank` for the
+/// search, which contracts alone see. Beside `search_watched` a test of `vr_app_tests` calls it, which shows by its
+/// types that the program searches by this judge.
 pub fn improve_judged<L: Ledger>(
     alloc: Global,
     lookups: &Lookups<'_>,

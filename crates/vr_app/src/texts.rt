@@ -1,4 +1,4 @@
-//! The trees of the texts that say no solution: statuses, refusals, findings and summaries. `spans` has its own.
+//! The trees of statuses, refusals, findings and summaries. `spans` has its own.
 
 ghost use Rattle.std.specs.Prelude.{◌≡◌, IfOk, OnOk};
 ghost use Rattle.serde_json.specs.Data.{no_members, object, put, string};
@@ -28,7 +28,7 @@ fn put_text(alloc: Global, tree: &mut Tree, key: &str, text: &str) -> Result<(),
     tree.put(key, text_value(alloc, text)?)
 }
 
-// Puts a number that counts something.
+// Puts a natural number.
 fn put_count(tree: &mut Tree, key: &str, number: u64) -> Result<(), NoMemory>
     ensures { OnOk result (members_put tree.new ≡ put key.now (count number) (members_put tree.old)) }
 {

@@ -34,7 +34,7 @@ pub record IsAlongTo (model : Model) (v : ℕ) (list : List ℕ) (n : ℕ) (alon
 abbrev pub IsAlong : Model → ℕ → List ℕ → Along → Type 0
 IsAlong model v list along = IsAlongTo model v list (length (line_nodes model v list)) along
 
--- arc n of the line of vehicle v with a list goes from one node to another
+-- arc n of the line of vehicle v with a list goes from node `at` to node `next`
 pub record IsArc (model : Model) (v : ℕ) (list : List ℕ) (n at next : ℕ) : Type 0 where
   pub inside : n < length (line_nodes model v list)
   pub from : at ≡ last_of (vehicle_at model v).start (take n (line_nodes model v list))
@@ -45,7 +45,7 @@ abbrev pub AreAlong : Model → List (List ℕ) → List Along → Type 0
 AreAlong model lists along = (v : ℕ) → v < length lists
     → IsAlong model v (route lists v) (slice_index_or along v no_sums)
 
--- the sums are those of the lists of all vehicles of a model, and vehicle v has nodes of it
+-- the sums are those of the lists of all vehicles of a model, and all nodes of vehicle v are of it
 pub record HaveAlong (model : Model) (v : ℕ) (lists : List (List ℕ)) (kept : List Along) : Type 0 where
   pub nodes : All (λ node. node < model.nodes) (route lists v)
   pub as_many : length lists ≡ length model.vehicles
@@ -57,7 +57,7 @@ pub record KeptAlong : Type 0 where
   pub model : Model
   pub along : List Along
 
--- the sums are those of these lists of the model
+-- these are valid lists of the model, and the sums are theirs
 pub record StandsAlong (kept : KeptAlong) (tours : Tours) : Type 0 where
   pub well_formed : IsWellFormed kept.model
   pub of_model : tours.visits ≡ visits kept.model

@@ -136,7 +136,8 @@ impl<'m> ArcCost<'m> {
         *self.model.pairs.get(p as usize)
     }
 
-    /// Whether two vehicles have the same arc costs.
+    /// Whether two vehicles name the same matrix, and so have the same arc costs; two matrices of the same numbers are
+    /// not compared.
     #[inline(always)]
     pub(crate) fn have_same_costs(&self, v: u32, w: u32) -> bool
         requires vehicle { v < length self.now.model.vehicles }

@@ -11,8 +11,8 @@ use crate::fronts::{Fronts, first_front};
 use crate::gaps::{Asked, Ends, Put, first_gap};
 
 /// The run that lets the nodes before place `a` of vehicle `v` change vehicles with those before place `b` of vehicle
-/// `w`, for the numbers `b` that are asked. They begin at 1: the empty front of `w` is asked alone (`first_crossed` in
-/// `runs`).
+/// `w`, for the numbers `b` that are asked. None of them is 0: the empty front of `w` is asked alone (`first_crossed`
+/// in `runs`).
 #[derive(Clone, Copy)]
 pub(crate) struct CrossRun<'a, 'm> {
     pub(crate) lists: Committed<'a, 'm>,

@@ -29,7 +29,8 @@ pub struct Fronts<'l, 'k, 'a, 'm> {
 
 impl<'l, 'k, 'a, 'm> Fronts<'l, 'k, 'a, 'm> {
     /// What the front adds where it changes vehicles with one of the other list, beside what the arcs in the gap behind
-    /// the latter add. Both vehicles have the same costs.
+    /// the latter add. Both vehicles have the same costs, so of the arcs along the other front only that from the start
+    /// to its first node is another one.
     #[inline(always)]
     pub fn base(&self) -> i64
         requires costs { let line = self.now.line.now in (i j : ℕ)
@@ -146,8 +147,9 @@ pub fn first_front<'l, 'k, 'a, 'm>(
     asked.end
 }
 
-// Both fronts, of which that of the other list goes up to place `b`, and what the arcs of the vehicle that gets it cost
-// along each: along `front` from its start on, along `inner` from its first node on.
+// Both fronts, of which that of the other list goes up to place `b`, and what the arcs along them cost the vehicles
+// that get them: `front` that of the other list, along the front of this one from the start of the vehicle on; `inner`
+// that of this list, along the other front from its first node on.
 #[derive(Clone, Copy)]
 struct BothFronts<'l, 'k, 'a, 'm> {
     fronts: Fronts<'l, 'k, 'a, 'm>,

@@ -1,5 +1,6 @@
 //! Loops along a list for the first place whose move adds less than a bound to the arc costs: of parts that are
-//! reversed, by their last place, of gaps into which a chain or a delivery is put, and of nodes that are exchanged.
+//! reversed, by their last place, of gaps into which a chain or a delivery is put or, for `crosses`, where a list is
+//! cut, and of nodes that are exchanged.
 
 ghost use Rattle.std.specs.Prelude.{◌≡◌, ℕ, ◌+◌, ◌<◌, ◌≤◌, ◌+ℤ◌, ◌≤ℤ◌, length, slice_index};
 ghost use Rattle.vr_parts.specs.Bounds.{IsAddedByChange, IsAddedByList};
@@ -291,8 +292,9 @@ fn put_pair(line: &Line, pair: Pair, s: u32) -> i64
     line.ends_added(ends, s, s) + inner
 }
 
-/// The first place of another list at which the arcs of both cost less than the bound more where its node and that at
-/// place `a` of this one stand in each other's place; `end` where there is none.
+/// The first place of another list, or of this one where the two nodes do not stand side by side, at which the arcs of
+/// both cost less than the bound more where its node and that at place `a` of this list stand in each other's place;
+/// `end` where there is none.
 #[inline(never)]
 pub fn first_swap(line: &Line, a: u32, other: &Line, asked: Asked) -> u32
     requires same { other.now.costs.model.now ≡ line.now.costs.model.now }

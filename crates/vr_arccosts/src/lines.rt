@@ -22,7 +22,7 @@ use vr_model::{Closed, Model};
 pub struct Along {
     /// Of the arcs as they are driven.
     pub ahead: Sums,
-    /// Of the same arcs backwards.
+    /// Of the same arcs backwards (in `stretch`, `behind` is a place).
     pub behind: Sums,
 }
 
@@ -73,8 +73,8 @@ impl Along {
         self.behind.extend(closed.model.arc_cost(v, next, at));
     }
 
-    /// What the arcs cost from the stop before a place of a list of so many nodes to the stop at another place, 0 where
-    /// it has no node.
+    /// What the arcs cost from the stop before place `front` of the list to the stop at place `behind`, 0 where the
+    /// list, of which the caller says how many nodes it has, has none.
     #[inline(always)]
     pub fn stretch(&self, nodes: u32, front: u32, behind: u32) -> i64
         requires nodes { length self.now.ahead ≡ nodes + 2 }
@@ -91,7 +91,8 @@ impl Along {
         self.ahead.between(front, behind + 1)
     }
 
-    /// What the arcs of a chain of the list cost, or of the chain backwards.
+    /// What the arcs cost between the nodes from place `from` up to place `to` of the list, the last not included, or
+    /// along this chain backwards.
     #[inline(always)]
     pub fn chain(&self, reversed: bool, from: u32, to: u32) -> i64
         requires order { from < to }
@@ -111,7 +112,8 @@ impl Along {
     }
 }
 
-/// The line of a vehicle with its list: what its arcs cost, and the sums along it.
+/// The line of a vehicle with its list: what its arcs cost, and the sums along it, which are of this list. Loops over
+/// runs (`gaps`, `swaps`, `crosses`, `fronts`) ask which nodes stand beside a place, and what stretches of it cost.
 #[derive(Drop)]
 pub struct Line<'a, 'm> {
     pub costs: VehicleArcs<'m>,

@@ -1,5 +1,5 @@
-//! The list of a vehicle without a pair: what the pair adds where it is put into it. No sums are asked, since those of
-//! the list have the pair in them.
+//! The list of a vehicle without a pair: what the pair adds where it is put into it. `puts` asks it of a pair that is
+//! put back into its list. No sums are asked, since those of the list have the pair in them.
 
 ghost use Rattle.std.proofs.Props.{props};
 ghost use Rattle.std.specs.Prelude.{◌≡◌, ℕ, ◌+◌, ◌<◌, ◌≤◌, ◌+ℤ◌, ◌≤ℤ◌, length, slice_index_or};
@@ -54,7 +54,7 @@ pub fn first_in_rest(rest: &Rest, pair: Pair, s: u32, base: i64, asked: Asked) -
     asked.end
 }
 
-// How much more the arcs of a rest cost where a pair is put into it, by what they cost with the pickup alone.
+// How much more the arcs of a rest cost where a pair is put into it, by how much more they cost with the pickup alone.
 #[inline(always)]
 fn put_pair(rest: &Rest, pair: Pair, s: u32, with_pickup: i64, t: u32) -> i64
     requires pickup { pair.pickup < rest.now.costs.model.now.nodes }

@@ -1,6 +1,8 @@
-//! Runs of moves: the first of them that may add less than a bound to arc costs. Two moves of a run are asked about by
-//! themselves: neighbours that change places, and a front that changes with an empty one; `crosses` asks so about
-//! fronts that leave a list empty.
+//! Runs of moves: the first of them that may add less than a bound to arc costs. Moves of two kinds are asked about by
+//! themselves: neighbours that change places, and a front that changes with an empty one of the second vehicle;
+//! `crosses` asks so about fronts that leave a list empty, where both vehicles have the same costs. Where no loop can
+//! go over the numbers (there is no such vehicle, node or place, or moves name them in another order), the first number
+//! that is asked is said: it says nothing of the run.
 
 ghost use Rattle.std.specs.Prelude.{◌≡◌, ℕ, ◌+◌, ◌<◌, ◌≤◌, ◌≤ℤ◌, IfSome, IsTrue, false, length, true};
 ghost use Rattle.vr_model.specs.routes.Routes.{route};
@@ -76,7 +78,7 @@ impl<'a, 'm> Committed<'a, 'm> {
         first_turn(&line, a, asked)
     }
 
-    // The run of a chain that is put elsewhere in its list, by the place there.
+    // The run of a chain that is put elsewhere in its list, by the place there, which does not count the chain.
     #[inline(never)]
     fn first_shifted(self, v: u32, a: u32, k: u32, asked: Asked) -> u32
         ensures from { asked.from ≤ result }
@@ -244,7 +246,7 @@ impl<'a, 'm> Committed<'a, 'm> {
             };
             return run.first();
         }
-        // the other front is empty
+        // the other front is empty; where both are, it is no move
         if a > 0 && self.crossed(v, a, w, 0) < asked.bound {
             return 0;
         }

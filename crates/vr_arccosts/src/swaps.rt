@@ -10,7 +10,8 @@ use crate::gaps::{Asked, swapped};
 use crate::lines::Line;
 
 impl<'a, 'm> Committed<'a, 'm> {
-    // The run of an inactive visit that takes the place of a node, by the visit.
+    // The run of an inactive visit that takes the place of a node, by the visit. Where there is no such node, the first
+    // number that is asked is said: it says nothing of the run.
     #[inline(never)]
     pub(crate) fn first_swapped_in(self, v: u32, a: u32, asked: Asked) -> u32
         ensures from { asked.from ≤ result }

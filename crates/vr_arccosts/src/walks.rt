@@ -1,4 +1,5 @@
-//! Paths of vehicles along pieces of lists.
+//! Paths of vehicles along pieces of lists: `ArcCost::between_adds` asks what those cost that come in the place of a
+//! stretch.
 
 ghost use Rattle.std.proofs.Props.{props};
 ghost use Rattle.std.specs.Prelude.{◌≡◌, ◌<◌, ◌≤◌, ◌+◌, ◌+ℤ◌};

@@ -109,7 +109,8 @@ impl Balance {
         }
     }
 
-    // The list of a vehicle becomes the one that pieces are joined to.
+    // The list of a vehicle becomes the one that pieces are joined to, piece by piece: `place` is how far the list is
+    // gone over, and what is left of it behind the last piece goes.
     fn add_part(&mut self, routes: &Routes, v: u32, pieces: &[Piece])
         requires vehicle { v < length routes.now.lists }
         requires pieces { All (IsWithin routes.now.lists) pieces.now }

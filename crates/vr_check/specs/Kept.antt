@@ -12,7 +12,7 @@ use Rattle.vr_printed.specs.declared.printed.Printed.{Printed}
 use Rattle.vr_printed.specs.declared.printed.PrintedPlan.{PrintedPlan}
 use Rattle.vr_printed.specs.declared.printed.PrintedRoute.{PrintedRoute}
 
--- a line of a model: its numbers are in range, and its list holds visits, at most 1000
+-- a line of a well-formed model: its numbers are in range, and its list holds visits, at most 1000
 pub record IsLineOfModel (model : Model) (d v : ℕ) (list : List ℕ) : Type 0 where
   pub well_formed : IsWellFormed model
   pub dimension : d < length model.dimensions

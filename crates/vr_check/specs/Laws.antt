@@ -30,7 +30,8 @@ pub record KeepsAllRules (model : Model) (printed : Printed) (cost : ℤ) : Type
   pub cost_at_most_first : printed.cost ≤ℤ printed.first_cost
   pub within_limits : IsTrue (is_within_limits model printed)
 
--- where the finding is that a solution meets the rules, the tree prints a solution that keeps all rules
+-- where the finding is that a solution meets the rules of a well-formed model, the tree prints a solution that keeps
+-- all rules
 abbrev pub MetKeepsAllRules : Type 0
 MetKeepsAllRules = (model : Model) (d : Data) (cost : ℤ) → IsWellFormed model → finding model d ≡ Meets cost
     → (printed : Printed) × (printed_in model d ≡ Some printed) × KeepsAllRules model printed cost

@@ -27,10 +27,10 @@ ends_broken_at model v nodes k = where_wrong (not (is_right_node model v nodes k
 abbrev pub ends_broken_of : Model → ℕ → List ℕ → Option Spot
 ends_broken_of model v nodes = first_finding (ends_broken_at model v nodes) (below (length nodes))
 
--- the rule of the ends, vehicle after vehicle
 abbrev pub ends_broken_in : Model → List PrintedRoute → ℕ → Option Spot
 ends_broken_in model routes v = ends_broken_of model v (nodes_at routes v)
 
+-- the rule of the ends, vehicle after vehicle
 abbrev pub ends_broken : Model → List PrintedRoute → Option Spot
 ends_broken model routes = first_finding (ends_broken_in model routes) (below (length routes))
 

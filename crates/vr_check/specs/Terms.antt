@@ -44,10 +44,11 @@ is_in_order policy places x = list_all (are_pairs_in_order policy x) places
 abbrev pub left_over : Line → Plan → ℕ → ℤ
 left_over line plan k = (cumul plan (suc k) -ℤ cumul plan k) -ℤ (arc_at line k).transit
 
--- what the cumuls of a plan cost by the rows of their stops, stop after stop
+-- what the cumul of stop k costs by the row of the stop
 abbrev pub soft_at : List (Option StopRow) → List ℤ → ℕ → ℤ
 soft_at rows cumuls k = row_cost (slice_index_or rows k None) (number_at cumuls k)
 
+-- what the cumuls of a plan cost by the rows of their stops, stop after stop
 abbrev pub soft_along : List (Option StopRow) → List ℤ → ℤ
 soft_along rows cumuls = total_by (soft_at rows cumuls) (below (length cumuls))
 

@@ -15,8 +15,9 @@ ghost use Rattle.vr_check.specs.Kept.{IsLineOfModel};
 
 use vr_model::{BreakRow, Dimension, Interval, Model, StopRow};
 
-/// The line of vehicle `v` with a list in dimension `d`: what to look up, and no number of it. `vr_steps` has the line
-/// that schedules are built of, of which the check asks nothing.
+/// The line of vehicle `v` with a list in dimension `d`: what to look up, and no number of it. Stop 0 is the start of
+/// the vehicle, behind it come the visits of the list, and then the end; arc `k` leads from stop `k` to the next.
+/// `vr_steps` has the line that schedules are built of, of which the check asks nothing.
 #[derive(Clone, Copy)]
 pub(crate) struct AskedLine<'a> {
     pub(crate) model: &'a Model,
@@ -101,7 +102,8 @@ impl<'a> AskedLine<'a> {
         self.model.dimensions.get(self.d)
     }
 
-    /// The row of a stop.
+    /// The row of a stop: what the model asks of its cumul beside the capacity and a fixed start; `None` where it has
+    /// none.
     pub(crate) fn row(&self, k: usize) -> Option<&'a StopRow>
         requires stop { k ≤ arc_count self.now }
         ensures value { option_copied result ≡ row_at_stop self.now k }
@@ -126,7 +128,7 @@ impl<'a> AskedLine<'a> {
         stop_lets(capacity, self.row(k), x)
     }
 
-    // Whether a cumul is 0 where it must be.
+    // Whether a cumul is 0 where it must be: at the start, in a dimension that fixes it.
     fn keeps_fixed_start(&self, k: usize, x: i64) -> bool
         ensures { result ≡ asked_lines.keeps_fixed_start self.now k x }
     {
@@ -176,7 +178,7 @@ impl<'a> AskedLine<'a> {
             .transit(d, self.vehicle(), self.node(k), self.node(k + 1))
     }
 
-    /// The visit time at the start of an arc.
+    /// The visit time of the node from which an arc leads.
     pub(crate) fn visit(&self, k: usize) -> i64
         requires arc { k < arc_count self.now }
         ensures value { result ≡ (arc_at (asked_line self.now) k).visit }

@@ -65,7 +65,8 @@ impl TakenBreak<'_> {
         row.from <= self.start() && self.start() <= row.to
     }
 
-    // Whether the break lies inside an arc.
+    // Whether the break lies inside an arc: it starts when the vehicle is free, after the visit from which the arc
+    // leads, or later, and ends by the cumul of the next stop.
     fn is_inside(&self, k: usize) -> bool
         requires arc { k < length self.now.taken.of.plan.now.slacks }
         ensures { result

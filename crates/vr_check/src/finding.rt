@@ -32,7 +32,7 @@ pub enum Rule {
     Ends,
     /// No visit stands twice. The vehicle and the place of the later one.
     Once,
-    /// The inactive visits are listed as dropped, ascending. Neither vehicle nor place.
+    /// The inactive visits, and no other nodes, are listed as dropped, ascending. Neither vehicle nor place.
     Dropped,
     /// Each visit in no group is active. The place is the least node that is not.
     Required,
@@ -64,7 +64,7 @@ pub enum Rule {
     Limits,
 }
 
-/// Where a rule is broken.
+/// Where a rule is broken, as `Finding::Broken` says it: -1 stands where a number does not apply.
 #[derive(Clone, Copy)]
 pub(crate) struct Spot {
     pub(crate) vehicle: i64,

@@ -1,18 +1,18 @@
 //! The checker: whether a printed solution keeps every rule of its model.
 //!
-//! It shares with the search and its judges only what a `vr_model::Model` answers itself, and no table that is looked
-//! up beforehand or kept: each rule is asked of the printed lists, plans and numbers themselves, one pass for each. A
-//! pass is handed the model and the solution and answers the first place where its rule is broken; nothing is kept from
-//! one to the next, and the first answer is the one given. Printed cumuls, slacks, starts of breaks and costs may be
-//! any `i64`, so sums and differences of them are taken in 128 bits.
+//! It shares with the search and its judges only what the records of `vr_model` answer themselves, and no table that is
+//! looked up beforehand or kept: each rule is asked of the printed lists, plans and numbers themselves, one pass for
+//! each. A pass is handed what its rule speaks of, the model and the solution or parts of them, and answers where the
+//! rule is broken first; no answer is kept for a later pass, and the first broken rule is the one given. Printed
+//! cumuls, slacks, starts of breaks and costs may be any `i64`, so sums and differences of them are taken in 128 bits.
 //!
 //! `checking` has the order of the rules, `finding` their names and what is answered, `printed` and `asked` what they
-//! are asked of: routes and plans beside the model, and the line of a plan. First come the rules on `lists`, the nodes
-//! of routes, and on `visits`, which of them are active (`held` finds nodes in lists); then those on `pairs`, policies
-//! and allowed vehicles, on `plans` with their `breaks`, and on `numbers`: the parts, the cost and the limits. Each
-//! printed part is compared with its value: `costs` has arcs, fixed costs and penalties, `softs` what cumuls cost above
-//! soft bounds, `spans` what spans cost, and `totals` the sums over routes and plans. `laws` says what holds where no
-//! rule is broken.
+//! are asked of: routes and plans beside the model, and the line of a plan. First comes the shape, which `vr_printed`
+//! asks as it reads; then the rules on `lists`, the nodes of routes, and on `visits`, which of them are active (`held`
+//! finds nodes in lists); then those on `pairs`, policies and allowed vehicles, on `plans` with their `breaks`, and on
+//! `numbers`: the parts, the cost and the limits. Each printed part is compared with its value: `costs` has arcs, fixed
+//! costs and penalties, `softs` what cumuls cost above soft bounds, `spans` what spans cost, and `totals` the sums over
+//! routes and plans. `laws` says what holds where no rule is broken.
 //!
 //! `vr_app` calls [`check`] for the words `check` and `spans`, and has the law that what is printed meets it.
 #![tactic(auto)]

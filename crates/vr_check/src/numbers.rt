@@ -28,7 +28,7 @@ pub(crate) fn times(coefficient: i64, number: i128) -> i128
     i128::from(coefficient) * number
 }
 
-// Where a printed part is not its value.
+// Where a printed part is not its value; `k` is its number, in byte order of the names.
 fn wrong_part(k: usize, printed: i64, value: i128) -> Option<Spot>
     requires { k < 6 }
     ensures { result ≡ part_broken k printed value }

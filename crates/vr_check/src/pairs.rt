@@ -93,8 +93,9 @@ fn places_in(alloc: Global, model: &Model, list: &[u32]) -> Result<Seq<PlacesOfP
     Ok(places)
 }
 
-// Whether a policy lets two pairs stand at these places, as far as it asks anything where the first is picked up first:
-// else the other order of the two is asked.
+// Whether a policy lets two pairs stand at these places, as far as it asks anything where `x` is picked up first: else
+// the other order of the two is asked. Last in, first out: what is picked up while `x` is on board is delivered before
+// it. First in, first out: `x` is delivered first.
 fn are_pairs_in_order(policy: Policy, x: PlacesOfPair, y: PlacesOfPair) -> bool
     ensures { result ≡ terms.are_pairs_in_order policy x y }
 {

@@ -96,7 +96,7 @@ fn wrong_slack(of: &LinePlan<'_>) -> Option<Spot>
     None
 }
 
-// Where the breaks of a plan are wrong.
+// Where the breaks of a plan are wrong: what is answered as the place is the number of the dimension.
 fn wrong_breaks(of: &LinePlan<'_>) -> Option<Spot>
     ensures { result ≡ break_broken (asked_line of.now.asked) of.now.asked.d of.now.asked.v (plan_of of.now.plan.now) }
 {

@@ -1,4 +1,5 @@
-//! What the spans of printed plans cost, in 128 bits.
+//! What spans cost, in 128 bits: that of one printed plan, which `totals` adds up, and in each dimension that of all
+//! used routes, from the least start to the greatest end; these added up are the global part that `numbers` compares.
 
 ghost use Rattle.std.specs.Prelude.{◌≡◌, ◌<◌, ◌^◌, length, pos};
 ghost use Rattle.vr_model.specs.tables.Numbers.{number_at};
@@ -106,7 +107,7 @@ fn span_of_ends(ends: Option<SpanEnds>) -> i128
     }
 }
 
-// The span of all routes in a dimension: from the least start to the greatest end.
+// The span of all used routes in a dimension: from the least start to the greatest end.
 fn global_span_of(solution: &Solution<'_>, d: usize) -> i128
     requires dimension { d < length solution.now.closed.model.now.dimensions }
     ensures value { result ≡ global_span (assignment_of solution.now.routes.now) d }

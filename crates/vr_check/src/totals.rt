@@ -29,7 +29,7 @@ pub(crate) enum RoutePart {
     Plans(PlanPart),
 }
 
-// What a plan of a route costs.
+// What a plan of a route costs by a part: by soft bounds, or by its span.
 fn cost_of_plan(part: PlanPart, on: &VehicleRoute<'_>, d: usize) -> i128
     requires { d < length on.now.route.now.plans }
     ensures value { result ≡ plan_cost part on.now.closed.model.now on.now.v on.now.route.now d }
@@ -44,7 +44,7 @@ fn cost_of_plan(part: PlanPart, on: &VehicleRoute<'_>, d: usize) -> i128
     }
 }
 
-// What the plans of a route cost.
+// What the plans of a route cost by a part.
 fn over_plans(part: PlanPart, on: &VehicleRoute<'_>) -> i128
     ensures value { result
         ≡ total_by (plan_cost part on.now.closed.model.now on.now.v on.now.route.now)
@@ -58,7 +58,7 @@ fn over_plans(part: PlanPart, on: &VehicleRoute<'_>) -> i128
     total
 }
 
-// What a route costs.
+// What a route costs by one part of the cost.
 fn cost_of_route(part: RoutePart, on: &VehicleRoute<'_>) -> i128
     ensures value { result ≡ part_cost part (parts_of_route on.now) }
     ensures range { IsAround (2 ^ 118) result }
@@ -70,7 +70,7 @@ fn cost_of_route(part: RoutePart, on: &VehicleRoute<'_>) -> i128
     }
 }
 
-// What all routes cost.
+// What all routes cost by one part: the value with which `numbers` compares the printed part.
 fn over_routes(part: RoutePart, solution: &Solution<'_>) -> i128
     ensures { result ≡ totals.over_routes part solution.now }
 {

@@ -76,7 +76,7 @@ pub(crate) fn missing(model: &Model, lists: &[Seq<u32>]) -> Option<Spot>
     None
 }
 
-// How many nodes of a group are active.
+// How many nodes of a group are active; `costs` asks it too, for what is paid for those that are missing.
 pub(crate) fn active_in(lists: &[Seq<u32>], group: &Group) -> usize
     ensures { result ≡ rules.active_in lists.now group.now }
 {

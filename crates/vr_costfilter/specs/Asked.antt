@@ -50,7 +50,8 @@ pub record IsTimingFound (model : Model) (d v : ℕ) (list : List ℕ) (found : 
 abbrev pub IsNewTimingFound : Asked → Option Timing → Type 0
 IsNewTimingFound asked = IsTimingFound asked.guide.now.model.now asked.guide.now.d asked.guide.now.v (new_list asked)
 
--- schedules of the vehicle are chosen by this rule, and what is kept is of the list that it has
+-- the guide has the runs of its vehicle, whose schedules are chosen by this rule, and what is kept is of the list that
+-- it has
 pub record IsKeptBy (rule : ScheduleRule) (asked : Asked) (kept : KeptList) : Type 0 where
   pub by : IsGuideBy rule asked.guide.now
   pub of_old : IsKept asked.guide.now.model.now asked.guide.now.d asked.guide.now.v (old_list asked) kept

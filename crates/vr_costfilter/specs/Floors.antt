@@ -30,8 +30,8 @@ abbrev pub before : Model → ℕ → ℕ → Runs → ℕ → Step → Option S
 before model d v runs node next = option_map (λ floor. record { node = node; floor = floor })
     (stop_floor model d v node (slice_index_or runs.visits node no_run) next)
 
--- the first of the steps to visits in order, which come before the next step; none where one of them allows no cumul
--- from its floor on
+-- the first of the steps to visits in order, which come before the next step, and of no visits that one; none where one
+-- of them allows no cumul from its floor on
 abbrev pub first_step : Model → ℕ → ℕ → Runs → List ℕ → Step → Option Step
 first_step model d v runs [] next = Some next
 first_step model d v runs (x ∷ xs) next =

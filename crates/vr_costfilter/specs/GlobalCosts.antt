@@ -92,7 +92,7 @@ pub record AreRanged (model : Model) (orders : List SortedEnds) (next : List (Li
   pub in_orders : (d : ℕ) → d < length model.dimensions → Pays model d → AreInRange (orders_at orders d)
   pub in_rows : (d : ℕ) → d < length model.dimensions → Pays model d → AreTimingsInRange d next
 
--- the same of one of its first four dimensions
+-- all cumuls that they tell of one of the first four dimensions are in their range, whether it pays or not
 pub record AreRangedIn (d : ℕ) (orders : SortedEnds) (next : List (List (Option Timing))) : Type 0 where
   pub dimension : d < 4
   pub in_orders : AreInRange orders
@@ -120,7 +120,7 @@ pub record KeptSpans : Type 0 where
   pub is_prepared : Bool
   pub cumuls : List (List KeptList)
 
--- it is of these lists of a model
+-- these are valid lists of the model, and the sorted ends, the cost and the cumuls are theirs
 pub record StandsSpans (kept : KeptSpans) (tours : Tours) : Type 0 where
   pub well_formed : IsWellFormed kept.model
   pub of_model : tours.visits ≡ visits kept.model

@@ -32,7 +32,7 @@ pub record HasWalkedBack (guide : Guide) (nodes : List ℕ) (next : Step) (old n
 abbrev pub rule_of : Guide → ScheduleRule
 rule_of guide = (vehicle_at guide.model.now guide.v).schedule
 
--- its runs are those, and schedules are chosen by this rule
+-- its runs are what the stops of its vehicle allow, whose schedules are chosen by this rule
 pub record IsGuideBy (rule : ScheduleRule) (guide : Guide) : Type 0 where
   pub runs : HasItsRuns guide
   pub rule_is : rule_of guide ≡ rule

@@ -9,8 +9,8 @@ use Rattle.vr_routes.specs.Pieces.{joined, IsSplice, IsWithin}
 use Rattle.vr_routes.specs.declared.pieces.Piece.{Piece}
 use Rattle.vr_routes.specs.declared.pieces.Splice.{Splice}
 
--- these pieces, each within its list, are joined to another list of vehicle v than it has here, of distinct visits, and
--- are a splice of that one
+-- these pieces, each within its list, are joined to a list of distinct visits, not the empty one, and are a splice of
+-- the list that vehicle v has here
 pub record AreJoined (model : Model) (v : ℕ) (lists : List (List ℕ)) (pieces : List Piece) (splice : Splice) : Type 0
   where
     pub known : v < length lists

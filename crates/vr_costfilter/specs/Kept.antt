@@ -44,8 +44,9 @@ HasAllAsked Earliest list kept = HasAllStages list kept
 HasAllAsked Tight list kept = HasAllWays list kept
 
 -- where there are as many as stops, the stages of vehicle v are those of a list, and the steps are those to its visits,
--- between two cumuls of its ends where it chooses its tight schedule; the ways are those along it; and all is kept that
--- the rule asks, where the vehicle has no breaks, each stop allows one run of cumuls, and the list is feasible
+-- between two cumuls of its ends where it chooses its tight schedule; the ways are those along it, where there is one
+-- to each place; and all is kept that the rule asks, where the vehicle has no breaks, no stop allows it more than one
+-- run of cumuls, the list is feasible and of distinct visits, and there is the room that the rule asks
 pub record IsKept (model : Model) (d v : ℕ) (list : List ℕ) (kept : KeptList) : Type 0 where
   pub earliest : (vehicle_at model v).schedule ≡ Earliest → (runs : Runs) → AreRuns model d v runs
       → HasStages model d v runs list kept.steps
@@ -63,8 +64,8 @@ pub record HasWaysAlone (model : Model) (d v : ℕ) (runs : Runs) (list : List �
   pub none : length kept.steps.stages.items ≡ 0
   pub between : HasCumuls kept.between
 
--- what is kept tells what changes make of a list of vehicle v: something is kept of it, the vehicle has no breaks, each
--- stop allows it one run of cumuls, and all is kept that its rule asks
+-- what is kept tells what changes make of a list of vehicle v: something is kept of it, the vehicle has no breaks, no
+-- stop allows it more than one run of cumuls, and all is kept that its rule asks
 pub record IsKnown (model : Model) (d v : ℕ) (list : List ℕ) (kept : List KeptList) : Type 0 where
   pub known : v < length kept
   pub runs : IsTrue (have_stops_one_run model d v)
@@ -82,7 +83,8 @@ pub record AreAllKept (model : Model) (lists : List (List ℕ)) (kept : List (Li
   pub many : length kept ≡ length model.dimensions
   pub each : (d : ℕ) (other : List KeptList) → d < length kept → AreKept model d lists (slice_index_or kept d other)
 
--- a dimension has a coefficient of such costs, as its table says of soft upper bounds and of the spans of vehicles
+-- a dimension has such costs: soft upper bounds or a coefficient of the spans of vehicles, as its table says, or a
+-- global span with a coefficient other than 0
 abbrev pub IsPaid : Paid → Table → Dimension → Type 0
 IsPaid Alone table dimension = table.is_free ≡ false
 IsPaid Together table dimension = dimension.global_span_cost ≢ pos 0

@@ -16,7 +16,8 @@ use Rattle.vr_costfilter.specs.declared.tight.Way.{Way}
 abbrev pub KeptTightWays : Type 0
 KeptTightWays = KeptPlaces Way Rest
 
--- what is kept has the ways along a list of vehicle v, and what is left behind each of its places, by these runs
+-- what is kept has the ways along the first nodes of a list of vehicle v, and what is left behind each of them, by
+-- these runs, which its stops allow
 pub record HasWaysBy (model : Model) (d v : ℕ) (runs : Runs) (list : List ℕ) (ends : KeptTightWays) : Type 0 where
   pub runs_are : AreRuns model d v runs
   pub keeps : KeepsWays (way_out model v runs) (way_to_visit model d v runs) (rest_at_end model v runs)

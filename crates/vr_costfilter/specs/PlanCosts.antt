@@ -84,7 +84,7 @@ pub record KeptPlans : Type 0 where
   pub is_prepared : Bool
   pub cumuls : List (List KeptList)
 
--- these are the costs of the lists of a model
+-- these are valid lists of the model, and the costs and the cumuls are theirs
 pub record StandsPlans (kept : KeptPlans) (tours : Tours) : Type 0 where
   pub well_formed : IsWellFormed kept.model
   pub of_model : tours.visits ≡ visits kept.model

@@ -37,7 +37,7 @@ stop_runs runs list =
 abbrev pub run_at : List Run → ℕ → Run
 run_at runs k = slice_index_or runs k no_run
 
--- a line without breaks, each stop of which allows one of these runs
+-- a line without breaks, whose stops allow these runs in order
 pub record HasRuns (line : Line) (runs : List Run) : Type 0 where
   pub stops : HasStops line
   pub no_breaks : line.breaks ≡ []
@@ -57,7 +57,7 @@ only x = record { lo = x; hi = x }
 abbrev pub between_runs : Runs → ℤ → ℤ → Runs
 between_runs runs s e = record { start = only s; visits = runs.visits; finish = only e }
 
--- the same runs, where the start allows another one
+-- the runs of a vehicle, where its start allows this one
 abbrev pub starting : Runs → Run → Runs
 starting runs start = record { start = start; visits = runs.visits; finish = runs.finish }
 

@@ -15,7 +15,7 @@ use Rattle.vr_costfilter.specs.declared.steps.Lead.{Lead}
 use Rattle.vr_costfilter.specs.declared.steps.Outset.{Outset}
 use Rattle.vr_costfilter.specs.declared.trails.Step.{Step}
 
--- the steps of vehicle v to the visits of a list, and then to its end
+-- the steps of vehicle v to the visits of a list, before the step to its end
 pub record AreSteps (model : Model) (d v : ℕ) (runs : Runs) (list : List ℕ) (steps : List Step) : Type 0 where
   pub nodes_are : nodes_in steps ≡ list
   pub aimed : AreAimed model d v runs steps (end_step model v runs)
@@ -98,14 +98,14 @@ abbrev pub reached : Outset → Stage
 reached met = paid_more met.more met.stage
 
 -- the kept end, a kept stage, and the stage that a vehicle comes to where it meets that one: what was paid up to each
--- is in range
+-- is in range, and the cumul of the end
 pub record AreMet (end kept gone : Stage) : Type 0 where
   pub end_paid : IsIn (pos 0) (pos (cumul_cost * 1002)) end.soft
   pub end_cumul : IsIn (pos 0) horizon end.cumul
   pub kept_paid : IsIn (pos 0) (pos (cumul_cost * 1002)) kept.soft
   pub gone_paid : IsIn (pos 0) (pos (cumul_cost * 4000)) gone.soft
 
--- along these steps a stage comes to another one, where more was paid on the way
+-- along these steps a stage comes to another one, with so much more paid on the way (less where it is negative)
 pub record HasPaced (model : Model) (d v : ℕ) (runs : Runs) (steps : List Step) (out : Stage) (met : Outset) :
     Type 0 where
   pub start : met.start ≡ out.cumul

@@ -1,4 +1,7 @@
-//! Lists that come in the place of others, of which it is asked what their chosen schedules come to.
+//! Lists that come in the place of others, of which it is asked what their chosen schedules come to. `kept` makes one
+//! of the list that a change gives a vehicle, and hands it to `steps`, which walks what is new of it. Here are told the
+//! two ends of its tight schedule and, where no cumuls are kept up to the same end, what it comes to along the whole
+//! list.
 
 ghost use Rattle.std.proofs.Props.{props};
 ghost use Rattle.vr_model.specs.schedules.Schedules.{IsFeasible};
@@ -53,7 +56,8 @@ impl<'a, 'm, 's> Asked<'a, 'm, 's> {
         asked.timing_along(trail)
     }
 
-    // The same, where the line of which it is chosen allows the runs of the guide.
+    // The same, where the line of which the schedule is chosen allows the runs of the guide: floors back from the end,
+    // and then from the floor of the start along them.
     fn timing_along(&self, trail: &mut Trail) -> Option<Timing>
         requires { ChoiceAllows self.now (runs_of self.now.guide.now) }
         ensures { IsNewTimingFound self.now result }

@@ -164,7 +164,7 @@ fn kept_in(
     KeptCumuls::open(alloc, closed, table, d, routes)
 }
 
-// Vehicle `v` gets another list, in all dimensions.
+// The vehicle of a tour gets its list, in all dimensions.
 fn write_list(tour: &Tour, tables: &[Table], kept: &mut [KeptCumuls])
     requires tables { AreTables tour.now.closed.model.now tables.now }
     requires many { length kept.old ≡ length tour.now.closed.model.now.dimensions }

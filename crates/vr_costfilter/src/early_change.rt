@@ -11,13 +11,15 @@ use vr_earliest::Earlies;
 use vr_model::Model;
 use vr_routes::Change;
 
-/// A change of lists, and what the chosen schedules of the lists after it come to at least.
+/// A change of lists, and what the chosen schedules of the lists after it come to at least: how early each ends and how
+/// short its span is, in each dimension where anything is paid for spans (`vr_earliest`). `schedule_costs` and
+/// `spreads` ask it what a change costs at least.
 #[derive(Drop)]
 pub struct EarlyChange<'a> {
     pub model: &'a Model,
     pub change: &'a Change,
     pub earlies: &'a Earlies,
-    /// The model is well formed, and what is told is in its range.
+    /// The model is well formed, and what is told in these dimensions is in its range.
     pub ghost sound: { AreEarlyInRange model.now change.now earlies.now } by { Prim.hlevel
         (props, IsWellFormed-prop) },
 }

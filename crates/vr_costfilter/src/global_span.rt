@@ -43,7 +43,8 @@ pub struct GlobalSpan<'m> {
     // what the global spans cost
     cost: i64,
     // what the lists of a change that is ready come to, the sorted ends after it, and what the global spans cost then;
-    // a difference writes over the first of these, and makes none ready: sorting is for changes that are made
+    // a difference writes over the first of these, unless nothing may cost anything, and makes none ready: sorting is
+    // for changes that are made
     next: ArrayVec<ListTimings, 2>,
     next_orders: Vec<SortedEnds>,
     next_cost: i64,
@@ -126,10 +127,10 @@ impl<'m> GlobalSpan<'m> {
         self.rules.is_idle()
     }
 
-    /// What a change adds at least, where the lists after it are valid: how far its lists and those that stay reach at
-    /// least, less what the global spans cost now. The caller hands in what the chosen schedules of the changed lists
-    /// come to at least. No schedule is built. The change must have been made on routes at which this stands; they
-    /// themselves are not needed.
+    /// What a change adds at least, where the lists after it are valid: what the global spans cost at least with its
+    /// lists and those that stay, less what they cost now. The caller hands in what the chosen schedules of the changed
+    /// lists come to at least. No schedule is built. The change must have been made on routes at which this stands;
+    /// they themselves are not needed.
     pub fn least(&self, earlies: &Earlies, change: &Change) -> i64
         requires { (tours : Tours) × AreSpansKnown self.now earlies.now change.now tours }
         ensures value { (tours : Tours) → AreSpansKnown self.now earlies.now change.now tours

@@ -54,7 +54,7 @@ pub struct Guide<'m> {
     pub start: Run,
     /// The runs of visits, by their nodes.
     pub visits: &'m [Run],
-    /// Its end.
+    /// The node of its end, and the run that it allows.
     pub finish: Ahead,
     /// What it says of them is so, of a well formed model.
     pub ghost sound: { IsRunGuide model.now d v table.now evaluator.now slack start visits.now finish } by { Prim.hlevel
@@ -119,7 +119,8 @@ impl<'m> Guide<'m> {
         }
     }
 
-    /// Back to a visit, which comes before the next step: puts the step to it on the trail, and gives it.
+    /// Back to a visit, which comes before the next step: puts the step to it on the trail, and gives it; nothing
+    /// exactly where it allows no cumul from its floor on.
     #[inline]
     pub fn step_back(&self, node: u32, next: Step, trail: &mut Trail) -> Option<Step>
         requires node { IsTrue (is_visit self.now.model.now node) }
@@ -159,7 +160,7 @@ impl<'m> Guide<'m> {
         self.floor_from(self.start, next)
     }
 
-    /// The same, where the start allows another run.
+    /// The same, where the start allows another run: `steps` asks it of the one cumul at which a tight schedule starts.
     #[inline]
     pub fn floor_from(&self, start: Run, next: Step) -> Option<i64>
         requires start { HasCumulEnds start }
@@ -172,7 +173,9 @@ impl<'m> Guide<'m> {
         self.floor_of(node, start, next)
     }
 
-    // The floor of a stop at a node, before the next step.
+    // The floor of a stop at a node, before the next step: from there the greatest slack just leads up to the next
+    // floor, or it is the least cumul that the stop allows. Nothing exactly where the stop allows none from its floor
+    // on.
     #[inline]
     fn floor_of(&self, node: u32, allowed: Run, next: Step) -> Option<i64>
         requires stop { IsStopAt self.now.model.now node allowed }
@@ -203,7 +206,8 @@ impl<'m> Guide<'m> {
         }
     }
 
-    /// It goes on along a trail, from the last step on it to the first; nothing exactly where it cannot.
+    /// It goes on along a trail, from its top down, which is from the first visit to the last; nothing exactly where it
+    /// cannot.
     #[inline]
     pub fn along_trail(&self, trail: &Trail, stage: Stage) -> Option<Stage>
         requires steps { All (IsVisitStep self.now.model.now) (reverse trail.now.steps.items) }
@@ -223,7 +227,7 @@ impl<'m> Guide<'m> {
         Some(gone)
     }
 
-    /// It goes on to a visit, nothing exactly where it cannot.
+    /// It goes on to a visit, where it may come to its floor or behind it; nothing exactly where it cannot.
     #[inline]
     pub fn to_visit(&self, stage: Stage, step: Step) -> Option<Stage>
         requires stage { IsStageOf self.now.model.now 4000 stage }
@@ -255,7 +259,8 @@ impl<'m> Guide<'m> {
         self.go_on(stage, self.finish.node, self.finish.allowed, row)
     }
 
-    // It goes on to a node that allows a run of cumuls.
+    // It goes on to a node that allows a run of cumuls, to the least of them that it reaches, and pays there what `row`
+    // asks; nothing exactly where it reaches none.
     #[inline]
     fn go_on(&self, stage: Stage, node: u32, allowed: Run, row: Option<&StopRow>) -> Option<Stage>
         requires stage { IsStageOf self.now.model.now 4000 stage }

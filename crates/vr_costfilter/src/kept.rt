@@ -47,10 +47,11 @@ use vr_routes::{Piece, Routes, Splice};
 #[derive(Drop)]
 pub struct KeptList {
     // the steps and the stages of its chosen schedule; none where there is no guide (breaks, or a stop with several
-    // runs), or where that is tight and no soft bound may cost anything
+    // runs), or where that schedule is tight and no stop has a soft upper bound; not a stage for each stop where the
+    // list is empty and has no schedule
     steps: KeptSteps,
-    // the cumuls of its start and of its end, between which they are, where it chooses its tight schedule and a soft
-    // bound may cost anything; else 0
+    // the cumuls of its start and of its end, between which they are, where there is a guide, it chooses its tight
+    // schedule and a stop has a soft upper bound; else 0
     between: TightEnds,
     // the ways and the rests that tell the ends of its schedule: one entry, where it chooses its tight one, and else
     // none
@@ -116,7 +117,7 @@ impl KeptList {
         self.write_between(on);
     }
 
-    // Writes the steps and the stages of a list between its two ends, where soft upper bounds may cost anything.
+    // Writes the steps and the stages of a list between its two ends, where some stop has a soft upper bound.
     fn write_between(&mut self, on: &ListWithGuide)
         requires { HasWaysAlone on.now.guide.now.model.now on.now.guide.now.d on.now.guide.now.v
             (runs_of on.now.guide.now)
@@ -173,8 +174,9 @@ impl KeptList {
         self.timing_between(asked, ends, trail)
     }
 
-    // The same between its two ends: by what is kept, where the list ended as it does now, and else along the whole
-    // list. Nothing exactly where there is no such schedule, which does not come between these ends.
+    // The same between its two ends: by what is kept, where there is a stage for each stop and the list ended as it
+    // does now, and else along the whole list. Nothing exactly where there is no such schedule, which does not come
+    // between these ends.
     fn timing_between(&self, asked: &Asked, ends: TightEnds, trail: &mut Trail) -> Option<Timing>
         requires allows { ChoiceAllows asked.now
             (between_runs (runs_of asked.now.guide.now) ends.start ends.last) }
@@ -191,7 +193,8 @@ impl KeptList {
         asked.timing_between(ends, trail)
     }
 
-    // The same from a start that is given to the end that is kept.
+    // The same from a start that is given to the end that is kept, by a guide of both ends that are kept, to which the
+    // kept steps belong.
     fn timing_from(&self, asked: &Asked, start: i64, trail: &mut Trail) -> Option<Timing>
         requires allows { ChoiceAllows asked.now
             (between_runs (runs_of asked.now.guide.now) start self.now.between.last) }
@@ -210,8 +213,9 @@ impl KeptList {
         self.steps.after(&asked, Some(start), trail)
     }
 
-    // What the earliest schedule of the changed list comes to; nothing exactly where what is kept does not tell, which
-    // does not come: there is a guide, and so all stages of the list, which is valid, are kept.
+    // What the earliest schedule of the changed list comes to; nothing exactly where what is kept does not tell. There
+    // is a guide, so all stages are kept of a list that has a schedule, as each valid one has but an empty one, which
+    // may have none.
     fn earliest_after(&self, asked: &Asked, trail: &mut Trail) -> Option<Timing>
         requires { IsKeptBy Earliest asked.now self.now }
         ensures known { IsFeasible (new_line asked.now)
@@ -237,8 +241,8 @@ fn is_tight(rule: ScheduleRule) -> bool
     }
 }
 
-/// What is kept of the lists of all vehicles in one dimension; of no list where the costs for which they are kept are
-/// not paid. Contracts see what is kept of each.
+/// What is kept of the lists of all vehicles in one dimension; of no list where it has none of the costs for which they
+/// are kept. Contracts see what is kept of each.
 #[derive(Drop)]
 pub struct KeptCumuls {
     lists: Vec<KeptList>,
@@ -306,11 +310,12 @@ impl KeptCumuls {
 
     /// What the chosen schedule of the list that pieces are joined to comes to in a dimension, where they are a splice
     /// of the list that its vehicle has. Nothing exactly where what is kept does not tell: where nothing is kept, the
-    /// vehicle has breaks, or a stop allows several runs of cumuls. Of an earliest schedule what the change keeps of
-    /// the front of the list is walked as far back as it gets another floor, and of its end as much as gets another
-    /// cumul. Of a tight one what it keeps is not walked for its two ends. Where soft upper bounds may cost anything
-    /// and the list ends at the cumul that is kept, it is walked as an earliest one is, but from its start on, until a
-    /// cumul is as kept; where it ends at another cumul, the whole list is. The trail is written over.
+    /// vehicle has breaks, a stop allows several runs of cumuls, or it is an earliest schedule and the list before is
+    /// empty and has none. Of an earliest schedule what the change keeps of the front of the list is walked as far back
+    /// as it gets another floor, and of its end as much as gets another cumul. Of a tight one what it keeps is not
+    /// walked for its two ends. Where some stop has a soft upper bound and the list ends at the cumul that is kept, it
+    /// is walked as an earliest one is, but from its start on, until a cumul is as kept; where it ends at another
+    /// cumul, or the list before has no schedule, the whole list is. The trail is written over.
     pub fn timing_after(
         &self,
         at: &KnownDimension,

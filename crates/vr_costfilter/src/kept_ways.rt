@@ -17,7 +17,8 @@ use crate::with_guide::ListWithGuide;
 use vr_earliest::Walk;
 use vr_model::limits::HORIZON;
 
-/// What is kept of the list of a vehicle; no way where the vehicle has breaks, or a stop allows several runs of cumuls.
+/// What is kept of the list of a vehicle: the way along each number of its first visits, and what is left from each
+/// place on. No way where the vehicle has breaks, or a stop allows several runs of cumuls.
 pub type KeptWays = vr_earliest::KeptWays<Way, Rest>;
 
 // the walk of a vehicle that waits for the begins of runs alone, whatever the greatest slack is
@@ -75,7 +76,7 @@ impl<'m> Walk for Guide<'m> {
 
 impl<'a, 'm> ListWithGuide<'a, 'm> {
     /// The ends of the tight schedule of a list whose ways are kept: those that its whole way tells, brought within the
-    /// horizon, also where it has none.
+    /// horizon, since the way of an empty list without a schedule may tell other numbers.
     pub fn ends(&self, kept: &KeptWays) -> TightEnds
         requires { HasWaysBy self.now.guide.now.model.now self.now.guide.now.d self.now.guide.now.v
             (runs_of self.now.guide.now) self.now.list.now kept.now }

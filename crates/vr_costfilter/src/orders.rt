@@ -46,7 +46,8 @@ impl SortedEnds {
         })
     }
 
-    /// Becomes a copy of others.
+    /// Becomes a copy of others: where the sorted ends after a change are written (`reaches`), of those of the
+    /// committed lists, in which the vehicles that get lists are then set anew.
     pub fn copy_from(&mut self, other: &SortedEnds)
         ensures { self.new ≡ other.now }
     {

@@ -37,7 +37,7 @@ pub struct PlanCost<'m> {
     // what the committed list of each vehicle costs
     costs: Vec<i64>,
     // what the lists of a change that is ready cost; a difference makes its change ready too, since it asks for the
-    // same
+    // same, unless this is idle
     next: ArrayVec<i64, 2>,
     // whether a change was made ready: contracts alone read it
     is_prepared: bool,

@@ -78,8 +78,9 @@ impl<'m> SpanRules<'m> {
         self.idle
     }
 
-    /// What is kept of the lists of routes: the sorted ends of the used vehicles in each dimension that pays, scratch
-    /// for those after a change, and the cumuls of their schedules.
+    /// What is kept of the lists of routes: the sorted ends of the used vehicles in each dimension whose global span
+    /// has a coefficient, scratch for those after a change, and in these dimensions the cumuls of the lists' schedules,
+    /// by which a later change is known with no schedule built, where they tell it.
     pub fn kept(
         &self,
         alloc: Global,
@@ -141,8 +142,8 @@ impl<'m> SpanRules<'m> {
         cumuls.commit(self.lookups.closed, self.lookups.tables(), routes, change);
     }
 
-    /// What the chosen schedules of the new list of part `k` of a change come to. The list is written
-    /// out only where what is kept does not tell its schedule.
+    /// What the chosen schedules of the new list of part `k` of a change come to. The list is written out only where
+    /// what is kept does not tell its schedule.
     pub fn row_after(
         &self,
         cumuls: &AllCumuls,
@@ -284,7 +285,8 @@ fn row_of_part(
     Ok(timings)
 }
 
-// The same in one dimension.
+// The same in one dimension, by what is kept where it tells; none of an empty list, or where nothing is paid for the
+// global span.
 fn kept_after(
     part: &PartAfter,
     table: &Table,

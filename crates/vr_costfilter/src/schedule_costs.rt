@@ -73,7 +73,8 @@ impl<'m> PlanRules<'m> {
         self.idle
     }
 
-    /// What is kept of the lists of routes: what each costs, and the cumuls of its schedules.
+    /// What is kept of the lists of routes: what each costs, and the cumuls of its schedules, where these tell a change
+    /// (`KeptList`): of a vehicle with breaks none.
     pub fn kept(
         &self,
         alloc: Global,
@@ -152,8 +153,8 @@ impl<'m> PlanRules<'m> {
         cost_of_part(&part, self.lookups.tables(), cumuls, scratch)
     }
 
-    /// What the spans of the new list of part `k` of a change cost at least, of any lists of which
-    /// `earlies` tells. No schedule is built.
+    /// What the spans of the new list of part `k` of a change cost at least, of any lists of which `earlies` tells. No
+    /// schedule is built.
     pub fn least(&self, earlies: &Earlies, change: &Change, k: usize) -> i64
         requires earlies { AreEarlyInRange self.now change.now earlies.now }
         requires part { k < length change.now }

@@ -8,7 +8,7 @@ use vr_routes::Row;
 /// Scratch for a list that a change makes, and for its schedule, whether it is known by what is kept or built.
 #[derive(Drop)]
 pub struct Scratch {
-    /// The stops of it that kept cumuls do not tell.
+    /// The steps to those of its visits whose floors are found anew.
     pub trail: Trail,
     /// The list.
     pub row: Row,

@@ -1,5 +1,7 @@
 //! What a change makes of a list whose steps and stages are kept. It is walked back along what the change puts in, and
-//! in front of that until a floor is as kept; then along this, and behind it until a cumul is as kept.
+//! in front of that until a floor is as kept; then along this, and behind it until a cumul is as kept. Where the start
+//! is at a cumul that is given (of a tight schedule), the vehicle goes from there along the kept front too, until it
+//! comes to a kept cumul.
 
 ghost use Rattle.std.specs.Prelude.{◌-ℤ◌, pos};
 ghost use Rattle.std.specs.Prelude.{◌≡◌, ◌<◌, ◌≤◌, ◌+◌, IfSome, IsTrue, Some, drop, length};
@@ -43,7 +45,7 @@ pub struct Lead {
 }
 
 /// Where a walk along new steps begins: a stage, the kept one where one is met; the cumul at the start; and what was
-/// paid up to there beyond what the stage says, 0 where it is not a kept one.
+/// paid up to there beyond what the stage says (below 0 where it was less), 0 where it is not a kept one.
 #[derive(Clone, Copy)]
 pub struct Outset {
     stage: Stage,
@@ -181,7 +183,9 @@ impl KeptSteps {
 }
 
 impl<'a, 'm> KnownSteps<'a, 'm> {
-    // Where new steps begin, nothing exactly where the vehicle does not come there.
+    // Where new steps begin, behind the first `lead.place` visits, for a vehicle whose start is at the cumul that is
+    // given (of a tight schedule), or else at its floor (of an earliest one). Nothing exactly where the start allows no
+    // cumul from its floor on, or the vehicle cannot come so far along the kept steps.
     fn set_out(&self, start: Option<i64>, lead: Lead) -> Option<Outset>
         requires start { WherePresent (IsIn (pos 0) horizon) start }
         requires lead { IsLead self.now.guide.now.model.now (steps_of self.now.kept.now)
@@ -314,8 +318,8 @@ impl<'a, 'm> KnownSteps<'a, 'm> {
         self.guide.standing(cumul)
     }
 
-    // The stage where new steps begin, where the start is at a cumul that is given. Nothing exactly where the vehicle
-    // does not come there.
+    // The stage where new steps begin, where the start is at a cumul that is given. Nothing exactly where that is below
+    // its floor, or the vehicle does not come from there to the new steps.
     fn meet_from(&self, start: i64, lead: Lead) -> Option<Outset>
         requires start { IsIn (pos 0) horizon start }
         requires lead { IsLead self.now.guide.now.model.now (steps_of self.now.kept.now)

@@ -1,7 +1,8 @@
 //! Tight schedules of changed lists. A walk along the stops, where a vehicle waits for the begins of runs alone, tells
 //! how early it can end and how late it can then start; what a change leaves at the ends of its list is not walked.
 //! Between these two cumuls the tight schedule is the earliest one, and is found as that is: by floors from the end
-//! backwards, and along them.
+//! backwards, and along them. (Clauses bound the numbers of a way by its arcs: at most 1000 along the front of a list,
+//! 8000 more along pieces, and then 1001 to the end.)
 
 ghost use Rattle.std.specs.Prelude.{◌≡◌, pos};
 ghost use Rattle.vr_model.specs.tables.Numbers.{horizon};

@@ -20,7 +20,8 @@ pub record IsSearchLimit (limit : Limit) : Type 0 where
   pub one_solution : 1 ≤ limit.solutions
   pub solutions : limit.solutions ≤ 1000000000
 
--- a search may begin at routes whose lists a judge has committed and whose cost is known
+-- a search may begin, within a limit that it may have, at routes whose lists a judge has committed and whose cost is
+-- known
 pub record CanBegin (model : Model) (routes : Tours) (total : ℤ) (allowed : Limit) (judged : Model)
     (committed : Tours → Type 0) : Type 0 where
   pub judge : CanJudge model routes judged committed
@@ -28,7 +29,7 @@ pub record CanBegin (model : Model) (routes : Tours) (total : ℤ) (allowed : Li
   pub limit : IsSearchLimit allowed
 
 -- a search from the first routes to the last ones has ended as its definition says, with this report and these best
--- routes, within its limit, and each watcher was told of its events
+-- routes, which are valid and cost no more than the first, within its limit, and each watcher was told of its events
 pub record HasEnded {W : Type 0} (after : W → List Event → List ℕ) (model : Model) (limit : Limit) (outcome : Outcome)
     (from to : Tours) (old new : List W) (stated : Report) (chosen : Tours) : Type 0 where
   pub report : stated ≡ outcome.report

@@ -13,7 +13,7 @@ use Rattle.vr_descent.specs.declared.progress.Progress.{Progress}
 abbrev pub kept : Incumbent → Tours → ℤ → Incumbent
 kept best routes cost = cond (int_lt cost best.cost) (record { routes = routes; cost = cost }) best
 
--- the best routes are valid, and their cost is known
+-- the best routes are of these visits and valid, and their cost is known
 pub record IsBest (model : Model) (visits : List ℕ) (best : Incumbent) : Type 0 where
   pub costs : best.cost ≡ cost model best.routes.lists
   pub valid : IsTrue (is_valid model best.routes.lists)

@@ -49,7 +49,8 @@ pub trait Accept {
 
     /// A difference with which, or with more, no move is taken that differs from this one in its last number alone. The
     /// numbers of `mv`, of which the last is any, need not be those of a move. `None` where none is known, whichever
-    /// the last number is. Takes no memory.
+    /// the last number is. A scan asks this of a run of moves, and hands the answer to `Judge::first_below`. Takes no
+    /// memory.
     #[inline]
     fn open_below(&self, routes: &Routes, mv: Move) -> Option<i64>
         requires well_formed { IsWellFormed (model self.now) }
@@ -60,8 +61,8 @@ pub trait Accept {
         None
     }
 
-    /// Whether the move may be taken where it makes a difference of `least` or more: false only where it is not. A
-    /// search asks this before it has a move judged, and hands in the change that the move makes. Takes no memory.
+    /// Whether the move may be taken where it makes a difference of `least` or more: false only where it is not. A scan
+    /// asks this before it has a move judged, and hands in the change that the move makes. Takes no memory.
     fn may_accept(&self, routes: &Routes, mv: Move, change: &Change, least: i64) -> bool
         requires asks { CanAsk (model self.now) (stands_at self.now routes.now.lists) routes.now mv }
         requires change { IsChange (model self.now) routes.now.lists mv change.now }

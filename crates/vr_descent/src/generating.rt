@@ -89,7 +89,7 @@ impl<'a> Generating<'a> {
     }
 
     /// Takes those at the front that differ from the move that was taken last in their last number alone, where the
-    /// sieve could tell nothing of them.
+    /// sieve knows nothing of them or is no longer asked.
     #[inline(always)]
     pub(crate) fn stretch(&mut self) -> Stretch
         ensures { self.old ≡ result ++ self.new }

@@ -95,8 +95,8 @@ impl<'a> Generator<'a> {
     }
 
     /// Takes those at the front that differ from the move that was taken last in their last number alone, where the
-    /// sieve could tell nothing of them. Three kinds have none, since their moves are not said to be runs
-    /// (`vr_known::Numbered::run`).
+    /// sieve knows nothing of them or is no longer asked. Three kinds have none, since their moves are not said to be
+    /// runs (`vr_known::Numbered::run`).
     #[inline(always)]
     pub fn stretch(&mut self) -> Stretch
         ensures { left_in self.old ≡ result ++ left_in self.new }

@@ -7,10 +7,10 @@
 //! judge make that, counts tries and solutions, and tells the watchers. ([`scan`] is a scan alone, for who makes the
 //! move himself; nothing here calls it but tests.) [`descend`] (`descending`) takes each move that makes the cost less.
 //!
-//! The way down to the next move: `next_open` (`scanning`), `MoveList::step` (`listing`), `Generating::step`,
-//! `Generator::step`, and in `vr_known` `Moves::step`, `Each::step` and `Run::step` (`nests`), which ask the sieve
-//! about a block (`Sieve::has`) and then about a run (`Sieve::first`, here `Judge::first_below`). `try_move` writes
-//! the change of that move over the one that `advance` owns.
+//! The way down to the next move: `next_open` (`scanning`; it takes the next of a stretch in hand at once),
+//! `MoveList::step` (`listing`), `Generating::step`, `Generator::step`, and in `vr_known` `Moves::step`, `Each::step`
+//! and `Run::step` (`nests`), which ask the sieve about a block (`Sieve::has`) and then about a run (`Sieve::first`,
+//! here `Judge::first_below`). `try_move` writes the change of that move over the one that `advance` owns.
 //!
 //! Moves that are known to be refused are counted as tries, and nothing is asked about them (`vr_known`). What a scan
 //! refused is noted at its end, where the tries did not cut it, and of moves that depend on what a move changed nothing
@@ -21,8 +21,9 @@
 //! here. No move of these lists that is known is acceptable. By `laws` the last lists of a descent cost no more than
 //! the first.
 //!
-//! `vr_app` calls [`descend`]. `vr_guided` scans by penalised costs; it and `vr_tabu` go on to lists that cost more,
-//! and keep the best ones ([`Incumbent`], in `incumbent`); `vr_lns` counts and tells by [`Progress`] too.
+//! `vr_app` calls [`descend`]. `vr_guided` scans by penalised costs, and `vr_tabu` goes through the list of all moves
+//! with a sieve of its own; both go on to lists that cost more, and keep the best ones ([`Incumbent`], in `incumbent`);
+//! `vr_lns` counts and tells by [`Progress`] too.
 #![tactic(auto)]
 
 mod accepting;

@@ -72,7 +72,7 @@ impl<'a> MoveList<'a> {
         if let Some(mv) = self.run.take() {
             return Some(mv);
         }
-        // Then the first behind the run, and the run that begins with it, where nothing could be told of that.
+        // Then the first behind the run, and the rest of the run that it begins, where nothing could be told of that.
         let found = self.behind.step(sieve, judge, passed);
         self.run = self.behind.stretch();
         found

@@ -46,9 +46,10 @@ struct Found<'a> {
 
 impl Progress {
     /// One scan: the first acceptable move is made and told to the watchers; the tries are counted. The rows that the
-    /// scan refused whole are known then, where anything is learned, but for what names a vehicle whose list the move
-    /// changed, moves a pair that such a vehicle serves, or changes activity as it did. It owns the change of the move
-    /// in hand: the scan writes it, and the judge makes it.
+    /// scan refused whole are known then, where anything is learned and the tries did not cut it, but for what names a
+    /// vehicle whose list the move changed, puts elsewhere or takes out a pair that such a vehicle serves, or changes
+    /// activity as it did. It owns the change of the move in hand: the scan writes it, and the judge makes it.
+    /// `descend` and guided search ask it again and again.
     ///
     /// The only refusal is want of memory. The judge then stands at the lists of the routes, which are valid, and of
     /// the event in hand some watchers at the front were told; what is known may then be of the lists before, and is

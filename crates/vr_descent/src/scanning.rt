@@ -22,7 +22,7 @@ use vr_routes::{Change, Judge, Routes, Verdict};
 /// How a scan of a list of moves ends.
 #[derive(Clone, Copy)]
 pub enum ScanEnd {
-    /// The first acceptable move stands at this place of the list, counted from 1.
+    /// The first acceptable move stands at this place of the list, counted from 1: so many tries the scan used.
     Accepted {
         place: u64,
         mv: Move,
@@ -240,8 +240,9 @@ impl<'a, J: Judge, A: Accept> Scanning<'a, J, A> {
 /// judged.
 ///
 /// Moves that are known not to be acceptable are tries as any others, and nothing is asked about them. Of the moves of
-/// a run, which differ in their last number, the judge is asked at once which may be taken, and those in front of these
-/// are tries as well. Where more than 10^9 tries are left, no move is passed over so.
+/// a run, which differ in their last number, the judge is asked at once from which on some may be taken, and those in
+/// front of these are tries as well. Where more than 10^9 tries are left, no move is passed over so. Tests alone call
+/// it: a search scans by `Progress::advance`.
 ///
 /// The only refusal is want of memory, which is taken by the judge alone; it still stands at the same lists then.
 pub fn scan<J: Judge, A: Accept, L: Ledger>(

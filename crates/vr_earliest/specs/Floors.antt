@@ -24,7 +24,8 @@ abbrev pub opening : Option Interval → ℤ
 opening None = pos 0
 opening (Some window) = window.lo
 
--- the floor of a stop with this row: where its window begins, behind each forbidden interval in turn
+-- the floor of a stop with this row: where its window begins, behind each forbidden interval in turn, at most the
+-- horizon
 abbrev pub floor_of : Option StopRow → ℤ
 floor_of None = pos 0
 floor_of (Some row) = int_min horizon (fold behind_interval (opening row.window) row.forbidden)

@@ -17,7 +17,7 @@ use Rattle.vr_earliest.specs.Ways.{way_from_start, on_to_visit}
 abbrev pub KeptWays : Type 0
 KeptWays = KeptPlaces Way Rest
 
--- what is kept has the ways along a list of vehicle v, and what is left behind each of its places
+-- what is kept has the ways along the first nodes of a list of vehicle v, and what is left behind each of them
 abbrev pub HasWays : Model → ℕ → ℕ → List ℕ → KeptWays → Type 0
 HasWays model d v list kept =
     KeepsWays (way_from_start model d v) (on_to_visit model d v) (at_end model d v) (rest_with_visit model d v) list

@@ -107,7 +107,8 @@ impl<'m> Earliest<'m> {
         }
     }
 
-    // What they come to at least in dimension `d`.
+    // What the chosen schedules of the lists after a change come to at least in dimension `d`, by part; 0 of a second
+    // part that there is not.
     fn row_after(&self, d: u32, routes: &Routes, change: &Change) -> [Early; 2]
         requires { MayTell self.now routes.now.lists change.now d }
         ensures { IsEarlyRow self.now.model routes.now.lists change.now d result }

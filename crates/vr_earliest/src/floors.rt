@@ -105,7 +105,8 @@ fn forbids_none(row: Option<&StopRow>) -> bool
     row.forbidden.is_empty()
 }
 
-// The floor of a stop with this row, a cumul also where the row allows none.
+// The floor of a stop with this row: where its window begins, or behind the forbidden intervals there; 0 without a row.
+// It lies in `0..=2^36` also where the row allows no cumul.
 fn floor_of(row: Option<&StopRow>) -> i64
     requires { WherePresent IsStopRow (option_copied row) }
     ensures value { result ≡ floor_of_row (option_copied row.entry) }

@@ -17,7 +17,7 @@ pub trait Walk {
     /// The vehicle can be sent to a node.
     ghost can_visit: { Self → ℕ → Type 0 };
 
-    /// The numbers of a way are those of so many arcs at most.
+    /// The numbers of a way are those of so many arcs at most: 1000 along a kept front, and 8000 more along pieces.
     ghost is_way: { Self → ℕ → Self.Way → Type 0 };
 
     /// The same of what is left.
@@ -120,7 +120,7 @@ fn along_chain<G: Walk>(walk: &G, chain: &[u32], reversed: bool, way: G::Way) ->
     gone
 }
 
-/// Node `k` of a chain, or of the chain backwards.
+/// Node `k` of a chain, or of the chain backwards. `vr_costfilter` asks it too, for its floors.
 #[inline(always)]
 pub fn node_in(chain: &[u32], reversed: bool, k: usize) -> u32
     requires { k < length chain.now }

@@ -69,7 +69,7 @@ impl<'m> Guide<'m> {
         }
     }
 
-    // It goes on to a node, where no time lies below a floor.
+    // A way goes on to a node, where no time lies below a floor.
     #[inline(always)]
     fn to_node(&self, way: Way, node: u32, floor: i64) -> Way
         requires way { IsLongWay self.now.model.now way }
@@ -85,7 +85,7 @@ impl<'m> Guide<'m> {
         }
     }
 
-    /// It goes on to a stop and through what is left from there to the end.
+    /// A way goes on to the stop of a rest, and through what is left from there to the end.
     #[inline(always)]
     pub fn to_end(&self, way: Way, rest: Rest) -> Way
         requires way { IsMiddleWay self.now.model.now way }

@@ -47,7 +47,8 @@ pub record MayBeAppended (model : Model) (lists : List (List ℕ)) (v : ℕ) (it
   pub inactive : is_active lists (first_node (item_nodes item)) ≡ false
   pub stays_open : IsTrue (is_open model (appended lists v (item_nodes item)))
 
--- the better of the best choice so far and a candidate, which counts only where its first node is not marked
+-- the better of the best choice so far and a candidate, which counts only where its first node is not marked and it may
+-- be appended
 abbrev pub chosen_beside : Model → ℕ → List ℕ → List Bool → Candidate → Option ArcChoice → Option ArcChoice
 chosen_beside model v list marks candidate best = let next = choice_of model v (tail model v list) candidate in
     cond (is_marked marks (first_node (item_nodes candidate.item))) best

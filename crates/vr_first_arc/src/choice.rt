@@ -1,4 +1,4 @@
-//! What may be appended next, and which of two choices comes first.
+//! What is weighed for the end of a list, and which of two choices comes first.
 
 ghost use Rattle.std.specs.Prelude.{◌≡◌, option_map};
 ghost use Rattle.vr_model.specs.tables.Numbers.{is_lex_less};
@@ -7,7 +7,7 @@ ghost use Rattle.vr_first_arc.specs.Choices.{arc_key, item_of_choice};
 
 use vr_rules::Item;
 
-// An item that may be next, its class, and the cost of the arc to its first node.
+// An item that is weighed for the end of a list, its class, and the cost of the arc from there to its first node.
 #[derive(Clone, Copy)]
 pub(crate) struct ArcChoice {
     pub(crate) item: Item,
@@ -15,7 +15,7 @@ pub(crate) struct ArcChoice {
     pub(crate) cost: i64,
 }
 
-// Whether a choice comes before another: by class, then by cost, then by number.
+// Whether a choice comes before another: by class, then by cost, then by number, which is that of the first node.
 fn comes_before(one: ArcChoice, other: ArcChoice) -> bool
     ensures { result ≡ is_lex_less (arc_key one) (arc_key other) }
 {

@@ -17,7 +17,8 @@ use crate::growing::{Filling, Growing};
 use vr_model::{Closed, NoMemory, Seq};
 use vr_rules::{Candidate, Fronts, Item, Room, last_stop, mark_item};
 
-// The better of the best choice so far and another, which is tested only where it improves.
+// The better of the best choice so far and another, which counts only where it may be appended. That takes most to ask,
+// so it is asked only where the choice comes first.
 fn consider(
     growing: &Growing<'_, '_, '_, '_>,
     room: &mut Room,

@@ -66,7 +66,8 @@ pub record MayAskEach (on : AskedLists) (i : ℕ) (known : List (List KnownItem)
   pub may_hold : MayBeHeld on i
   pub rows : AreKnownInEach on known
 
--- whether an item may count can be told: the nodes that stand in lists are marked, so that no group has too many
+-- whether an item may count can be told: each node has its mark, no group has more marked nodes than it may have, and
+-- the item begins with one of the nodes
 pub record MayCount (items : Items) (marked : List Bool) (candidate : Candidate) : Type 0 where
   pub marks : length marked ≡ (items_model items).nodes
   pub fit : IsTrue (list_all (fits_by marked) (items_model items).groups)

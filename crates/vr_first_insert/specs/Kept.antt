@@ -43,8 +43,8 @@ abbrev pub BestAddsAtLeast : Model → ℕ → List ℕ → Candidate → ℤ �
 BestAddsAtLeast model v list candidate least = IfSome (best_in model v list candidate None)
     (λ choice. least ≤ℤ choice.increase)
 
--- what a search of a list tells that began with the best so far: what is better is the best of the list, and where
--- nothing is, the best of the list adds no less than the best so far. A search that began with some best found one.
+-- what a search of a list tells that began with this best, or with nothing: what is better is the best of the list, and
+-- where nothing is, the best of the list adds no less than this. A search that began with nothing found the best.
 abbrev pub known_by_search : Option InsertionChoice → Option InsertionChoice → KnownItem
 known_by_search None found = Best found
 known_by_search (Some best) None = Best None
@@ -57,7 +57,7 @@ begun_with item true best = None
 begun_with (Visit node) false best = None
 begun_with (PickupAndDelivery pickup delivery) false best = best
 
--- what a search of the list of vehicle v tells of a candidate that begins with the best so far
+-- what a search of the list of vehicle v tells of a candidate that begins with this best, or with nothing
 abbrev pub sought : Model → ℕ → List ℕ → Candidate → Option InsertionChoice → KnownItem
 sought model v list candidate best = known_by_search best (best_in model v list candidate best)
 

@@ -32,12 +32,13 @@ pub record IsKeptOf (model : Model) (d v : ℕ) (list : List ℕ) (kept : ListRo
   pub there : v < length kept.rows.items
   pub rows_of_list : (other : BothWays) → AreRowsIfUsed model d v list (slice_index_or kept.rows.items v other)
 
--- in each dimension
+-- the rows that are kept in each dimension are those of the lists
 pub record AreKeptRows (model : Model) (lists : List (List ℕ)) (list_rows : List ListRows) : Type 0 where
   pub one_of_each : length list_rows ≡ length model.dimensions
   pub each : (d : ℕ) (other : ListRows) → d < length list_rows
       → AreKeptRowsIn model d lists (slice_index_or list_rows d other)
 
+-- in each dimension those of vehicle v are those of its list
 pub record AreKeptOf (model : Model) (v : ℕ) (list : List ℕ) (list_rows : List ListRows) : Type 0 where
   pub one_of_each : length list_rows ≡ length model.dimensions
   pub each : (d : ℕ) (other : ListRows) → d < length list_rows

@@ -37,7 +37,7 @@ abbrev pub placed : List ℕ → Placing → List ℕ
 placed list (One node t) = insert list t node
 placed list (Two pickup delivery s t) = with_pair (record { pickup = pickup; delivery = delivery }) s t list
 
--- the places are places of the list, the second not before the first
+-- the places are places of the list or its end, the second not before the first
 abbrev pub AreWithin : List ℕ → Placing → Type 0
 AreWithin list (One node t) = t ≤ length list
 AreWithin list (Two pickup delivery s t) = (s ≤ t) × (t ≤ length list)
@@ -103,7 +103,7 @@ abbrev pub may_be_placed : Model → List Bool → Candidate → Bool
 may_be_placed model marks candidate = cond (is_marked marks (first_node (item_nodes candidate.item))) false
     (list_all (has_room marks candidate.item) model.groups)
 
--- the best beside all choices of a candidate
+-- the best beside all choices of a candidate, where it counts
 abbrev pub best_beside : Model → List (List ℕ) → List Bool → Candidate → Option InsertionChoice → Option InsertionChoice
 best_beside model lists marks candidate best = cond (may_be_placed model marks candidate)
     (best_in_lists model lists candidate (length lists) best) best

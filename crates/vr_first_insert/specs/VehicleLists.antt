@@ -38,7 +38,7 @@ pair_before pair = pair_choice (list_model pair.list) pair.list.vehicle pair.lis
 abbrev pub best_of_candidate : CandidateIn → Option InsertionChoice → Option InsertionChoice
 best_of_candidate of = best_in (list_model of.list) of.list.vehicle of.list.nodes.now of.candidate
 
--- what a search of the list tells that begins with the best so far
+-- what a search of the list tells that begins with this best, or with nothing
 abbrev pub sought_in : CandidateIn → Option InsertionChoice → KnownItem
 sought_in of = sought (list_model of.list) of.list.vehicle of.list.nodes.now of.candidate
 

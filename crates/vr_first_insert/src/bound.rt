@@ -1,4 +1,5 @@
-//! What no place of a list can do better than.
+//! What no place of a list can do better than. `known` asks the least of a visit or a pair before it has a list
+//! searched; `one_list` asks the others while it goes through places.
 
 ghost use Rattle.std.specs.Prelude.{◌≡◌, ℕ, ◌<◌, ◌≤◌, ◌^◌, OnOk, cond, int_lt, length, neg_ℤ, pos, ◌+ℤ◌, ◌≤ℤ◌};
 ghost use Rattle.vr_first_insert.specs.Increases.{pair_increase as pair_increase_of, IsIncrease};
@@ -135,8 +136,8 @@ pub(crate) fn least_further(
     visit_increase(list, pickup, s) + least
 }
 
-/// What a pair adds at least to a list: the delivery counts with the least that it adds before any place, so each two
-/// places may add more.
+/// What a pair adds at least to a list: a delivery that is not right behind its pickup counts with the least that it
+/// adds before any place, so each two places may add more.
 pub(crate) fn least_pair(list: &LookedUpList<'_, '_, '_>, pickup: u32, delivery: u32) -> i64
     requires pickup { pickup < (list_model list.now).nodes }
     requires delivery { delivery < (list_model list.now).nodes }

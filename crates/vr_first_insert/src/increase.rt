@@ -76,7 +76,7 @@ fn detour(list: &LookedUpList<'_, '_, '_>, a: u32, x: u32, b: u32, before: i64) 
     model.arc_cost(list.vehicle, a, x) + model.arc_cost(list.vehicle, x, b) - before
 }
 
-/// What a visit before a place adds: three arcs, whatever the length of the list.
+/// What a visit before a place adds: three arcs at most, whatever the length of the list.
 pub(crate) fn visit_increase(list: &LookedUpList<'_, '_, '_>, x: u32, t: usize) -> i64
     requires within { t ≤ length list.now.nodes.now }
     requires visit { x < (list_model list.now).nodes }

@@ -23,8 +23,8 @@ use vr_plan::Lookups;
 use vr_routes::Routes;
 use vr_rules::{Candidate, active_marks, candidates, empty_lists};
 
-/// Lists of a model, those at which the last rebuild ended, and what is kept of them: what each reaches, and the best
-/// place of each item in each.
+/// Lists of a model, those at which the last rebuild ended, or empty ones, and what is kept of them: their rows, and
+/// what is known of each item in each (`KnownItem`: the best place, what that adds at least, or nothing).
 #[derive(Drop)]
 pub(crate) struct Keeper {
     candidates: Vec<Candidate>,

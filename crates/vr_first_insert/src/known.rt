@@ -91,7 +91,8 @@ fn known_by_search(best: Option<InsertionChoice>, found: Option<InsertionChoice>
     }
 }
 
-// The same where there was a best so far.
+// The same where there was a best so far: where nothing in the list is better, the best of the list, if there is one,
+// adds no less.
 fn known_beside(best: InsertionChoice, next: InsertionChoice) -> KnownItem
     ensures { result ≡ known_by_search_of (Some best) (Some next) }
 {
@@ -120,7 +121,7 @@ fn begun_with(item: Item, searched: bool, best: Option<InsertionChoice>) -> Opti
     }
 }
 
-// What a search of a list tells that begins with the best so far.
+// What a search of a list tells that begins with this best, or with nothing (`begun_with`).
 fn search_list(
     scratch: &mut InsertScratch,
     of: &CandidateIn<'_, '_, '_>,

@@ -1,4 +1,4 @@
-//! The rows of lists in each dimension: what each list reaches at its stops.
+//! The rows of lists in each dimension: what each list reaches at its stops, and from where its end is reached.
 
 ghost use Rattle.std.specs.Prelude.{◌≡◌, ◌<◌, length, IfOk, OnOk};
 ghost use Rattle.vr_model.specs.moves.Moves.{with_route};
@@ -97,7 +97,7 @@ pub(crate) fn keep_each(
 /// Writes the rows of a list over those of the list of its vehicle before, in each dimension. After `NoMemory` nothing
 /// is said of what is kept.
 ///
-/// It takes memory only where a list is longer than any before, or a set has more than four runs.
+/// It takes memory only where the list is longer than any of its vehicle before, or a set has more than four runs.
 pub(crate) fn rewrite(
     alloc: Global,
     list_rows: &mut [ListRows],
@@ -133,12 +133,12 @@ pub(crate) fn change_list(
     Ok(())
 }
 
-/// Whether the line of a list is feasible in each dimension, found by walks through what differs from the list of the
-/// vehicle before, whose rows are kept: all but the first `front` and the last `back` nodes. Afterwards nothing is said
-/// of where the walk stands.
+/// Whether the line of a list is feasible in each dimension, found by walks through what differs from the list that the
+/// vehicle has (`old`), whose rows are kept: all but the first `front` and the last `back` nodes. Afterwards nothing is
+/// said of where the walk stands.
 ///
-/// `NoMemory` where there was no memory: it is taken only where a set has more than four runs, or a vehicle more breaks
-/// than any before.
+/// `NoMemory` where there was no memory: it is taken only where a set has more than four runs, or the vehicle has
+/// breaks.
 pub(crate) fn is_feasible_between(
     list_rows: &[ListRows],
     old: &LookedUpList<'_, '_, '_>,

@@ -178,8 +178,9 @@ struct Begun<'l, 'm, 'k, 's> {
 }
 
 // The better of the best so far and a pickup before a place with its delivery before each place behind, where what the
-// list with the pickup reaches at the stop behind the pickup is known. Once nothing is reached, no place further on is
-// allowed; and none is looked at where none from there on can be better.
+// list with the pickup reaches at the stop behind the pickup is known. That moves on with the delivery: to stop `t + 1`
+// of that list where the delivery goes before place `t`. Once nothing is reached, no place further on is allowed; and
+// none is looked at where none from there on can be better.
 fn best_further(
     trying: &mut Trying,
     probes: &mut Probes,

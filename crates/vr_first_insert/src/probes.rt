@@ -1,4 +1,5 @@
-//! What a list reaches at one stop in each dimension, moved from stop to stop.
+//! What a list reaches at one stop in each dimension, moved from stop to stop: a list with the pickup of a pair in it,
+//! while places of the delivery are tried (`one_list`).
 
 ghost use Rattle.std.specs.Prelude.{◌≡◌, ◌+◌, ◌≤◌, IsTrue, length, IfOk, OnOk};
 ghost use Rattle.vr_rules.specs.RoutesOpen.{is_feasible_in_each};
@@ -29,8 +30,8 @@ impl Probes {
         }
     }
 
-    /// Stands behind the first `front` nodes of a list and one arc more, where it shares those nodes with the list of
-    /// the vehicle before, whose rows are kept. Afterwards nothing is said of where the walk stands.
+    /// Stands behind the first `front` nodes of a list and one arc more, where it shares those nodes with the list that
+    /// the vehicle has (`old`), whose rows are kept. Afterwards nothing is said of where the walk stands.
     ///
     /// `NoMemory` as of `is_feasible_between`, and the first time, when no levels are there yet.
     pub(crate) fn leave(
@@ -65,8 +66,8 @@ impl Probes {
     }
 
     /// Whether the line of a list is feasible in each dimension, found by walks from stop `k`, where this is reached,
-    /// to its last `back` nodes, which it shares with the list of the vehicle before, whose rows are kept. Afterwards
-    /// nothing is said of where the walk stands.
+    /// to its last `back` nodes, which it shares with the list that the vehicle has (`old`), whose rows are kept.
+    /// Afterwards nothing is said of where the walk stands.
     ///
     /// `NoMemory` as of `is_feasible_between`.
     pub(crate) fn goes_from(
@@ -146,7 +147,7 @@ fn fit(alloc: Global, probes: &mut Probes, wanted: usize) -> Result<(), NoMemory
     Ok(())
 }
 
-// Stands in each dimension behind the arc by which a list leaves the list of the vehicle before.
+// Stands in each dimension behind the arc by which a list leaves the one that the vehicle has (`old`).
 fn leave_each(
     probes: &mut Probes,
     list_rows: &[ListRows],

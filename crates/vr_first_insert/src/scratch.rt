@@ -13,7 +13,7 @@ pub(crate) struct InsertScratch {
     pub(crate) ahead: Seq<i64>,
     /// The list with the pickup of a pair in it.
     pub(crate) half: Seq<u32>,
-    /// What that list reaches.
+    /// What that list reaches at the stop before the delivery that is tried.
     pub(crate) probes: Probes,
     pub(crate) trying: Trying,
 }

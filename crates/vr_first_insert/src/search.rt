@@ -197,6 +197,7 @@ pub(crate) fn insert_all(
     ensures known { OnOk result (AreKnownRows (items_model items.now) lists.new items.now.candidates.now
         known_items.new) }
 {
+    // each step inserts an item, so that as many steps as there are items are enough
     for _step in 0..items.candidates.len() {
         match next_insertion(scratch, items, list_rows, marks, lists, known_items)? {
             Some(choice) => {

@@ -39,7 +39,7 @@ impl Trying {
     }
 }
 
-// Whether the list that is written serves each pair in order, and as the policy of the vehicle of a list asks.
+// Whether the list in `longer` serves each pair in order, and as the policy of the vehicle of `list` asks.
 #[inline(always)]
 fn keeps_its_pairs(trying: &mut Trying, list: &LookedUpList<'_, '_, '_>) -> bool
     requires visits { IsTrue (list_all (is_visit (list_model list.now)) trying.old.longer) }
@@ -82,7 +82,8 @@ pub(crate) fn may_visit(
 }
 
 /// Whether the vehicle of a list may drive it with a pair in it, the delivery before place `t`, as `longer` has it,
-/// where what the list with the pickup reaches at the node before the delivery is known.
+/// where what the list with the pickup reaches at the node before the delivery is known (with the pickup in front that
+/// is its stop `t + 1`).
 pub(crate) fn may_serve(
     trying: &mut Trying,
     probes: &Probes,

@@ -20,7 +20,7 @@ ends_between model last first = record {
 abbrev pub ends_of : Model → List ℕ → EndsOfRoute
 ends_of model route = ends_between model (last_node route) (first_node route)
 
--- ends at nodes of the model, whose arcs cost what arcs cost
+-- ends at nodes of the model, whose arcs cost no less and no more than arcs may
 pub record AreRouteEnds (model : Model) (ends : EndsOfRoute) : Type 0 where
   pub last_below : ends.last < model.nodes
   pub first_below : ends.first < model.nodes

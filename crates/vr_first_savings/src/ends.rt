@@ -8,8 +8,8 @@ ghost use Rattle.vr_first_savings.specs.Joins.{AreApart};
 use std::alloc::Global;
 use vr_model::{Closed, NoMemory, Seq};
 
-/// The last and the first node of a route, and what the arcs cost from the last to the end and from the start to the
-/// first.
+/// The last and the first node of a route, and what the arcs of vehicle 0 cost from the last to its end and from its
+/// start to the first.
 #[derive(Clone, Copy)]
 pub(crate) struct EndsOfRoute {
     pub(crate) last: u32,

@@ -67,7 +67,8 @@ pub(crate) fn joined(
     Ok(joined)
 }
 
-// The better of the best so far and a choice, which is tested only where it improves.
+// The better of the best so far and a choice, which counts only where it joins two routes, and not one with itself, and
+// the joined route is open. That takes most to ask, so it is asked only where the choice comes first.
 fn consider(
     alloc: Global,
     lookups: &Lookups<'_>,
@@ -119,7 +120,7 @@ fn best_behind(
     Ok(best)
 }
 
-/// The best join of two routes, if any may be joined.
+/// The best join of two routes, whatever it saves, if any may be joined.
 pub(crate) fn best_join(
     alloc: Global,
     lookups: &Lookups<'_>,

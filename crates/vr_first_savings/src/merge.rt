@@ -14,7 +14,8 @@ use vr_model::{Model, NoMemory, Seq};
 use vr_plan::Lookups;
 use vr_rules::Driving;
 
-// Puts a copy of a route behind others, where its first node is neither of two: a route is known by its first node.
+// Puts a copy of a route behind others, where it is none of the two that are joined, whose first nodes are `front` and
+// `back`: a route is known by its first node.
 fn keep_other(
     alloc: Global,
     route: &[u32],

@@ -17,7 +17,8 @@ use vr_plan::Lookups;
 use vr_routes::Routes;
 use vr_rules::{Driving, Rules};
 
-// The lists at which the construction ends. The room for walks is lent, so that little is let go where it ends early.
+// The lists at which the construction ends. The room for walks is lent, so that there is less to let go where memory is
+// wanting.
 fn lists_joined(
     alloc: Global,
     lookups: &Lookups<'_>,

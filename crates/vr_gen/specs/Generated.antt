@@ -15,7 +15,7 @@ apart m n = (m - n) + (n - m)
 abbrev pub distance_entry : Site → Site → Data
 distance_entry a b = count (apart a.x b.x + apart a.y b.y)
 
--- the matrix of distances
+-- the distances from a site, and the matrix of them
 abbrev pub row : List Site → Site → Data
 row sites a = listed (distance_entry a) sites
 
@@ -52,7 +52,7 @@ window customers k =
 abbrev pub services : List ℕ
 services = replicate 60 30
 
--- how long it takes from node to node: the distance and the visits
+-- how long it takes from node to node: the distance and the visit of the first one
 abbrev pub transit : List ℕ → Data
 transit services = object (member (codes "matrix") (count 0) (member (codes "values") (values services) no_members))
 
@@ -79,7 +79,7 @@ loads customers = object
     (member (codes "name") (string (codes "load"))
     (member (codes "slack_max") (count 0) no_members)))))
 
--- each node but 0 may be left out at a price
+-- node k + 1 may be left out at a price
 abbrev pub group : ℕ → Data
 group k = object
     (member (codes "nodes") (listed count ((k + 1) ∷ []))

@@ -1,4 +1,5 @@
-//! Laws over the definitions. A call has no code: its contract is the law, and a proof that needs the law calls it.
+//! Laws over the definitions. A call has no code: its contract is the law. Nothing calls it: a proof that needs the law
+//! (one of `vr_app` does) names the proof of it, in `proofs/Solved`.
 
 ghost use Rattle.std.specs.Prelude.{ℕ, List};
 ghost use Rattle.vr_read.specs.Models.{read_model};

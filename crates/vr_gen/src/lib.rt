@@ -2,8 +2,8 @@
 //!
 //! The numbers are drawn one after another from a defined stream (`draws`, over `rand_pcg`): where each node stands,
 //! and the window and the load of each customer. The tree is built from them (`trees`); the law of `laws` says that
-//! each such tree is read as a well-formed model with a first solution. The words `generate` and `demo` of `vr_app` and
-//! tests call it.
+//! each such tree is read as a model with a first solution. The words `generate` and `demo` of `vr_app` and tests call
+//! it.
 #![tactic(auto)]
 
 mod draws;

@@ -171,7 +171,8 @@ fn demands(alloc: Global, customers: &[Customer]) -> Result<Vec<u32>, NoMemory>
     Ok(all)
 }
 
-// How long it takes from node to node: the distance, and the visit where the arc begins.
+// How long it takes from node to node, as an evaluator: the distance, and the visit where the arc begins, of which
+// `services` has the length for each node but 0.
 fn transit(alloc: Global, services: &[u32]) -> Result<Value, NoMemory>
     ensures { IfOk result (λ tree. view tree ≡ trees.transit services.now) }
 {

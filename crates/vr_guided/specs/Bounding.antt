@@ -12,8 +12,8 @@ pub record IsLambda (lambda : Lambda) : Type 0 where
   pub p_in_range : IsIn (pos 1) (pos 1000) lambda.p
   pub q_in_range : IsIn (pos 1) (pos 1000) lambda.q
 
--- where no arc was penalised more than 10^9 times, valid lists of a well-formed model have an augmented cost from 0 to
--- 2^100
+-- with such a lambda, and where no arc was penalised more than 10^9 times, valid lists of a well-formed model have an
+-- augmented cost from 0 to 2^100
 abbrev pub AugmentedCostsAreBounded : Type 0
 AugmentedCostsAreBounded =
     (model : Model) → IsWellFormed model → (lambda : Lambda) → IsLambda lambda

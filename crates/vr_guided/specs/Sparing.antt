@@ -13,8 +13,8 @@ abbrev pub AreSpared : List (List ℕ) → Penalties → Penalties → ℕ → �
 AreSpared lists old new u w = (origin target : ℕ) → StandsNowhereElse lists u w origin
     → StandsNowhereElse lists u w target → new origin target ≡ old origin target
 
--- where the moves of a row were refused after two vehicles last changed, no arc was raised that leads to or from the
--- nodes of these alone
+-- where the moves of a row were refused after two vehicles last changed, no arc was raised between nodes that stand in
+-- no list but theirs
 abbrev pub SparesKnown : List (List ℕ) → Penalties → Penalties → Memory → Type 0
 SparesKnown lists old new memory = (kind row u w : ℕ) → IsTrue (is_later memory kind row u)
     → IsTrue (is_later memory kind row w) → AreSpared lists old new u w

@@ -21,7 +21,8 @@ pub record AreParameters (limit : Limit) (lambda : Lambda) : Type 0 where
   pub q_from_one : pos 1 ≤ℤ lambda.q
   pub q_to_1000 : lambda.q ≤ℤ pos 1000
 
--- what guided search begins with: these routes are the best, they cost what is known there, and no arc was penalised
+-- what guided search begins with: these routes are the best, they cost what is known there, no arc was penalised, each
+-- arc has a count, and each vehicle has sums
 pub record IsGuidedBegun (model : Model) (routes : Tours) (at : Progress) (state : State) : Type 0 where
   pub at_is : state.at ≡ at
   pub best_is : state.best ≡ record { routes = routes; cost = at.cost }

@@ -20,7 +20,7 @@ weight_back model p arc = arc_weight model p (record {
 abbrev pub weight_by : Model → Penalties → Bool → UsedArc → ℤ
 weight_by model p back = cond back (weight_back model p) (arc_weight model p)
 
--- each sum is one of as many arcs as stand before it
+-- each sum is from 0 to 2^70 times the number of sums before it
 abbrev pub HaveWideRange : List ℤ → Type 0
 HaveWideRange sums = (k : ℕ) → k < length sums → IsIn (pos 0) (pos (k * 2 ^ 70)) (number_at sums k)
 

@@ -59,6 +59,7 @@ impl<'m, 'p, 's> Accept for Guiding<'m, 'p, 's> {
 
     #[inline]
     fn open_below(&self, routes: &Routes, mv: Move) -> Option<i64> {
+        // all moves of the run change the lists of the same vehicles, and save no more than the arcs of these add now
         let Some(touched) = Touched::found(self.weights.closed.model, routes, mv) else {
             return None;
         };

@@ -1,4 +1,5 @@
-//! Laws over the definitions. A call has no code: its contract is the law, and a proof that needs the law calls it.
+//! Laws over the definitions. A call has no code: its contract is the law. Nothing calls them: a proof that needs a law
+//! cites the lemma of the same name.
 
 ghost use Rattle.vr_guided.specs.Answering.{GuidedIsSound};
 ghost use Rattle.vr_guided.specs.Bounding.{AugmentedCostsAreBounded};

@@ -4,8 +4,8 @@
 //! times the cost and `p` times the penalised arc costs, of the weight `p / q` that the model gives ([`Lambda`]): at
 //! each local optimum a penalty rises (`raising`) on those used arcs whose worth (`worths`; the utility of the
 //! literature), cost over one more than penalty, is greatest, which leads the search away. Where no used arc costs
-//! anything (`costly`), no penalty helps, and the search ends. `vehicle_list` has the list of a vehicle, whose arcs
-//! `raising` and `costly` go over.
+//! anything (`costly`), no penalty helps, and the search ends, as it does where there are no moves. `vehicle_list` has
+//! the list of a vehicle, whose arcs `raising` and `costly` go over.
 //!
 //! `penalties` counts how often each arc was penalised; an arc adds its cost times that (`weights`). What a move makes
 //! of the penalised arc costs is told by the stretches that its change touches (`changing`, `stretches`), with sums

@@ -43,7 +43,10 @@ impl Penalties {
     }
 
     // One more on each arc of a vehicle that is worth as much as the greatest. Where there is one, no move is known any
-    // more that names the vehicle.
+    // more that names the vehicle; those of pairs that it serves are forgotten behind all vehicles (`settle`). So where
+    // a row was refused after two vehicles last changed, no arc was raised between nodes that stand in no other list:
+    // this holds after each vehicle if it held before (`spares`). A count is at most 10^9 before a round, for so many
+    // tries, and a round goes over at most 1001 arcs of each vehicle.
     fn raise_vehicle(&mut self, list: &VehicleList<'_, '_>, greatest: &Worth, known: &mut Known)
         requires counts { AreUpTo list.now.closed.model.now.nodes (1000000000 + 1001 * list.now.vehicle) self.old }
         ensures covers { self.new.nodes ≡ self.old.nodes }

@@ -36,8 +36,9 @@ pub struct Guided {
 /// the judge stands; the answer has the first lists of the least cost. `limit` allows up to 10^9 tries and from 1 to
 /// 10^9 solutions, and both parts of `lambda` are in 1..=1000.
 ///
-/// The report's end is `Optimum` where the lists have no move at all or no used arc costs anything, so that no penalty
-/// could help, `Tries` where the tries ran out, and `Solutions` where as many solutions were found as the limit allows.
+/// The report's end is `Solutions` where as many solutions were found as the limit allows, which is asked first; else
+/// `Optimum` where a scan of all moves takes none and no penalty could help, since the lists have no move at all or no
+/// used arc costs anything, and `Tries` where the tries ran out.
 ///
 /// The judge is asked about no more moves than are tried, and at most twice as often what a move, or a run of moves,
 /// makes at least.
@@ -135,7 +136,8 @@ struct Parameters {
     lambda: Lambda,
 }
 
-// Searches on from where it stands, and says why it ended.
+// Searches on from where it stands, and says why it ended. Where a scan takes no move and a penalty can help, penalties
+// rise, which the watchers are told as a round.
 fn search<J: Judge, L: Ledger>(
     closed: Closed<'_>,
     judge: &mut J,
@@ -202,7 +204,7 @@ fn search<J: Judge, L: Ledger>(
     Ok(End::Solutions)
 }
 
-// Whether no penalty can help, after a scan of so many moves.
+// Whether no penalty can help, after a scan of so many moves that took none of them.
 fn is_stuck(closed: Closed<'_>, routes: &Routes, moves: u64) -> bool
     requires { IsTrue (is_valid closed.model.now routes.now.lists) }
     ensures { result ≡ ((moves == 0) || not (has_costly_arc closed.entry.model.now routes.now.lists)) }

@@ -1,4 +1,4 @@
-//! What stretches of lists add where a vehicle goes along them.
+//! What the arcs of stretches of lists add to the penalised arc costs where a vehicle goes along them; `changing` asks.
 
 ghost use Rattle.std.specs.Prelude.{◌≡◌, ◌<◌, ◌≤◌, ◌≤ℤ◌, ◌+◌, ◌-◌, ◌*◌, ◌^◌, ◌∷◌, ◌++◌, [], ℕ, List, All, IsTrue};
 ghost use Rattle.std.specs.Prelude.{drop, length, pos, slice_range, take};
@@ -18,8 +18,9 @@ use crate::walks::Walk;
 use crate::weights::VehicleWeights;
 use vr_routes::{Piece, Routes};
 
-/// The arcs of a vehicle, and the sums of all lists of valid routes, by which it goes at one go along stretches of them
-/// that are of vehicles with the same arc costs.
+/// What is asked what stretches of lists add where one vehicle goes along them: its arcs with their penalties, valid
+/// routes, and the sums of all their lists. A stretch of a list of a vehicle with the same arc costs is one subtraction
+/// of these sums.
 #[derive(Clone, Copy)]
 pub struct Stretches<'m, 'p, 's, 'r> {
     pub arcs: VehicleWeights<'m, 'p>,
@@ -59,6 +60,7 @@ impl<'m, 'p, 's, 'r> Stretches<'m, 'p, 's, 'r> {
             (slice_range (route self.now.routes.now.lists self.now.arcs.vehicle) front behind) next }
     {
         let sums = self.route_sums.of(self.arcs.vehicle);
+        // in sums the start is place 0, so a node of the list stands one place further there
         sums.forward.between(front as usize, behind as usize + 1)
     }
 
@@ -100,7 +102,8 @@ impl<'m, 'p, 's, 'r> Stretches<'m, 'p, 's, 'r> {
         }
     }
 
-    // A walk goes on through the nodes of a piece.
+    // A walk goes on through the nodes of a piece: at one go where it is a chain, with nodes, of a list whose vehicle
+    // has the same arc costs, else node by node.
     fn along_piece(&self, walk: &mut Walk, piece: &Piece)
         requires within { IsWithin self.now.routes.now.lists piece.now }
         requires nodes { All (λ node. node < self.now.arcs.weights.closed.model.now.nodes)
@@ -135,7 +138,8 @@ impl<'m, 'p, 's, 'r> Stretches<'m, 'p, 's, 'r> {
         }
     }
 
-    // A walk goes on through a chain of a list, by the sums of its vehicle, which has the same arc costs.
+    // A walk goes on through a chain of a list, by the sums of its vehicle, which has the same arc costs. In sums the
+    // start is place 0, so the first node of the chain stands at `from + 1` there, and the last at `to`.
     fn along_kept(&self, walk: &mut Walk, v: u32, from: u32, to: u32, reversed: bool)
         requires owner { v < length self.now.arcs.weights.closed.model.now.vehicles }
         requires same { (vehicle_at self.now.arcs.weights.closed.model.now v).costs

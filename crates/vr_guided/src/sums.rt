@@ -14,8 +14,8 @@ use crate::weights::ListWeights;
 use arrayvec::ArrayVec;
 use std::marker::Model;
 
-/// At each stop of a vehicle with its list, what the arcs before it add up to. Penalties times costs take more than the
-/// 64 bits that `vr_balance` has for a sum.
+/// At each stop of a vehicle with its list, what the arcs before it add up to: the start is place 0, then come at most
+/// 1000 visits and the end. Penalties times costs take more than the 64 bits that `vr_balance` has for a sum.
 #[derive(Drop)]
 pub struct Sums {
     items: ArrayVec<i128, 1002>,
@@ -81,7 +81,7 @@ impl Sums {
         self.items.push(sum);
     }
 
-    /// What the arcs between two places add up to.
+    /// What the arcs between two places of these stops add up to.
     #[inline]
     pub fn between(&self, from: usize, to: usize) -> i128
         requires order { from ≤ to }

@@ -16,7 +16,7 @@ use vr_model::Closed;
 pub struct Weights<'m, 'p> {
     pub closed: Closed<'m>,
     pub penalties: &'p Penalties,
-    /// There is a count for each arc of the model; most are 0.
+    /// There is a count for each arc of the model.
     pub ghost covers: { penalties.now.nodes ≡ closed.model.now.nodes },
     /// None was penalised more than 10^9 times.
     pub ghost few: { AtMost 1000000000 (counted penalties.now) },

@@ -1,4 +1,4 @@
--- What a source gives and a sink takes in one call, and the causes of failure.
+-- What a source gives and a sink takes in one call, and the count of faults.
 use Rattle.std.specs.Prelude.{◌≡◌, ◌⊎◌, ◌↔◌, ◌<◌, ◌≤◌, ◌^◌, ◌+◌, ◌-◌, ◌++◌, ℕ, List, [], Option, Some, min, length}
 use Rattle.std.specs.Prelude.{take}
 use Rattle.std.specs.Io.KnownBytes.{Appends}

@@ -42,7 +42,8 @@ pub record Taking : Type 0 where
 abbrev pub to_take : Taking → ℕ → ℕ
 to_take sink len = min sink.script.piece len
 
--- whether a write of a piece so long fails: it has bytes, and its call is to fail or the room that is left is too small
+-- whether a write of a piece so long fails: it has bytes, and its call is to fail or less room is left than for what
+-- the sink would take
 abbrev pub refuses : Taking → ℕ → Bool
 refuses sink len = nat_lt 0 len && (fails_next sink.script || nat_lt (sink.room - length sink.bytes) (to_take sink len))
 

@@ -32,7 +32,7 @@ pub trait Sink {
     /// The bytes that were taken, where they are known. Where they are not, they never will be.
     ghost written: { Self → Option (List ℕ) };
 
-    /// How often the device has failed: a number that never falls.
+    /// How often the device has failed, as that of a source.
     ghost faults: { Self → ℕ };
 
     /// Takes some bytes of the front of `piece`, at least one where there is one, and gives their number. `Failed`

@@ -54,7 +54,8 @@ impl Source for PureSource {
 }
 
 /// Keeps bytes in a room of a fixed length, which it overwrites, and never fails. Bytes beyond the room are taken and
-/// not kept; from then on it is not known what it took.
+/// not kept; from then on it is not known what it took. `taken` counts the bytes that are kept, and `full` says that
+/// some were not: a room that is just filled is not `full`.
 #[derive(Drop)]
 pub struct PureSink {
     room: Vec<u8>,

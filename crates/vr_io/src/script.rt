@@ -5,7 +5,8 @@ ghost use Rattle.vr_io.specs.Script.{unused, fails_next, after_call};
 
 use std::marker::Model;
 
-// Calls are numbered from 0. Both counters stand still at 2^64 - 1.
+// The most bytes of one call, the numbers of the calls that fail, from 0, how many calls there were, and how many of
+// them failed. Both counters stand still at 2^64 - 1.
 #[derive(Drop)]
 pub(crate) struct Script {
     piece: usize,

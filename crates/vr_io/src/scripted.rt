@@ -73,7 +73,8 @@ impl Source for MemSource {
 }
 
 /// Takes bytes in pieces into a buffer of fixed capacity, and fails at the calls that its script names and where that
-/// is too small. The bytes that it took are known.
+/// is too small. The bytes that it took are known. The buffer is as large as `room` from the beginning, so no write
+/// takes memory.
 ///
 /// Its calls are numbered from 0. The counter of calls and that of failed calls, which is its number of faults, each
 /// stand still at 2^64 - 1.

@@ -1,5 +1,5 @@
 //! Standard input and output, or any other reader and writer of std, as a source and a sink. What std's readers and
-//! writers give is trusted: no bytes of these are known.
+//! writers give is trusted: a source or a sink over them tells no bytes.
 
 ghost use Rattle.std.specs.Prelude.{◌≡◌, ◌≤◌, ◌<◌, [], None, Ok, IfOk, OnErr, is_err, length, take, if◌then◌else◌};
 ghost use Rattle.std.specs.Io.KnownBytes.{Keeps, Consumes, IsAtEnd, Appends};
@@ -16,8 +16,8 @@ pub type StdSource<R> = StdDevice<R>;
 /// of its flush is a fault.
 pub type StdSink<W> = StdDevice<W>;
 
-/// A reader or a writer of std. No bytes of it are known. Contracts see it as the reader or writer and the number of
-/// its errors, a write that takes nothing among them, which stands still at 2^64 - 1.
+/// A reader or a writer of std. As a source or a sink it tells no bytes. Contracts see it as the reader or writer and
+/// the number of its errors, a write that takes nothing among them, which stands still at 2^64 - 1.
 #[derive(Drop)]
 pub struct StdDevice<D> {
     device: D,

@@ -10,7 +10,7 @@ use Rattle.vr_json.specs.declared.fault.Cause.{Cause}
 use Rattle.vr_json.specs.declared.fault.Cause.TheVariants.{OtherKind, NotWhole, OutOfRange, WrongLength, UnknownWord}
 use Rattle.vr_json.specs.Reading.{◌>>=◌, ReaderOf, at_path}
 
--- a whole number in lo..=hi: its kind, then that it is whole, then its range
+-- a whole number in lo..=hi: its kind, then that it is written as a whole one and fits in an i64, then its range
 abbrev pub whole_in : ℤ → ℤ → Data → Result ℤ Cause
 whole_in lo hi d = do
   n ← ok_or (as_number d) OtherKind

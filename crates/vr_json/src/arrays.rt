@@ -136,7 +136,8 @@ where
     }
 }
 
-/// `count` copies of a value. `vr_read` asks them for arrays that are absent.
+/// `count` copies of a value: what `ForEach` makes of one value for all, and what `vr_read` takes for an array that is
+/// absent.
 pub fn copies<T: Copy + Drop>(alloc: Global, value: T, count: usize) -> Result<Seq<T>, NoMemory>
     ensures { IfOk result (λ all. all ≡ replicate count value) }
 {

@@ -17,7 +17,7 @@ pub enum Cause {
     Absent,
     /// The value is of another kind than stated.
     OtherKind,
-    /// The number is no `i64`.
+    /// The number is not written as a whole one (`5.0` and `5e0` are not), is written `-0`, or is outside `i64`.
     NotWhole,
     /// A field has a name that its object does not know.
     UnknownKey,
@@ -67,8 +67,8 @@ impl Cause {
     }
 }
 
-/// A refusal: the number of what is wrong (a [`Cause`], or a flaw of `vr_tsplib`), and the path of the value or line
-/// that is refused.
+/// A refusal: the number of what is wrong (a [`Cause`], or a flaw of `vr_tsplib`), and the path of the value, line or
+/// file that is refused.
 #[derive(Drop)]
 pub struct Fault {
     pub code: u8,
@@ -78,7 +78,7 @@ pub struct Fault {
 /// Why a reading gives no value.
 #[derive(Drop)]
 pub enum ReadFail {
-    /// The value is refused.
+    /// The value or file is refused.
     Refused(Fault),
     /// Memory ran out.
     NoMemory,

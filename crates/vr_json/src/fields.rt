@@ -10,8 +10,8 @@ use crate::{Cause, Path, ReadFail};
 use serde_json::{Map, Value};
 use std::alloc::Global;
 
-/// The value of the field `name`, if the object has one. The calls of `Fields` ask it, and `vr_app` for the solution of
-/// a check, which it hands on unread.
+/// The value of the field `name`, if the object has one. Calls of `Fields` ask it, and `vr_app` for the solution of a
+/// check or of `spans`, which it hands on unread.
 ///
 /// Another value than an object is refused with the cause `OtherKind`, at `path`.
 #[tactic(auto, unfolding(crate::specs::Reading::and_then, crate::specs::Reading::at_path, crate::specs::Reading::field))]

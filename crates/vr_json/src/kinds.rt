@@ -37,7 +37,7 @@ fn place_of(words: &[&str], text: &str) -> Option<usize>
     words.iter().position(|word| *word == text)
 }
 
-// The number of the first of some words that the value is.
+// The number of the first of some words that the value is; `word` alone asks it.
 #[tactic(auto, unfolding(crate::specs::Reading::and_then))]
 pub(crate) fn word_in(value: &Value, words: &[&str]) -> Result<usize, Cause>
     ensures found { result ≡ kinds.word_in (map (λ w. w.now) words.now) (view value.now) }

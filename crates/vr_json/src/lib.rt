@@ -6,10 +6,10 @@
 //! that instead (`ReadFail`). A tree is built field by field, in any order, and `to_line` prints it, its keys in the
 //! order of bytes (`tree`).
 //!
-//! `reader` has the trait of readers and what one is handed. `leaves` reads numbers, booleans, texts and words, over
-//! the calls of `kinds`; `arrays` reads arrays entry by entry; `table` reads objects, over the calls of `fields`.
-//! `fault` has the causes and the refusal, `path` where a value stands, and `place` that with at most one step more,
-//! whose text is made only where it is asked for.
+//! `reader` has the trait of readers and what one is handed. `leaves` reads numbers, booleans and texts over the calls
+//! of `kinds`, and words by itself (`Choice`); `arrays` reads arrays entry by entry; `table` reads objects, over the
+//! calls of `fields`. `fault` has the causes and the refusal, `path` where a value stands, and `place` that with at
+//! most one step more, whose text is made only where it is asked for.
 //!
 //! `vr_read`, `vr_printed` and `vr_app` (the object of a check) read by it; `vr_gen`, `vr_print`, `vr_tsplib` and
 //! `vr_app` build trees by it; `vr_print` prints solutions, and `vr_app` all else. [`Cause`] has the faults of models

@@ -43,6 +43,7 @@ pub trait Reader {
     /// What is read.
     type Item: Drop;
 
+    /// What it reads by its definition, of the entries before a value, its path and its tree: an item, or a fault.
     ghost reads: { Self → List Self.Item → List ℕ → Data → Result Self.Item FaultOf };
 
     /// What the value is. `earlier` are the entries before it, where it is an entry of an `Array` or a `ForEach`, else

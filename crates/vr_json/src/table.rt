@@ -111,6 +111,7 @@ pub trait Table {
     /// What is read.
     type Row: Drop;
 
+    /// What it reads by its definition, as that of a `Reader`.
     ghost reads: { Self → List Self.Row → List ℕ → Data → Result Self.Row FaultOf };
 
     /// The row of these fields, beside the rows that stand before it in its array. The order of its calls is the order

@@ -63,7 +63,8 @@ impl<'m> Model for Costs<'m> {
     } };
 }
 
-// Whether neither fixed costs nor plans nor global spans tell two lists apart.
+// Whether no vehicle has a fixed cost, no span and no global span a coefficient, and no stop a soft upper bound, not
+// one with the coefficient 0 either: these tell no two lists apart then.
 fn are_idle(fixed: &FixedCost, plans: &PlanCost, spans: &GlobalSpan) -> bool
     requires pays { fixed.now.pays ≡ is_some_fixed fixed.now.model }
     requires plans_model { plans.now.model ≡ fixed.now.model }
@@ -145,9 +146,10 @@ impl<'m> Costs<'m> {
 
     // What each move of a run saves at most beside what it adds to the cost of arcs: 0 where the committed lists have
     // no penalty to pay, or moves of the kind leave the penalties as they are; else the penalties of what it puts into
-    // a list, less those of what it takes out; where each move of a run puts another visit in, the greatest that any
-    // visit saves. The moves of a run differ in their last number. `None` where more is paid than arcs and penalties,
-    // and where it is not known of all at once.
+    // a list, or, where each move of a run puts another visit in the place of a node, the greatest that any visit saves
+    // less what that node saves. The moves of a run differ in their last number. `None` where more may be paid than
+    // arcs and penalties, and, where there is a penalty to pay, of moves that only take visits out and of a pair or a
+    // place that there is not.
     #[inline(always)]
     fn saved_by_run(&self, routes: &Routes, mv: Move) -> Option<i64>
         requires stands { StandsCosts self.now routes.now }
@@ -166,8 +168,9 @@ impl<'m> Costs<'m> {
 
     /// Goes over a run of moves of the committed lists, which differ in their last number: those of the numbers from
     /// `from` on, below `end`. Says from which number on some may make a difference below a bound, by the cost of arcs,
-    /// less the most of the penalties that any of them saves. `None` where more may be paid than these, of a kind of
-    /// which no run is gone over, and where the bound and what is saved together do not fit.
+    /// less the most of the penalties that any of them saves. `None` where more may be paid than these, of moves that
+    /// only take visits out, of some `mv` that is no move (it puts elsewhere a pair that is not served, say), and where
+    /// the bound and what is saved together do not fit an `i64`.
     #[inline(always)]
     pub fn first_below(
         &self,

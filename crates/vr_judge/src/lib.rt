@@ -10,6 +10,17 @@
 //! each search, and searches ask it what runs of moves and moves make at least, and then have moves judged and made
 //! (`vr_routes::Judge`); path neighbourhoods, which have no moves, ask nothing of theirs. The change of a move is lent
 //! to it.
+//!
+//! The way down from a tried move: first what it makes at least, and where that may be taken, what the judge says.
+//!
+//!     least_difference   judge: `Costs::least`, part after part; soft bounds and spans by bounds without a schedule
+//!                        (`Earliest::write_after`, vr_earliest)
+//!     judge_change       judge: the change, to the filters and the costs
+//!     judge_by           judging: refused by the filters, or what is added to the cost
+//!     passes             vr_filter: `Both` filters, and `Each` of several; of a dimension `DimensionFilter::passes`
+//!                        (vr_pathfilters), by `Loads::can_carry` (vr_loads) or along walks (`vr_reach::passes_along`)
+//!     difference         costs: part after part; soft bounds and spans by `PlanCost` (vr_costfilter), by what is kept
+//!                        of the committed lists, or else by a schedule (`vr_plan::timing_of`)
 #![tactic(auto)]
 
 mod costs;

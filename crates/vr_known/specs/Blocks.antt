@@ -1,4 +1,4 @@
--- Blocks of moves: those of one kind that name the same vehicles. What is known of blocks.
+-- Blocks of moves: those of one kind and row with the same last vehicle. What is known of blocks.
 use Rattle.std.specs.Prelude.{◌≡◌, ◌≢◌, ℕ, ◌+◌, ◌*◌, ◌<◌, Bool, false, true, ◌&&◌, ◌||◌, ◌==◌, cond, nat_lt}
 use Rattle.std.specs.Prelude.{List, [], ◌∷◌, slice_index_or, length, Option, Some, None, IsTrue}
 use Rattle.vr_model.specs.routes.Routes.{route, holds, is_active}
@@ -55,7 +55,7 @@ second_of (MakeActive u w t) = w
 second_of (MakeInactive v a) = v
 second_of (SwapActive v a u) = v
 
--- the rows of a kind are pairs that are served: those of relocate_pair and of pair_inactive
+-- the rows of a kind are pairs: those of relocate_pair and of pair_inactive
 abbrev pub is_by_pair : ℕ → Bool
 is_by_pair kind = (kind == 5) || (kind == 7)
 
@@ -63,8 +63,8 @@ is_by_pair kind = (kind == 5) || (kind == 7)
 abbrev pub rows_of : ℕ → ℕ
 rows_of kind = cond (nat_lt kind 5) 100 (cond (is_by_pair kind) 500 1)
 
--- a vehicle whose list a move changes, and which is not its second one: the vehicle that serves the pair of
--- relocate_pair and of pair_inactive, the first one of the others
+-- a vehicle whose list a move changes, beside its second one or the same: the vehicle that serves the pair of
+-- relocate_pair and of pair_inactive, the first one that any other move names
 abbrev pub IsSource : Model → List (List ℕ) → Move → ℕ → Type 0
 IsSource model lists (TwoOpt v a b) x = x ≡ v
 IsSource model lists (OrOpt v a k t) x = x ≡ v
@@ -79,7 +79,8 @@ IsSource model lists (MakeInactive v a) x = x ≡ v
 IsSource model lists (SwapActive v a u) x = x ≡ v
 
 -- what is remembered: for each row of a kind, when its moves were last found not to be acceptable; for each vehicle,
--- when its list last changed; when the activity of visits last changed; the time; and whether anything is ever learned
+-- when its list, or the penalty of an arc of it, last changed; when the activity of visits last changed; the time; and
+-- whether anything is ever learned
 pub record Memory : Type 0 where
   pub seen : List ℕ
   pub changed : List ℕ
@@ -114,16 +115,18 @@ stamp_of kind row = cond (nat_lt kind 6) (kind * 100 + row) (cond (kind == 7) (1
 abbrev pub seen_at : Memory → ℕ → ℕ → ℕ
 seen_at memory kind row = slice_index_or memory.seen (stamp_of kind row) 0
 
--- when the list of a vehicle last changed
+-- when the list of a vehicle, or the penalty of an arc of it, last changed
 abbrev pub changed_at : Memory → ℕ → ℕ
 changed_at memory v = slice_index_or memory.changed v 0
 
--- the moves of a row were found not to be acceptable after the list of a vehicle last changed
+-- the moves of a row were found not to be acceptable after the list of a vehicle, or the penalty of an arc of it, last
+-- changed
 abbrev pub is_later : Memory → ℕ → ℕ → ℕ → Bool
 is_later memory kind row v = nat_lt (changed_at memory v) (seen_at memory kind row)
 
--- when what the moves of a row have in common last changed: the list of the first vehicle, or which visits are active;
--- a row of a pair is forgotten once the vehicle that serves the pair has another list
+-- when what the moves of a row have in common last changed: the list of the first vehicle or the penalty of an arc of
+-- it, or which visits are active; never for relocate_pair: a row of a pair is forgotten once the vehicle that serves
+-- the pair has another list
 abbrev pub common_change : Memory → ℕ → ℕ → ℕ
 common_change memory kind row = cond (nat_lt kind 5) (changed_at memory row) (cond (nat_lt kind 6) 0 memory.active)
 
@@ -136,7 +139,8 @@ is_known memory kind row w =
 abbrev pub covers : Memory → Move → Bool
 covers memory mv = is_known memory (kind_of mv) (first_of mv) (second_of mv)
 
--- where the row of a pair is known, the list of the vehicle that serves it has not changed since
+-- where the row of a pair is known, neither the list of the vehicle that serves it nor the penalty of an arc of it has
+-- changed since
 abbrev pub AreSettled : Model → List (List ℕ) → Memory → Type 0
 AreSettled model lists memory = (kind p w v : ℕ) → IsTrue (is_by_pair kind) → p < length model.pairs
     → IsTrue (is_known memory kind p w) → IsTrue (holds (route lists v) (pair_at model p).pickup)

@@ -15,7 +15,7 @@ abbrev pub two : ℕ → ℕ → Option Touched
 two v w = Some (record { first = v; second = w })
 
 -- those whose lists a move changes, as far as its numbers name them, the same one twice where it changes one; none of
--- a move that takes a pair out
+-- a move that takes a pair out or puts it elsewhere
 abbrev pub named_by : Move → Option Touched
 named_by (TwoOpt v a b) = two v v
 named_by (OrOpt v a k t) = two v v

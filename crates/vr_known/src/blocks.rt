@@ -7,7 +7,7 @@ ghost use Rattle.vr_model.specs.tables.WellFormed.{neighbourhood_number};
 use vr_model::{Move, Neighbourhood};
 
 /// The moves of a neighbourhood, of a row and of the vehicle that they name last, as [`crate::Known::has`] says of
-/// rows.
+/// rows. The vehicle is one of the at most 100 of a model.
 #[derive(Clone, Copy)]
 pub struct Block {
     pub neighbourhood: Neighbourhood,
@@ -29,7 +29,8 @@ impl Block {
     }
 }
 
-/// The number of a kind of moves.
+/// The number of a kind of moves. Those below 5 name each vehicle whose list they change, those above 5 change which
+/// visits are active, and the rows of 5 and 7 are pairs.
 #[inline(always)]
 pub(crate) fn kind_at(neighbourhood: Neighbourhood) -> u32
     ensures value { result ≡ neighbourhood_number neighbourhood }
@@ -86,7 +87,8 @@ pub(crate) fn first_of(mv: Move) -> u32
     }
 }
 
-/// How many rows a kind has at most.
+/// How many rows a kind has at most: one for each vehicle, of which there are 100 at most, or for each pair, 500 at
+/// most, or one.
 #[inline(always)]
 pub(crate) fn rows_of(kind: u32) -> u32
     ensures { result ≡ blocks.rows_of kind }

@@ -31,7 +31,8 @@ impl Model for Known {
 }
 
 impl Known {
-    /// Nothing is known, and nothing is ever learned.
+    /// Nothing is known, and nothing is ever learned: so it is of models that pay for global spans, and so iterators of
+    /// moves pass over none.
     #[inline]
     pub fn none() -> Known
         ensures none { (kind v w : ℕ) → is_known result kind v w ≡ false }
@@ -112,8 +113,9 @@ impl Known {
         }
     }
 
-    /// Something else than its list changed of a vehicle: those moves alone stay known that do not name it, but for
-    /// those of pairs that it serves, which are forgotten by [`Known::settle`].
+    /// Something else than its list changed of a vehicle, penalties of its arcs: those moves alone stay known that do
+    /// not name it. Those of pairs that it serves need not name it, and are forgotten by [`Known::settle`], which
+    /// guided search asks once it has raised the penalties of each vehicle.
     pub fn forget(&mut self, v: u32)
         requires vehicle { v < 100 }
         ensures fewer { (k u w : ℕ) → IsTrue (is_known self.new k u w) → IsTrue (is_known self.old k u w) }
@@ -128,7 +130,8 @@ impl Known {
         }
     }
 
-    /// Moves of pairs are forgotten whose vehicle changed since they were refused.
+    /// Moves that put a pair elsewhere or take it out are forgotten where the vehicle that serves it changed since they
+    /// were refused: its list, or penalties of its arcs.
     pub fn settle(&mut self, model: &RoutingModel, routes: &Routes)
         requires well_formed { IsWellFormed model.now }
         ensures fewer { (k u w : ℕ) → IsTrue (is_known self.new k u w) → IsTrue (is_known self.old k u w) }

@@ -18,7 +18,8 @@ pub trait Pattern: Drop {
     fn make(&self, k: u32) -> Move
         ensures { result ≡ move_at self.now k };
 
-    /// The block in which all these moves stand.
+    /// The block in which all these moves stand. Its row and its vehicle are in range, so who makes a pattern keeps
+    /// that its vehicles are below 100.
     fn block(&self) -> Block
         ensures { IsBlockOf result (move_at self.now) };
 
@@ -44,6 +45,7 @@ impl<P: Pattern> Numbered for AnyLast<P> {
 
     #[inline]
     fn run(&self) -> Option<Move> {
+        // the last number of this move may be any
         Some(self.0.make(0))
     }
 
@@ -58,7 +60,8 @@ impl<P: Pattern> Numbered for AnyLast<P> {
     }
 }
 
-/// The moves of a pattern whose last number may be any but `but`.
+/// The moves of a pattern whose last number may be any but `but`: those of `or_opt`, whose chain stands before that
+/// place already.
 #[derive(Drop)]
 pub struct AnyLastBut<P: Pattern> {
     pub pattern: P,
@@ -83,6 +86,7 @@ impl<P: Pattern> Numbered for AnyLastBut<P> {
 
     #[inline]
     fn run(&self) -> Option<Move> {
+        // the last number of this move may be any
         Some(self.pattern.make(0))
     }
 

@@ -3,11 +3,11 @@
 //! Where no dimension has a cost of its global span, what a scan has refused stays refused until a commit changes the
 //! list of one of its vehicles, or other visits are active where it changes that: what a move makes depends on no more
 //! ([`validity_is_local`], [`cost_is_local`]). So [`Known`] keeps, for each row of a kind, when all its moves were last
-//! refused, for each vehicle when its list last changed, and when activity last did. A row is a first vehicle or a pair
-//! that is put elsewhere or taken out; the moves of each other kind are one row. The ranges of moves ([`Run`],
-//! [`Each`]) pass over those of which a sieve ([`Sieve`]) says so, and count them: [`Known`] is one, asked itself by
-//! iterators alone, with nothing known; `vr_descent` hands in one that asks [`Known`] about blocks and its judge about
-//! runs, and `vr_tabu` one that asks its judge alone.
+//! refused, for each vehicle when its list, or the penalty of an arc of it, last changed, and when activity last did. A
+//! row is a first vehicle or a pair that is put elsewhere or taken out; the moves of each other kind are one row. The
+//! ranges of moves ([`Run`], [`Each`]) pass over those of which a sieve ([`Sieve`]) says so, and count them: [`Known`]
+//! is one, asked itself by iterators alone, with nothing known; `vr_descent` hands in one that asks [`Known`] about
+//! blocks and its judge about runs, and `vr_tabu` one that asks its judge alone.
 //!
 //! Of models with such a cost nothing is learned. `vr_descent` and `vr_guided` make a [`Known`] for each search
 //! (`Known::of`).

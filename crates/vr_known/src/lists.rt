@@ -8,7 +8,8 @@ ghost use Rattle.vr_model.specs.tables.Numbers.{each};
 use crate::{Each, Family, Listed, Moves};
 use vr_routes::Routes;
 
-/// Moves that are made of one list, listed by its vehicle and its length alone.
+/// Moves that are made of one list, listed by its vehicle and its length alone: `two_opt`, `or_opt` and
+/// `make_inactive`.
 pub trait OfList: Drop {
     type Inner: Listed;
 
@@ -21,7 +22,7 @@ pub trait OfList: Drop {
         ensures { Self.Inner.rest result ≡ moves self.now v n };
 }
 
-/// The lists of routes.
+/// The lists of routes, with what moves are made of each.
 #[derive(Drop)]
 pub struct Lists<'a, L: OfList> {
     routes: &'a Routes,

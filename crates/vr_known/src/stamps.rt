@@ -15,7 +15,7 @@ use vr_routes::Routes;
 /// A clock, and what was stamped with it.
 #[derive(Drop)]
 pub(crate) struct Stamps {
-    // For each row of a kind, when its moves were last refused, 0 where they never were or are forgotten.
+    // For each row of a kind, when its moves were last refused, 0 where they never were or `settle` forgot them.
     seen: [u64; 1511],
     // For each vehicle, when its list, or a penalty of its arcs, last changed.
     changed: [u64; 100],
@@ -91,7 +91,7 @@ impl Stamps {
         self.seen[stamp_of(kind, row)] = self.clock;
     }
 
-    // So were those of a kind and all rows below one.
+    // The moves of a kind and all its rows below one were refused.
     fn learn_below(&mut self, kind: u32, end: u32)
         requires kind { kind < 11 }
         requires end { end ≤ rows_of kind }
@@ -172,7 +172,7 @@ impl Stamps {
         self.settle(closed, routes);
     }
 
-    // The lists of two vehicles change now, and activity where a move changes it.
+    // The lists of two vehicles change now, and activity where a move is of a kind above 5, which changes it.
     fn stamp(&mut self, mv: Move, touched: Touched)
         requires first { touched.first < 100 }
         requires second { touched.second < 100 }
@@ -189,7 +189,8 @@ impl Stamps {
         self.go_on();
     }
 
-    /// The rows of each pair are forgotten whose vehicle has another list than when they were refused.
+    /// The rows of each pair, of `relocate_pair` (kind 5) and `pair_inactive` (7), are forgotten where the list or the
+    /// penalties of the vehicle that serves it changed since they were refused: their moves need not name that vehicle.
     pub(crate) fn settle(&mut self, closed: Closed<'_>, routes: &Routes)
         ensures fewer { (k u w : ℕ) → IsTrue (is_known self.new k u w) → IsTrue (is_known self.old k u w) }
         ensures earlier { (k u w : ℕ) → IsTrue (is_later self.new k u w) → IsTrue (is_later self.old k u w) }
@@ -205,13 +206,13 @@ impl Stamps {
                     self.settle_row(5, p as u32, v);
                     self.settle_row(7, p as u32, v);
                 }
-                // A pair that stands nowhere has no moves of these kinds.
+                // A pair whose pickup stands nowhere has no moves of these kinds.
                 None => {}
             }
         }
     }
 
-    // The row of a pair and a kind is forgotten where the list of a vehicle has changed since.
+    // The row of a pair and a kind is forgotten where it was not refused after the vehicle `v` last changed.
     fn settle_row(&mut self, kind: u32, p: u32, v: u32)
         requires kind { IsTrue (is_by_pair kind) }
         requires pair { p < 500 }

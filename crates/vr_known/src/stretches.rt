@@ -9,7 +9,8 @@ use std::marker::Model;
 use vr_model::Move;
 use vr_routes::with_last;
 
-/// Moves whose last numbers are those of a range, and which are else the same. Contracts see their list.
+/// Moves whose last numbers are those of a range, and which are else the same: `Run::stretch` makes one, and the list
+/// of moves of `vr_descent` takes from it. Contracts see their list.
 #[derive(Drop)]
 pub struct Stretch {
     mv: Move,

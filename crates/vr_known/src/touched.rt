@@ -56,7 +56,7 @@ impl Touched {
     }
 
     /// The vehicles whose lists a move of the routes changes: those that it names, and the one that serves the pair
-    /// which it takes out.
+    /// which it takes out or puts elsewhere. `vr_descent` (`Progress::advance`) asks it before the move is made.
     pub fn of(model: &Model, routes: &Routes, mv: Move) -> Touched
         requires mv { IsTrue (is_move model.now routes.now.lists mv) }
         ensures first { result.first < 100 }
@@ -105,7 +105,7 @@ fn put_elsewhere(model: &Model, routes: &Routes, p: u32, w: u32) -> Option<Touch
     }
 }
 
-// The vehicle that serves a pair.
+// The vehicle in whose list a pair stands.
 fn serving(model: &Model, routes: &Routes, p: u32) -> u32
     requires pair { p < length model.now.pairs }
     requires together { IsTrue (is_pair_together model.now routes.now.lists p) }

@@ -12,9 +12,9 @@ use std::alloc::Global;
 use std::marker::Model;
 use vr_model::{Allowed, Closed, Model as RoutingModel, NoMemory, Pair, Seq};
 
-/// The group and the pair of each node of a model, and the vehicles that may visit it, looked up once in one pass over
-/// groups, pairs and rows of allowed vehicles. Contracts see the model. An answer about a node takes no memory, and no
-/// longer in a large model than in a small one.
+/// The group and the pair of each node of a model, and the vehicles that may visit it, looked up once in groups, pairs
+/// and rows of allowed vehicles. Contracts see the model. An answer about a node takes no memory, and no longer in a
+/// large model than in a small one.
 #[derive(Drop)]
 pub struct NodeTables<'m> {
     model: &'m RoutingModel,
@@ -229,7 +229,7 @@ fn pair_numbers(alloc: Global, closed: Closed<'_>) -> Result<Seq<u32>, NoMemory>
 }
 
 /// For each node of a model the number of its group, that of all groups where it is in none. It goes once over the
-/// nodes and the groups. The only refusal is want of memory.
+/// groups. The only refusal is want of memory.
 pub fn group_numbers(alloc: Global, model: &RoutingModel) -> Result<Seq<u32>, NoMemory>
     requires { IsWellFormed model.now }
     ensures { IfOk result (AreNumbers model.now) }

@@ -135,7 +135,7 @@ fn allows_each(policy: Policy, served: &[Served], x: Served) -> bool
     served.iter().all(|&y| allows(policy, x, y))
 }
 
-// Whether a policy allows each two of the pairs.
+// Whether a policy allows each two of the pairs; it allows each beside itself.
 fn allows_all(policy: Policy, served: &[Served]) -> bool
     ensures { result ≡ list_all (allows_beside policy served.now) served.now }
 {

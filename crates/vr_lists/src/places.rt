@@ -3,8 +3,8 @@
 ghost use Rattle.std.specs.Prelude.{◌≡◌, ◌<◌, ◌≤◌, All, length};
 ghost use Rattle.vr_lists.specs.Places.{ArePlaces};
 
-/// Writes over places, for each number below how many there are, the first place of the number in a list, from 0, or
-/// the length of the list where it is absent. The list has at most 1000 numbers, each below how many places there are.
+/// Writes over `places`, at each number, the place where it first stands in a list, from 0, or the length of the list
+/// where it is absent. The list has at most 1000 numbers, and `places` has an entry for each of them.
 pub fn write_places(list: &[u32], places: &mut [u32])
     requires numbers { All (λ x. x < length places.old) list.now }
     requires few { length list.now ≤ 1000 }

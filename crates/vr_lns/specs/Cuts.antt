@@ -37,7 +37,8 @@ without_chain model chain list = filter (λ node. not (goes_with chain node (pai
 abbrev pub left_by : Model → ℕ → List (List ℕ) → Cut → List (List ℕ)
 left_by model most lists at = map (without_chain model (cut_chain most lists at)) lists
 
--- open lists after parallel cheapest insertion of all items that stand in none; of other lists nothing is made
+-- open lists after parallel cheapest insertion of items that stand in none, as long as one may be inserted; of other
+-- lists nothing is made
 abbrev pub rebuilt_where_open : Model → List (List ℕ) → Option (List (List ℕ))
 rebuilt_where_open model lists = cond (is_open model lists) (Some (rebuilt model (length (items model)) lists)) None
 

@@ -5,12 +5,12 @@ use Rattle.vr_model.specs.tables.Tables.{visits}
 use Rattle.vr_routes.specs.Tours.{Tours}
 use Rattle.vr_model.specs.declared.records.Model.{Model}
 
--- a model, and how many visits a cut takes out at most
+-- a model, and how many visits the chain of a cut has at most
 pub record Cutter : Type 0 where
   pub model : Model
   pub most : ℕ
 
--- what was looked up and the rules are of one model, and a cut takes out few visits
+-- what was looked up and the rules are of one model, and the chain of a cut has few visits
 pub record IsCutter (looked_up ruled : Model) (most : ℕ) : Type 0 where
   pub same : ruled ≡ looked_up
   pub few : most ≤ 100

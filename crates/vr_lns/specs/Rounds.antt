@@ -11,7 +11,8 @@ pub data Round : Type 0 where
   Complete : ℕ → Round
   Short : Round
 
--- how a round ends at a cut behind `place` others: at its result, where it is acceptable, else as the cuts behind it do
+-- how a round ends at a cut behind `place` others: where it is acceptable, at its result or for want of tries, else as
+-- the cuts behind it do
 abbrev pub ends_at : ℕ → ℕ → Option (List (List ℕ)) → Round → Round
 ends_at place rest None behind = behind
 ends_at place rest (Some after) behind = cond (nat_le (suc place) rest) (Accepted (suc place) after) Short

@@ -16,7 +16,7 @@ use vr_plan::Lookups;
 use vr_routes::Routes;
 
 /// A cut: the vehicle whose list a chain of visits is taken out of, and the place there where the chain begins. The
-/// chain has as many visits as a cut may take, or those up to the end of the list.
+/// chain has as many visits as one may have, or those up to the end of the list.
 #[derive(Clone, Copy)]
 pub struct Cut {
     pub vehicle: u32,

@@ -26,7 +26,7 @@ pub(crate) struct CutOf<'l, 'm, 'r> {
     ghost few: { most ≤ 100 },
 }
 
-// Whether a seat lies in the chain of a cut that ends before place `end`.
+// Whether a seat lies in the chain of a cut, which ends before place `end` of its list.
 fn is_between(seat: Seat, at: Cut, end: u32) -> bool
     ensures { result ≡ is_between_of at end seat }
 {

@@ -1,5 +1,5 @@
-//! Path neighbourhoods destroyed and rebuilt (path LNS in OR-Tools): a chain of visits is cut out of a path, and all
-//! unplaced items are inserted anew.
+//! Path neighbourhoods destroyed and rebuilt (path LNS in OR-Tools): a chain of visits is cut out of a path, and
+//! unplaced items are inserted anew, as long as one can be.
 //!
 //! A search (`searching`) is round after round. A round (`rounds`) tries the cuts of all lists, by vehicle and place,
 //! each by `cutting`, up to the first that is acceptable: what the cut leaves is open, and what that is rebuilt to is

@@ -92,7 +92,7 @@ pub fn lns_over<R: Rebuild>(
     search(&mut cutting, rebuild, routes, limit, watch)
 }
 
-// The search by cuts that are made and tried so.
+// The search by cuts that `cutting` makes and tries. First it lets what rebuilds know the model.
 fn search<R: Rebuild>(
     cutting: &mut Cutting<'_>,
     rebuild: &mut R,

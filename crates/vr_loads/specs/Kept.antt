@@ -16,7 +16,7 @@ at_target f i j = f j
 abbrev pub AreTaken : (ℕ → ℤ) → List ℕ → List ℤ → Type 0
 AreTaken f list sums = AreSums (at_target f) 0 list sums
 
--- a number is what f gives of some nodes, and no greater than that of 1001
+-- a number is what f gives of some nodes, added up, and in the range of sums of 1001 values
 pub record IsTotalAlong (f : ℕ → ℤ) (nodes : List ℕ) (total : ℤ) : Type 0 where
   pub value : total ≡ total_by f nodes
   pub range : IsUpTo 1001 total

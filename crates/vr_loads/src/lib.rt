@@ -6,7 +6,7 @@
 //! a visit has a schedule exactly where what its vehicle takes at its start and along the list fits the capacity
 //! (`laws`). Invariant: the sums of each vehicle (`loads`, which has them written by `sums`) are those of its committed
 //! list, up to each of its nodes. The filter of a dimension (`vr_pathfilters`) asks them where it is a load, and
-//! `vr_judge` which dimensions are loads, to put their filters first.
+//! `vr_judge` which dimensions are loads, to put their filters in front of those of other dimensions.
 #![tactic(auto)]
 
 mod kind;

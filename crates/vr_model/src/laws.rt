@@ -1,5 +1,7 @@
 //! Laws over the definitions. A call has no code: its contract is the law. Nothing calls them: a proof that needs a law
-//! names the proof of it.
+//! names the proof of it. What a law asks of its lines stands in `specs/schedules`: where stops are reached or the end
+//! is reached from them, but for the two tests of that, lines are sound (`SoundLines`); where a rule chooses or
+//! narrows, they have one stop more than arcs.
 
 ghost use Rattle.vr_model.specs.routes.AssignmentLaws.{ChosenPlansAreThere, OpenMeetsItsLines};
 ghost use Rattle.vr_model.specs.routes.CostLaws.{CostsAreBounded};
@@ -53,18 +55,19 @@ pub fn end_reached_as_tested()
     ensures { EndReachedAsTested }
 {}
 
-/// The line of a well-formed model with a list of distinct visits is sound.
+/// The line of a well-formed model with a list of distinct visits that is not empty is sound: it has one stop more than
+/// arcs, no negative visit time, breaks of at least 1, and no negative transit where there are breaks.
 pub fn lines_are_sound()
     ensures { LinesAreSound }
 {}
 
-/// At each stop, a line is feasible exactly where some cumul is reached with some number of breaks
-/// taken, and the end is reached from it with the others.
+/// At each stop, a sound line is feasible exactly where some cumul is reached with some number of breaks taken, and the
+/// end is reached from it with the others.
 pub fn feasible_where_levels_meet()
     ensures { FeasibleWhereLevelsMeet }
 {}
 
-/// A schedule has a cumul at a stop exactly where the cumul is reached there with some number of
+/// Some schedule of a sound line has a cumul at a stop exactly where the cumul is reached there with some number of
 /// breaks taken, and the end is reached from it with the others.
 pub fn cumul_where_levels_meet()
     ensures { CumulWhereLevelsMeet }
@@ -124,7 +127,7 @@ pub fn moves_keep_lists()
     ensures { MovesKeepLists }
 {}
 
-/// A set has as many runs as its normal form is long.
+/// A set of numbers in `0..=2^36` has as many runs as its normal form is long, whatever bounds the form is in.
 pub fn runs_as_long_as_form<R>()
     ensures { RunsAsLongAsForm R }
 {}
@@ -140,12 +143,14 @@ pub fn scan_ends()
     ensures { ScanEnds }
 {}
 
-/// A greater bound on the scans of greedy descent changes nothing.
+/// A bound on the scans of greedy descent that is above the number of tries left is never met: a greater one changes
+/// nothing.
 pub fn descent_bound_unmet()
     ensures { DescentBoundUnmet }
 {}
 
-/// A greater bound on the scans of guided local search changes nothing.
+/// A bound on the scans of guided local search that is above the number of tries left is never met: a greater one
+/// changes nothing.
 pub fn guided_bound_unmet()
     ensures { GuidedBoundUnmet }
 {}
@@ -175,7 +180,7 @@ pub fn narrowed_keeps_rules()
     ensures { NarrowedKeepsRules }
 {}
 
-/// Where the least end and the latest start with it are known, the line is narrowed to them.
+/// Where the least end and the latest start with it are known, the tight rule narrows the line to them.
 pub fn narrowed_to_ends()
     ensures { NarrowedToEnds }
 {}

@@ -1,9 +1,10 @@
 //! The records of a routing model, and the definitions that every layer above cites.
 //!
 //! A model is plain records of whole numbers, as a file gives them (`records`); a look-up stands at the smallest record
-//! that answers it (`lookups`). Beside the code, `specs/` says what the whole product means: which lists are open and
-//! valid, which schedule a line chooses, what routes cost, what each move and each search makes of lists; `laws` says
-//! what follows from it.
+//! that answers it (`lookups`). Beside the code, `specs/` has the definitions that several crates cite: which lists are
+//! open and valid, which schedule a line chooses, what routes cost, what each move makes of lists, and what first
+//! solutions, descents and guided search are (tabu search and path neighbourhoods are defined in `vr_tabu` and
+//! `vr_lns`); `laws` says what follows from it.
 //!
 //! `neighbours` has the neighbourhoods that a model names and the moves of each, `search` the limits and the lambda of
 //! a search and the events that it tells. The rest is what records and crates above are made of: lists (`Seq`, in

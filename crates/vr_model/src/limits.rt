@@ -23,13 +23,13 @@ pub const GREATEST_COEFFICIENT: i64 = 10_000;
 /// The greatest numerator and denominator of lambda.
 pub const GREATEST_LAMBDA: i64 = 1_000;
 
-/// The greatest number of visits that a model may let a cut take out of a path.
+/// The greatest number of visits that a model may let the chain of a cut have.
 pub const MOST_CUT: u32 = 100;
 
 /// For how many rounds a changed visit may be tabu at most.
 pub const MOST_TENURE: u32 = 1_000;
 
-/// How many moves may be tried, and how many solutions may be found, at most.
+/// How many moves or cuts may be tried, and how many solutions may be found, at most.
 pub const MOST_TRIES: u64 = 1_000_000_000;
 
 /// How many nodes a model has at most.
@@ -62,7 +62,7 @@ pub const MOST_PAIRS: u32 = 500;
 /// How many bytes the name of a dimension has at most.
 pub const MOST_NAME_BYTES: u32 = 64;
 
-/// How many bytes a file has at most that is read as a whole, 64 MiB.
+/// How many bytes an input has at most, a model or any other, 64 MiB: `vr_app` holds it to this.
 pub const MOST_INPUT_BYTES: u64 = 67_108_864;
 
 /// How many neighbourhoods there are.

@@ -1,4 +1,4 @@
-//! Want of memory, the one refusal that every call which allocates may answer.
+//! Want of memory, the refusal that calls which allocate may answer.
 
 use std::alloc::{AllocError, AllocFailed};
 

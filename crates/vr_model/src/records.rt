@@ -59,7 +59,8 @@ pub enum Policy {
     Fifo,
 }
 
-/// By which rule a vehicle chooses one of its schedules, in each dimension.
+/// By which rule a vehicle chooses one of its schedules, in each dimension. Of several with the cumuls that a rule asks
+/// for it is the one with the least break starts, compared from the first on.
 #[derive(Clone, Copy)]
 pub enum ScheduleRule {
     /// The least cumuls, compared from the start on.
@@ -98,8 +99,7 @@ pub struct Dimension {
     /// For each vehicle what its span costs, in `0..=10000` (`SetSpanCostCoefficientForVehicle` in
     /// OR-Tools).
     pub span_costs: Seq<i64>,
-    /// What the span of all routes together costs, in `0..=10000` (`SetGlobalSpanCostCoefficient` in
-    /// OR-Tools).
+    /// What the span of all used routes together costs, in `0..=10000` (`SetGlobalSpanCostCoefficient` in OR-Tools).
     pub global_span_cost: i64,
 }
 
@@ -192,26 +192,29 @@ pub struct SearchRow {
     pub improve: Improve,
     /// How many moves may be tried, or cuts of path neighbourhoods, in `0..=10^9`.
     pub tries: u64,
-    /// How many solutions may be found, in `1..=10^9`.
+    /// How many solutions may be found, the first one included, in `1..=10^9`.
     pub solutions: u64,
-    /// The numerator of lambda, in `1..=1000`.
+    /// The numerator of lambda, the weight of penalties in `GuidedLocalSearch`, in `1..=1000`.
     pub p: i64,
     /// The denominator of lambda, in `1..=1000`.
     pub q: i64,
     /// The neighbourhoods in the order in which their moves are tried, none twice; `PathLns` does not ask for them.
     pub neighbourhoods: Seq<Neighbourhood>,
-    /// How many visits a cut takes out of a path at most, in `1..=100`.
+    /// How many visits the chain of a cut has at most, in `1..=100`: `PathLns` takes these out of a list, and the other
+    /// nodes of their pairs beside them.
     pub cut: u32,
-    /// For how many rounds a changed visit is tabu, in `1..=1000`.
+    /// For how many rounds `TabuSearch` holds a changed visit tabu, in `1..=1000`.
     pub tenure: u32,
 }
 
 /// How the first solution is built (`FirstSolutionStrategy` in OR-Tools).
 #[derive(Clone, Copy)]
 pub enum First {
-    /// Vehicle after vehicle, the item of the cheapest arc is appended.
+    /// Vehicle after vehicle, the item of the cheapest arc is appended, of those in no group first, of those with a
+    /// penalty last.
     PathCheapestArc,
-    /// The cheapest insertion of any item into any list is made first.
+    /// The cheapest insertion into any list is made first, of items in no group before others, of those with a penalty
+    /// last.
     ParallelCheapestInsertion,
     /// Routes of one item each are joined where that saves most.
     Savings,
@@ -225,9 +228,10 @@ pub enum Improve {
     GreedyDescent,
     /// The same by the cost with penalised arcs; where none is left, arcs are penalised and it goes on.
     GuidedLocalSearch,
-    /// A chain of a path is taken out, and all unplaced items are inserted anew.
+    /// A chain of a list is taken out, and items that stand in no list are inserted as long as one may be; the first
+    /// such cut whose lists cost less is kept, again and again.
     PathLns,
-    /// The best move that is not tabu is made, also where it costs more.
+    /// Of the moves that are not tabu or lead to the cheapest lists so far the best is made, also where it costs more.
     TabuSearch,
 }
 

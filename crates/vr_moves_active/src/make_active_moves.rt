@@ -30,6 +30,7 @@ impl Pattern for Gaps {
 
     #[inline]
     fn block(&self) -> Block {
+        // all moves of this kind are one row
         Block::new(Neighbourhood::MakeActive, 0, self.w)
     }
 

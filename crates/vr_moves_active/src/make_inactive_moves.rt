@@ -30,6 +30,7 @@ impl Numbered for Places {
 
     #[inline]
     fn block(&self) -> Option<Block> {
+        // all moves of this kind are one row
         Some(Block::new(Neighbourhood::MakeInactive, 0, self.v))
     }
 

@@ -7,7 +7,9 @@ use vr_known::{Block, Each, Family, Moves, Numbered, Run, Sieve};
 use vr_model::{Move, Neighbourhood};
 use vr_routes::Routes;
 
-/// The inactive visits that may take the place of the node at place `a` of `v`.
+/// The inactive visits, `nodes`, that may take the place of the node at place `a` of `v`. A number is a place in
+/// `nodes`, and not the last number of its move, so they are not said to be a run (`Numbered::run`); `first` asks the
+/// sieve about the run of all visits from the first of them to the last instead.
 #[derive(Drop)]
 pub struct Newcomers<'a> {
     v: u32,
@@ -37,6 +39,7 @@ impl<'a> Numbered for Newcomers<'a> {
 
     #[inline]
     fn block(&self) -> Option<Block> {
+        // all moves of this kind are one row
         Some(Block::new(Neighbourhood::SwapActive, 0, self.v))
     }
 
@@ -66,7 +69,8 @@ impl<'a> Numbered for Newcomers<'a> {
     }
 }
 
-// Up to which place, from one on and below another, all nodes are numbers from `lowest` on, below `first`.
+// Up to which place, from one on and below another, all nodes are numbers from `lowest` on, below `first`: of these the
+// sieve said that they can be passed over.
 #[inline]
 fn end_within(nodes: &[u32], from: u32, end: u32, lowest: u32, first: u32) -> u32
     requires order { from ≤ end }

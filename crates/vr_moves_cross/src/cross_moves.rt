@@ -8,7 +8,7 @@ use vr_known::{AnyLast, Block, Each, Family, Moves, Pattern, Run};
 use vr_model::{Move, Neighbourhood};
 use vr_routes::Routes;
 
-/// The fronts of `w` with which that of `v` before place `a` may change vehicles.
+/// The fronts of `w` with which that of `v` before place `a` may change vehicles, by the place before which they end.
 #[derive(Drop)]
 pub struct Fronts {
     v: u32,

@@ -70,7 +70,7 @@ impl<'a> Family for Targets<'a> {
     }
 }
 
-/// The places of `v`.
+/// The places of `v`, whose nodes may change places with others.
 #[derive(Drop)]
 pub struct Places<'a> {
     routes: &'a Routes,

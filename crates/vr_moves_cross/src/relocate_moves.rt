@@ -39,7 +39,7 @@ impl Pattern for Gaps {
     ghost differ_in_last = { λ s k. refl };
 }
 
-/// The vehicles to which the node at place `a` of `v` may be moved.
+/// The vehicles to which the node at place `a` of `v` may be moved: each but `v`, within which `or_opt` moves nodes.
 #[derive(Drop)]
 pub struct Targets<'a> {
     routes: &'a Routes,
@@ -72,7 +72,7 @@ impl<'a> Family for Targets<'a> {
     }
 }
 
-/// The places of `v`.
+/// The places of `v`, whose nodes may be moved to other lists.
 #[derive(Drop)]
 pub struct Places<'a> {
     routes: &'a Routes,

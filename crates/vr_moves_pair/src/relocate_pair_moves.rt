@@ -45,6 +45,7 @@ impl Numbered for Deliveries {
 
     #[inline]
     fn run(&self) -> Option<Move> {
+        // the last number of this move may be any
         Some(self.make(0))
     }
 
@@ -64,8 +65,8 @@ impl Numbered for Deliveries {
     }
 }
 
-/// The places before which the pickup may be put in the rest of the list of `w`, which has `n` nodes: its end is one of
-/// them.
+/// The places before which the pickup may be put in the rest of the list of `w`: that is the list without the pair, and
+/// has `n` nodes. Its end is one of them.
 #[derive(Drop)]
 pub struct Pickups {
     p: u32,
@@ -98,7 +99,7 @@ impl Family for Pickups {
     }
 }
 
-/// The vehicles to which pair `p` may be moved.
+/// The vehicles to which pair `p`, which stands at `at`, may be moved: its own is one of them.
 #[derive(Drop)]
 pub struct Targets<'a> {
     model: &'a RoutingModel,

@@ -38,7 +38,7 @@ impl Pattern for Gaps {
     ghost differ_in_last = { λ s k. refl };
 }
 
-/// How many nodes of `v`, which has `n`, may be moved from place `a` on.
+/// How many nodes of `v`, which has `n`, may be moved from place `a` on: one to three, as far as it has so many there.
 #[derive(Drop)]
 pub struct Chains {
     v: u32,

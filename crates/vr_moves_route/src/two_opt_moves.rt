@@ -7,7 +7,8 @@ use vr_known::{AnyLast, Block, Each, Family, Lists, Moves, OfList, Pattern, Run,
 use vr_model::{Move, Neighbourhood};
 use vr_routes::Routes;
 
-/// The parts of `v` that begin at place `a`.
+/// The parts of `v` that begin at place `a`, by the place of their last node, which is behind it: a part of one node
+/// stays as it is.
 #[derive(Drop)]
 pub struct Parts {
     v: u32,

@@ -13,8 +13,8 @@ use vr_model::NoMemory;
 use vr_routes::{Change, Routes};
 
 /// A part of the cost that takes no memory once it is opened: its difference is told as a plain number, and any change
-/// is ready. Each such part is a [`CostPart`] that never answers `NoMemory`; as that tests alone ask one, `vr_judge`
-/// makes the two calls of this trait.
+/// is ready. Each such part is a [`CostPart`] too, which never answers `NoMemory`: tests alone ask it so, `vr_judge` by
+/// the two calls of this trait.
 pub trait InfallibleCost {
     /// The model, which no call changes.
     ghost model: { Self → RoutingModel };

@@ -42,7 +42,8 @@ pub trait ListCost {
         ensures range { IsAddedByList result };
 }
 
-/// What a change adds to such a part: what each changed list adds. The lists after it need not be valid.
+/// What a change adds to such a part: what each changed list adds. The lists after it need not be valid. Arc costs and
+/// fixed costs answer by it (`InfallibleCost::added`).
 #[inline]
 pub fn added_by<C: ListCost>(cost: &C, routes: &Routes, change: &Change) -> i64
     requires well_formed { IsWellFormed (C.of_model cost.now) }

@@ -53,13 +53,13 @@ abbrev pub with_part : List (List ℕ) → List ListAfter → ℕ → List (List
 with_part old parts k lists = cond (nat_lt k (length parts))
     (with_route lists (part_at parts k).vehicle (joined old (part_at parts k).pieces)) lists
 
--- the rows of both parts of a change, where there are two
+-- the rows are those of the first two parts of a change, as far as there are so many
 pub record AreRowsOfParts (model : Model) (d : ℕ) (first second : BothWays) (lists : List (List ℕ))
     (parts : List ListAfter) : Type 0 where
   pub first_are : AreRowsOfPart model d lists parts 0 first
   pub second_are : AreRowsOfPart model d lists parts 1 second
 
--- the rows of each part of a change were made, where rows are kept
+-- the rows of each part of a change were made, where rows are kept, and the rule holds after it
 pub record IsReady (model : Model) (d : ℕ) (is_prepared : Bool) (loads : Option (List Carried))
     (first second : BothWays) (lists : List (List ℕ)) (parts : List ListAfter) : Type 0 where
   pub prepared : is_prepared ≡ true

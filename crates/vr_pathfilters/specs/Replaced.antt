@@ -42,8 +42,9 @@ pub record Serves (model : Model) (list : List ℕ) : Type 0 where
   pub distinct : IsTrue (is_distinct list)
   pub each_pair : IsTrue (list_all (serves_pair list) model.pairs)
 
--- where the pairs of a list come in turn, all pairs do with other nodes in the place of a stretch exactly where those
--- of the new nodes do: then pairs that begin before them and end behind them come in turn too
+-- where the pairs of a list come in turn, and it serves each pair before and with other nodes in the place of a
+-- stretch, all pairs come in turn with these exactly where those of the new nodes do: then pairs that begin before them
+-- and end behind them come in turn too
 abbrev pub TurnsAreBetween : Type 0
 TurnsAreBetween = (model : Model) (policy : Policy) (old middle : List ℕ) (front behind : ℕ) → IsWellFormed model
     → AreSeams (length old) front behind → Serves model old → Serves model (spliced old front behind middle)

@@ -14,7 +14,7 @@ pub record AreTours (model : Model) (tours : Tours) : Type 0 where
   pub once : IsOnce tours.lists
   pub entries : (node : ℕ) → IsTrue (is_active tours.lists node) → IsTrue (holds tours.visits node)
 
--- lists of the visits of a model, one for each vehicle, that keep a rule of the model
+-- the visits of a model, and lists, one for each vehicle, that keep a rule of the model
 pub record KeepRule (rule : Model → ℕ → List ℕ → Bool) (model : Model) (tours : Tours) : Type 0 where
   pub visits_are : tours.visits ≡ visits model
   pub list_of_each : length tours.lists ≡ length model.vehicles

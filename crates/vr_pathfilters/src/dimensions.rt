@@ -39,7 +39,7 @@ use vr_routes::{Change, Routes, Row};
 /// filter of a `RoutingDimension` in OR-Tools). Of a load it keeps sums of the committed lists, and judges a change by
 /// them in a time that does not depend on how long the lists are, where the vehicles have the same evaluator. Of any
 /// other dimension it keeps the rows of the committed lists, and walks only through what a change changes: `passes`
-/// takes memory only where a set has more than four runs, or a vehicle more breaks than any before.
+/// takes memory only where a set has more than four runs, or a vehicle has breaks.
 #[derive(Drop)]
 pub struct DimensionFilter<'m> {
     lookups: Lookups<'m>,
@@ -130,8 +130,9 @@ impl<'m> DimensionFilter<'m> {
     }
 
     /// The same as `passes`, where tries are counted too: the arcs that walks without a break go over, which are asked
-    /// first of a vehicle with breaks. They go along what a change changes alone, at most once for each number of
-    /// breaks that may be taken before it. `passes` alone calls it, with a counter of tries that nobody reads.
+    /// first of a vehicle with breaks where neither a visit nor the end allows more than one run. They go along what a
+    /// change changes alone, at most once for each number of breaks that may be taken before it. `passes` alone asks
+    /// it, by `passes_untried`, with a counter of tries that nobody reads.
     pub fn passes_within<L: Ledger, M: Ledger>(
         &mut self,
         routes: &Routes,
@@ -178,7 +179,7 @@ impl<'m> DimensionFilter<'m> {
         }
     }
 
-    // The same, where nobody counts tries.
+    // The same, with a counter of tries that is made here of the blank one, and that nobody reads.
     fn passes_untried<L: Ledger, M: Ledger>(
         &mut self,
         routes: &Routes,
@@ -313,7 +314,8 @@ fn put_part(known: &mut Vec<Rows>, change: &Change, k: usize, rows: &mut Rows)
     mem::swap(&mut known[change.vehicle(k) as usize], rows);
 }
 
-// What is kept of the lists of all vehicles: loads where the dimension is one, else rows.
+// What is kept of the lists of all vehicles: loads where the dimension is one, else rows. `lists` counts the lists that
+// are handed over for their rows, and nobody reads it (`rows`).
 fn kept_of<L: Ledger>(
     alloc: Global,
     at: &RoutesIn,

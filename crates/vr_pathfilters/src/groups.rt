@@ -24,11 +24,11 @@ use vr_routes::{Change, Piece, Routes};
 
 /// Lets a change pass where afterwards no group has more active nodes than it may have, each visit in no group is
 /// active, and each group without a penalty has as many active nodes as it may have (`AddDisjunction` in OR-Tools). It
-/// looks at the nodes that become active or inactive and at their groups, and takes no memory once it is opened.
+/// looks at the nodes of the pieces that come and go and at their groups, and takes no memory once it is opened.
 #[derive(Drop)]
 pub struct GroupFilter<'m> {
     model: &'m Model,
-    // for each node the number of its group, that of all groups where it is in none
+    // for each node the number of its group; how many groups there are, where it is in none
     numbers: Seq<u32>,
     // what the change in hand brings and takes out: each question writes it over
     balance: Balance,
@@ -36,7 +36,7 @@ pub struct GroupFilter<'m> {
     is_prepared: bool,
 }
 
-// The number of the group of a node.
+// The number of the group of a node; 0 of a number that is no node, which is not asked: lists have visits alone.
 #[inline]
 fn number(numbers: &Seq<u32>, node: u32) -> u32
     ensures { result ≡ node_number numbers.now node }
@@ -96,9 +96,9 @@ fn many_in_pieces(numbers: &Seq<u32>, routes: &Routes, pieces: &[Piece], g: u32)
     many
 }
 
-// Whether so many nodes of group g may come and go. A visit in no group, of which g is the number of all groups, is
-// active, so it can only go, which is refused. A group without a penalty has as many active nodes as it may have, and
-// keeps so many.
+// Whether so many nodes of group g may come and go. A visit in no group, where g is how many groups there are, is
+// active, so it comes only if it goes too, and is refused where it goes alone. A group without a penalty has as many
+// active nodes as it may have, and keeps so many.
 fn allows(closed: Closed<'_>, routes: &Routes, g: u32, come: usize, gone: usize) -> bool
     requires few { IsInPieces come }
     requires few_too { IsInPieces gone }
@@ -141,7 +141,7 @@ fn nodes_allow(filter: &GroupFilter<'_>, routes: &Routes, nodes: &[u32]) -> bool
     true
 }
 
-// Whether the groups of the nodes of a piece do.
+// Whether the groups of the nodes of a piece allow what comes and goes.
 fn piece_allows(filter: &GroupFilter<'_>, routes: &Routes, piece: Piece) -> bool
     requires well_formed { IsWellFormed filter.now.model.now }
     requires within { IsTurnover routes.now.lists filter.now.balance }
@@ -165,7 +165,7 @@ fn piece_allows(filter: &GroupFilter<'_>, routes: &Routes, piece: Piece) -> bool
     }
 }
 
-// Whether the groups of the nodes of some pieces do.
+// Whether the groups of the nodes of some pieces allow what comes and goes.
 fn pieces_allow(filter: &GroupFilter<'_>, routes: &Routes, pieces: &[Piece]) -> bool
     requires well_formed { IsWellFormed filter.now.model.now }
     requires within { IsTurnover routes.now.lists filter.now.balance }
@@ -181,7 +181,7 @@ fn pieces_allow(filter: &GroupFilter<'_>, routes: &Routes, pieces: &[Piece]) -> 
     true
 }
 
-// Whether the groups of all nodes that come or go do.
+// Whether the groups of all nodes that come or go allow it.
 fn all_allow(filter: &GroupFilter<'_>, routes: &Routes) -> bool
     requires stands { KnowsGroups filter.now.model.now filter.now.numbers routes.now }
     requires within { IsTurnover routes.now.lists filter.now.balance }

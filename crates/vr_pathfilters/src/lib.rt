@@ -9,8 +9,8 @@
 //! (`loads`), of any other dimension the rows of the lists (`rows`). `vehicles` and `pairs` have rules that each list
 //! keeps by itself, which `lists` makes filters of. Pairs are asked of the list after a change (`new_lists`), which is
 //! not joined for that, and whether they keep the policy of a vehicle is told by counts (`policies`). What a change
-//! puts between the ends that it keeps of a list is written out by `parts`. `groups` asks the groups of the nodes that
-//! become active or inactive.
+//! puts between the ends that it keeps of a list is written out by `parts`. `groups` asks the groups of the nodes of
+//! the pieces that come and go (`vr_balance`).
 //!
 //! `vr_judge` opens the filters of a model and asks them of each move that it judges, those first that ask least.
 #![tactic(auto)]

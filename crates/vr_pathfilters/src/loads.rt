@@ -80,7 +80,8 @@ fn part_carried(
     loads.can_carry(model, d, routes, change.vehicle(k), change.pieces(k))
 }
 
-/// The vehicle of part `k` of a change has the list of the part, where there is that part.
+/// The vehicle of part `k` of a change has the list of the part, where there is that part: called at a commit. The row
+/// `list` is room for it.
 pub(crate) fn put_list(
     loads: &mut Loads,
     model: &Model,

@@ -62,7 +62,7 @@ pub(crate) fn mark(list: &[u32], marks: &mut [u32; 1000])
     }
 }
 
-// The mark of a node.
+// The mark of a node, which may be one of an earlier change: who asks looks whether the node stands there (`is_at`).
 #[inline]
 fn mark_of(marks: &[u32], node: u32) -> u32
     ensures { result ≡ slice_index marks.now node }
@@ -169,7 +169,7 @@ impl<'r, 'n> NewList<'r, 'n> {
             || self.serves_node(node_tables, node))
     }
 
-    // Whether the pair that a node is in comes in turn.
+    // Whether the pair that a node is in comes in turn, as a policy asks (`policies`); so does a node in no pair.
     #[inline]
     fn comes_in_turn(&self, policy: Policy, counted: &NewCounts<'_, '_>, node: u32) -> bool
         requires { replaced_list counted.now ≡ self.now }

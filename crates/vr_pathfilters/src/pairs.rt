@@ -54,7 +54,7 @@ fn serves_between(node_tables: &NodeTables<'_>, ends: &Between) -> bool
     requires before { IsTrue (list_all (serves_pair (list_before ends.now)) node_tables.now.pairs) }
     ensures { result ≡ list_all (serves_pair (changed_list ends.now)) node_tables.now.pairs }
 {
-    // what holds of the model is known
+    // the read tells contracts that the model is well formed
     let _model = node_tables.model();
     let old = ends.routes.list(ends.v);
     let new = NewList { ends: *ends };

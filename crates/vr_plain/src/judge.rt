@@ -19,7 +19,8 @@ use vr_rules::Rules;
 /// questions and no steps: all of its numbers are 0.
 ///
 /// All that a judged move needs is kept and written over: after the first moves one takes memory only where a set of
-/// cumuls has more than four runs, where a list is longer than any before, or where a tight schedule is built.
+/// cumuls has more than four runs, a list is longer than any before, its vehicle has breaks, or a tight schedule is
+/// built, as `Rules` says.
 #[derive(Drop)]
 pub struct PlainJudge<'m> {
     rules: Rules<'m>,
@@ -30,7 +31,8 @@ pub struct PlainJudge<'m> {
 }
 
 impl<'m> PlainJudge<'m> {
-    /// A judge that has committed the lists of these routes, which are valid. The only refusal is want of memory.
+    /// A judge that has committed the lists of these routes, which are valid. The only refusal is want of memory. Tests
+    /// alone call it.
     pub fn open(
         alloc: Global,
         model: &'m RoutingModel,

@@ -26,6 +26,6 @@ IsLatestOf line s = (defined : Defined) → IsLineOf defined line → IsGreatest
 abbrev pub IsPinnedOf : Line → ℕ → ℤ → Line → Type 0
 IsPinnedOf line k x narrow = (defined : Defined) → IsLineOf defined line → IsLineOf (pinned defined k x) narrow
 
--- the other line is the line whose end allows the least end alone, and whose start the latest start alone
+-- the other line is the line whose end allows the least end alone, and whose start the latest start with that end alone
 abbrev pub IsTightLineOf : Line → Line → Type 0
 IsTightLineOf line narrow = (defined : Defined) → IsLineOf defined line → IsLineOf (narrowed Tight defined) narrow

@@ -48,12 +48,12 @@ place_begin hops cumuls (suc k) =
 abbrev pub first_at : List Hop → List ℤ → BreakRow → ℤ → ℕ → ℤ
 first_at hops cumuls row ready place = int_max (int_max row.from ready) (place_begin hops cumuls place)
 
--- a start that was tried: it is there where the line has a schedule with it
+-- a start that was tried: it is there where it is no later than `to` and the line has a schedule with it
 abbrev pub IsTried : Line → ℕ → ℤ → ℤ → Option ℤ → Type 0
 IsTried line i to first None = first ≤ℤ to → IsFeasible (row_pinned line i first) → ⊥
 IsTried line i to first (Some x) = (x ≡ first) × (first ≤ℤ to) × IsFeasible (row_pinned line i first)
 
--- the least of the starts in the first n places with which the line has a schedule
+-- the least of the starts in the first n places that are no later than `to` and with which the line has a schedule
 abbrev pub IsLeastTried : Line → ℕ → ℤ → (ℕ → ℤ) → ℕ → Option ℤ → Type 0
 IsLeastTried line i to firsts n None = (p : ℕ) → p < n → firsts p ≤ℤ to → IsFeasible (row_pinned line i (firsts p)) → ⊥
 IsLeastTried line i to firsts n (Some x) = ((p : ℕ) × (p < n) × (x ≡ firsts p)) × (x ≤ℤ to)

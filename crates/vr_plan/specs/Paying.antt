@@ -35,7 +35,7 @@ are_hard rows = list_all (λ row. not (is_some row.soft)) rows
 abbrev pub is_hard : Dimension → Bool
 is_hard dimension = are_hard dimension.starts && are_hard dimension.nodes && are_hard dimension.ends
 
--- no span has a coefficient, and no stop has a soft upper bound
+-- no span of a vehicle has a coefficient, and no stop has a soft upper bound
 abbrev pub is_free : Dimension → Bool
 is_free dimension = are_zero dimension.span_costs && is_hard dimension
 

@@ -23,8 +23,8 @@ IsUnfeasible line = (defined : Defined) → IsLineOf defined line → IsFeasible
 abbrev pub Goes : Type 0 → Bool → Type 0
 Goes P goes = goes ≡ true → P
 
--- A narrower line, whose stops up to k allow the settled cumuls alone, and whose later stops are those of the line. It
--- is feasible, what is chosen of it is chosen of the line, and the levels are what it reaches at stop k.
+-- A line that differs in the stops up to k alone, where each of its schedules has the settled cumuls. It is sound and
+-- feasible, what is chosen of it is chosen of the line, and the levels are what it reaches at stop k.
 pub record IsNarrowed (defined : Defined) (k : ℕ) (cumuls : List ℤ) (here : List (List Run)) (narrow : Defined)
     : Type 0 where
   pub sound : IsSound narrow

@@ -45,7 +45,7 @@ pub record IsTiming (model : Model) (d v : ℕ) (list : List ℕ) (timing : Timi
   pub start : timing.start ≡ cumul (chosen_plan_of model d v list) 0
   pub last : timing.last ≡ cumul (chosen_plan_of model d v list) (suc (length list))
 
--- the cost of n stops is not negative, and both cumuls are in their range
+-- the cost is not negative and no more than n cumuls cost at most, and both cumuls are in their range
 pub record IsTimingOf (n : ℕ) (timing : Timing) : Type 0 where
   pub not_negative : pos 0 ≤ℤ timing.soft
   pub bound : timing.soft ≤ℤ pos (cumul_cost * n)

@@ -8,10 +8,10 @@
 //! leave, and `schedules` puts it together. A line that is known to be sound is handed on as one (`sound`).
 //!
 //! What is looked up of a dimension for all lists is a [`Table`] (`tables`), also whether its schedules may cost
-//! anything (`paying`); what is looked up once of a whole model is [`Lookups`] (`lookups`), which all that ask it
-//! share. A [`Timing`] (`timings`) is what the chosen schedule of one list comes to, found by the earliest cumuls where
-//! those tell it and by a [`Chooser`] (`choosers`) else, which looks for no break starts; an [`Extent`] (`extents`) is
-//! from where to where the schedules of several lists reach.
+//! anything by themselves (`paying`); what is looked up once of a whole model is [`Lookups`] (`lookups`), which all
+//! that ask it share. A [`Timing`] (`timings`) is what the chosen schedule of one list comes to, found by the earliest
+//! cumuls where those tell it and by a [`Chooser`] (`choosers`) else, which looks for no break starts; an [`Extent`]
+//! (`extents`) is from where to where the schedules of several lists reach.
 //!
 //! `vr_print` and `vr_span` ask for whole schedules, `vr_rules` and `vr_costfilter` for what they come to. `vr_app`
 //! opens the [`Lookups`] of a run, which constructions (`vr_first_arc`, `vr_first_insert`, `vr_first_savings`),

@@ -82,8 +82,8 @@ impl<'m> LookedUp<'m> {
 }
 
 impl<'m> Lookups<'m> {
-    /// What is looked up of a model: once in a run by `vr_app`, and by each call of another crate that is handed a
-    /// model alone. The only refusal is want of memory.
+    /// What is looked up of a model: once in a run by `vr_app`, and by calls of other crates that are handed a model
+    /// alone. The only refusal is want of memory.
     pub fn open(alloc: Global, closed: Closed<'m>) -> Result<Lookups<'m>, NoMemory>
         ensures { IfOk result (λ lookups. lookups.closed.model.now ≡ closed.entry.model.now) }
     {

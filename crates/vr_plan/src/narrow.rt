@@ -39,7 +39,7 @@ pub(crate) fn with_cumuls(
     })
 }
 
-// Of each stop, the cumul that is put in.
+// For each stop, the set that has its cumul alone.
 fn only_sets(alloc: Global, sound: SoundLine<'_>, cumuls: &[i64]) -> Result<Seq<Spans>, NoMemory>
     requires cumuls { HaveChosenCumuls sound.line.now cumuls.now }
     ensures exact { IfOk result (AreOnly sound.entry.line.now.allowed cumuls.now) }

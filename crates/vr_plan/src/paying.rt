@@ -14,8 +14,9 @@ use crate::tables::{Table, row_of};
 use vr_model::{Dimension, Model, Seq, StopRow};
 
 /// Whether schedules of a list may cost anything by themselves in dimension `d`: the vehicle has a coefficient of spans
-/// that is not 0, or some stop has a soft upper bound. Where nothing may, `vr_costfilter` times no list for it, and
-/// `vr_rules` none where global spans cost nothing either.
+/// that is not 0, or some stop has a soft upper bound. Where nothing may, `PlanCost` of `vr_costfilter` does not ask
+/// `timing_of` for the list (`GlobalSpan` does, where global spans cost anything), and `vr_rules`, which asks for both
+/// at once, does not where global spans cost nothing either.
 pub fn may_pay_alone(model: &Model, table: &Table, d: u32, v: u32, list: &[u32]) -> bool
     requires well_formed { IsWellFormed model.now }
     requires dimension { d < length model.now.dimensions }

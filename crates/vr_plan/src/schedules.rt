@@ -37,7 +37,7 @@ pub fn schedule(alloc: Global, line: &Line, rule: ScheduleRule) -> Result<Option
 }
 
 /// The schedule of a line that is chosen under a rule, over the rows of the line, as `schedule` answers it; for who has
-/// the rows. In this repository tests alone do.
+/// the rows. In this repository tests alone call it.
 pub fn schedule_over(
     alloc: Global,
     line: &Line,
@@ -58,7 +58,7 @@ pub fn schedule_over(
 
 /// The cumuls of the schedule of a line that is chosen under a rule, one for each stop; `None` exactly where the line
 /// has no schedule. The breaks are taken into account, and their starts are not looked for. In this repository tests
-/// alone ask it; others ask a [`Chooser`] of their own.
+/// alone ask it; a `Timer` asks a [`Chooser`] of its own.
 pub fn chosen_cumuls(
     alloc: Global,
     line: &Line,

@@ -91,9 +91,9 @@ fn place_begin(hops: &[Hop], cumuls: &[i64], place: usize) -> i64
     cumuls[hops.len()]
 }
 
-// The least start that schedules of the line have for break `i`, which may not start before `ready`, when the break
-// before it is over. The cumuls are settled, so in each place the first moment alone is tried: what starts later there
-// could start then.
+// The least start that schedules of the line have for break `i`, `None` where there is no schedule. It may not start
+// before `ready`, when the break before it is over. The cumuls are settled, so in each place the first moment alone is
+// tried: what starts later there could start then.
 fn least_start(
     line: &mut Line,
     walk: &mut Walk,

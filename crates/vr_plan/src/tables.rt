@@ -64,7 +64,8 @@ fn row_places(alloc: Global, closed: Closed<'_>, d: u32) -> Result<Vec<u32>, NoM
     Ok(places)
 }
 
-/// The row of a node among rows, by the places that were looked up, where `StopRow::of_key` would search the rows.
+/// The row of a node among rows, by the places that were looked up, where `StopRow::of_key` would search the rows;
+/// `None` where the node has none, whose place is the number of rows.
 pub fn row_of<'r>(rows: &'r Seq<StopRow>, places: &[u32], node: u32) -> Option<&'r StopRow>
     requires places { ArePlaces (length places.now) (keys_of_rows rows.now) places.now }
     requires node { node < length places.now }

@@ -37,11 +37,13 @@ pub struct Timing {
     pub last: i64,
 }
 
-/// What is written over while lists are timed.
+/// What is written over while lists are timed. `vr_rules` and `vr_costfilter` have their own.
 #[derive(Drop)]
 pub struct Timer {
     alloc: Global,
+    // the cumuls, where they are found stop by stop
     early: Cumuls,
+    // else the line of the list, and what chooses its cumuls
     line: Line,
     chooser: Chooser,
 }

@@ -1,4 +1,4 @@
--- The text of a solution.
+-- The tree of a solution.
 use Rattle.std.specs.Prelude.{ℕ, ℤ, List, [], ◌∷◌, if◌then◌else◌, codes, length, map}
 use Rattle.serde_json.specs.Data.{Data, Members, string, array, object, no_items, no_members, member, put}
 use Rattle.serde_json.specs.View.{items_of}

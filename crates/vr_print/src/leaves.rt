@@ -27,7 +27,8 @@ pub(crate) fn counts(alloc: Global, nodes: &[u32]) -> Result<Value, NoMemory>
     Ok(Value::Array(items))
 }
 
-/// An array of whole numbers, in their order. The only refusal is want of memory.
+/// An array of whole numbers, in their order: of cumuls, slacks or starts of breaks. `vr_app` asks it too, for the
+/// schedules that `spans` writes. The only refusal is want of memory.
 pub fn wholes(alloc: Global, values: &[i64]) -> Result<Value, NoMemory>
     ensures { IfOk result (λ v. view v ≡ numbers.wholes values.now) }
 {

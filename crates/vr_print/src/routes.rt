@@ -16,7 +16,7 @@ use vr_json::Tree;
 use vr_model::{Closed, Model, NoMemory};
 use vr_routes::Routes;
 
-// The nodes of a route from its start to its end.
+// The nodes of a route from its start to its end, none where its list is empty.
 fn route_nodes(
     alloc: Global,
     model: &Model,
@@ -98,8 +98,8 @@ fn note_inactive(
     Ok(())
 }
 
-/// The visits that stand in no list, ascending. The model says which nodes are visits: nothing is asked of those that
-/// the routes keep.
+/// The visits that stand in no list, ascending. The model says which nodes are visits, and the lists which are active:
+/// the inactive visits that routes keep are not asked, since no clause here says that they are those of this model.
 pub(crate) fn inactive(alloc: Global, model: &Model, routes: &Routes) -> Result<Vec<u32>, NoMemory>
     ensures { IfOk result (λ nodes. nodes.items ≡ inactive model.now routes.now.lists) }
 {

@@ -89,7 +89,8 @@ fn are_routes_shaped(model: &Model, routes: &[PrintedRoute]) -> bool
     routes.len() == model.vehicles.len() && is_each_shaped(model, routes)
 }
 
-// The solution that a tree prints, whatever the model asks of its routes.
+// The solution that a tree prints, whatever the model asks of its routes. It is refused where the tree has other
+// fields, kinds or words, or a node that is not below `nodes`.
 fn read_tables(alloc: Global, nodes: u32, solution: &Value) -> Result<Printed, ReadFail>
     ensures { Answers result (solution_table nodes [] (view solution.now)) }
 {

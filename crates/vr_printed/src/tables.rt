@@ -20,7 +20,7 @@ pub struct RouteTable {
 #[derive(Clone, Copy)]
 pub struct PartsTable;
 
-/// A solution, in a model of so many nodes.
+/// A solution, in a model of so many nodes. Of its fields `status` and `stop` the word is asked, and not kept.
 #[derive(Clone, Copy)]
 pub struct SolutionTable {
     pub nodes: u32,

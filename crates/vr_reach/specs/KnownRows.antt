@@ -36,7 +36,7 @@ pub record AreRowsOf (model : Model) (d v : ℕ) (list : List ℕ) (rows : BothW
 abbrev pub AreRowsIfUsed : Model → ℕ → ℕ → List ℕ → BothWays → Type 0
 AreRowsIfUsed model d v list rows = is_empty list ≡ false → AreRowsOf model d v list rows
 
--- a list of the vehicle, with its rows
+-- a list of the vehicle, with its rows where it is not empty
 abbrev pub IsKnownList : StopsFor → KnownList → Type 0
 IsKnownList stops known = AreRowsIfUsed stops.closed.model.now stops.d stops.v known.list.now known.rows.now
 

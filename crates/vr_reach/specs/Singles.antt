@@ -24,11 +24,12 @@ pub record IsOnlyRun (set : List Run) (run : Run) : Type 0 where
 abbrev pub is_run : List Run → Bool
 is_run set = length set == 1
 
--- there are no breaks, and either level is of one run
+-- there are no breaks, and both levels are of one run
 abbrev pub are_runs : List BreakRow → List (List Run) → List (List Run) → Bool
 are_runs breaks from to = is_empty breaks && is_run (level_at from 0) && is_run (level_at to 0)
 
--- there is one run to walk with between two levels: the end of the vehicle allows no more than one, and both are
+-- there is one run to walk with between two levels: the vehicle has no breaks, its end allows no more than one, and
+-- both levels are of one
 abbrev pub is_one_run_each : Model → ℕ → ℕ → List (List Run) → List (List Run) → Bool
 is_one_run_each model d v from to = is_one_run (allowed_by model d v End)
     && are_runs (breaks_of (dimension_at model d) v) from to

@@ -14,7 +14,7 @@ use Rattle.vr_reach.specs.Lists.{IsUsed}
 use Rattle.vr_reach.specs.VisitRuns.{AreRunTables}
 use Rattle.vr_reach.specs.VisitSets.{IsSetOf, AreSets}
 
--- breaks as a line of a well-formed model may have them
+-- the breaks of vehicle v, as a line of a well-formed model may have them
 pub record AreSoundBreaks (model : Model) (d v : ℕ) (ends : Ends) : Type 0 where
   pub same : ends.breaks ≡ breaks_of (dimension_at model d) v
   pub few : length ends.breaks ≤ 8
@@ -35,7 +35,7 @@ pub record AreEndsOf (model : Model) (d v : ℕ) (ends : Ends) : Type 0 where
   pub end_is : (list : List ℕ) → IsUsed model list
       → AreReachingEnd (line model d v list) (suc (length list)) ends.end_levels
 
--- the ends of each vehicle, and what visits allow it, with the runs of that
+-- the ends of each vehicle, and what visits allow it, with the runs of that where none allows more than one
 pub record AreStops (model : Model) (d : ℕ) (stops : Stops) : Type 0 where
   pub ends_of_each : length stops.ends.items ≡ length model.vehicles
   pub ends : (v : ℕ) (other : Ends) → v < length stops.ends.items

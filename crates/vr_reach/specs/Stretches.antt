@@ -14,7 +14,7 @@ pub record SharesBack (old new : List ℕ) (z : ℕ) : Type 0 where
   pub within_old : z ≤ length old
   pub within_new : z ≤ length new
 
--- both lists begin and end with nodes that they share, no node of the second being among both
+-- both lists begin and end with nodes that they share; in the second the two parts do not overlap
 pub record SharesEnds (old new : List ℕ) (shared : Stretch) : Type 0 where
   pub front : SharesFront old new shared.front
   pub back : SharesBack old new shared.back

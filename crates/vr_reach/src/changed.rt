@@ -60,7 +60,8 @@ pub fn rewrite_rows(
     rows.rewrite(alloc, &asked, ahead, behind)
 }
 
-// How many rows are known with so many nodes: one more, but none of an empty list.
+// How many rows of the list before stay, where so many nodes at one end of it do: one more, that of the start or of the
+// end, but none of an empty list, of whose rows nothing is said.
 fn known_with(list: &[u32], nodes: usize) -> usize
     requires { nodes ≤ length list.now }
     ensures empty { list.now ≡ [] → result ≡ 0 }

@@ -38,7 +38,7 @@ pub struct StopRuns<'a> {
 }
 
 /// The run of cumuls that each stop of a vehicle allows, nothing exactly where it has breaks or some stop allows more
-/// than one.
+/// than one. `vr_costfilter` asks it too, for all lists of a vehicle.
 pub fn single_runs<'s>(stops: &StopsFor<'_, 's>) -> Option<StopRuns<'s>>
     requires { AreStopsFor stops.now }
     ensures no_breaks { IfSome result (λ runs.
@@ -66,8 +66,8 @@ pub fn single_runs<'s>(stops: &StopsFor<'_, 's>) -> Option<StopRuns<'s>>
 
 /// Writes the cumuls of the earliest schedule of a list over others, where they are found stop by stop, each the least
 /// that the one before leaves: where the vehicle has no breaks, no stop allows more than one run of cumuls, and no
-/// slack would be too great. False exactly where they are not found so, also where there is no schedule; then nothing
-/// is said of the cumuls.
+/// slack would be too great (else a stop before would have to be later than its least). False exactly where they are
+/// not found so, also where there is no schedule; then nothing is said of the cumuls.
 pub fn write_earliest(stops: &StopsFor, list: &[u32], cumuls: &mut Cumuls) -> bool
     requires stops { AreStopsFor stops.now }
     requires used { IsUsed stops.now.closed.model.now list.now }
@@ -132,7 +132,8 @@ fn drive(line: &RunLine, start: Run, cumuls: &mut Cumuls) -> bool
 }
 
 /// The least cumul of a stop behind an arc from a cumul, nothing exactly where the stop allows none that is reached, or
-/// where the slack would be too great. Cumuls are in `0..=2^36`, transits within 2^31.
+/// where the slack would be too great. Cumuls are in `0..=2^36`, transits within 2^31. `vr_costfilter` asks it too, of
+/// stops with floors.
 #[inline]
 pub fn earliest_behind(cumul: i64, transit: i64, slack: i64, allowed: Run) -> Option<i64>
     requires cumul { IsIn (pos 0) horizon cumul }

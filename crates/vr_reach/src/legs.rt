@@ -1,4 +1,4 @@
-//! A leg of a list, along which a walk goes.
+//! A leg of a list: the stretch between two of its stops along which a walk goes.
 
 ghost use Rattle.std.proofs.Props.{props};
 ghost use Rattle.std.specs.Prelude.{◌<◌, ◌≤◌, suc, length, IfSome};

@@ -31,7 +31,7 @@ use vr_model::{Closed, Model, Steps};
 use vr_spans::Run;
 use vr_steps::Levels;
 
-/// A stop to which an arc leads.
+/// A stop to which an arc leads: the next one of a walk, or the end of a vehicle.
 #[derive(Clone, Copy)]
 pub struct Ahead {
     /// Its node.
@@ -47,14 +47,14 @@ pub(crate) struct Stand {
     pub(crate) run: Run,
 }
 
-// The runs at the two ends of a leg.
+// The run that is reached at the first stop of a leg, and the one from which the end is reached at the last.
 #[derive(Clone, Copy)]
 pub(crate) struct Between {
     pub(crate) from: Run,
     pub(crate) to: Run,
 }
 
-// The runs at the two ends of a leg, where there are no breaks and each is of one run.
+// The runs at the two ends of a leg; nothing where there are breaks, or the levels of one end are not just one run.
 pub(crate) fn runs_between(ends: &Ends, walk: &RunWalk) -> Option<Between>
     requires { ends.now.breaks ≡ (line_along walk.now).breaks }
     ensures runs { IfSome result (AreRunsBetween walk.now) }
@@ -96,7 +96,7 @@ pub(crate) fn finish_of(model: &Model, v: u32, ends: &Ends) -> Option<Ahead>
 }
 
 // Whether the line of a list is feasible, where there are no breaks: found by a walk along a leg that carries one run.
-// It counts as `passes_along` says: a step for each arc, and two where it joins the rows.
+// It counts as `passes_along` says: a step for each arc that it goes over, and two where it joins the rows.
 pub(crate) fn walk_by_runs<L: Ledger>(
     walk: &RunWalk,
     between: Between,
@@ -117,8 +117,9 @@ pub(crate) fn walk_by_runs<L: Ledger>(
 }
 
 // The run at the last stop of a leg, where a walk without breaks begins with run `from` at its first stop. Where `from`
-// is all that is reached there with so many breaks taken, this run is what is reached with as many. It has no number
-// where nothing is reached on the way; then the walk stops there. It counts a step for each arc.
+// is all that is reached there with so many breaks taken, each number of this run is reached with as many; where none
+// are taken, no other number is. It has no number where nothing is reached on the way; then the walk stops there. It
+// counts one in `steps` (for `probing` a try) for each arc that it goes over.
 pub(crate) fn carry_run<L: Ledger>(walk: &RunWalk, from: Run, steps: &mut Steps<L>) -> Run
     requires { IsCumulRun from }
     ensures cumuls { result.lo ≤ℤ result.hi → IsCumulRun result }

@@ -1,4 +1,5 @@
-//! Walks through what an insertion changes in a list whose rows are known, the stretch known or the levels kept.
+//! Walks through what an insertion changes in a list whose rows are known: at once, where it is known what both lists
+//! share, or stop by stop, by levels that `vr_first_insert` keeps, which alone calls these.
 
 ghost use Rattle.std.specs.Prelude.{◌≡◌, ◌+◌, ◌≤◌, IsTrue, length, IfOk, OnOk};
 ghost use Rattle.vr_model.specs.schedules.Choices.{is_feasible};
@@ -20,10 +21,10 @@ use crate::walks::Walk;
 use vr_model::NoMemory;
 use vr_steps::Levels;
 
-/// Whether the line of a list of a vehicle is feasible, found by a walk through what differs from the list before,
-/// whose rows are known: all but the nodes that both share. Beside `passes_along` it is told how many these are, has
-/// the list written out, and counts no steps, and the list before need not be feasible. Afterwards nothing is said of
-/// where the walk stands.
+/// Whether the line of a list of a vehicle is feasible, found by a walk through all of it but nodes at its ends that it
+/// shares with the list before, whose rows are known. Unlike `passes_along` it is handed how many these are (both may
+/// share more), has the list written out, and counts no steps, and the list before need not be feasible. Afterwards
+/// nothing is said of where the walk stands.
 ///
 /// `NoMemory` as of `passes_along`.
 pub fn goes_between(

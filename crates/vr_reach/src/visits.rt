@@ -11,8 +11,8 @@ use vr_model::{Closed, NoMemory, Seq};
 use vr_spans::Spans;
 use vr_steps::{StopName, allowed_at};
 
-// The cumuls that each visit allows, in a table for each capacity that some vehicle has, by its node; a node that is no
-// visit allows none.
+// The cumuls that each visit allows, by its node, in a table for each capacity that some vehicle has: nothing else of a
+// vehicle counts for what its visits allow. A node that is no visit allows none.
 #[derive(Drop)]
 pub(crate) struct VisitSets {
     // the capacity of each table

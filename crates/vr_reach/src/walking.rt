@@ -30,8 +30,9 @@ use std::sync::ledger::{Blank, Ledger};
 use vr_model::{NoMemory, Steps};
 use vr_steps::Levels;
 
-// Whether the line of a list is feasible, found by a walk along a leg of it. The walk carries one run where that is all
-// there is; else, where no visit allows more, walks without a break are asked first, whose arcs are counted as tries.
+// Whether the line of a list is feasible, found by a walk along a leg of it. The walk carries one run where there are
+// no breaks and that is all there is; else, where neither a visit nor the end allows more, walks without a break are
+// asked first, whose arcs are counted as tries.
 fn walk_through<L: Ledger, M: Ledger>(
     leg: &Leg,
     walk: &mut Walk,
@@ -113,15 +114,15 @@ fn walk_by_sets<L: Ledger>(
 /// of some. It is found by a walk through what differs from the list before, which passes itself and whose rows are
 /// known. It counts a step for each run that it carries over an arc, once for each number of further breaks, and one
 /// for each run on both sides where it joins the rows: at most the weight that the definitions give the changed list.
-/// Afterwards nothing is said of where the walk stands.
+/// Afterwards nothing is said of where the walk stands. The filters of dimensions (`vr_pathfilters`) alone ask it.
 ///
 /// Where neither a visit nor the end allows more than one run, and one run is reached where it leaves the rows, it
-/// carries one run in place of sets; of a vehicle with breaks, walks without a break are tried before, at most one for
-/// each number of breaks taken before it, which tell of most moves. They count a try for each arc that they go over,
-/// none of which lies outside the changed stretch.
+/// carries one run in place of sets if the vehicle has no breaks; if it has, walks of one run without a break are tried
+/// before the one with sets, at most one for each number of breaks taken before it, which tell of most moves. They
+/// count a try for each arc that they go over, none of which lies outside the changed stretch.
 ///
-/// `NoMemory` where there was no memory: it is taken only where a set has more than four runs, or a vehicle more breaks
-/// than any before.
+/// `NoMemory` where there was no memory: it is taken only where a set has more than four runs, or the vehicle has
+/// breaks.
 pub fn passes_along<L: Ledger, M: Ledger>(
     stops: &StopsFor,
     known: &KnownList,
@@ -173,8 +174,8 @@ pub fn passes_along<L: Ledger, M: Ledger>(
     walk_through(&leg, walk, steps, tries)
 }
 
-/// Whether a vehicle has a schedule with a list in a dimension: goes along the list from its start to its end.
-/// Afterwards nothing is said of where the walk stands.
+/// Whether a vehicle has a schedule with a list in a dimension: goes along the list from its start to its end, as
+/// `vr_rules` asks of whole lists. Afterwards nothing is said of where the walk stands.
 ///
 /// `NoMemory` as of `passes_along`.
 pub fn goes_through(stops: &StopsFor, list: &[u32], walk: &mut Walk) -> Result<bool, NoMemory>

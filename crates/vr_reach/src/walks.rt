@@ -93,7 +93,7 @@ impl Walk {
     }
 
     /// Whether the line at whose last stop the walk stands has a schedule: whether, with some number of breaks taken,
-    /// the others can be taken after some cumul. It takes no memory.
+    /// the others can be taken after some cumul. It takes no memory. `vr_rules` asks it of lists that grow.
     pub fn ends(&self, breaks: &Breaks) -> bool
         requires breaks { All IsBreak breaks.now }
         requires few { length breaks.now ≤ 8 }
@@ -126,7 +126,8 @@ impl Walk {
         Ok(())
     }
 
-    /// As `leave`, where nobody counts steps.
+    /// As `leave`, where nobody counts steps, and nothing is said of where the walk stands after `NoMemory`. `vr_rules`
+    /// asks it of lists that grow, and `standing`.
     pub fn cross_from(
         &mut self,
         from: &Levels,
@@ -164,7 +165,7 @@ impl Walk {
         Ok(())
     }
 
-    /// As `step`, where nobody counts steps.
+    /// As `step`, where nobody counts steps, and nothing is said of where the walk stands after `NoMemory`.
     pub fn cross(&mut self, hop: Hop, next: &Spans, breaks: &Breaks) -> Result<(), NoMemory>
         requires { IsCrossing self.old hop next.now breaks.now }
         ensures exact { OnOk result (AreCrossed self.old hop next.now breaks.now self.new) }

@@ -30,7 +30,7 @@ abbrev pub has_backward_vehicle : Model → Dimension → Bool
 has_backward_vehicle model dimension =
     list_any (λ v. is_backward model (evaluator_of dimension v)) (below (length model.vehicles))
 
--- a dimension has breaks or span costs, and a negative transit
+-- a dimension has breaks or span costs, and the evaluator of some vehicle does so
 abbrev pub is_backward_dimension : Model → Dimension → Bool
 is_backward_dimension model dimension =
     (has_breaks dimension || has_span_costs dimension) && has_backward_vehicle model dimension

@@ -27,7 +27,7 @@ evaluator n matrices path d = do
   others ← known (codes "matrix" ∷ codes "values" ∷ []) path d
   Ok (record { matrix = matrix; values = values })
 
--- a whole number of any size that is not negative; above the horizon it is read as the horizon
+-- a whole number in 0..=2^63 - 1; above the horizon it is read as the horizon
 unfoldable pub capped : ReaderOf ℤ
 capped path d = do
   z ← whole (pos 0) (pos (2 ^ 63 - 1)) path d

@@ -8,7 +8,7 @@ use Rattle.vr_model.specs.tables.Tables.{no_vehicle}
 use Rattle.vr_model.specs.declared.records.Model.{Model}
 use Rattle.vr_model.specs.declared.records.Dimension.{Dimension}
 
--- there are not too many vehicles, each matrix, vehicle and dimension is in its ranges, and its lists are full
+-- there are 1 to 100 vehicles, and each matrix, vehicle and dimension is as in a well-formed model
 pub record HasModelParts (model : Model) : Type 0 where
   pub number_of_vehicles : HasLength 1 100 model.vehicles
   pub each_matrix : All (IsMatrix model.nodes) model.matrices

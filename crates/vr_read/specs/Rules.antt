@@ -34,7 +34,7 @@ entry_rule path model dimension k =
     refuse_if (is_large model (evaluator_at dimension k).matrix) LargeTransit
     (field_of_entry path (codes "evaluators") k (codes "matrix"))
 
--- no evaluator of a dimension has such a matrix, whether a vehicle uses it or not
+-- the same of each evaluator of a dimension, whether a vehicle uses it or not
 abbrev pub dimension_entries_rule : List ℕ → Model → Dimension → Result ⊤ Fault
 dimension_entries_rule path model dimension =
     for_all (below (length dimension.evaluators)) (entry_rule path model dimension)
@@ -44,7 +44,7 @@ abbrev pub entries_rule_at : List ℕ → Model → ℕ → Result ⊤ Fault
 entries_rule_at path model d =
     dimension_entries_rule (item_path (name_path path (codes "dimensions")) d) model (dimension_at model d)
 
--- no dimension has an evaluator with such a matrix
+-- the same of each dimension
 abbrev pub entries_rule : List ℕ → Model → Result ⊤ Fault
 entries_rule path model = for_all (below (length model.dimensions)) (entries_rule_at path model)
 

@@ -14,7 +14,7 @@ use Rattle.vr_model.specs.declared.records.VehicleBreaks.{VehicleBreaks}
 use Rattle.vr_model.specs.declared.records.BreakRow.{BreakRow}
 use Rattle.vr_read.specs.declared.stop_rows.StopLimits.{StopLimits}
 
--- an interval: an array of two whole numbers, the lower one first
+-- an interval: an array of two whole numbers, the second not below the first
 unfoldable pub interval : ReaderOf Interval
 interval path d = do
   ends ← two_entries (whole (pos 0) horizon) path d

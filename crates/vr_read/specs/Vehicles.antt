@@ -1,4 +1,4 @@
--- The tables of matrices and vehicles, and the numbers of nodes, matrices, vehicles and visits that other tables name.
+-- The tables of matrices and vehicles, and the numbers of visits that other tables name.
 use Rattle.std.specs.Prelude.{ℕ, ◌||◌, ◌==◌, List, [], ◌∷◌, Bool, pos, codes, flat_map, Ok}
 use Rattle.std.specs.List.{list_any}
 use Rattle.vr_json.specs.declared.fault.Cause.TheVariants.{NotAVisit}

@@ -1,4 +1,6 @@
-//! Dimensions that go back: negative transits where there are breaks or span costs.
+//! Dimensions that go back: negative transits where there are breaks or span costs. They are refused, since lines with
+//! breaks are sound, and no span that is paid for is negative, only where there are none (`lines_are_sound` and
+//! `costs_are_bounded` of `vr_model`).
 
 ghost use Rattle.std.specs.Prelude.{◌≡◌, ◌<◌, ◌==◌, length, not, pos};
 ghost use Rattle.std.specs.List.{list_any};
@@ -53,8 +55,8 @@ fn has_span_costs(dimension: &Dimension) -> bool
     has_cost(dimension.span_costs.as_slice()) || is_cost(dimension.global_span_cost)
 }
 
-// Whether the evaluator of some vehicle goes back. Each evaluator that is used is looked at once,
-// however many vehicles use it.
+// Whether the evaluator of some vehicle goes back. Each evaluator that is used is looked at once at most, however many
+// vehicles use it.
 fn has_backward_vehicle(of: Tabled<'_>, dimension: &Dimension) -> bool
     requires dimension { IsDimension of.model.now dimension.now }
     ensures { result ≡ backward.has_backward_vehicle of.entry.model.now dimension.now }
@@ -77,7 +79,7 @@ fn is_used_backward(of: Tabled<'_>, dimension: &Dimension, k: u32) -> bool
         && is_backward(of, dimension.evaluators.get(k as usize))
 }
 
-// Whether a number is among the vehicles' ones.
+// Whether some vehicle uses evaluator `k`. `numbers` has for each vehicle the number of its evaluator.
 fn is_used(numbers: &[u32], k: u32) -> bool
     ensures { result ≡ list_any (λ number. number == k) numbers.now }
 {

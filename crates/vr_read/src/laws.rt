@@ -1,5 +1,5 @@
-//! Laws over the definition of reading. A call has no code: its contract is the law, and a proof
-//! that needs the law calls it.
+//! Laws over the definition of reading. A call has no code: its contract is the law. Nothing calls it: a proof that
+//! needs the law names the proof of it, in `proofs/WellFormedModels`.
 
 ghost use Rattle.std.specs.Prelude.{◌≡◌, ℕ, List, Ok};
 ghost use Rattle.serde_json.specs.Data.{Data};

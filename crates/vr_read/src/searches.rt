@@ -19,7 +19,7 @@ use vr_model::{First, Improve, Neighbourhood, NoMemory, SearchRow, Seq};
 pub struct NeighbourhoodTable;
 
 /// The search: its strategy for the first solution, its improvement, its limits, the weight of
-/// penalties, its neighbourhoods, how long its cuts are, and for how long changed visits are tabu.
+/// penalties, its neighbourhoods, how long the chains of its cuts are, and for how long changed visits are tabu.
 #[derive(Clone, Copy)]
 pub struct SearchTable;
 
@@ -63,7 +63,7 @@ const TRIES: u32 = 100_000;
 // The greatest number of tries, and of solutions; so many solutions may be found where a model does not say how many.
 const MOST: u32 = MOST_TRIES as u32;
 
-// How many visits a cut takes out of a path at most, where a model does not say it.
+// How many visits the chain of a cut has at most, where a model does not say it.
 const CUT: u32 = 10;
 
 // For how many rounds a changed visit is tabu, where a model does not say it.

@@ -44,7 +44,8 @@ impl VehicleTable {
         Ok((start, end))
     }
 
-    // By which rule the vehicle chooses its schedules: the earliest, where the format has no such field.
+    // By which rule the vehicle chooses its schedules: the earliest where the field is absent. Format 1 has no such
+    // field, and does not look for it here: `keep_fields` refuses it.
     fn schedule(&self, fields: Fields<'_, '_>) -> Result<ScheduleRule, ReadFail>
         ensures { Answers result
             (vehicle_tables.schedule self.now.format fields.entry.path.now (view fields.entry.value.now)) }

@@ -55,7 +55,8 @@ pub record MayChange (seated : Seated) (parts : List ListAfter) : Type 0 where
   pub once : IsOnce (changed seated.lists parts)
   pub have : HaveNodes seated.nodes (changed seated.lists parts)
 
--- a change of lists is the one that a move of theirs makes, and no part of it leaves its list as it is
+-- a change of lists is the one that a move makes, and where they are lists of the model, no part of it leaves its list
+-- as it is
 pub record IsChange (model : Model) (lists : List (List ℕ)) (mv : Move) (parts : List ListAfter) : Type 0 where
   pub parts_are : AreParts lists parts
   pub lists_are : changed lists parts ≡ apply model lists mv

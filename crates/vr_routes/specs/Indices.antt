@@ -36,7 +36,7 @@ start_index tours v = length tours.visits + v
 abbrev pub end_index : Tours → ℕ → ℕ
 end_index tours v = length tours.visits + (length tours.lists + v)
 
--- index i is that of a visit, which stands before stop s + 1 of v
+-- index i is that of a visit, which is stop s of v
 abbrev pub IsVisitStop : Tours → ℕ → ℕ → ℕ → Type 0
 IsVisitStop tours i v s =
     (k : ℕ) × (s ≡ k + 1) × (i < length tours.visits) × IsSeat tours.lists (slice_index tours.visits i) v k
@@ -73,7 +73,7 @@ HasNoPrevious tours i =
     ⊎ (((v : ℕ) × (i ≡ end_index tours v) × (route tours.lists v ≡ []))
     ⊎ ((v : ℕ) × (v < length tours.lists) × (i ≡ start_index tours v)))
 
--- what holds of all indices: few visits and vehicles, and each visit is one of the nodes
+-- what holds of all indices: one list of few visits, each of them one of the nodes, few starts, and as many ends
 pub record AreNumbered (visits : Seated) (starts ends : List ℕ) : Type 0 where
   pub one_list : length visits.lists ≡ 1
   pub few_visits : length (route visits.lists 0) ≤ 1000

@@ -21,7 +21,7 @@ pub record ListAfter : Type 0 where
 abbrev pub middle_of : List Piece → List Piece
 middle_of pieces = slice_range pieces 1 (length pieces - 1)
 
--- the pieces of a list have a first one and a last one
+-- the pieces of a list have a first one, and a last one that is another
 abbrev pub HasEnds : ListAfter → Type 0
 HasEnds part = 2 ≤ length part.pieces
 
@@ -46,7 +46,8 @@ pub IsWithin-prop : (lists : List (List ℕ)) (piece : Piece) → IsProp (IsWith
 IsWithin-prop lists (Chain v from to reversed) = Prim.hlevel props
 IsWithin-prop lists (Node node) = Unit-prop
 
--- pieces are a splice of the list of v: its places below `front`, the middle ones, and its places from `behind` on
+-- pieces are a splice of the list of v: its places below `front`, the middle ones, each within its list, and its places
+-- from `behind` on; there are two more at least than in the middle
 pub record IsSplice (lists : List (List ℕ)) (v : ℕ) (pieces : List Piece) (front behind : ℕ) (middle : List Piece) :
     Type 0 where
   pub order : front ≤ behind

@@ -13,7 +13,7 @@ pub record AreTwoPlaces (lists : List (List ℕ)) (v lo hi : ℕ) : Type 0 where
   pub order : lo < hi
   pub place : hi < length (route lists v)
 
--- the list of v has two gaps, before place s and before place t, which may be one
+-- the list of v has two gaps, before place s and, there or further on, before place t
 pub record AreTwoGaps (lists : List (List ℕ)) (v s t : ℕ) : Type 0 where
   pub vehicle : v < length lists
   pub order : s ≤ t

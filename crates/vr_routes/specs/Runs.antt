@@ -5,7 +5,7 @@ use Rattle.vr_model.specs.declared.neighbours.Move.TheVariants.{TwoOpt, OrOpt, R
 use Rattle.vr_model.specs.declared.neighbours.Move.TheVariants.{PairActive, PairInactive, MakeActive, MakeInactive}
 use Rattle.vr_model.specs.declared.neighbours.Move.TheVariants.{SwapActive}
 
--- a move with another last number: the one that changes first in the order of the moves of its kind
+-- a move with this last number in place of its own: the one that changes first in the order of the moves of its kind
 abbrev pub with_last : Move → ℕ → Move
 with_last (TwoOpt v a b) k = TwoOpt v a k
 with_last (OrOpt v a n t) k = OrOpt v a n k

@@ -51,12 +51,12 @@ pub record MayHaveTwo (seated : Seated) (v : ℕ) (list : List ℕ) (w : ℕ) (m
   pub others : All (λ node. node < seated.nodes) more
   pub once : IsOnce (with_route (with_route seated.lists v list) w more)
 
--- the vehicles may get these lists: there are as many, and in them no node stands twice
+-- the vehicles may get these lists: there are as many, and in them stand nodes that may, none of them twice
 pub record MayHaveAll (seated : Seated) (lists : List (List ℕ)) : Type 0 where
   pub many : length seated.lists ≡ length lists
   pub nodes : HaveNodes seated.nodes lists
   pub once : IsOnce lists
 
--- a list is another one, or empty
+-- a list is the whole one, or empty
 abbrev pub IsSameOrEmpty : List ℕ → List ℕ → Type 0
 IsSameOrEmpty whole list = (list ≡ whole) ⊎ (list ≡ [])

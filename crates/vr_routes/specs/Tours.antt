@@ -17,7 +17,8 @@ pub record Tours : Type 0 where
 abbrev pub inactive_of : List ℕ → List (List ℕ) → List ℕ
 inactive_of visits lists = filter (λ node. not (is_active lists node)) visits
 
--- one list of visits that ascend, and lists of them: few vehicles, few nodes, and each entry is a visit
+-- one list of visits that ascend, each of them one of the few nodes, and lists of them over the same nodes: few
+-- vehicles, and each entry is a visit
 pub record AreSeatedTours (visits seating : Seated) : Type 0 where
   pub one_list : length visits.lists ≡ 1
   pub same_nodes : visits.nodes ≡ seating.nodes

@@ -111,6 +111,7 @@ impl Change {
         }
     }
 
+    // The node at place `a` of `v` goes before place `t` of `w`, another vehicle.
     #[inline]
     fn write_relocate(&mut self, routes: &Routes, v: u32, a: u32, w: u32, t: u32)
         requires { AreNodeAndGap routes.now.lists v a w t }
@@ -121,6 +122,7 @@ impl Change {
         self.second.put(routes, w, t, 0, routes.node_at(v, a));
     }
 
+    // The nodes at place `a` of `v` and at place `b` of `w`, which may be one vehicle, change places.
     #[inline]
     fn write_exchange(&mut self, routes: &Routes, v: u32, a: u32, w: u32, b: u32)
         requires { AreTwoNodes routes.now.lists v a w b }
@@ -137,6 +139,7 @@ impl Change {
         self.second.put(routes, w, b, 1, routes.node_at(v, a));
     }
 
+    // The nodes of `v` before place `a` and those of `w` before place `b` change vehicles.
     #[inline]
     fn write_cross(&mut self, routes: &Routes, v: u32, a: u32, w: u32, b: u32)
         requires { AreCuts routes.now.lists v a w b }
@@ -147,6 +150,7 @@ impl Change {
         self.second.join(routes, w, b, v, a);
     }
 
+    // Pair `p` is taken out. It stands in one list, since the move is one of the lists.
     #[inline]
     fn write_pair_inactive(&mut self, closed: Closed<'_>, routes: &Routes, p: u32)
         requires is_one { is_move closed.model.now routes.now.lists (PairInactive p) ≡ true }
@@ -168,6 +172,7 @@ impl Change {
         }
     }
 
+    // Pair `p`, which is served since the move is one of the lists, is put into the list of `w`.
     #[inline]
     fn write_relocate_pair(
         &mut self,
@@ -196,7 +201,8 @@ impl Change {
         }
     }
 
-    // Puts a pair that is served into the list of `w`.
+    // Puts a pair that is served into the list of `w`, which may be its own: its pickup before place `s` of what the
+    // list is without the pair, and its delivery before place `t` of that.
     #[inline]
     fn put_elsewhere(&mut self, served: Served<'_, '_>, w: u32, s: u32, t: u32)
         requires is_one { is_move served.on.model.now served.on.routes.now.lists (RelocatePair served.on.p w s t)
@@ -272,7 +278,8 @@ impl Change {
         part.splice()
     }
 
-    /// Gives the vehicles of the change their lists. The rows are written over.
+    /// Gives the vehicles of the change their lists. These are first written over the two rows, since the pieces are
+    /// nodes of the lists that they replace.
     pub(crate) fn rebuild(&self, seating: &mut Seating, first: &mut Row, second: &mut Row)
         requires { MayChange seating.old self.now }
         ensures lists { seating.new.lists ≡ changed seating.old.lists self.now }
@@ -297,7 +304,7 @@ fn rebuild_one(seating: &mut Seating, part: &Part, row: &mut Row)
     seating.set_list(part.vehicle(), row.as_slice());
 }
 
-// Gives the vehicles of two parts their lists.
+// Gives the vehicles of two parts their lists. Both are written before one is given: each may have nodes of the other.
 fn rebuild_two(seating: &mut Seating, part: &Part, other: &Part, row: &mut Row, second: &mut Row)
     requires { MayChange seating.old (part.now ∷ other.now ∷ []) }
     ensures lists { seating.new.lists ≡ changed seating.old.lists (part.now ∷ other.now ∷ []) }

@@ -68,6 +68,7 @@ fn is_relocate(routes: &Routes, v: u32, a: u32, w: u32, t: u32) -> bool
     v < vehicles && (w < vehicles && (v != w && (a < routes.len(v) && t <= routes.len(w))))
 }
 
+// Each two nodes come once: the vehicle of the first comes first, or both are in one list and its place does.
 #[inline]
 fn is_exchange(routes: &Routes, v: u32, a: u32, w: u32, b: u32) -> bool
     ensures { (model : Defined) → result ≡ is_move model routes.now.lists (Exchange v a w b) }
@@ -78,6 +79,7 @@ fn is_exchange(routes: &Routes, v: u32, a: u32, w: u32, b: u32) -> bool
             && (a < routes.len(v) && (b < routes.len(w) && (v < w || (v == w && a < b)))))
 }
 
+// Each two vehicles come once, and not both fronts are empty, which would change nothing.
 #[inline]
 fn is_cross(routes: &Routes, v: u32, a: u32, w: u32, b: u32) -> bool
     ensures { (model : Defined) → result ≡ is_move model routes.now.lists (Cross v a w b) }
@@ -190,7 +192,8 @@ fn is_relocate_pair(model: &Model, routes: &Routes, p: u32, w: u32, s: u32, t: u
     }
 }
 
-// Whether a pair that is served may be put there.
+// Whether a pair that is served may be put into the list of `w`, its pickup before place `s` of what that is without
+// the pair, and its delivery before place `t`: there are such places, and it does not stand so now.
 #[inline]
 fn is_put_elsewhere(served: Served<'_, '_>, w: u32, s: u32, t: u32) -> bool
     ensures { let on = served.entry.on in result ≡ is_move on.model.now on.routes.now.lists (RelocatePair on.p w s t) }

@@ -137,7 +137,7 @@ pub trait Judge {
         ensures asked { asked self.new ≡ asked self.old }
         ensures looked { looked self.new ≡ looked self.old };
 
-    /// Judges a move of the lists, as `judge_change` does, and writes its change for that.
+    /// Judges a move of the lists, as `judge_change` does, and writes its change for that. Tests and benches ask it.
     final fn judge<L: Ledger>(
         &mut self,
         routes: &Routes,
@@ -159,7 +159,8 @@ pub trait Judge {
         self.judge_change(routes, mv, &change, steps)
     }
 
-    /// Makes a move after which the lists are valid, as `commit_change` does, and writes its change for that.
+    /// Makes a move after which the lists are valid, as `commit_change` does, and writes its change for that. Tests
+    /// alone ask it.
     final fn commit(&mut self, routes: &mut Routes, mv: Move) -> Result<(), NoMemory>
         requires well_formed { IsWellFormed (model self.old) }
         requires holds { HasCommitted (model self.old) (committed self.old) routes.old }

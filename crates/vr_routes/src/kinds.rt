@@ -27,7 +27,8 @@ impl Part {
         self.end(from + nodes, n);
     }
 
-    /// Writes the list of `v` with a node in the place of so many from a place on.
+    /// Writes the list of `v` with a node in the place of so many from a place on: of one, or of none, which puts it in
+    /// before that place.
     #[inline]
     pub fn put(&mut self, routes: &Routes, v: u32, from: u32, nodes: u32, node: u32)
         requires { IsStretch routes.now.lists v from nodes }
@@ -49,6 +50,8 @@ impl Part {
     {
         // That the list is short says that the sums fit.
         let _few = routes.len(v);
+        // Place `t` of the rest is that of the list in front of the chain, and `t + k` behind it; the chain changes
+        // places with what lies between.
         if t < a {
             self.swap_neighbours(routes, v, t, a, a + k);
             return;
@@ -100,7 +103,7 @@ impl Part {
         self.end(t, n);
     }
 
-    /// Writes the list of `v` with the nodes from place `lo` to place `hi` in reverse order.
+    /// Writes the list of `v` with the nodes from place `lo` to place `hi`, both included, in reverse order.
     #[inline]
     pub fn reverse(&mut self, routes: &Routes, v: u32, lo: u32, hi: u32)
         requires { AreTwoPlaces routes.now.lists v lo hi }
@@ -153,6 +156,8 @@ impl Part {
     {
         let v = at.vehicle;
         let n = routes.len(v);
+        // The list stays as it is below place `front` of the rest, which is that of the list, and from place `behind`
+        // on, which is `behind + 2` of the list. Before place `delivery - 1` of the rest the delivery stands now.
         let front = least(at.pickup, s);
         let behind = greatest(at.delivery - 1, t);
         self.begin(v, front);
@@ -165,8 +170,8 @@ impl Part {
     }
 
     // Adds the nodes from place `i` up to but not including place `j` of what a list is without a pair, the rest. A
-    // place of the rest is the same one in the list in front of the pickup, the next one between the two nodes, and the
-    // next but one behind the delivery.
+    // place of the rest is the same one in the list in front of the pickup (below `lo`), the next one between the two
+    // nodes (below `mid`), and the next but one behind the delivery.
     #[inline]
     fn add_rest(&mut self, at: PairPlaces, i: u32, j: u32)
         requires order { at.pickup < at.delivery }

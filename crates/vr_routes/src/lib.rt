@@ -7,8 +7,9 @@
 //! `conditions` says whether the numbers of a move are those of one, and `pairs` how the nodes of a pair stand.
 //! `changes` writes the change of each kind of move, its lists by `kinds` over `pieces`; `filling` writes out the nodes
 //! of pieces, into a list in place (`rows`). `routes` makes a change, over `seats`, which has such lists with the place
-//! of each node beside them. `judging` has the traits of judges, and `runs` gives a move another last number, as in the
-//! runs that they are asked about. `indices` has numbers for visits, starts and ends, for users of the library.
+//! of each node beside them. `judging` has the trait of judges (`Judge`) and what they answer (`Verdict`), and `runs`
+//! gives a move another last number, as in the runs that a judge is asked about. `indices` has numbers for visits,
+//! starts and ends, for users of the library.
 //!
 //! Invariant: each visit stands in one list at most, where the look-ups say, and the visits in no list are a list of
 //! their own. A change is made on the routes from which it was written (`IsMadeOn`); its pieces, joined, are the lists

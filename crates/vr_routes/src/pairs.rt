@@ -108,7 +108,7 @@ pub fn rest_len(routes: &Routes, at: PairPlaces, w: u32) -> u32
 }
 
 /// Whether a pair with its pickup before place `s` of the rest of `w`, and its delivery before place `t`, stands
-/// elsewhere than now.
+/// elsewhere than now. The rest does not count the pickup, so now the delivery is before place `delivery - 1` of it.
 #[inline]
 pub fn is_elsewhere(at: PairPlaces, w: u32, s: u32, t: u32) -> bool
     requires order { at.pickup < at.delivery }

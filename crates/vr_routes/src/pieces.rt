@@ -44,7 +44,8 @@ impl Piece {
         }
     }
 
-    /// How many nodes several pieces have, in lists that they lie within.
+    /// How many nodes several pieces have, in lists that they lie within. Filters and cost terms ask so whether a list
+    /// is empty after a change.
     #[inline]
     pub fn nodes_in(pieces: &[Piece]) -> usize
         requires few { length pieces.now ≤ 8 }

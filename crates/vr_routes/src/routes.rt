@@ -28,11 +28,13 @@ use vr_model::{Model as RoutingModel, NoMemory, Seq};
 /// but `inactive_from` takes the same time whatever the lists are.
 #[derive(Drop)]
 pub struct Routes {
-    // One list: the visits, ascending.
+    // One list: the visits, ascending, so that the place of a visit in it is its index (`Indices`).
     visits: Seating,
+    // The lists of the vehicles.
     seating: Seating,
+    // The visits that stand in no list, ascending.
     inactive: Row,
-    // Room for the lists that a change makes.
+    // Room for the lists that a change makes, before they are put in the place of the old ones.
     first: Row,
     second: Row,
 }
@@ -60,7 +62,8 @@ impl Routes {
         Ok(Routes::of(visits, seating))
     }
 
-    /// Routes with these lists, where there is one for each vehicle, each entry is a visit, and none stands twice.
+    /// Routes with these lists, where there is one for each vehicle, each entry is a visit, and none stands twice;
+    /// `None` else. Constructions end in it.
     pub fn from_lists(
         alloc: Global,
         model: &RoutingModel,
@@ -108,7 +111,8 @@ impl Routes {
         write_inactive(&self.seating, self.visits.list(0), &mut self.inactive);
     }
 
-    /// Takes the lists of other routes of the same model over.
+    /// Takes the lists of other routes of the same model over. Guided and tabu search keep their best routes so
+    /// (`vr_descent::Incumbent`), and path neighbourhoods take the result of a cut that costs less.
     pub fn assign(&mut self, other: &Routes)
         requires visits { self.old.visits ≡ other.now.visits }
         requires many { length self.old.lists ≡ length other.now.lists }
@@ -119,8 +123,9 @@ impl Routes {
         write_inactive(&self.seating, self.visits.list(0), &mut self.inactive);
     }
 
-    /// Takes other lists over in place, as many as these, of visits of which none stands twice. It takes no memory, and
-    /// a list that is the same is left alone.
+    /// Takes other lists over in place, as many as these, of visits of which none stands twice: path neighbourhoods
+    /// write so what a cut leaves, and insertion what it rebuilds. It takes no memory, and a list that is the same is
+    /// left alone.
     pub fn set_lists(&mut self, lists: &[Seq<u32>])
         requires many { length self.old.lists ≡ length lists.now }
         requires visits { (node : ℕ) → IsTrue (is_active lists.now node) → IsTrue (holds self.old.visits node) }
@@ -171,7 +176,8 @@ impl Routes {
         self.seating.list(v)
     }
 
-    /// Writes the nodes of pieces of these lists, joined, over a row.
+    /// Writes the nodes of pieces of these lists, joined, over a row. Cost terms, filters and the bounds of
+    /// `vr_earliest` ask it.
     pub fn join_into(&self, pieces: &[Piece], row: &mut Row)
         requires within { All (IsWithin self.now.lists) pieces.now }
         requires room { length (joined self.now.lists pieces.now) ≤ 1000 }
@@ -180,7 +186,8 @@ impl Routes {
         fill(&self.seating, pieces, row);
     }
 
-    /// Writes the list that part `k` of a change of these lists gives its vehicle over a row.
+    /// Writes the list that part `k` of a change of these lists gives its vehicle over a row. Filters and tabu search
+    /// ask it.
     pub fn write_after(&self, change: &Change, k: usize, row: &mut Row)
         requires made { IsMadeOn self.now change.now }
         requires part { k < length change.now }
@@ -202,7 +209,8 @@ impl Routes {
         None
     }
 
-    /// The vehicle whose list a node stands in, `None` where it stands in no list.
+    /// The vehicle whose list a node stands in, `None` where it stands in no list. `vr_known` asks it, for the vehicle
+    /// that serves a pair.
     #[inline]
     pub fn vehicle_of(&self, node: u32) -> Option<u32>
         ensures { MatchOption result (is_active self.now.lists node ≡ false)
@@ -327,7 +335,8 @@ impl Routes {
         Some(self.stop_index(v, n))
     }
 
-    // The index of a stop of a vehicle: 0 is its start, and the last one its end.
+    // The index of a stop of a vehicle: stop 0 is its start, the visit at place `k` is stop `k + 1`, and the last one
+    // is its end.
     fn stop_index(&self, v: u32, stop: u32) -> u32
         requires vehicle { v < length self.now.lists }
         requires stop { stop ≤ length (route self.now.lists v) + 1 }
@@ -390,7 +399,8 @@ fn add_visit(model: &RoutingModel, node: u32, seating: &mut Seating)
     }
 }
 
-// Puts the nodes of lists into empty lists, where there are as many, each node is a visit, and none stands twice.
+// Puts the nodes of lists into empty lists, and says whether it can: where there are as many, each node is a visit, and
+// none stands twice. Where it cannot, some may be in, and the seating is thrown away.
 fn seat_lists(model: &RoutingModel, lists: &[Seq<u32>], seating: &mut Seating) -> bool
     requires nodes { seating.old.nodes ≡ model.now.nodes }
     requires empty { (v : ℕ) → route seating.old.lists v ≡ [] }
@@ -413,7 +423,7 @@ fn seat_lists(model: &RoutingModel, lists: &[Seq<u32>], seating: &mut Seating) -
     true
 }
 
-// Puts the nodes of a list behind those of a vehicle, where each is a visit that stands nowhere.
+// Puts the nodes of a list behind those of a vehicle, as far as each is a visit that stands nowhere. Whether all are.
 fn seat_list(model: &RoutingModel, list: &[u32], v: u32, seating: &mut Seating) -> bool
     requires nodes { seating.old.nodes ≡ model.now.nodes }
     requires vehicle { v < length seating.old.lists }
@@ -438,7 +448,7 @@ fn seat_list(model: &RoutingModel, list: &[u32], v: u32, seating: &mut Seating) 
     true
 }
 
-// The first of ascending nodes that is not below `node`.
+// The first of ascending nodes that is not below `node`, `None` where each is below it.
 fn first_from(nodes: &[u32], node: u32) -> Option<u32>
     requires ascending { IsStrictlyIncreasing nodes.now }
     ensures { result ≡ find (λ x. nat_le node x) nodes.now }

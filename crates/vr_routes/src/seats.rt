@@ -66,7 +66,7 @@ impl Seating {
         Ok(Seating { rows, seats })
     }
 
-    /// Where a node stands.
+    /// Where a node stands, `None` where it stands in no list.
     #[inline]
     pub fn seat(&self, node: u32) -> Option<Seat>
         requires node { node < self.now.nodes }
@@ -135,7 +135,7 @@ impl Seating {
         self.seats[node as usize] = Some(Seat { vehicle: v, place });
     }
 
-    /// Takes the last node of a list out.
+    /// Takes the last node of a list out, `None` where the list is empty.
     pub fn take_last(&mut self, v: u32) -> Option<u32>
         requires vehicle { v < length self.old.lists }
         ensures taken { MatchOption result

@@ -27,7 +27,7 @@ abbrev pub item_lists : Option Item → List (List ℕ)
 item_lists None = []
 item_lists (Some item) = item_nodes item ∷ []
 
--- the nodes of an item are one of the pairs
+-- the nodes of an item are one of the pairs, where they are two
 abbrev pub IsOfPairs : Model → Item → Type 0
 IsOfPairs model (Visit node) = ⊤
 IsOfPairs model (PickupAndDelivery pickup delivery) = (k : ℕ) × (k < length model.pairs)

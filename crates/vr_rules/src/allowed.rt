@@ -9,7 +9,7 @@ use crate::items::Item;
 use vr_lists::NodeTables;
 
 /// Whether vehicle `v` may visit each node of an item (`SetAllowedVehiclesForIndex` in OR-Tools). It takes no memory.
-/// Insertion asks it, and [`Fronts::may_append`]; savings asks `is_route_open`, which asks it of a whole list.
+/// Insertion asks it, and [`Fronts::may_append`]; savings asks `is_route_open`, which asks the same of a whole list.
 pub fn allows_item(node_tables: &NodeTables<'_>, v: u32, item: Item) -> bool
     ensures { result ≡ list_all (allows_vehicle_of node_tables.now v) (item_nodes item) }
 {

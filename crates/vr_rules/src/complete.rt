@@ -46,7 +46,7 @@ pub(crate) fn is_complete(lookups: &Lookups<'_>, marks: &[bool]) -> bool
 }
 
 /// Routes with these open lists of the model; `None` exactly where they are not valid, since something is missing in
-/// them. `NoMemory` where there was no memory.
+/// them. `NoMemory` where there was no memory. First solutions by cheapest arcs and by insertion end with it.
 pub fn complete_routes(
     alloc: Global,
     lookups: &Lookups<'_>,

@@ -36,7 +36,7 @@ pub(crate) struct Front {
     visits: Vec<Spans>,
     // what the end of the vehicle allows
     ending: Spans,
-    // at the last visit, or at the start of an empty list
+    // what is reached at the last visit, or at the start of an empty list, by how many breaks are taken by then
     here: Levels,
 }
 
@@ -366,8 +366,8 @@ impl Fronts {
     }
 
     /// Whether vehicle `v`, which may drive its list, may drive it with an item at its end, as `route_open` says it. It
-    /// takes no memory where the model has no pairs, a vehicle no breaks, and a set of cumuls at most four runs. Pairs
-    /// are asked last, since for them the list is written out.
+    /// takes no memory where the model has no pairs, the vehicle no breaks, and no set of cumuls more than four runs.
+    /// Pairs are asked last, since for them the list is written out.
     pub fn may_append(
         &self,
         room: &mut Room,

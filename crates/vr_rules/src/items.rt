@@ -59,7 +59,8 @@ pub struct Candidate {
     /// What is placed.
     pub item: Item,
     /// 0 where it must be placed, 1 where it is in a group without a penalty, 2 where it is in one with a penalty; of a
-    /// pair the lesser of the classes of its two nodes. Constructions place items of a lesser class first.
+    /// pair the lesser of the classes of its two nodes. Where a construction chooses among items, a lesser class comes
+    /// first.
     pub class: u32,
 }
 

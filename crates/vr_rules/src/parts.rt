@@ -13,7 +13,8 @@ use crate::sums::{RoutesIn, sums_of};
 use vr_model::{NoMemory, Parts};
 use vr_plan::{Timer, global_cost};
 
-// What the chosen schedules of routes cost in all dimensions.
+// What the chosen schedules of routes cost in all dimensions, or in the first ones on the way there: by global spans,
+// by soft upper bounds, and by the spans of vehicles.
 #[derive(Clone, Copy)]
 struct Timed {
     global: i64,
@@ -21,7 +22,7 @@ struct Timed {
     span: i64,
 }
 
-// The costs with one dimension more.
+// The costs of the dimensions before that of `of`, with those of this one added.
 fn with_dimension(
     of: &RoutesIn<'_, '_, '_>,
     timed: Timed,

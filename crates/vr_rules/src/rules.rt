@@ -24,10 +24,10 @@ use vr_routes::Routes;
 
 /// The rules of a model, ready to be asked of any lists. Contracts see the model, which no call changes.
 ///
-/// What its stops ask is looked up once, and the group, the pair and the allowed vehicles of each node, and all that a
-/// question needs is kept and written over: after the first questions an answer takes memory only where a set of cumuls
-/// has more than four runs, where a list is longer, or its vehicle has more breaks, than any before, or where a tight
-/// schedule is built, for which a line is copied.
+/// What its stops ask is looked up once, and the group, the pair and the allowed vehicles of each node, and what a
+/// question writes is kept, to be written over: after the first questions an answer takes memory only where a set of
+/// cumuls has more than four runs, a list is longer than any before, its vehicle has breaks, or a tight schedule is
+/// built, for which a line is copied.
 #[derive(Drop)]
 pub struct Rules<'m> {
     lookups: Lookups<'m>,
@@ -35,12 +35,14 @@ pub struct Rules<'m> {
     kept: Box<Kept>,
 }
 
-// What is written over for each question.
+// What is written over where a question wants it.
 #[derive(Drop)]
 struct Kept {
     // for each node whether it is active
     marks: Vec<bool>,
+    // for whether vehicles may drive their lists
     driving: Driving,
+    // for what schedules cost
     timer: Timer,
 }
 
@@ -63,7 +65,7 @@ impl<'m> Rules<'m> {
         Rules::over(alloc, &lookups)
     }
 
-    /// The same, over what was looked up of the model.
+    /// The same, over what was looked up of the model. `vr_app`, `vr_first_savings`, `vr_lns` and `vr_print` call it.
     pub fn over(alloc: Global, lookups: &Lookups<'m>) -> Result<Rules<'m>, NoMemory>
         ensures { IfOk result (λ rules. rules ≡ lookups.now.closed.model.now) }
     {
@@ -80,7 +82,7 @@ impl<'m> Rules<'m> {
         })
     }
 
-    /// The model. It takes no memory.
+    /// The model. It takes no memory. `vr_plain` asks it.
     pub fn model(&self) -> &'m RoutingModel
         ensures model { result.now ≡ self.now }
         ensures well_formed { IsWellFormed self.now }
@@ -91,8 +93,8 @@ impl<'m> Rules<'m> {
     /// Whether vehicle `v` may drive a list: the list is empty, or its line in each dimension has a schedule, it serves
     /// each pair in order and as the vehicle's policy asks, and the vehicle may visit each of its nodes.
     ///
-    /// The list holds distinct visits. Tests alone ask it, by the function `route_open`; all else asks `is_route_open`,
-    /// over room of its own.
+    /// The list holds distinct visits. Tests alone ask it, by the function `route_open`; `vr_first_savings` asks
+    /// `is_route_open`, over room of its own.
     pub fn route_open(&mut self, v: u32, list: &[u32]) -> Result<bool, NoMemory>
         requires vehicle { v < length self.old.vehicles }
         requires visits { IsTrue (list_all (is_visit self.old) list.now) }
@@ -142,7 +144,8 @@ impl<'m> Rules<'m> {
     }
 
     /// Whether routes of the model are valid: they are open, each visit in no group is active, and each group without a
-    /// penalty has exactly as many active nodes as it may have.
+    /// penalty has exactly as many active nodes as it may have. `vr_first_savings` asks it of its last lists, and
+    /// `vr_plain` of those after a move that it judges.
     pub fn valid(&mut self, routes: &Routes) -> Result<bool, NoMemory>
         requires lists { IsTrue (are_lists self.old routes.now.lists) }
         ensures answer { IfOk result (λ answer. answer ≡ is_valid_of self.old routes.now.lists) }
@@ -154,7 +157,7 @@ impl<'m> Rules<'m> {
     }
 
     /// What valid routes cost at their chosen schedules: the six parts of the cost, none of them negative, with a sum
-    /// below 2^63.
+    /// below 2^63. `vr_print` asks it, and `total`.
     pub fn cost(&mut self, routes: &Routes) -> Result<Parts, NoMemory>
         requires valid { IsTrue (is_valid_of self.old routes.now.lists) }
         ensures parts { IfOk result (λ parts. parts ≡ parts_at self.old (assigned self.old routes.now.lists)) }
@@ -166,7 +169,7 @@ impl<'m> Rules<'m> {
         parts_of(&of, &mut kept.timer)
     }
 
-    /// What valid routes cost in all, in `0..=2^63 - 1`.
+    /// What valid routes cost in all, in `0..=2^63 - 1`. `vr_app`, `vr_lns` and `vr_plain` ask it.
     pub fn total(&mut self, routes: &Routes) -> Result<i64, NoMemory>
         requires valid { IsTrue (is_valid_of self.old routes.now.lists) }
         ensures value { IfOk result (λ total. total ≡ cost_of self.old routes.now.lists) }

@@ -65,8 +65,8 @@ fn are_routes_open(
     Ok(true)
 }
 
-// Whether routes of the model are open. No list is asked again that is the same in others, which are open. The groups
-// are asked first, since that takes no walk.
+// Whether routes of the model are open. No list is asked again that is the same in others, which are open: those that
+// `Rules::open_beside` is handed. The groups are asked first, since that takes no walk.
 pub(crate) fn is_open(
     of: &Marked<'_, '_, '_, '_>,
     others: Option<&Routes>,

@@ -26,7 +26,8 @@ abbrev pub have_from : List Piece → ℤ → ℤ → Bool
 have_from [] s x = false
 have_from (piece ∷ pieces) s x = has_from piece s x || have_from pieces s x
 
--- the numbers of a piece: it has a cumul, and its starts rise by one with each cumul at most, up to the horizon
+-- the numbers of a piece: it has a cumul, none above top, and its starts rise by one with each cumul at most, up to the
+-- horizon
 pub record IsPiece (top : ℤ) (piece : Piece) : Type 0 where
   pub in_order : piece.lo ≤ℤ piece.hi
   pub greatest : piece.hi ≤ℤ top
@@ -34,7 +35,7 @@ pub record IsPiece (top : ℤ) (piece : Piece) : Type 0 where
   pub by_one : piece.last ≤ℤ (piece.first +ℤ (piece.hi -ℤ piece.lo))
   pub latest : piece.last ≤ℤ horizon
 
--- cumuls and starts rise from piece to piece: the first piece begins at b or later, and starts at s or later
+-- cumuls rise and starts do not fall from piece to piece: the first begins at b or later, and starts at s or later
 abbrev pub IsRisingFrom : ℤ → ℤ → ℤ → List Piece → Type 0
 IsRisingFrom top b s [] = Unit {0}
 IsRisingFrom top b s (piece ∷ pieces) = (b ≤ℤ piece.lo) × (s ≤ℤ piece.first) × IsPiece top piece
@@ -118,8 +119,8 @@ pub record BeginsInHorizon (piece : Piece) : Type 0 where
   pub cumul : IsIn (pos 0) horizon piece.lo
   pub start : IsIn (pos 0) horizon piece.first
 
--- the piece has its first cumul, no cumul of the pieces is reached on a lesser span, and none on this one from a lesser
--- start
+-- one of the pieces has the first cumul of this piece, reached from its first start or later, and both lie in
+-- 0..=horizon; no cumul of the pieces is reached on a lesser span, and none on this one from a lesser start
 pub record IsShortest (pieces : List Piece) (piece : Piece) : Type 0 where
   pub among : IsTrue (have_from pieces piece.first piece.lo)
   pub least : (s x : ℤ) → IsTrue (have_from pieces s x) → span_of piece ≤ℤ (x -ℤ s)

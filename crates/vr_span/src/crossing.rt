@@ -51,7 +51,7 @@ fn begin(allowed: &Spans, out: &mut Seq<Piece>) -> Result<(), NoMemory>
 }
 
 // Writes the pieces of a stop that allows `next` over `out`, where the arc leads to it from the pieces of `from`. It is
-// one pass over the pieces and the runs.
+// one pass over the pieces and the runs, in which the one that ends first is done with: both ascend.
 fn cross(from: &[Piece], hop: Hop, next: &Spans, out: &mut Seq<Piece>) -> Result<(), NoMemory>
     requires from { ArePieces from.now }
     requires hop { IsSoundHop hop }

@@ -28,7 +28,8 @@ pub struct Least {
 
 /// The least span of a sound line without breaks, over all its schedules, and of the schedules of this span the one
 /// whose cumuls, compared from the start on, are least. A line is sound where it is that of a well-formed model and a
-/// list of distinct visits. `None` exactly where the line has no schedule; `NoMemory` where memory is wanting.
+/// list of distinct visits, one at least. `None` exactly where the line has no schedule; `NoMemory` where memory is
+/// wanting.
 pub fn span(alloc: Global, line: &Line) -> Result<Option<Least>, NoMemory>
     requires sound { IsSoundLine line.now }
     requires no_breaks { line.now.breaks ≡ [] }

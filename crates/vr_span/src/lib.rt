@@ -9,8 +9,8 @@
 //! is the chosen one of the line narrowed to these ends (`least`).
 //!
 //! Invariant: at each stop, a cumul is in a piece that starts it at `s` or later exactly where some way comes there
-//! from `s` or later. `vr_app` asks it of each route of a solution, in each dimension in which no vehicle has breaks,
-//! for the word `spans`.
+//! from `s` or later. `vr_app` asks it of each used route of a solution, in each dimension in which no vehicle has
+//! breaks, for the word `spans`.
 #![tactic(auto)]
 
 mod crossing;

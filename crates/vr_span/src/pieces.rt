@@ -30,7 +30,7 @@ impl Piece {
         }
     }
 
-    // The greatest start from which `x` is reached.
+    // The greatest start from which `x` is reached, where it is a cumul of the piece.
     pub(crate) fn start_of(self, x: i64) -> i64
         requires near { IsNear self }
         requires x { IsNearNumber x }

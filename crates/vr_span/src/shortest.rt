@@ -20,7 +20,8 @@ pub(crate) fn shortest(pieces: &[Piece]) -> Option<Piece>
     best
 }
 
-// The piece of the lesser span, and of equal spans the one in front.
+// The piece of the lesser span, which is its first cumul less the greatest start of that; of equal spans the one in
+// front.
 fn shorter(piece: Piece, behind: Option<Piece>) -> Piece
     requires piece { BeginsInHorizon piece }
     requires behind { IfSome behind BeginsInHorizon }

@@ -22,8 +22,8 @@ abbrev pub has : List Run → ℤ → Bool
 has [] x = false
 has (r ∷ rs) x = in_run r x || has rs x
 
--- the runs are not empty, they end at the limit, the first begins at m or later, and each later one leaves out a number
--- after the one before
+-- the runs are not empty, they end at the limit or before, the first begins at m or later, and each later one leaves
+-- out a number after the one before
 abbrev pub IsNormalFrom : ℤ → List Run → Type 0
 IsNormalFrom m [] = Unit {0}
 IsNormalFrom m (r ∷ rs) = (m ≤ℤ r.lo) × (r.lo ≤ℤ r.hi) × (r.hi ≤ℤ limit) × IsNormalFrom (r.hi +ℤ pos 2) rs

@@ -17,7 +17,7 @@ const ALL: [Run; 1] = [Run {
 }];
 
 impl Spans {
-    /// The numbers in both sets.
+    /// The numbers in both sets. `vr_steps` asks it, for what a stop allows.
     pub fn meet(&self, other: &Spans) -> Result<Spans, NoMemory>
         ensures exact { IfOk result (λ both. (x : ℤ) → has both x ≡ (has self.now x && has other.now x)) }
         ensures normal { IfOk result (λ both. IsNormal both) }
@@ -94,7 +94,7 @@ impl Spans {
     /// Writes those numbers of `within` over `out` that are a number of this set plus one from `first` to `last`.
     ///
     /// This is one pass over the runs of both sets. `first` and `last` lie in `-FARTHEST..=FARTHEST`, so the sums may
-    /// lie beyond `LIMIT`.
+    /// lie beyond `LIMIT`. `vr_steps` crosses arcs by it.
     pub fn reach_into(
         &self,
         first: i64,
@@ -122,7 +122,7 @@ impl Spans {
         ensures exact { OnOk result (HasReached first last from.now within.now self.new) }
         ensures normal { IsNormal self.new }
     {
-        // of one run each it is one meet, without a builder
+        // of one run each it is one meet, and no run need be held back
         if from.len() == 1 && within.len() == 1 {
             return self.put(from[0].stretch(first, last).meet(within[0]));
         }
@@ -152,6 +152,7 @@ impl Spans {
             let reached = left[0].stretch(first, last);
             let bound = right[0];
             held = self.push_behind(held, reached.meet(bound))?;
+            // the one that ends first is left: what a later run of the other set shares with it, this one shared too
             if reached.hi <= bound.hi {
                 left = &left[1..];
             } else {

@@ -46,7 +46,7 @@ pub record IsShortTour (model : Model) (list : List ℕ) : Type 0 where
   pub distinct : IsTrue (is_distinct list)
   pub few : length list ≤ 1000
 
--- what is claimed of two lists of an even model that differ in two neighbours
+-- what is claimed of two lists of an even model that differ in the order of two neighbours
 abbrev pub OfEachSwap : (Model → List ℕ → List ℕ → Type 0) → Type 0
 OfEachSwap claim = (model : Model) → IsEven model → (front back : List ℕ) (a b : ℕ)
     → IsShortTour model (front ++ b ∷ a ∷ back) → claim model (front ++ a ∷ b ∷ back) (front ++ b ∷ a ∷ back)

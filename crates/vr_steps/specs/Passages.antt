@@ -52,7 +52,7 @@ pub record IsOver (hop : Hop) (chain : Chain) (passage : Passage) : Type 0 where
   pub until : passage.until ≡ int_min horizon (chain.latest -ℤ hop.visit)
   pub from : passage.from ≡ int_max chain.first_end (pos 0)
 
--- there is a way over the breaks of a chain
+-- of a passage over the breaks of a chain the least is no more than the greatest, and some cumul may be at each end
 pub record HasWay (hop : Hop) (chain : Chain) : Type 0 where
   pub in_order : (chain.total +ℤ int_max hop.visit hop.transit) ≤ℤ (hop.transit +ℤ hop.slack)
   pub until : hop.visit ≤ℤ chain.latest

@@ -33,7 +33,7 @@ abbrev pub AreReachingEnd : Line → ℕ → List (List Run) → Type 0
 AreReachingEnd line k levels = (b : ℕ) → b ≤ length line.breaks → (x : ℤ) → IsTrue (has (level_at levels b) x)
     ↔ ReachesEnd line k b x
 
--- what a line as the code holds it gives at each place is that of the line of the definition
+-- what a line as the code holds it gives at each place is that of the line of the definition, which is sound
 pub record StandsFor (defined : Line) (made : Made) : Type 0 where
   pub allowed : (k : ℕ) → k < length made.allowed → IsAllowedSet defined k (slice_index_or made.allowed k [])
   pub hops : (k : ℕ) (d : Hop) → k < length made.hops → slice_index_or made.hops k d ≡ hop_at defined k
@@ -80,7 +80,7 @@ EndReachedBeforeArc = (line : Line) → IsSound line → (k : ℕ) → k < lengt
     → IsAllowedSet line k set → AreReachingEnd line (suc k) to
     → AreCrossedBack to (hop_at line k) set line.breaks reached → AreReachingEnd line k reached
 
--- a line is feasible exactly where, at some stop, both levels of some number of breaks share a cumul
+-- at any stop: a line is feasible exactly where both levels of some number of breaks share a cumul there
 abbrev pub FeasibleWhereShared : Type 0
 FeasibleWhereShared = (line : Line) → IsSound line → (k : ℕ) → k ≤ length line.arcs → (from to : List (List Run))
     → AreReached line k from → AreReachingEnd line k to

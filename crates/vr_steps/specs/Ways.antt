@@ -23,7 +23,7 @@ abbrev pub IsLedTo : Way → List Run → Hop → List BreakRow → List Run →
 IsLedTo way from hop rows within y
     = IsTrue (has within y) × ((x : ℤ) × IsTrue (has from x) × LeadsBy way hop rows x y)
 
--- the set of within to which the arc leads from the levels, with k breaks taken there
+-- the set has the allowed cumuls to which the arc leads from the levels, with so many breaks taken there
 abbrev pub IsLevelBy : Way → List (List Run) → Hop → List Run → List BreakRow → ℕ → List Run → Type 0
 IsLevelBy On from hop next breaks b set = AreArrivals from hop next breaks 0 b set
 IsLevelBy Back to hop here breaks a set = AreDepartures to hop here breaks a (length breaks) set

@@ -9,7 +9,7 @@ ghost use Rattle.vr_steps.specs.Fits.{IsBoundFound, IsEarliest, IsLatest};
 use vr_model::BreakRow;
 use vr_model::limits::HORIZON;
 
-// No number that matters is above this one, and none is below its negative.
+// It stands for no bound, and its negative too, where there is no break: every moment that matters lies between them.
 const FAR: i64 = 1 << 42;
 
 /// What breaks that are taken one after another come to.

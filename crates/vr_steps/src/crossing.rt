@@ -36,7 +36,7 @@ pub fn cross<L: Ledger>(
     ensures levels { IfOk result (AreLevels breaks.now) }
     ensures count { OnOk result (steps.new ≡ steps.old + forward_steps from.now) }
     ensures at_most { steps.new ≤ steps.old + forward_steps from.now }
-    // so that the definitions count their runs too
+    // so that the runs that are counted are those that the definitions of weight count
     ensures normal { All IsNormal from.now }
 {
     let mut out = Levels::new(alloc);
@@ -45,6 +45,7 @@ pub fn cross<L: Ledger>(
 }
 
 /// Writes the levels behind an arc over `out`, as `cross` answers them. After `NoMemory` nothing is said of `out`.
+/// Walks whose steps are counted call it (`vr_reach::Walk`).
 #[inline]
 pub fn cross_into<L: Ledger>(
     from: &Levels,
@@ -59,7 +60,7 @@ pub fn cross_into<L: Ledger>(
     ensures levels { OnOk result (AreLevels breaks.now out.new) }
     ensures count { OnOk result (steps.new ≡ steps.old + forward_steps from.now) }
     ensures at_most { steps.new ≤ steps.old + forward_steps from.now }
-    // so that the definitions count their runs too
+    // so that the runs that are counted are those that the definitions of weight count
     ensures normal { All IsNormal from.now }
 {
     count_forward(from, steps);
@@ -84,7 +85,7 @@ pub fn cross_back<L: Ledger>(
     ensures levels { IfOk result (AreLevels breaks.now) }
     ensures count { OnOk result (steps.new ≡ steps.old + backward_steps to.now) }
     ensures at_most { steps.new ≤ steps.old + backward_steps to.now }
-    // so that the definitions count their runs too
+    // so that the runs that are counted are those that the definitions of weight count
     ensures normal { All IsNormal to.now }
 {
     let mut out = Levels::new(alloc);
@@ -108,7 +109,7 @@ pub fn cross_back_into<L: Ledger>(
     ensures levels { OnOk result (AreLevels breaks.now out.new) }
     ensures count { OnOk result (steps.new ≡ steps.old + backward_steps to.now) }
     ensures at_most { steps.new ≤ steps.old + backward_steps to.now }
-    // so that the definitions count their runs too
+    // so that the runs that are counted are those that the definitions of weight count
     ensures normal { All IsNormal to.now }
 {
     count_backward(to, steps);
@@ -315,7 +316,8 @@ fn drop_all(sets: &mut Vec<Spans>)
     sets.clear();
 }
 
-// Counts the steps of crossing from levels.
+// Counts the steps of crossing from levels: of each run one for each number of breaks that may be taken behind the arc,
+// those of its level or more.
 #[inline]
 fn count_forward<L: Ledger>(from: &Levels, steps: &mut Steps<L>)
     ensures count { steps.new ≡ steps.old + forward_steps from.now }
@@ -328,7 +330,8 @@ fn count_forward<L: Ledger>(from: &Levels, steps: &mut Steps<L>)
     }
 }
 
-// Counts the steps of crossing back to levels.
+// Counts the steps of crossing back from levels: of each run one for each number of breaks that may be taken before the
+// arc, those of its level or fewer.
 #[inline]
 fn count_backward<L: Ledger>(to: &Levels, steps: &mut Steps<L>)
     ensures count { steps.new ≡ steps.old + backward_steps to.now }
@@ -341,7 +344,7 @@ fn count_backward<L: Ledger>(to: &Levels, steps: &mut Steps<L>)
     }
 }
 
-// Counts some steps for each run of a set.
+// Counts `times` steps for each run of a set.
 #[inline]
 fn count_times<L: Ledger>(set: &Spans, times: usize, steps: &mut Steps<L>)
     ensures count { steps.new ≡ steps.old + length set.now * times }

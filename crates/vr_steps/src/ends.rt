@@ -81,7 +81,7 @@ pub fn can_end(levels: &Levels, breaks: &Breaks) -> bool
     false
 }
 
-// Whether these breaks can all be taken after some cumul of a set.
+// Whether these breaks can all be taken after some cumul of a set: then they can after the least.
 fn fit_behind(set: &Spans, rows: &[BreakRow]) -> bool
     requires rows { All IsBreak rows.now }
     requires few { length rows.now ≤ 8 }

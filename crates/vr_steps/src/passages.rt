@@ -53,7 +53,7 @@ pub(crate) struct Pass {
 }
 
 impl Passage {
-    // The passage over the breaks; `None` where the arc leads nowhere with them inside.
+    // The passage over the breaks; `None` only where the arc leads nowhere with them inside.
     fn of(over: &HopOver) -> Option<Passage>
         ensures some { IfSome result (IsPassage over.now.hop over.now.rows.now) }
         ensures none { IsNone result → LeadsNowhere over.now.hop over.now.rows.now }
@@ -62,8 +62,8 @@ impl Passage {
         Passage::over(over.hop, chain)
     }
 
-    // The passage over the breaks of a chain; `None` where no two cumuls are what it asks: the breaks take more than
-    // visit and slack leave them, or have to begin before even a visit at 0 is over, or end beyond the horizon.
+    // The passage over the breaks of a chain; `None` exactly where the breaks take more than visit and slack leave
+    // them, or have to begin before even a visit at 0 is over, or end beyond the horizon: then it leads nowhere.
     fn over(hop: Hop, chain: Chain) -> Option<Passage>
         requires hop { IsSoundHop hop }
         requires small { IsSmall chain }
@@ -173,7 +173,7 @@ impl Scratch {
             IsTrue (has set.new x) ↔ (IsTrue (has set.old x)
             ⊎ IsLedTo way from.now over.now.hop over.now.rows.now within.now x)) }
     {
-        // the sets are as they were where the arc leads nowhere
+        // to read one of the sets is to know that all are as they were where the arc leads nowhere
         let _ = &self.left;
         let Some(passage) = Passage::of(over) else {
             return Ok(());

@@ -25,7 +25,8 @@ pub record AreTabuParameters (parameters : Parameters) : Type 0 where
   pub solutions : parameters.limit.solutions ≤ 1000000000
   pub tenure : parameters.tenure ≤ 1000
 
--- what tabu search begins with: these routes are the best, they cost what is known there, and no visit is tabu
+-- what tabu search begins with: these routes are the best, they cost what is known there, no visit is tabu, and there
+-- is a number for each node
 pub record IsTabuBegun (model : Model) (routes : Tours) (at : Progress) (state : State) : Type 0 where
   pub at_is : state.at ≡ at
   pub best_is : state.best ≡ record { routes = routes; cost = at.cost }
@@ -40,7 +41,8 @@ pub record IsKnownState (model : Model) (routes : Tours) (state : State) : Type 
   pub costs : state.at.cost ≡ cost model routes.lists
   pub best : IsBest model routes.visits state.best
 
--- the search is under way, the rounds are counted, and it is known of each node how long it is tabu
+-- the search is under way, the number of its round is below that of the solutions found, and it is known of each node
+-- how long it is tabu
 pub record TabuStands (model : Model) (parameters : Parameters) (committed : Tours → Type 0) (routes : Tours)
     (state : State) : Type 0 where
   pub going : IsUnderWay model parameters.limit committed routes state.at state.best

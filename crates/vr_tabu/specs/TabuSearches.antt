@@ -1,5 +1,5 @@
--- Tabu search: in each round the best move is made, also where it costs more, and the visits that it changes are tabu
--- for some rounds, so that no move of them alone leads back.
+-- Tabu search: in each round the best of the moves that may be made is made, also where it costs more, and the visits
+-- that it changes are tabu for some rounds, so that no move of them alone leads back.
 use Rattle.std.specs.Prelude.{ℕ, zero, suc, ◌+◌, ◌-◌, Bool, true, false, cond, not, ◌&&◌, ◌||◌, ◌==◌, nat_lt}
 use Rattle.std.specs.Prelude.{List, [], ◌∷◌, length, filter, Option, Some, None, int_lt}
 use Rattle.std.specs.List.{list_all}

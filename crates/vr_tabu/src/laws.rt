@@ -1,4 +1,5 @@
-//! Laws over the definitions. A call has no code: its contract is the law, and a proof that needs the law calls it.
+//! Laws over the definitions. A call has no code: its contract is the law. Nothing calls it: proofs cite the lemma of
+//! the same name.
 
 ghost use Rattle.vr_tabu.specs.Answering.{TabuIsSound};
 

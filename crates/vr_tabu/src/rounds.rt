@@ -114,11 +114,11 @@ impl<'a> Round<'a> {
     }
 
     /// Tries all moves of the lists, where there are at most `rest`, for the best candidate. Each try is judged at most
-    /// once, and the judge is asked at most twice as often what moves make at least: a move that would cost no less
-    /// than the best candidate so far is not judged, and which visits it changes is asked of the others alone. Of the
-    /// moves of a run, which differ in their last number, the judge is asked at once from which on some may cost less,
-    /// and those in front of these are tries as well. What the best candidate changes is written over `kept`; where
-    /// there is none, `kept` is any.
+    /// once, and the judge is asked at most twice as often what moves make at least: a move that is known so to make no
+    /// less than the best candidate so far is not judged, and which visits a move changes is asked only where it is
+    /// judged to make less. Of the moves of a run, which differ in their last number, the judge is asked at once from
+    /// which on some may cost less, and those in front of these are tries as well. What the best candidate changes is
+    /// written over `kept`; where the round ends without one, `kept` is any.
     ///
     /// The only refusal is want of memory, which is taken by the judge alone; it still stands at the same lists then.
     pub fn run<J: Judge, L: Ledger>(
@@ -183,7 +183,7 @@ impl<'a> Round<'a> {
     }
 
     // Takes the first move of a list, behind some that are passed over since they make no less than the best candidate
-    // so far, or than the ceiling. These are counted.
+    // so far, or before there is one than the ceiling, or lead to lists that are not valid. These are counted.
     #[inline(always)]
     fn next_open<J: Judge>(
         &self,

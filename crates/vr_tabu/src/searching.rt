@@ -134,8 +134,8 @@ impl State {
         Ok(State { at, best, tabus })
     }
 
-    // One round: the best candidate is made and told to the watchers, and the visits that it changes are tabu; or the
-    // search ends. The tries are counted.
+    // One round: the best candidate is made and told to the watchers, and the visits that it changes are tabu, with
+    // which `None` is answered; or the search ends, and why is answered. The tries are counted.
     fn advance<J: Judge, L: Ledger>(
         &mut self,
         closed: Closed<'_>,
@@ -238,7 +238,8 @@ impl State {
         Ok(())
     }
 
-    // Counts the tries of a round and the solution that it found, and keeps that if it is the best.
+    // Counts the tries of a round and the solution that it found, and keeps its routes where they cost less than the
+    // best before.
     fn follow(&mut self, routes: &Routes, tries: u64, difference: i64)
         requires tries { self.old.at.used + tries < 2 ^ 64 }
         requires found { self.old.at.found + 1 < 2 ^ 64 }

@@ -76,7 +76,8 @@ impl TabuList {
         false
     }
 
-    /// Whether each visit is tabu in this round.
+    /// Whether each visit is tabu in this round: then a move is a candidate only if it leads to lists that cost less
+    /// than any before (`Round::open`).
     pub fn are_all_tabu(&self, model: &Model) -> bool
         ensures { IsTrue result → AreAllTabu model.now (tabus_of self.now) }
     {

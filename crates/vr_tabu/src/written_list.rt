@@ -85,7 +85,7 @@ fn place_each(list: &[u32], places: &mut [u32; 1000])
     }
 }
 
-// The place that is kept of a visit.
+// The place that is kept of a visit, which need not stand there (`is_at`); 0 for a number that no visit has.
 #[inline]
 fn place_in(places: &[u32], visit: u32) -> u32
     ensures { result ≡ slice_index places.now visit }

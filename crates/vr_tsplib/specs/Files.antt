@@ -93,7 +93,7 @@ abbrev pub of_formats : Option WeightFormat → Option Distances
 of_formats None = None
 of_formats (Some format) = of_format format
 
--- how the distances are given, where the section of the weights stood
+-- how the distances are given, where the section that gives them stood
 abbrev pub distances_of : WeightType → Head → Option Distances
 distances_of Euclidean head = if head.has_sites then Some distances.Plane else None
 distances_of Explicit head = if head.has_weights then of_formats head.weight_format else None

@@ -127,7 +127,7 @@ keep_weight_format head value = do
   chosen ← ok_or (meaning weight_formats word) UnknownWord
   Ok (record head { weight_format = Some chosen })
 
--- a keyword and its value; each but COMMENT stands once
+-- a keyword and its value; each but COMMENT stands at most once
 abbrev pub keep : Keyword → Head → List ℕ → Result Head Flaw
 keep keyword.Name head value = keep_name head
 keep keyword.Comment head value = Ok head
@@ -192,7 +192,8 @@ begin_depot head = do
   n ← section_nodes head head.has_depot
   Ok (record head { has_depot = true; place = Depot })
 
--- a section begins, or the file ends; each section stands once, and behind DIMENSION
+-- a section begins, or the file ends; each section stands at most once, and behind DIMENSION, that of the weights also
+-- behind a format that has weights
 abbrev pub begin : Heading → Head → Result Head Flaw
 begin heading.NodeCoordSection head = begin_sites head
 begin heading.EdgeWeightSection head = begin_weights head

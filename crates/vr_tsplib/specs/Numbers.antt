@@ -78,7 +78,7 @@ three_numbers ws = do
 abbrev pub whole_in : ℤ → ℤ → ℤ → Result ℤ Flaw
 whole_in lo hi z = if int_le lo z && int_le z hi then Ok z else Err OutOfRange
 
--- the same of a number that is not negative
+-- the same, as a count
 abbrev pub count_in : ℕ → ℕ → ℤ → Result ℕ Flaw
 count_in lo hi (pos n) = if nat_le lo n && nat_le n hi then Ok n else Err OutOfRange
 count_in lo hi (negsuc n) = Err OutOfRange

@@ -13,12 +13,12 @@ is_blank b = (b == 32) || (b == 9) || (b == 13)
 abbrev pub is_empty : {A : Type 0} → List A → Bool
 is_empty xs = length xs == 0
 
--- a text is empty, or a word begins with it
+-- a text is empty, or begins with a word
 abbrev pub BeginsWord : List ℕ → Type 0
 BeginsWord [] = Unit {0}
 BeginsWord (b ∷ text) = is_blank b ≡ false
 
--- the words of a text: the maximal runs of other bytes
+-- the words of a text: the maximal runs of bytes that are not blank
 unfoldable pub words : List ℕ → List (List ℕ)
 words text = filter (λ word. not (is_empty word)) (slice_split is_blank text)
 

@@ -22,7 +22,8 @@ file_nodes n = range_with_len 1 n
 abbrev pub axis_gap : ℤ → ℤ → ℕ
 axis_gap x y = unsigned_abs (x -ℤ y)
 
--- the distance of two nodes in the plane: the root of the sum of the squares of their differences
+-- the distance of two nodes in the plane: the whole number next to the root of the sum of the squares of their
+-- differences
 abbrev pub distance : SiteRow → SiteRow → ℕ
 distance a b = nearest (axis_gap a.x b.x * axis_gap a.x b.x + axis_gap a.y b.y * axis_gap a.y b.y)
 

@@ -73,7 +73,7 @@ impl State {
         Ok(())
     }
 
-    // Takes a line with words.
+    // Takes a line with words, by where it stands; behind `EOF` it has no meaning.
     #[tactic(auto, unfolding(vr_json::specs::Reading::and_then, crate::specs::Files::head_line))]
     fn line_at(&mut self, line: &[u8]) -> Result<(), LineFail>
         ensures { AnswersLine (seen (λ u. self.new) result) (files.line_at self.old.head.place self.old line.now) }
@@ -90,7 +90,7 @@ impl State {
         Ok(())
     }
 
-    // Takes a line.
+    // Takes a line; one without words has no meaning.
     fn read_line(&mut self, line: &[u8]) -> Result<(), LineFail>
         ensures { AnswersLine (seen (λ u. self.new) result) (files.read_line self.old line.now) }
     {
@@ -101,7 +101,7 @@ impl State {
     }
 }
 
-/// What the lines of a file say.
+/// What the lines of a file say; refused at the first line that has a flaw, by its number, which counts from 1.
 pub(crate) fn read_lines(alloc: Global, bytes: &[u8]) -> Result<State, ReadFail>
     ensures lines { Answers result (files.read_lines files.start 1 (lines bytes.now)) }
     ensures sound { IfOk result (λ state. AreLinesInRange state) }

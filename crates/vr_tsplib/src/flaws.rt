@@ -15,7 +15,7 @@ use vr_model::{NoMemory, Text};
 pub enum Flaw {
     /// The line is none that may stand there.
     FaultyLine,
-    /// A keyword or a section stands a second time.
+    /// A section, or a keyword other than `COMMENT`, stands a second time.
     Repeated,
     /// A word is none of those that the keyword has.
     UnknownWord,
@@ -46,7 +46,7 @@ impl Flaw {
     }
 }
 
-/// Why a line is not taken.
+/// Why a line, or a file as a whole, is not taken.
 #[derive(Clone, Copy)]
 pub enum LineFail {
     /// Something is wrong with it.

@@ -72,7 +72,8 @@ pub enum LinePlace {
     Ended,
 }
 
-/// What is known beside the rows of sections: the keywords and sections that stood, and where the next line stands.
+/// What is known beside the rows of sections: the keywords and sections that stood, the depot, and where the next line
+/// stands. What a keyword or the row of the depot says is `None` until it stood; `nodes` is what `DIMENSION` says.
 #[derive(Clone, Copy)]
 pub struct Head {
     /// Whether `NAME` stood, and so the two below: their values are not used, but none may stand twice.

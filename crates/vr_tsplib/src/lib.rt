@@ -7,8 +7,8 @@
 //!
 //! `files` goes over the lines. Those outside sections are read by `sections`, by the keywords of `heads`; those inside
 //! by `rows` and `weights`; what stands in a line by `texts`, `words` and `numbers`. `flaws` has what is refused.
-//! `summaries` says what a whole file says, `roots` has its distances, and `trees` makes the tree; `imports` is all of
-//! that.
+//! `summaries` says what a whole file says, and `trees` makes the tree, with the distances of nodes in the plane, which
+//! are rounded square roots (`roots`); `imports` is all of that.
 #![tactic(auto)]
 
 mod files;

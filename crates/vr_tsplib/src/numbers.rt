@@ -21,7 +21,7 @@ fn is_short(text: &[u8]) -> bool
     1 <= text.len() && text.len() <= 15
 }
 
-// The value of digits.
+// The value of digits; `None` where a byte is no digit.
 fn value_of(text: &[u8]) -> Option<u64>
     requires { length text.now ≤ 15 }
     ensures value { result ≡ numbers.digits_behind 0 text.now }
@@ -37,7 +37,7 @@ fn value_of(text: &[u8]) -> Option<u64>
     Some(value)
 }
 
-// The value of 1 to 15 digits.
+// The value of 1 to 15 digits, so that it lies below 10^15; `None` of any other text.
 #[tactic(auto, unfolding(crate::specs::Numbers::digits))]
 fn digits(text: &[u8]) -> Option<u64>
     ensures value { result ≡ numbers.digits text.now }
@@ -53,7 +53,7 @@ fn are_zeros(text: &[u8]) -> bool
     text.iter().all(|b| *b == b'0')
 }
 
-// The value of a number without a sign.
+// The value of a number without a sign; behind a point it has zeros alone, or nothing.
 #[tactic(auto, unfolding(crate::specs::Numbers::unsigned))]
 fn unsigned(text: &[u8]) -> Option<u64>
     ensures value { result ≡ numbers.unsigned text.now }
@@ -81,7 +81,7 @@ fn positive(text: &[u8]) -> Option<i64>
     }
 }
 
-// The number whose sign was taken off.
+// The number whose sign, a minus, was taken off.
 fn negative(text: &[u8]) -> Option<i64>
     ensures { result ≡ option_map (λ n. neg_ℤ (pos n)) (numbers.unsigned text.now) }
 {
@@ -103,7 +103,8 @@ fn number_of(word: &[u8]) -> Option<i64>
     }
 }
 
-/// The number that a word is: an optional `-` and 1 to 15 digits, then optionally a point and any count of zeros.
+/// The number that a word is: an optional `-` and 1 to 15 digits, then optionally a point and any count of zeros. Any
+/// other word has the flaw `FaultyLine`.
 pub(crate) fn number(word: &[u8]) -> Result<i64, Flaw>
     ensures { result ≡ numbers.number word.now }
 {

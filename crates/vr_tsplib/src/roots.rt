@@ -6,11 +6,12 @@ ghost use Rattle.vr_tsplib.specs.Roots.{IsFloorRoot, nearest};
 
 use std::num::saturating_f64_to_u64;
 
-// The greatest root that is asked for.
+// The greatest root that is asked for: that of 8 * 10^12, rounded down. Coordinates lie in -10^6..=10^6, so the squares
+// of two differences add up to no more.
 const GREATEST_ROOT: u64 = 2_828_427;
 
-// The square root, rounded down. It is guessed in floating point, and looked for where that guess is another number
-// (the first test keeps its square within 64 bits).
+// The square root, rounded down. It is guessed in floating point, and looked for where that guess is another number: of
+// the tests the first keeps its square within 64 bits, and the last says that the next number's square is above `n`.
 fn floor_root(n: u64) -> u64
     requires { n ≤ 8000000000000 }
     ensures { IsFloorRoot n result }
@@ -22,7 +23,8 @@ fn floor_root(n: u64) -> u64
     n.isqrt()
 }
 
-// The root rounded to the nearest whole number, by the root rounded down.
+// The root rounded to the nearest whole number, by the root rounded down. Halfway to the next number the square is
+// `root * root + root + 1/4`, and `n` lies above that where it is more than `root` above `root * root`.
 fn rounded(n: u64, root: u64) -> u64
     requires few { n ≤ 8000000000000 }
     requires root { IsFloorRoot n root }

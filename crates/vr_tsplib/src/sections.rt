@@ -28,7 +28,7 @@ const HEADINGS: [(&str, Heading); 5] = [
     ("EOF", Heading::Eof),
 ];
 
-// How many weights a format has for `n` nodes.
+// How many weights a format has for `n` nodes; `None` where it has no section of weights.
 fn weights_of(format: WeightFormat, n: u32) -> Option<u64>
     ensures { result ≡ heads.weights_of format n }
 {
@@ -40,7 +40,7 @@ fn weights_of(format: WeightFormat, n: u32) -> Option<u64>
     }
 }
 
-// How many weights the format, if there is one, has for `n` nodes.
+// The same of the format in a head, `None` also where its keyword did not stand yet.
 fn weights_wanted(format: Option<WeightFormat>, n: u32) -> Option<u64>
     ensures { result ≡ heads.weights_wanted format n }
 {
@@ -62,7 +62,7 @@ pub(crate) fn weights_left(left: u64) -> LinePlace
 }
 
 impl Head {
-    // How many nodes there are, where a section begins that must not have stood before.
+    // How many nodes there are, where a section begins: it must not have stood before, and `DIMENSION` must.
     #[tactic(auto, unfolding(vr_json::specs::Reading::and_then, crate::specs::Heads::section_nodes))]
     fn section_nodes(self, stood: bool) -> Result<u32, Flaw>
         ensures { result ≡ heads.section_nodes self stood }

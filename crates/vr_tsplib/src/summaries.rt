@@ -30,7 +30,8 @@ pub struct Problem {
     pub distances: Distances,
 }
 
-/// The demand of a node; 0 where it has no row, which does not come behind a whole section.
+/// The demand of a node: `complete` asks that of the depot, `trees` that of each node. 0 where it has no row, which
+/// cannot be behind a whole section.
 pub(crate) fn demand_of(rows: &[DemandRow], node: u32) -> u32
     ensures { result ≡ row_tables.demand_of rows.now node }
 {
@@ -52,7 +53,7 @@ fn is_inside(place: LinePlace) -> bool
     }
 }
 
-// How distances are given by weights of a format.
+// How distances are given by weights of a format; `None` of `Function`, with which no section of weights begins.
 fn of_format(format: WeightFormat) -> Option<Distances>
     ensures { result ≡ files.of_format format }
 {

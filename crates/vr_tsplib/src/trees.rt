@@ -108,7 +108,8 @@ fn full_weight(of: &FileWeights<'_>, i: u64, j: u64) -> u64
     weight_at(of.weights, i * of.n + j)
 }
 
-// The weight of two nodes, where each node has those to all lower ones.
+// The weight of two nodes, where each node has those to all lower ones: it holds both ways, and is 0 of a node with
+// itself. Node `hi` has `hi` weights, so before its row stand those of the nodes below, `hi * (hi - 1) / 2`.
 fn lower_weight(of: &FileWeights<'_>, i: u64, j: u64) -> u64
     requires first { i < of.now.n }
     requires second { j < of.now.n }
@@ -172,7 +173,7 @@ fn weighed(alloc: Global, lower: bool, n: u32, state: &State) -> Result<Value, N
     square(alloc, &of)
 }
 
-// The matrix.
+// The one matrix of the model, of which arcs have their costs: by how the file gives the distances.
 fn matrix(alloc: Global, distances: Distances, n: u32, state: &State) -> Result<Value, NoMemory>
     requires few { n ≤ most_nodes }
     requires near { All IsSiteInRange state.now.sites }
@@ -199,7 +200,7 @@ fn demands(alloc: Global, n: u32, state: &State) -> Result<Value, NoMemory>
     Ok(Value::Array(all))
 }
 
-// The dimension of loads.
+// The dimension of loads, which begins at 0: the transit from a node is its demand, and no arc has a slack.
 #[tactic(auto, unfolding(crate::specs::Trees::loads))]
 fn loads(alloc: Global, capacity: u64, demands: Value) -> Result<Value, NoMemory>
     ensures { IfOk result (λ tree. view tree ≡ trees.loads capacity (view demands)) }

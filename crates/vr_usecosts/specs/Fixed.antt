@@ -27,7 +27,7 @@ pub record KeptFixed : Type 0 where
   pub model : Model
   pub pays : Bool
 
--- these are valid lists of the model, and it is said whether some vehicle has a fixed cost
+-- these are valid lists of the model, and it is said whether some vehicle has a fixed cost other than 0
 pub record StandsFixed (kept : KeptFixed) (tours : Tours) : Type 0 where
   pub well_formed : IsWellFormed kept.model
   pub of_model : tours.visits ≡ visits kept.model

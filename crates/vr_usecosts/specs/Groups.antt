@@ -84,7 +84,7 @@ abbrev pub saved_in : List ℤ → List (List ℕ) → List Piece → ℤ
 saved_in saved lists pieces = total_by (λ piece. total_by (number_at saved) (nodes_of lists piece)) pieces
 
 -- these are valid lists of the model, each node has what it saves, it is said what a node saves at most and whether
--- some group has a penalty, and the total is what the groups cost
+-- some group has a penalty other than 0, and the total is what the groups cost
 pub record StandsGroups (kept : KeptGroups) (tours : Tours) : Type 0 where
   pub well_formed : IsWellFormed kept.model
   pub of_model : tours.visits ≡ visits kept.model

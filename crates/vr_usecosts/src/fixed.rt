@@ -73,8 +73,8 @@ impl<'m> ListCost for FixedCost<'m> {
 }
 
 impl<'m> FixedCost<'m> {
-    /// Whether no vehicle has a fixed cost other than 0: all valid lists cost the same then. `vr_judge` asks it once:
-    /// runs of moves are told by arcs and penalties alone.
+    /// Whether no vehicle has a fixed cost other than 0: all valid lists cost the same then. `vr_judge` asks it once,
+    /// as it tells of runs of moves only where arcs and penalties alone are paid.
     pub fn is_idle(&self) -> bool
         requires pays { self.now.pays ≡ fixed_costs.is_some_fixed self.now.model }
         ensures idle { result ≡ not (fixed_costs.is_some_fixed self.now.model) }

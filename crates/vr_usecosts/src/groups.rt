@@ -77,7 +77,8 @@ fn has_node(group: &Group, node: u32) -> bool
     group.nodes.as_slice().contains(&node)
 }
 
-// What a node saves where it is active.
+// What a node saves where it is active: the penalty of the first group that has it, which is the only one, since no
+// node is in two groups; 0 where none has it.
 fn saving(closed: Closed<'_>, node: u32) -> i64
     ensures value { result ≡ pos (saved_by closed.entry.model.now.groups node) }
     ensures range { IsUpTo 1 result }
@@ -387,6 +388,7 @@ impl<'m> InfallibleCost for GroupCost<'m> {
             return 0;
         }
         self.balance.write(routes, change);
+        // what goes saves its penalties no more
         let gone = saved_in(&self.saved, routes, self.balance.gone());
         let come = saved_in(&self.saved, routes, self.balance.come());
         gone - come

@@ -32,7 +32,7 @@ traced events = flat_map event_line events
 abbrev pub capped_count : ℕ → ℕ
 capped_count n = min n (2 ^ 64 - 1)
 
--- a move was accepted
+-- a move was made, or a cut kept
 abbrev pub is_move_event : Kind → Bool
 is_move_event First = false
 is_move_event Move = true

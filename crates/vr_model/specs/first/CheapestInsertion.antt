@@ -1,4 +1,5 @@
--- The first solution by parallel cheapest insertion: the cheapest insertion of any item into any list is made first.
+-- The first solution by parallel cheapest insertion: of the insertions that may be made, into any list, those of the
+-- least class come first, and of these the cheapest one.
 use Rattle.std.specs.Prelude.{ℕ, zero, suc, List, [], ◌∷◌, map, length, filter, insert, slice_index, ℤ, pos, ◌-ℤ◌}
 use Rattle.std.specs.Prelude.{Option, Some, None}
 use Rattle.vr_model.specs.tables.Numbers.{from_to, each}

@@ -27,7 +27,7 @@ is_gap lists v t = nat_le t (length (route lists v))
 abbrev pub is_inactive : Model → List (List ℕ) → ℕ → Bool
 is_inactive model lists u = is_visit model u && not (is_active lists u)
 
--- the numbers of a pair and of its places before which it is to be put, in a list of this length
+-- p is the number of a pair, w a vehicle, and s and t, in this order, places or the end of a list of length n
 abbrev pub may_put_pair : Model → List (List ℕ) → ℕ → ℕ → ℕ → ℕ → ℕ → Bool
 may_put_pair model lists p w n s t = nat_lt p (length model.pairs) && (is_vehicle lists w && (nat_le s t && nat_le t n))
 

@@ -23,7 +23,7 @@ node_at list k = slice_index list k
 abbrev pub with_route : List (List ℕ) → ℕ → List ℕ → List (List ℕ)
 with_route lists v list = slice_set lists v list
 
--- the places from a up to but not including b in reverse order
+-- the list with its places from a up to but not including b in reverse order
 abbrev pub reversed_between : List ℕ → ℕ → ℕ → List ℕ
 reversed_between list a b = take a list ++ (reverse (slice_range list a b) ++ drop b list)
 
@@ -106,7 +106,7 @@ is_other x y = not (x == y)
 abbrev pub has_some_front : ℕ → ℕ → Bool
 has_some_front a b = not ((a == 0) && (b == 0))
 
--- the places from a on of list v that an exchange may have in list w: in the same list only those behind a
+-- the places in list w with which an exchange may change place a of list v: in the same list only those behind a
 abbrev pub places_behind : List (List ℕ) → ℕ → ℕ → ℕ → List ℕ
 places_behind lists v a w = from_to (cond (v == w) (suc a) 0) (length (route lists w))
 
@@ -151,7 +151,7 @@ moves_in model lists all.MakeInactive = each (vehicles lists) λ v. map (MakeIna
 moves_in model lists all.SwapActive =
     each (vehicles lists) λ v. each (places (route lists v)) λ a. map (SwapActive v a) (inactive model lists)
 
--- all neighbourhoods, in the order in which a model has them that names none
+-- all neighbourhoods, in the order in which a model has them that leaves their field out; an empty field has none
 abbrev pub all_neighbourhoods : List Neighbourhood
 all_neighbourhoods =
     all.TwoOpt ∷ all.OrOpt ∷ all.Relocate ∷ all.Exchange ∷ all.Cross ∷ all.RelocatePair ∷ all.PairActive

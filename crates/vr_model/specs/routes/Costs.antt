@@ -95,7 +95,8 @@ abbrev pub soft_costs : Model → Assignment → ℕ → ℕ → ℤ
 soft_costs model assignment d v = total_by (λ stop. row_cost stop.0 stop.1)
     (zip (stop_rows (dimension_at model d) v (route assignment.lists v)) (plan_at assignment d v).cumuls)
 
--- for each stop with a soft upper bound, its coefficient times what the cumul is above the bound
+-- for each used vehicle and dimension, and each stop with a soft upper bound there, its coefficient times what the
+-- cumul is above the bound
 abbrev pub soft_part : Model → Assignment → ℤ
 soft_part model assignment = over_plans model assignment (soft_costs model assignment)
 
@@ -119,7 +120,8 @@ parts_at model assignment = record {
 abbrev pub sum_of : Parts → ℤ
 sum_of parts = total (parts.arcs ∷ parts.fixed ∷ parts.global ∷ parts.penalty ∷ parts.soft ∷ parts.span ∷ [])
 
--- the plans that are chosen for the list of vehicle v, one in each dimension; none where the list is empty
+-- the plans that are chosen for the list of vehicle v, one in each dimension, without entries where no schedule is
+-- chosen; none where the list is empty
 abbrev pub chosen_plans : Model → ℕ → List ℕ → List Plan
 chosen_plans model v [] = []
 chosen_plans model v (x ∷ xs) =

@@ -32,7 +32,7 @@ ReachedAsTested = (line : Line) (k b : ℕ) (x : ℤ) → IsTrue (is_reached lin
 abbrev pub EndReachedAsTested : Type 0
 EndReachedAsTested = (line : Line) (k b : ℕ) (x : ℤ) → IsTrue (reaches_end line k b x) ↔ ReachesEnd line k b x
 
--- the line whose stop k allows x alone
+-- the line whose stop k allows x alone, or nothing where it did not allow x
 abbrev pub pinned : Line → ℕ → ℤ → Line
 pinned line k x =
     record line {

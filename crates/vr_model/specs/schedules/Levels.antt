@@ -1,5 +1,5 @@
--- The laws of reach sets, as statements: the levels of a line are, for each stop and each number of breaks taken, the
--- cumuls that are reached there.
+-- The laws of reach sets of sound lines, as statements: the levels of a line are, for each stop and each number of
+-- breaks taken, the cumuls that are reached there, and those from which the end is reached with the other breaks.
 use Rattle.std.specs.Prelude.{◌≡◌, ℕ, suc, ◌<◌, ◌≤◌, ◌↔◌, IsTrue, List, length, take, drop, ℤ, ◌+ℤ◌, ◌≤ℤ◌, EachIndex}
 use Rattle.std.specs.Prelude.{slice_index_or}
 use Rattle.vr_model.specs.tables.Numbers.{number_at}

@@ -26,7 +26,7 @@ number_found test found = elim found [ inl r ↦ r.0 | inr none ↦ pos 0 ]
 abbrev pub least_of : (Plan → ℤ) → Line → ℤ
 least_of measure line = number_found (measures measure line) (find_least (measures measure line))
 
--- the least cumul at the end of all schedules of a line
+-- the least cumul at the end of all schedules of a line, 0 where there is none
 abbrev pub least_end : Line → ℤ
 least_end line = least_of (end_of line) line
 
@@ -38,7 +38,7 @@ before_horizon plan = horizon -ℤ cumul plan 0
 abbrev pub latest_start : Line → ℤ
 latest_start line = horizon -ℤ least_of before_horizon line
 
--- the line whose end allows e alone, and whose start allows s alone
+-- the line whose end allows e alone, and whose start allows s alone, or nothing where they did not allow these
 abbrev pub between : Line → ℤ → ℤ → Line
 between line s e = pinned (pinned line (length line.arcs) e) 0 s
 

@@ -1,4 +1,4 @@
--- The laws of rules, as statements.
+-- The laws of rules, as statements of lines that have one stop more than arcs.
 use Rattle.std.specs.Prelude.{◌≡◌, suc, ◌↔◌, IsTrue, Some, is_some, length, ℤ}
 use Rattle.vr_model.specs.schedules.Lines.{Line}
 use Rattle.vr_model.specs.schedules.Schedules.{Plan, IsChosen, IsFeasible, IsSchedule}
@@ -36,7 +36,7 @@ abbrev pub NarrowedKeepsRules : Type 0
 NarrowedKeepsRules = (rule : ScheduleRule) (line : Line) → HasStops line → (plan : Plan)
     → IsSchedule (narrowed rule line) plan → IsSchedule line plan
 
--- where the least end and the latest start are known, the line is narrowed to them
+-- where the least end and the latest start are known, the tight rule narrows the line to them
 abbrev pub NarrowedToEnds : Type 0
 NarrowedToEnds = (line : Line) → HasStops line → (s e : ℤ) → IsLeastEnd line e → IsLatestStart line e s
     → narrowed Tight line ≡ between line s e

@@ -133,12 +133,13 @@ back line k b = record {
 }
 
 -- stop k is reached at x with the first b breaks taken: some plan of the stops up to k has the cumul x there, and
--- each of these breaks ends before the first stop or stands inside an arc before stop k
+-- each of these breaks ends at or before the first stop or stands inside an arc before stop k
 abbrev pub IsReached : Line → ℕ → ℕ → ℤ → Type 0
 IsReached line k b x = (plan : Plan) × KeepsRules before_only (front line k b) plan × (cumul plan k ≡ x)
 
 -- the end is reached from x at stop k with the breaks after the first b taken: some plan of the stops from k on
--- has the cumul x at stop k, and each of these breaks stands inside an arc from stop k on or starts after the last stop
+-- has the cumul x at stop k, and each of these breaks stands inside an arc from stop k on or starts at or after the
+-- last stop
 abbrev pub ReachesEnd : Line → ℕ → ℕ → ℤ → Type 0
 ReachesEnd line k b x = (plan : Plan) × KeepsRules after_only (back line k b) plan × (cumul plan 0 ≡ x)
 

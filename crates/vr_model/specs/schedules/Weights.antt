@@ -1,5 +1,5 @@
 -- The weight of changed lists: how many images of runs a walk takes, in each changed list, from where it leaves the old
--- list to where it meets it again.
+-- list to where it meets it again, and how many runs meet there.
 use Rattle.std.specs.Prelude.{ℕ, zero, suc, ◌+◌, ◌-◌, ◌*◌, Bool, cond, not, ◌&&◌, ◌||◌, ◌==◌, List, length, reverse, ℤ}
 use Rattle.std.specs.Prelude.{pos, ◌-ℤ◌, sum_by, nat_abs}
 use Rattle.std.specs.List.{common_prefix_len}

@@ -1,4 +1,4 @@
--- The limits of a model. Times, loads and distances are in units of the model's own; no number is read that lies
+-- The limits of a model. Times, loads and distances are in units of the model's own; no model that is read has a number
 -- outside these, and what every layer above promises counts on them.
 use Rattle.std.specs.Prelude.{◌≡◌, ℕ, ℤ, pos, negsuc}
 use Rattle.vr_model.specs.tables.Numbers.{horizon}
@@ -68,14 +68,14 @@ most_name_bytes = 64
 abbrev pub most_input_bytes : ℕ
 most_input_bytes = 67108864
 
--- moves that are tried, and solutions that are found
+-- moves or cuts that are tried, and solutions that are found
 abbrev pub most_tries : ℕ
 most_tries = 1000000000
 
 abbrev pub most_neighbourhoods : ℕ
 most_neighbourhoods = 11
 
--- visits that a cut takes out of a path, and rounds for which a changed visit is tabu
+-- visits of the chain that a cut takes out of a path, and rounds for which a changed visit is tabu
 abbrev pub most_cut : ℕ
 most_cut = 100
 

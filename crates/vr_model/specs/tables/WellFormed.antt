@@ -1,5 +1,5 @@
--- Well-formed models: those that reading gives. Each range, length and distinctness is said once, each node that must
--- be a visit is one, and no rule on the whole model is broken.
+-- Well-formed models: each that reading gives is one. Each range, length and distinctness is said once, each node that
+-- must be a visit is one, and no rule on the whole model is broken.
 use Rattle.std.specs.Prelude.{◌≡◌, ℕ, ◌*◌, ◌<◌, ◌≤◌, ◌⊎◌, Bool, true, false, not, ◌&&◌, IsTrue, List, [], ◌∷◌, map}
 use Rattle.std.specs.Prelude.{length, ℤ, pos, ◌≤ℤ◌, Option, Some, None}
 use Rattle.std.specs.List.{All, list_any}

@@ -5,7 +5,7 @@ use mathlib.Core.HLevel.{Unit-prop}
 use Rattle.vr_model.specs.tables.WellFormed.{IsWellFormed, WherePresent}
 use Rattle.vr_model.specs.declared.records.Model.{Model}
 
--- where a statement has one proof at most of each value, it has one of a value that may be absent
+-- where a statement has one proof at most of each value, it has one at most of a value that may be absent
 pub WherePresent-prop : {A : Type 0} (P : A → Type 0) (o : Option A) → ((x : A) → IsProp (P x))
     → IsProp (WherePresent P o)
 WherePresent-prop P None once = Unit-prop

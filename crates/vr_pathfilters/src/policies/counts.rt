@@ -60,7 +60,7 @@ pub(crate) fn write_counts(node_tables: &NodeTables<'_>, list: &[u32], table: &m
     ensures others { (node : ℕ) → holds list.now node ≡ false
         → count_of_node table.new node ≡ count_of_node table.old node }
 {
-    // what holds of the model is known
+    // the read tells contracts that the model is well formed
     let _model = node_tables.model();
     let mut counts = Counts::none();
     for k in 0..list.len() {

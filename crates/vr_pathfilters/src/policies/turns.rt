@@ -14,7 +14,7 @@ use vr_model::Policy;
 pub struct Turns {
     /// For each node of the lists that were put, what stands in its list up to it, itself included.
     pub listed: [Counts; 1000],
-    /// For each node that a change puts in, what stands among these up to it.
+    /// For each node that a change puts into a list, what stands among these up to it.
     pub between: [Counts; 1000],
 }
 
@@ -27,7 +27,7 @@ impl Turns {
         }
     }
 
-    /// Whether a policy asks something of pairs.
+    /// Whether a policy asks that pairs come in turn.
     #[inline]
     pub fn are_asked(policy: Policy) -> bool
         ensures { result ≡ asks_turns policy }
