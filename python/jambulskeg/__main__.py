@@ -15,6 +15,7 @@ from .complete import shape_faults, shorten
 from .doubts import doubts
 from .engines import Engine, GnuParallel, OwnProcesses, Slurm
 from .errors import JambulskegError, NotMet
+from .formats.command import add_convert
 from .model import meets, read_model, read_solution
 from .places import Place, read_places, read_vans, whole
 from .portfolio import LAMBDAS, Outcome, Portfolio, portfolio
@@ -57,7 +58,7 @@ def failed(sentence: str) -> int:
 def parser() -> argparse.ArgumentParser:
     """The words that are taken."""
     out = argparse.ArgumentParser(prog="python -m jambulskeg", description="Vehicle routing by the program vr_cli.")
-    commands = out.add_subparsers(required=True, metavar="view|doubts|portfolio|batch")
+    commands = out.add_subparsers(required=True, metavar="view|doubts|portfolio|batch|convert")
     add_view(commands.add_parser("view", help="a page (or an SVG) of a day, or of two side by side"))
     look = commands.add_parser("doubts", help="what a model may say and looks wrong, a line each")
     look.add_argument("model", metavar="MODEL", help="the model file")
@@ -74,6 +75,7 @@ def parser() -> argparse.ArgumentParser:
     many.set_defaults(run=run_batch)
     for command in (one, many):
         add_search(command)
+    add_convert(commands.add_parser("convert", help="a file of Solomon, Li and Lim, VRPLIB or VROOM as a model"))
     return out
 
 

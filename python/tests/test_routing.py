@@ -485,16 +485,21 @@ class SlackTests(RoutingTest):
 
 class ArrayTests(RoutingTest):
     def test_arrays_are_taken_as_lists(self) -> None:
-        manager = pywrapcp.RoutingIndexManager(3, 2, Array([0, 1]), Array([0, 1]))
+        manager = pywrapcp.RoutingIndexManager(3, 2, array([0, 1]), array([0, 1]))
         routing = pywrapcp.RoutingModel(manager)
-        number = routing.RegisterTransitMatrix(Array([Array([0, 2, 3]), Array([2, 0, 4]), Array([3, 4, 0])]))
+        number = routing.RegisterTransitMatrix(array([array([0, 2, 3]), array([2, 0, 4]), array([3, 4, 0])]))
         routing.SetArcCostEvaluatorOfAllVehicles(number)
-        routing.AddVectorDimension(Array([0, 1, 1]), 9, True, "load")
+        routing.AddVectorDimension(array([0, 1, 1]), 9, True, "load")
         model = routing.to_model()
         self.assertEqual(model.matrices[0], ((0, 2, 3), (2, 0, 4), (3, 4, 0)))
-        matrices = Array([Array([Array(row) for row in matrix]) for matrix in model.matrices])
+        matrices = array([array([array(row) for row in matrix]) for matrix in model.matrices])
         self.assertEqual(replace(model, matrices=matrices), model)
-        self.assertEqual(complete(model, Array([Array([2]), Array([])])).cost, 6)
+        self.assertEqual(complete(model, array([array([2]), array([])])).cost, 6)
+
+
+def array(values: Any) -> Any:
+    """An array of another library, which no type of Python's own says."""
+    return Array(values)
 
 
 class Array:
