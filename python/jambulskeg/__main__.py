@@ -16,6 +16,7 @@ from .doubts import doubts
 from .engines import Engine, GnuParallel, OwnProcesses, Slurm
 from .errors import JambulskegError, NotMet
 from .formats.command import add_convert
+from .measures import answer_doubts
 from .model import meets, read_model, read_solution
 from .places import Place, read_places, read_vans, whole
 from .portfolio import LAMBDAS, Outcome, Portfolio, portfolio
@@ -62,6 +63,8 @@ def parser() -> argparse.ArgumentParser:
     add_view(commands.add_parser("view", help="a page (or an SVG) of a day, or of two side by side"))
     look = commands.add_parser("doubts", help="what a model may say and looks wrong, a line each")
     look.add_argument("model", metavar="MODEL", help="the model file")
+    look.add_argument("solution", metavar="SOLUTION", nargs="?", help="an answer to it, which is looked at too")
+    look.add_argument("--longest-ride", type=int, metavar="N", help="how long a pair may be on board")
     look.set_defaults(run=run_doubts)
     one = commands.add_parser("portfolio", help="many searches of a model, the cheapest checked answer kept")
     one.add_argument("model", metavar="MODEL", help="the model file")
@@ -206,7 +209,13 @@ def write(path: str, text: str) -> None:
 
 def run_doubts(asked: argparse.Namespace) -> int:
     """Writes the path and the sentence of each doubt."""
-    for doubt in doubts(read_model(asked.model)):
+    model = read_model(asked.model)
+    found = doubts(model)
+    if asked.solution is not None:
+        solution = read_solution(asked.solution)
+        check_file(model, asked.solution, solution)
+        found += answer_doubts(model, solution, asked.longest_ride)
+    for doubt in found:
         print(f"{doubt.path}: {doubt.sentence}")
     return 0
 
