@@ -24,6 +24,7 @@ from .program import find
 from .records import Model
 from .solution import Solution
 from .view import Day, compare_page, day_of, drawing, page
+from .view.day import time_dimension
 
 __all__ = ["main"]
 
@@ -65,6 +66,7 @@ def parser() -> argparse.ArgumentParser:
     look.add_argument("model", metavar="MODEL", help="the model file")
     look.add_argument("solution", metavar="SOLUTION", nargs="?", help="an answer to it, which is looked at too")
     look.add_argument("--longest-ride", type=int, metavar="N", help="how long a pair may be on board")
+    look.add_argument("--time", metavar="NAME", help="the dimension in which rides are measured")
     look.set_defaults(run=run_doubts)
     one = commands.add_parser("portfolio", help="many searches of a model, the cheapest checked answer kept")
     one.add_argument("model", metavar="MODEL", help="the model file")
@@ -214,7 +216,7 @@ def run_doubts(asked: argparse.Namespace) -> int:
     if asked.solution is not None:
         solution = read_solution(asked.solution)
         check_file(model, asked.solution, solution)
-        found += answer_doubts(model, solution, asked.longest_ride)
+        found += answer_doubts(model, solution, asked.longest_ride, time_dimension(model, asked.time) or 0)
     for doubt in found:
         print(f"{doubt.path}: {doubt.sentence}")
     return 0
