@@ -1,6 +1,6 @@
 //! What is left of a route without a string.
 
-ghost use Rattle.std.specs.Prelude.{◌≡◌, ◌<◌, length};
+ghost use Rattle.std.specs.Prelude.{◌≡◌, ◌+◌, ◌<◌, ◌≤◌, length};
 ghost use Rattle.vr_model.specs.routes.Routes.{holds, route};
 ghost use Rattle.vr_strings.specs.Strings.{goes_out as goes_out_of, gone_of, left_of_list, takes_place, IsStringIn};
 
@@ -27,6 +27,7 @@ fn is_taken(routes: &Routes, v: u32, string: StringPlaces, node: u32) -> bool
     ensures { result ≡ holds (gone_of (route routes.now.lists v) string) node }
 {
     let _few = routes.list(v);
+    routes.know_once();
     match routes.seat(node) {
         Some(seat) => seat.vehicle == v && takes(string, seat.place),
         None => false,
