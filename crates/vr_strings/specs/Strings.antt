@@ -1,7 +1,7 @@
 -- Ruin: strings are taken out of neighbouring lists. A string is some visits in a row, one of which may stay.
-use Rattle.std.specs.Prelude.{◌≡◌, ℕ, suc, ◌+◌, ◌-◌, ◌*◌, ◌/◌, ◌<◌, ◌≤◌, min, max, Bool, true, false, cond, ◌&&◌, ◌==◌}
-use Rattle.std.specs.Prelude.{nat_le, nat_lt, List, [], ◌∷◌, ◌++◌, length, filter, find, slice_index, slice_range, ℤ, pos}
-use Rattle.std.specs.Prelude.{Option, Some, None, fold, not}
+use Rattle.std.specs.Prelude.{◌≡◌, ℕ, suc, ◌+◌, ◌-◌, ◌*◌, ◌/◌, ◌<◌, ◌≤◌, min, max, nat_le, nat_lt, ℤ, pos}
+use Rattle.std.specs.Prelude.{Bool, true, false, cond, not, ◌&&◌, ◌==◌, List, [], ◌∷◌, ◌++◌, length, filter, find, fold}
+use Rattle.std.specs.Prelude.{slice_index, slice_range, Option, Some, None}
 use Rattle.std.specs.List.{list_any, concat}
 use Rattle.rand_pcg.specs.Lcg.{Lcg}
 use Rattle.vr_gen.specs.Draws.{draw}
@@ -54,9 +54,9 @@ abbrev pub ring : Model → ℕ → List ℕ
 ring model visit = visit ∷
     sorted_by (λ other. arc_cost model 0 visit other ∷ pos other ∷ []) (filter (is_other visit) (visits model))
 
--- the same order by a row of a matrix, whose entries begin with the one at place `first`
-abbrev pub nearness : List ℤ → ℕ → ℕ → List ℤ
-nearness entries first other = number_at entries (first + other) ∷ pos other ∷ []
+-- the key of a visit in a ring, by the entries of a matrix, of which the row of the first visit begins at place `first`
+abbrev pub ring_key : List ℤ → ℕ → ℕ → List ℤ
+ring_key entries first other = number_at entries (first + other) ∷ pos other ∷ []
 
 -- the vehicle that has a visit in its list
 abbrev pub vehicle_of : List (List ℕ) → ℕ → Option ℕ
