@@ -9,6 +9,7 @@ pub mod PrintedLists
 pub mod KeptLemmas
 pub mod Distinct
 pub mod Valid
+pub mod ValidLists
 pub mod Scheduled
 pub mod PlanSums
 pub mod AllMet

@@ -71,11 +71,11 @@ module _ (model : Model) (lists : List (List ℕ)) where
   groups_right : group_broken model lists ≡ None → (g : ℕ) → g < length model.groups → has_right_number lists (slice_index_or model.groups g no_group) ≡ true
   groups_right groups g less = is_right (has_right_number lists (slice_index_or model.groups g no_group)) (spot_of_none g) (at_none (group_broken_at model lists) (length model.groups) groups g less)
 
-  pub lists_valid_from : length lists ≡ length model.vehicles → HasVisits model lists → once_broken lists ≡ None → required_broken model lists ≡ None → group_broken model lists ≡ None
+  pub valid_where_lists : IsTrue (are_lists model lists) → required_broken model lists ≡ None → group_broken model lists ≡ None
       → ((v : ℕ) → v < length lists → IsTrue (is_route_open model v (route lists v))) → IsTrue (is_valid model lists)
   unfolding is_valid is_open
-  lists_valid_from count visits once required groups each =
-      and_both (are_lists model lists) _ (lists_are count visits once)
+  valid_where_lists are required groups each =
+      and_both (are_lists model lists) _ are
       (and_both (list_all (λ v. is_route_open model v (route lists v)) (vehicles lists) && list_all (fits_group lists) model.groups) _
       (and_both (list_all (λ v. is_route_open model v (route lists v)) (vehicles lists)) (list_all (fits_group lists) model.groups)
       (range_list_all (λ v. is_route_open model v (route lists v)) 0 (length lists) (λ v from less. each v (omega (arith, less))))
@@ -86,3 +86,7 @@ module _ (model : Model) (lists : List (List ℕ)) where
       all_required : IsTrue (has_required model lists)
       all_required = filtered (λ node. is_grouped model node || is_active lists node) (is_visit model) 0 model.nodes
           (λ k low high. either (is_visit model k) (is_active lists k) (is_grouped model k) (is_not_wrong (is_missing model lists k) (spot_of_none k) (at_none (required_broken_at model lists) model.nodes required k (omega (arith, high)))))
+
+  pub lists_valid_from : length lists ≡ length model.vehicles → HasVisits model lists → once_broken lists ≡ None → required_broken model lists ≡ None → group_broken model lists ≡ None
+      → ((v : ℕ) → v < length lists → IsTrue (is_route_open model v (route lists v))) → IsTrue (is_valid model lists)
+  lists_valid_from count visits once = valid_where_lists (lists_are count visits once)

@@ -85,10 +85,10 @@ fn visits_finding(alloc: Global, solution: &Solution<'_>) -> Result<Finding, NoM
     if let Some(spot) = wrong_pair(solution.closed, lists) {
         return Ok(Rule::Pair.broken(spot));
     }
-    if let Some(spot) = wrong_policy(alloc, solution)? {
+    if let Some(spot) = wrong_policy(alloc, solution.closed, lists)? {
         return Ok(Rule::Policy.broken(spot));
     }
-    if let Some(spot) = refused(solution) {
+    if let Some(spot) = refused(solution.closed, lists) {
         return Ok(Rule::Allowed.broken(spot));
     }
     Ok(plans_finding(solution))

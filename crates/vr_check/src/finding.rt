@@ -66,14 +66,14 @@ pub enum Rule {
 
 /// Where a rule is broken, as `Finding::Broken` says it: -1 stands where a number does not apply.
 #[derive(Clone, Copy)]
-pub(crate) struct Spot {
-    pub(crate) vehicle: i64,
-    pub(crate) place: i64,
+pub struct Spot {
+    pub vehicle: i64,
+    pub place: i64,
 }
 
 impl Spot {
     /// A place of a vehicle.
-    pub(crate) fn at(vehicle: usize, place: usize) -> Spot
+    pub fn at(vehicle: usize, place: usize) -> Spot
         requires vehicle { vehicle < 2 ^ 62 }
         requires place { place < 2 ^ 62 }
         ensures { result ≡ findings.spot vehicle place }

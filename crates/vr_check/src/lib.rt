@@ -15,6 +15,7 @@
 //! routes and plans. `laws` says what holds where no rule is broken.
 //!
 //! `vr_app` calls [`check`] for the words `check` and `spans`, and has the law that what is printed meets it.
+//! `vr_given` asks the rules on active visits, pairs and vehicles of lists that were given, with no solution printed.
 #![tactic(auto)]
 
 mod asked;
@@ -35,4 +36,6 @@ mod totals;
 mod visits;
 
 pub use checking::check;
-pub use finding::{Finding, Rule};
+pub use finding::{Finding, Rule, Spot};
+pub use pairs::{refused, wrong_pair, wrong_policy};
+pub use visits::{missing, wrong_group};

@@ -1,6 +1,6 @@
 //! The rules on pairs, policies and allowed vehicles.
 
-ghost use Rattle.std.specs.Prelude.{◌≡◌, ◌==◌, find, map, IfOk};
+ghost use Rattle.std.specs.Prelude.{◌≡◌, ◌<◌, ◌==◌, find, length, map, IfOk};
 ghost use Rattle.std.specs.List.{list_all};
 ghost use Rattle.vr_model.specs.moves.Moves as moves;
 ghost use Rattle.vr_model.specs.routes.Rules as rules;
@@ -12,7 +12,6 @@ ghost use Rattle.vr_check.specs.Terms.{places_of};
 
 use crate::finding::Spot;
 use crate::held::holds;
-use crate::printed::{Solution, VehicleRoute};
 use std::alloc::Global;
 use vr_model::{Closed, Model, NoMemory, Pair, Policy, Seq};
 
@@ -44,8 +43,8 @@ fn is_served(lists: &[Seq<u32>], pair: &Pair) -> bool
 }
 
 /// Where one node of a pair is active and the other is not, or stands in another list, or the delivery stands before
-/// the pickup.
-pub(crate) fn wrong_pair(closed: Closed<'_>, lists: &[Seq<u32>]) -> Option<Spot>
+/// the pickup: the first pair.
+pub fn wrong_pair(closed: Closed<'_>, lists: &[Seq<u32>]) -> Option<Spot>
     ensures { result ≡ pair_broken closed.entry.model.now lists.now }
 {
     let model = closed.model;
@@ -123,24 +122,28 @@ fn all_in_order(policy: Policy, places: &[PlacesOfPair]) -> bool
 }
 
 // Whether the policy of a vehicle holds of each two pairs of its list.
-fn keeps_policy(alloc: Global, on: &VehicleRoute<'_>) -> Result<bool, NoMemory>
-    ensures { IfOk result (λ keeps. keeps ≡ rules.keeps_policy on.now.closed.model.now on.now.v on.now.list.now) }
+fn keeps_policy(alloc: Global, closed: Closed<'_>, v: usize, list: &[u32]) -> Result<bool, NoMemory>
+    requires { v < length closed.model.now.vehicles }
+    ensures { IfOk result (λ keeps. keeps ≡ rules.keeps_policy closed.entry.model.now v list.now) }
 {
-    let model = on.closed.model;
-    let places = places_in(alloc, model, on.list)?;
-    let policy = model.vehicles.get(on.v).policy;
+    let model = closed.model;
+    let places = places_in(alloc, model, list)?;
+    let policy = model.vehicles.get(v).policy;
     Ok(all_in_order(policy, places.as_slice()))
 }
 
-/// Where the policy of a vehicle fails. It is the one rule behind `Shape` that takes memory, for the places of the
-/// pairs of a list.
-pub(crate) fn wrong_policy(alloc: Global, solution: &Solution<'_>) -> Result<Option<Spot>, NoMemory>
-    ensures { IfOk result (λ spot. spot ≡ policy_broken solution.now.closed.model.now solution.now.lists.now) }
+/// Where the policy of a vehicle fails: the first vehicle. It is the one rule behind `Shape` that takes memory, for the
+/// places of the pairs of a list; `NoMemory` if there is none.
+pub fn wrong_policy(
+    alloc: Global,
+    closed: Closed<'_>,
+    lists: &[Seq<u32>],
+) -> Result<Option<Spot>, NoMemory>
+    requires { length lists.now ≡ length closed.model.now.vehicles }
+    ensures { IfOk result (λ spot. spot ≡ policy_broken closed.entry.model.now lists.now) }
 {
-    let lists = solution.lists;
     for v in 0..lists.len() {
-        let on = solution.route(v);
-        if !keeps_policy(alloc, &on)? {
+        if !keeps_policy(alloc, closed, v, lists[v].as_slice())? {
             return Ok(Some(Spot::of_vehicle(v)));
         }
     }
@@ -148,28 +151,27 @@ pub(crate) fn wrong_policy(alloc: Global, solution: &Solution<'_>) -> Result<Opt
 }
 
 // The first place of a list whose visit does not allow the vehicle.
-fn refused_visit(on: &VehicleRoute<'_>) -> Option<Spot>
-    ensures { result ≡ allowed_broken_of on.now.closed.model.now on.now.v on.now.list.now }
+fn refused_visit(closed: Closed<'_>, v: usize, list: &[u32]) -> Option<Spot>
+    requires { v < length closed.model.now.vehicles }
+    ensures { result ≡ allowed_broken_of closed.entry.model.now v list.now }
 {
-    let model = on.closed.model;
-    let vehicle = on.v;
-    let list = on.list;
+    let model = closed.model;
     for (k, &node) in list.iter().enumerate() {
-        if !model.allows_vehicle(vehicle as u32, node) {
-            return Some(Spot::at(vehicle, k + 1));
+        if !model.allows_vehicle(v as u32, node) {
+            return Some(Spot::at(v, k + 1));
         }
     }
     None
 }
 
-/// Where a visit stands on a vehicle that it does not allow.
-pub(crate) fn refused(solution: &Solution<'_>) -> Option<Spot>
-    ensures { result ≡ allowed_broken solution.now.closed.model.now solution.now.lists.now }
+/// Where a visit stands on a vehicle that it does not allow: the first vehicle, and the first place on it. Places count
+/// the start, so the first visit stands at place 1.
+pub fn refused(closed: Closed<'_>, lists: &[Seq<u32>]) -> Option<Spot>
+    requires { length lists.now ≡ length closed.model.now.vehicles }
+    ensures { result ≡ allowed_broken closed.entry.model.now lists.now }
 {
-    let lists = solution.lists;
     for v in 0..lists.len() {
-        let on = solution.route(v);
-        let spot = refused_visit(&on);
+        let spot = refused_visit(closed, v, lists[v].as_slice());
         if spot.is_some() {
             return spot;
         }

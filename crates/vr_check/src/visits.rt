@@ -65,7 +65,7 @@ fn is_missing(model: &Model, lists: &[Seq<u32>], node: u32) -> bool
 }
 
 /// Where a visit in no group is inactive: the least such node.
-pub(crate) fn missing(model: &Model, lists: &[Seq<u32>]) -> Option<Spot>
+pub fn missing(model: &Model, lists: &[Seq<u32>]) -> Option<Spot>
     ensures { result ≡ required_broken model.now lists.now }
 {
     for node in 0..model.nodes {
@@ -99,8 +99,8 @@ fn has_right_number(lists: &[Seq<u32>], group: &Group) -> bool
     }
 }
 
-/// Where too many nodes of a group are active, or without a penalty not exactly as many as may be.
-pub(crate) fn wrong_group(closed: Closed<'_>, lists: &[Seq<u32>]) -> Option<Spot>
+/// Where too many nodes of a group are active, or without a penalty not exactly as many as may be: the first group.
+pub fn wrong_group(closed: Closed<'_>, lists: &[Seq<u32>]) -> Option<Spot>
     ensures { result ≡ group_broken closed.entry.model.now lists.now }
 {
     let model = closed.model;

@@ -13,4 +13,4 @@ returns c =
     let all = λ (policy : Policy) (places : List PlacesOfPair). list_all (is_in_order policy places) places in
     c.all_in_order.ensures
     ∙ ap₂ all (sym (ap (λ vehicle. vehicle.policy) (c.get.ensures.value no_vehicle))) (c.as_slice.ensures ∙ c.in_ok-places.ensures)
-    ∙ policy_by_places (vehicle_at c.args.on.now.closed.model.now c.args.on.now.v).policy c.args.on.now.list.now (pairs_in c.args.on.now.closed.model.now c.args.on.now.list.now)
+    ∙ policy_by_places (vehicle_at c.args.closed.model.now c.args.v).policy c.args.list.now (pairs_in c.args.closed.model.now c.args.list.now)

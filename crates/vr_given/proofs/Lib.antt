@@ -1,0 +1,3 @@
+pub mod GivenLemmas
+pub mod BeginLemmas
+pub mod FaultLemmas
