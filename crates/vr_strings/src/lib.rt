@@ -26,7 +26,7 @@ mod words;
 
 pub use drawing::{StringPlaces, StringSize, draw_string};
 pub use items::{ItemKey, ItemKeys};
-pub use laws::drawn_strings_are_there;
+pub use laws::{drawn_strings_are_there, each_item_has_one_turn, sorting_is_stable};
 pub use leaving::write_left;
 pub use rings::Rings;
 pub use sizes::{Ruin, StepSize, draw_step_size};
