@@ -1,17 +1,15 @@
 -- Strings that are drawn are there.
-use Rattle.std.proofs.Common.{◌≡◌, ◌∙◌, ℕ, zero, suc, ◌+◌, ◌-◌, ◌<◌, ◌≤◌, Bool, true, false, cond, refl, sym, ap, subst, arith, inl, inr}
-use Rattle.std.specs.Prelude.{min, IsTrue, nat_lt, ◌&&◌, ◌==◌, Option, Some, None}
+use Rattle.std.proofs.Common.{◌≡◌, ℕ, zero, suc, ◌+◌, ◌-◌, ◌<◌, ◌≤◌, Bool, true, false, cond, refl, arith}
+use Rattle.std.specs.Prelude.{min, nat_lt, ◌&&◌, ◌==◌, Some}
 use Rattle.std.proofs.Math.Nat.{mod-lt}
-use Rattle.std.proofs.lemmas.Bool.{cases_Bool}
 use Rattle.rand_pcg.specs.Lcg.{Lcg}
 use Rattle.rand_pcg.specs.Pcg.{pcg32}
 use Rattle.vr_gen.specs.Draws.{draw}
-use Rattle.vr_model.specs.deciding.Testing.{and_left, and_right, eq_of_test}
+use Rattle.vr_model.specs.deciding.Testing.{and_left, and_right}
 use Rattle.vr_model.proofs.tables.Tests.{lt_of_test}
 use Rattle.vr_strings.specs.declared.drawing.StringSize.{StringSize}
-use Rattle.vr_strings.specs.declared.drawing.StringPlaces.{StringPlaces}
 use Rattle.vr_strings.specs.Strings.{size_of, drawn_size, drawn_first, stay_of, drawn_stay, drawn_string, least_first, greatest_first}
-use Rattle.vr_strings.specs.Strings.{IsSizeIn, IsStringIn, IsStringAt}
+use Rattle.vr_strings.specs.Strings.{IsSizeIn, IsStringAt}
 
 pub draw_below : (k : ℕ) (words : Lcg) → 0 < k → (draw k words).0 < k
 draw_below k words h = mod-lt (pcg32 words).0 h

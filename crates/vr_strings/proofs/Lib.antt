@@ -4,3 +4,4 @@ pub mod DrawnStrings
 pub mod TakenNodes
 pub mod KeysSoFar
 pub mod ListCounts
+pub mod LawLemmas

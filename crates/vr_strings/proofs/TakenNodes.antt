@@ -1,6 +1,6 @@
 -- Which nodes of a list a string takes out, told by where they are.
-use Rattle.std.proofs.Common.{◌≡◌, ◌∙◌, ℕ, suc, ◌+◌, ◌-◌, ◌<◌, ◌≤◌, Bool, true, false, not, List, ◌++◌, length, drop, refl, sym, ap, subst, arith, inl, inr}
-use Rattle.std.specs.Prelude.{IsTrue, ◌&&◌, ◌||◌, ◌==◌, nat_le, nat_lt, slice_index, slice_range, Option, Some, None}
+use Rattle.std.proofs.Common.{◌≡◌, ◌∙◌, ℕ, suc, ◌+◌, ◌-◌, ◌<◌, ◌≤◌, Bool, true, false, not, List, length, drop, refl, sym, ap, subst, arith, inl, inr}
+use Rattle.std.specs.Prelude.{IsTrue, ◌&&◌, ◌==◌, nat_le, nat_lt, slice_index, slice_range, Option, Some, None}
 use Rattle.std.proofs.lemmas.Bool.{cases_lt}
 use Rattle.std.proofs.lemmas.List.{get_or-drop, get_or-take, length-take, length-drop}
 use Rattle.std.proofs.lemmas.List.Folds.{list_any-append}
@@ -10,7 +10,6 @@ use Rattle.vr_model.proofs.routes.Lists.{place_of_held, held_at}
 use Rattle.vr_model.proofs.tables.Tests.{clash, fails, same_tests, lt_of_test, nat_of_test, test_of_lt, apart}
 use Rattle.vr_routes.specs.Seats.{IsSeat, IsOnce}
 use Rattle.vr_routes.proofs.SeatLemmas.{active_at}
-use Rattle.vr_routes.specs.declared.seats.Seat.{Seat}
 use Rattle.vr_strings.specs.declared.drawing.StringPlaces.{StringPlaces}
 use Rattle.vr_strings.specs.Strings.{gone_of, is_not_kept, string_visits, takes_place, IsStringIn}
 

@@ -123,11 +123,6 @@ pub record IsStringAt (n p : ℕ) (string : StringPlaces) : Type 0 where
   pub from : string.first ≤ p
   pub until : p < string.first + string.width
 
--- each string that is drawn is in its list, and contains the place for which it is drawn
-abbrev pub DrawnStringsAreThere : Type 0
-DrawnStringsAreThere =
-    (longest n p : ℕ) (words : Lcg) → 1 ≤ longest → p < n → IsStringAt n p (drawn_string longest n p words).0
-
 -- the visits of a string that are taken out
 abbrev pub string_visits : List ℕ → ℕ → ℕ → Option ℕ → List ℕ
 string_visits list a b None = slice_range list a b

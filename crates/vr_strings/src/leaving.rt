@@ -54,9 +54,11 @@ fn goes_out(
     }
 }
 
-/// Writes what is left of the list of vehicle `v` without a string over a row: the visits of the string go, except the
-/// one that stays, and the other node of the pair of each of them goes too. Each visit of the list takes the same time,
-/// however long the list is, and no memory. The routes stay as they are.
+/// Writes what is left of the list of vehicle `v` without a string over a row. The visits of the string go, except the
+/// one that stays. The other node of the pair of each that goes does too, also if it is the one that stays.
+///
+/// Each visit of the list takes the same time, however long the list is. It takes no memory, and the routes stay as
+/// they are.
 pub fn write_left(
     nodes: &NodeTables<'_>,
     routes: &Routes,

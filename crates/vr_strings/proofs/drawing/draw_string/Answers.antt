@@ -1,4 +1,4 @@
-use Rattle.std.proofs.Common.{◌≡◌, ◌+◌, ap, sym, subst}
+use Rattle.std.proofs.Common.{◌+◌, ap, sym, subst}
 use Rattle.vr_strings.specs.Strings.{IsStringAt}
 use Rattle.vr_strings.proofs.DrawnStrings.{string_fits}
 use Rattle.vr_strings.proofs.drawing.draw_string.Goals as goal

@@ -1,4 +1,4 @@
-use Rattle.std.proofs.Common.{◌≡◌, ◌∙◌, ◌+◌, ◌++◌, ◌∷◌, [], List, sym, subst}
+use Rattle.std.proofs.Common.{◌∙◌, ◌+◌, List, sym, subst}
 use Rattle.vr_strings.specs.declared.items.ItemKey.{ItemKey}
 use Rattle.vr_strings.proofs.KeysSoFar.{AreKeysSoFar, keys_put, keys_left}
 use Rattle.vr_strings.proofs.items.keys_of.Goals.{in-Some+in_ok-push-in-Some, in-None}

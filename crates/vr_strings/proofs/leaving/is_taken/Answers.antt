@@ -1,5 +1,5 @@
 use Rattle.std.proofs.Common.{◌∙◌, ap, sym}
-use Rattle.std.specs.Prelude.{◌&&◌, ◌==◌}
+use Rattle.std.specs.Prelude.{◌&&◌}
 use Rattle.vr_model.specs.deciding.Testing.{test_of_eq}
 use Rattle.vr_model.proofs.tables.Tests.{apart}
 use Rattle.vr_strings.specs.Strings.{takes_place}

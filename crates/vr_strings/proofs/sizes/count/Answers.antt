@@ -1,4 +1,4 @@
-use Rattle.std.proofs.Common.{◌∙◌, arith}
+use Rattle.std.proofs.Common.{arith}
 use Rattle.vr_strings.proofs.ListCounts.{counts_more}
 use Rattle.vr_strings.proofs.sizes.count.Goals as goal
 
