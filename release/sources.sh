@@ -1,9 +1,12 @@
-# What the program is built from, for vr, release/build and .ci/checks, which read this file. The functions speak of the
+# What the programs are built from, for vr, release/build and .ci/checks, which read this file. The functions speak of the
 # sources in the current folder.
 
-# The crates of the program: vr_cli, and those of the repository that it stands on.
+# The programs that are released.
+programs='vr_cli vr_refine'
+
+# The crates of the programs: each of them, and those of the repository that it stands on.
 program_crates() {
-    awk '
+    awk -v programs="$programs" '
         { sub(/#.*/, "") }
         split($0, halves, ":") == 2 { split(halves[1], words, " "); below[words[1]] = halves[2] }
         function add(crate,  names, count, k) {
@@ -13,7 +16,10 @@ program_crates() {
             count = split(below[crate], names, " ")
             for (k = 1; k <= count; k++) add(names[k])
         }
-        END { add("vr_cli") }
+        END {
+            total = split(programs, program, " ")
+            for (n = 1; n <= total; n++) add(program[n])
+        }
     ' crates.txt
 }
 
@@ -25,7 +31,7 @@ sources_sum() {
     echo "${sum%% *}"
 }
 
-# The file built-from of a program that is built here now.
+# The file built-from of programs that are built here now.
 built_from() {
     echo "kit: $(rt version)"
     echo "sources: $(sources_sum)"
