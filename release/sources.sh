@@ -1,9 +1,12 @@
-# What the program is built from, for vr, release/build and .ci, which read this file. The functions speak of the
+# What the programs are built from, for vr, release/build and .ci, which read this file. The functions speak of the
 # sources in the current folder.
 
-# The crates of the program: vr_cli, and those of the repository that it stands on.
+# The programs that are released.
+programs='vr_cli vr_refine'
+
+# The crates of the programs: each of them, and those of the repository that it stands on.
 program_crates() {
-    awk '
+    awk -v programs="$programs" '
         { sub(/#.*/, "") }
         split($0, halves, ":") == 2 { split(halves[1], words, " "); below[words[1]] = halves[2] }
         function add(crate,  names, count, k) {
@@ -13,7 +16,10 @@ program_crates() {
             count = split(below[crate], names, " ")
             for (k = 1; k <= count; k++) add(names[k])
         }
-        END { add("vr_cli") }
+        END {
+            total = split(programs, program, " ")
+            for (n = 1; n <= total; n++) add(program[n])
+        }
     ' crates.txt
 }
 
@@ -28,11 +34,12 @@ sources_sum() {
     find crates.txt $(printf 'crates/%s/src ' $(program_crates)) -type f -exec sha256sum {} + | LC_ALL=C sort -k 2 | sum_of
 }
 
-# The file built-from of a program that is to be built here now. Once it is built, a line has the sum of its bytes.
+# The file built-from of programs that are to be built here now. Once they are built, a line for each has the sum of
+# its bytes.
 built_from() {
     echo "kit: $(rt version)"
     echo "sources: $(sources_sum)"
 }
 
-# A field of such a file: kit, sources or program.
+# A field of such a file: kit, sources, or the name of a program.
 released_field() { sed -n "s/^$1: //p" "$2"; }

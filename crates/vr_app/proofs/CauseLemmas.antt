@@ -10,12 +10,11 @@ use Rattle.vr_model.specs.first.FirstSolutions.{first_lists}
 use Rattle.vr_app.specs.Causes.{HasFault, IsNotJson, IsReadAs, IsRefusedInput, IsTooLong}
 use Rattle.vr_app.specs.Found.{found_from}
 use Rattle.vr_app.specs.Input.{max_input, model_of_value, input_value}
-use Rattle.vr_app.specs.Reply.{reply, reply_in, reply_to_found, reply_to_input, reply_to_model, reply_to_tree, reply_to_value}
+use Rattle.vr_app.specs.Reply.{Reply, reply, reply_in, reply_to_bytes, reply_to_found, reply_to_input, reply_to_json, reply_to_model, reply_to_tree}
 use Rattle.vr_app.specs.Runs.{IsSolutionAsked}
 use Rattle.vr_app.specs.Texts.{refused_tree}
 use Rattle.vr_app.specs.declared.words.Mode.{Mode}
 use Rattle.vr_app.specs.declared.words.Request.{Request}
-use Rattle.vr_app.specs.declared.words.Task.{Task}
 use Rattle.vr_app.specs.declared.words.Task.TheVariants as task
 use Rattle.vr_app.proofs.InputLemmas.{of_input, reply-short}
 
@@ -48,10 +47,10 @@ module _ {A : Type 0} (read : Data → Result A Fault) (other : ℕ) (P Q : A �
   }
 
   -- of any input, where it is so of those that are JSON
-  pub of_input-classifies : (it : Task) (reports : List Event → List ℕ)
-      → ((d : Data) → length bytes ≤ max_input → input_value bytes ≡ Some d → Classifies read other P Q bytes (reply_to_tree it reports d).status)
-      → Classifies read other P Q bytes (reply_to_input it reports bytes).status
-  of_input-classifies it reports of_tree = of_input it reports bytes (λ reply. Classifies read other P Q bytes reply.status) long-classifies no_value-classifies of_tree
+  pub of_input-classifies : (reply : Data → Reply)
+      → ((d : Data) → length bytes ≤ max_input → input_value bytes ≡ Some d → Classifies read other P Q bytes (reply d).status)
+      → Classifies read other P Q bytes (reply_to_bytes reply bytes).status
+  of_input-classifies reply of_tree = of_input reply bytes (λ answer. Classifies read other P Q bytes answer.status) long-classifies no_value-classifies of_tree
 
   -- of an input whose value this is
   module _ (d : Data) (short : length bytes ≤ max_input) (some : input_value bytes ≡ Some d) where
@@ -125,11 +124,11 @@ module _ (asked : Mode) (reports : List Event → List ℕ) (bytes : List ℕ) w
 
   pub input-classifies : ClassifiesFirst bytes (reply_to_input (task.Find asked) reports bytes).status
   input-classifies =
-      of_input-classifies model_of_value 6 has_first has_no_first (omega arith) (λ e. absurd (omega arith)) bytes (task.Find asked) reports (λ d short some. model-classifies d short some (model_of_value d) refl)
+      of_input-classifies model_of_value 6 has_first has_no_first (omega arith) (λ e. absurd (omega arith)) bytes (reply_to_tree (task.Find asked) reports) (λ d short some. model-classifies d short some (model_of_value d) refl)
 
   input-refused : (fault : Fault) → HasFault model_of_value bytes fault → (reply_to_input (task.Find asked) reports bytes).text ≡ text_line (refused_tree fault)
   input-refused fault r =
-      ap (λ reply. reply.text) (reply-short (task.Find asked) reports bytes r.short ∙ ap (reply_to_value (task.Find asked) reports) r.is_value ∙ ap (reply_to_model asked reports) r.is_fault)
+      ap (λ reply. reply.text) (reply-short (reply_to_tree (task.Find asked) reports) bytes r.short ∙ ap (reply_to_json (reply_to_tree (task.Find asked) reports)) r.is_value ∙ ap (reply_to_model asked reports) r.is_fault)
 
 module _ (reports : List Event → List ℕ) (words : List (List ℕ)) (bytes : List ℕ) where
   pub solved-classifies : IsSolutionAsked words → ClassifiesFirst bytes (reply reports words bytes).status

@@ -10,6 +10,7 @@ pub mod NumberLemmas
 pub mod ShortestLemmas
 pub mod SpanLemmas
 pub mod FileLemmas
+pub mod EndLemmas
 pub mod RunLemmas
 pub mod ImportedFiles
 pub mod ImportedMatrices

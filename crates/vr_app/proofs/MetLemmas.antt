@@ -1,18 +1,17 @@
 -- What the reply to a question about a solution says of the input.
 use Rattle.std.proofs.Common.{◌≡◌, ◌∙◌, ◌≤◌, ◌↔◌, ℕ, List, [], Bool, true, false, Option, Some, None, Result, Ok, Err, refl, ap, sym, subst, arith, length}
-use Rattle.std.specs.Prelude.{IsTrue, codes}
+use Rattle.std.specs.Prelude.{IsTrue}
 use Rattle.serde_json.specs.Data.{Data}
 use Rattle.vr_json.specs.Trees.{text_line}
 use Rattle.vr_json.specs.declared.fault.Fault.{Fault}
 use Rattle.std.specs.Result.{IsErrAnd}
-use Rattle.vr_json.specs.Reading.{Answers, required, seen}
+use Rattle.vr_json.specs.Reading.{Answers, seen}
 use Rattle.vr_json.specs.declared.fault.ReadFail.{ReadFail}
 use Rattle.vr_json.specs.declared.fault.ReadFail.TheVariants.{Refused}
-use Rattle.vr_json.proofs.Readings.{EachEnsures, Ensures, after, any_value, gives, required_ensures}
+use Rattle.vr_json.proofs.Readings.{Ensures, after, any_value, gives}
 use Rattle.vr_model.specs.declared.search.Event.{Event}
 use Rattle.vr_model.specs.tables.WellFormed.{IsWellFormed}
-use Rattle.vr_read.specs.Models.{read_model}
-use Rattle.vr_read.proofs.WellFormedModels.{well_formed_from_read}
+use Rattle.vr_given.proofs.GivenLemmas.{model_field_ensures}
 use Rattle.vr_check.proofs.AllMet.{met_keeps_all_rules}
 use Rattle.vr_check.specs.declared.finding.Finding.{Finding}
 use Rattle.vr_check.specs.declared.finding.Finding.TheVariants.{Meets, Broken}
@@ -22,7 +21,7 @@ use Rattle.vr_app.specs.Input.{max_input, input_value}
 use Rattle.vr_printed.specs.Printed.{assignment_of}
 use Rattle.vr_app.specs.Met.{IsBrokenBy, HasKept, IsMetBy, IsSpannedBy}
 use Rattle.vr_app.specs.Spans.{printed_assignment, spans_of, spans_tree}
-use Rattle.vr_app.specs.Reply.{Reply, answer_tree, not_json, reply, reply_in, reply_to_checked, reply_to_finding, reply_to_input, reply_to_value, too_long}
+use Rattle.vr_app.specs.Reply.{Reply, answer_tree, not_json, reply, reply_in, reply_to_checked, reply_to_finding, reply_to_input, reply_to_json, reply_to_tree, too_long}
 use Rattle.vr_app.specs.Runs.{Asks, ReadsInput, ReadsJson}
 use Rattle.vr_app.specs.Texts.{refused_tree}
 use Rattle.vr_app.specs.Words.{is_read, reads_json, request_of}
@@ -52,16 +51,10 @@ seen_fault g (Err fail) f h e a = record {
   refused = λ fault is. let same : fail ≡ Refused fault = cc in let known = a.refused fault (ap Err same) in let k : f ≡ fault = cc in ap Err (sym e ∙ k);
 }
 
--- the model of an object is well formed
-pub field_ensures : EachEnsures IsWellFormed (required (codes "model") read_model)
-field_ensures =
-    let read : EachEnsures IsWellFormed read_model = λ path d. record { of_value = λ model is. well_formed_from_read path d model is } in
-    required_ensures (codes "model") read
-
 checked_ensures : (d : Data) → Ensures (λ it. IsWellFormed it.model) (checked_of d)
 unfolding checked_at
 checked_ensures d =
-    after (field_ensures [] d) λ model well.
+    after (model_field_ensures [] d) λ model well.
     after any_value λ solution _.
     after any_value λ others _.
     gives well
@@ -94,11 +87,11 @@ module _ (asked : Question) (reports : List Event → List ℕ) (bytes : List �
 
   check-classifies : ClassifiesMet bytes (reply_to_input (task.Ask asked) reports bytes).status
   check-classifies =
-      of_input-classifies checked_of 9 meets breaks (omega arith) (λ e. absurd (omega arith)) bytes (task.Ask asked) reports (λ d short some. checked-classifies d short some (checked_of d) refl)
+      of_input-classifies checked_of 9 meets breaks (omega arith) (λ e. absurd (omega arith)) bytes (reply_to_tree (task.Ask asked) reports) (λ d short some. checked-classifies d short some (checked_of d) refl)
 
   check-refused : (fault : Fault) → HasFault checked_of bytes fault → (reply_to_input (task.Ask asked) reports bytes).text ≡ text_line (refused_tree fault)
   check-refused fault r =
-      ap (λ reply. reply.text) (reply-short (task.Ask asked) reports bytes r.short ∙ ap (reply_to_value (task.Ask asked) reports) r.is_value ∙ ap (reply_to_checked asked) r.is_fault)
+      ap (λ reply. reply.text) (reply-short (reply_to_tree (task.Ask asked) reports) bytes r.short ∙ ap (reply_to_json (reply_to_tree (task.Ask asked) reports)) r.is_value ∙ ap (reply_to_checked asked) r.is_fault)
 
 -- ---- what the text says
 
@@ -137,7 +130,7 @@ module _ (asked : Question) (reports : List Event → List ℕ) (bytes : List �
       finding-finds it (checked-well_formed d it is) (record { short = short; value = d; is_value = some; is_read = is }) (found_in it) refl
 
   check-finds : Finds asked bytes (reply_to_input (task.Ask asked) reports bytes)
-  check-finds = of_input (task.Ask asked) reports bytes (Finds asked bytes)
+  check-finds = of_input (reply_to_tree (task.Ask asked) reports) bytes (Finds asked bytes)
       (λ long. finds_none asked bytes too_long (λ e. absurd (omega arith)) (λ e. absurd (omega arith)))
       (λ short none. finds_none asked bytes not_json (λ e. absurd (omega arith)) (λ e. absurd (omega arith)))
       (λ d short some. checked-finds d short some (checked_of d) refl)

@@ -11,17 +11,17 @@ use Rattle.vr_json.specs.declared.fault.Fault.{Fault}
 use Rattle.vr_model.specs.declared.records.Model.{Model}
 use Rattle.vr_model.specs.first.FirstSolutions.{first_lists}
 use Rattle.vr_read.proofs.WellFormedModels.{well_formed_from_read}
+use Rattle.vr_given.proofs.BeginLemmas.{first_lists-valid}
 use Rattle.vr_model.specs.declared.search.Event.{Event}
 use Rattle.vr_watch.specs.Told.{Reported}
-use Rattle.vr_check.specs.declared.finding.Rule.{Rule}
 use Rattle.vr_app.specs.Answers.{AnswersWith, AnswersReply}
 use Rattle.vr_app.specs.Causes.{IsAnsweredBy}
 use Rattle.vr_app.specs.Found.{Found, found_events, found_from, line_of_found}
 use Rattle.vr_app.specs.Input.{max_input, model_of_value, input_value}
-use Rattle.vr_app.specs.Reply.{Reply, reply, reply_in, reply_to_found, reply_to_input, reply_to_model, with_reports}
+use Rattle.vr_app.specs.Reply.{Reply, reply, reply_in, reply_to_found, reply_to_input, reply_to_model, reply_to_tree, with_reports}
 use Rattle.vr_app.specs.Reports.{joined_reports}
 use Rattle.vr_app.specs.Runs.{IsAskedFor}
-use Rattle.vr_app.specs.Texts.{met_tree, not_met_tree, refused_tree, status_tree, summary_tree}
+use Rattle.vr_app.specs.Texts.{broken_tree, met_tree, refused_tree, status_tree, summary_tree}
 use Rattle.vr_app.specs.Status.{status_number}
 use Rattle.vr_app.specs.declared.answer.Answer.{Answer}
 use Rattle.vr_app.specs.declared.status.Status.TheVariants as all
@@ -50,9 +50,9 @@ pub met-printable : (cost : ℤ) → IsPrintable (met_tree cost)
 unfolding met_tree
 met-printable cost = record { whole = simp is_float-whole; nested = omega arith }
 
-pub not_met-printable : (rule : Rule) (vehicle place : ℤ) → IsPrintable (not_met_tree rule vehicle place)
-unfolding not_met_tree
-not_met-printable rule vehicle place = record { whole = simp is_float-whole; nested = omega arith }
+pub broken-printable : (rule : List ℕ) (vehicle place : ℤ) → IsPrintable (broken_tree rule vehicle place)
+unfolding broken_tree
+broken-printable rule vehicle place = record { whole = simp is_float-whole; nested = omega arith }
 
 pub summary-printable : (summary : Summary) → IsPrintable (summary_tree summary)
 unfolding summary_tree
@@ -72,7 +72,7 @@ module _ (asked : Mode) (reports : List Event → List ℕ) (bytes : List ℕ) w
     found = found_from asked model lists;
     is_model = record { short = short; value = d; is_value = some; is_read = is };
     is_found = ap (option_map (found_from asked model)) e;
-    prints = found-printed asked model lists (well_formed_from_read _ d model is) e;
+    prints = found-printed asked model lists (well_formed_from_read _ d model is) (first_lists-valid model lists e) (λ first. first_lists model ≡ Some first) e;
     text_is = refl;
   }
 
@@ -82,7 +82,7 @@ module _ (asked : Mode) (reports : List Event → List ℕ) (bytes : List ℕ) w
   model-answered d short some (Ok model) is zero = found-answered d model short some is (first_lists model) refl zero
 
   input-answered : AnsweredWhere (reply_to_input (task.Find asked) reports bytes)
-  input-answered = of_input (task.Find asked) reports bytes AnsweredWhere (λ long zero. absurd (omega arith)) (λ short none zero. absurd (omega arith))
+  input-answered = of_input (reply_to_tree (task.Find asked) reports) bytes AnsweredWhere (λ long zero. absurd (omega arith)) (λ short none zero. absurd (omega arith))
       (λ d short some. model-answered d short some (model_of_value d) refl)
 
   pub reply-answered : (words : List (List ℕ)) → IsAskedFor asked words → (reply reports words bytes).status ≡ 0 → IsAnsweredBy asked reports bytes (reply reports words bytes).text

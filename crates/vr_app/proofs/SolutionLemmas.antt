@@ -1,13 +1,12 @@
 -- Solutions that are printed.
-use Rattle.std.proofs.Common.{◌≡◌, ◌∙◌, ℕ, List, Bool, true, false, cond, Option, Some, None, ℤ, length, refl, ap, sym, subst, arith}
-use Rattle.std.specs.Prelude.{IsTrue, is_some, unwrap_or, ◌≤ℤ◌}
+use Rattle.std.proofs.Common.{◌≡◌, ◌∙◌, ℕ, List, Option, Some, None, ℤ, length, refl, ap, sym, subst, arith}
+use Rattle.std.specs.Prelude.{IfSome, IsTrue, is_some, unwrap_or, ◌≤ℤ◌}
 use Rattle.std.proofs.lemmas.Int.{ints}
 use Rattle.vr_model.specs.declared.records.Improve.{Improve}
 use Rattle.vr_model.specs.declared.records.Improve.TheVariants as improve
 use Rattle.vr_model.specs.declared.records.Model.{Model}
 use Rattle.vr_model.specs.declared.records.ScheduleRule.{ScheduleRule}
 use Rattle.vr_model.specs.search.Outcomes.{Outcome}
-use Rattle.vr_model.specs.first.FirstSolutions.{build, first_lists}
 use Rattle.vr_model.specs.routes.Costs.{assigned, cost, no_plan}
 use Rattle.vr_model.specs.routes.Routes.{inactive, route}
 use Rattle.vr_model.specs.routes.Rules.{is_open, is_valid}
@@ -32,21 +31,20 @@ use Rattle.vr_print.proofs.TreeLemmas.{plan-at}
 use Rattle.vr_app.proofs.printing.AllMet.{printed_meets}
 use Rattle.vr_app.specs.Improved.{improved, lambda_of, limit_of, untried}
 use Rattle.vr_app.specs.Found.{Found, found_from, line_of_found, searched}
-use Rattle.vr_app.specs.Solutions.{HasChosenPlans, IsInLimits, IsSolution, PrintsSolution}
+use Rattle.vr_app.specs.Solutions.{HasChosenPlans, IsInLimits, IsSolution, PrintsBegun}
 use Rattle.vr_app.specs.Texts.{summary_of, used}
 use Rattle.vr_app.specs.declared.texts.Summary.{Summary}
 use Rattle.vr_app.specs.declared.words.Mode.{Mode}
 use Rattle.vr_app.specs.declared.words.Mode.TheVariants as mode
+use Rattle.vr_routes.specs.Tours.{Tours}
+use Rattle.vr_rules.specs.Placing.{lists_in}
 use Rattle.vr_rules.proofs.TotalLemmas.{sum-is_cost}
 
--- the first lists are valid
-pub first_lists-valid : (model : Model) (lists : List (List ℕ)) → first_lists model ≡ Some lists → IsTrue (is_valid model lists)
-unfolding first_lists
-first_lists-valid model lists e = by (is_valid model (build model)) refl e
-  where
-    by : (b : Bool) → is_valid model (build model) ≡ b → cond b (Some (build model)) None ≡ Some lists → is_valid model lists ≡ true
-    by true valid same = let k : build model ≡ lists = cc in ap (is_valid model) (sym k) ∙ valid
-    by false valid same = absurd (cc)
+-- routes of lists that are valid if they are there
+pub valid_in : (model : Model) (begun : Option (List (List ℕ))) → ((lists : List (List ℕ)) → begun ≡ Some lists → IsTrue (is_valid model lists)) → (first : Option Tours) → lists_in first ≡ begun
+    → IfSome first (λ routes. IsTrue (is_valid model routes.lists))
+valid_in model begun valid None e = tt
+valid_in model begun valid (Some routes) e = valid routes.lists (sym e)
 
 valid-open : (model : Model) (lists : List (List ℕ)) → IsTrue (is_valid model lists) → IsTrue (is_open model lists)
 unfolding is_valid
@@ -114,11 +112,11 @@ searched-sound mode.First model first well_formed valid = untried-sound model fi
 searched-sound mode.Solve model first well_formed valid = improved-sound model.search.improve model first well_formed valid
 searched-sound mode.Log model first well_formed valid = improved-sound model.search.improve model first well_formed valid
 
--- what is found is printed as a solution
-pub found-printed : (asked : Mode) (model : Model) (first : List (List ℕ)) → IsWellFormed model → first_lists model ≡ Some first → PrintsSolution model (line_of_found model (found_from asked model first))
+-- what is found from valid lists is printed as a solution
+pub found-printed : (asked : Mode) (model : Model) (first : List (List ℕ)) → IsWellFormed model → IsTrue (is_valid model first) → (begins : List (List ℕ) → Type 0) → begins first
+    → PrintsBegun begins model (line_of_found model (found_from asked model first))
 unfolding line_of_found
-found-printed asked model first well_formed e =
-    let valid = first_lists-valid model first e in
+found-printed asked model first well_formed valid begins e =
     let sound = searched-sound asked model first well_formed valid in
     let bounds = costs_are_bounded model well_formed first valid in
     let limits = sound.in_limits in

@@ -1,24 +1,27 @@
 -- How a run ends.
-use Rattle.std.specs.Prelude.{◌≡◌, ◌≢◌, ◌⊎◌, ℕ, List, [], Option, Some}
+use Rattle.std.specs.Prelude.{◌≡◌, ◌≢◌, ◌⊎◌, ℕ, true, false, List, [], Option, Some}
 use Rattle.vr_io.specs.Edges.{Rose, Took}
 use Rattle.vr_io.specs.Whole.{TookFront}
 use Rattle.vr_model.specs.declared.search.Event.{Event}
 use Rattle.vr_app.specs.Answers.{AnswersReply, IsOfAnswer}
-use Rattle.vr_app.specs.Reply.{reply}
-use Rattle.vr_app.specs.Runs.{IsAsking, IsNotAccepted, ReadsInput, ReadsNothing, WhereKnown}
+use Rattle.vr_app.specs.Programs.{Program}
+use Rattle.vr_app.specs.Promises.{program_of}
+use Rattle.vr_app.specs.Runs.{IsAsking, IsNotAccepted, WhereKnown}
 use Rattle.vr_app.specs.Status.{status_number}
 use Rattle.vr_app.specs.declared.answer.Answer.{Answer}
 use Rattle.vr_app.specs.declared.status.Status.{Status}
 use Rattle.vr_app.specs.declared.status.Status.TheVariants as all
 
--- the answer is the one to these words and to a source that has this left before, and this after
-pub record Responds (reports : List Event → List ℕ) (words : List (List ℕ)) (left_before left_after : Option (List ℕ))
-    (answer : Answer) : Type 0 where
-  pub replies : WhereKnown left_before (λ bytes. AnswersReply (reply reports words bytes) answer)
-  pub unread : ReadsNothing words → (bytes : List ℕ) → AnswersReply (reply reports words bytes) answer
-  pub usage_only : answer.status ≡ all.Usage → IsNotAccepted words
-  pub not_met_only : answer.status ≡ all.NotMet → IsAsking words
-  pub emptied : ReadsInput words → answer.status ≢ all.TooLong → WhereKnown left_before (λ bytes. left_after ≡ Some [])
+-- the answer is the one of a program to these words and to a source that has this left before, and this after; usage is
+-- told only where `unknown` holds, and a broken rule only where `asking` does
+pub record RespondsBy (program : Program) (unknown asking : Type 0) (words : List (List ℕ))
+    (left_before left_after : Option (List ℕ)) (answer : Answer) : Type 0 where
+  pub replies : WhereKnown left_before (λ bytes. AnswersReply (program.reply words bytes) answer)
+  pub unread : program.is_read words ≡ false → (bytes : List ℕ) → AnswersReply (program.reply words bytes) answer
+  pub usage_only : answer.status ≡ all.Usage → unknown
+  pub not_met_only : answer.status ≡ all.NotMet → asking
+  pub emptied : program.is_read words ≡ true → answer.status ≢ all.TooLong
+      → WhereKnown left_before (λ bytes. left_after ≡ Some [])
   pub settled : IsOfAnswer answer.status
 
 -- an answer of which P holds was written, and the status is its own
@@ -51,9 +54,16 @@ Ends written faults P failed old new status =
     ⊎ (IsSilent all.ReadFault old new status × failed)
     ⊎ IsSilent all.NoMemory old new status
 
--- a run of these words ends so: the source has this left before and after it, and failed so often
+-- a run of a program ends so: the source has this left before and after it, and failed so often
+pub record RanBy {K : Type 0} (written : K → Option (List ℕ)) (faults : K → ℕ) (program : Program)
+    (unknown asking : Type 0) (words : List (List ℕ)) (left_before left_after : Option (List ℕ))
+    (read_faults_before read_faults_after : ℕ) (old new : K) (status : ℕ) : Type 0 where
+  pub ends : Ends written faults (RespondsBy program unknown asking words left_before left_after)
+      (Rose read_faults_before read_faults_after × (program.is_read words ≡ true)) old new status
+
+-- the same of the program whose watchers report so
 pub record Ran {K : Type 0} (written : K → Option (List ℕ)) (faults : K → ℕ) (reports : List Event → List ℕ)
     (words : List (List ℕ)) (left_before left_after : Option (List ℕ)) (read_faults_before read_faults_after : ℕ)
     (old new : K) (status : ℕ) : Type 0 where
-  pub ends : Ends written faults (Responds reports words left_before left_after)
-      (Rose read_faults_before read_faults_after × ReadsInput words) old new status
+  pub by : RanBy written faults (program_of reports) (IsNotAccepted words) (IsAsking words) words left_before left_after
+      read_faults_before read_faults_after old new status

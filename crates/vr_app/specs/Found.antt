@@ -27,9 +27,13 @@ searched mode.Log model lists = improved model.search.improve model lists
 abbrev pub found_from : Mode → Model → List (List ℕ) → Found
 found_from asked model lists = record { first = lists; outcome = searched asked model lists }
 
+-- what a mode finds that begins with these lists, if there are any
+abbrev pub found_with : Mode → Model → Option (List (List ℕ)) → Option Found
+found_with asked model begun = option_map (found_from asked model) begun
+
 -- what a mode finds for a model; none exactly where the construction of a first solution gives none
 abbrev pub found_for : Mode → Model → Option Found
-found_for asked model = option_map (found_from asked model) (first_lists model)
+found_for asked model = found_with asked model (first_lists model)
 
 -- the events of what was found
 abbrev pub found_events : Option Found → List Event

@@ -1,91 +1,35 @@
 -- What is promised of a run, by subject. When 0, 1, 4, 5, 6, 8 or 9 comes is said of runs whose status is none of 2, 3
 -- and 7; what is JSON, a model or a file is not too long.
-use Rattle.std.specs.Prelude.{◌≡◌, ◌≢◌, ◌⊎◌, ◌↔◌, ◌≤◌, ℕ, List, [], Option, Some, length}
+use Rattle.std.specs.Prelude.{◌≡◌, ◌⊎◌, ◌↔◌, ℕ, List}
 use Rattle.serde_json.specs.Data.{Data}
-use Rattle.vr_io.specs.Edges.{Rose, Took}
-use Rattle.vr_io.specs.Whole.{TookFront}
 use Rattle.vr_json.specs.Trees.{text_line}
 use Rattle.vr_json.specs.declared.fault.Fault.{Fault}
 use Rattle.vr_model.specs.declared.search.Event.{Event}
 use Rattle.vr_app.specs.Causes.{HasFault, HasFirst, HasFlaw, HasNoFirst, IsAnsweredBy, IsFile, IsFlawed}
 use Rattle.vr_app.specs.Causes.{IsImportedAs, IsNotJson, IsRefusedInput, IsTooLong}
 use Rattle.vr_app.specs.Checked.{checked_of}
-use Rattle.vr_app.specs.Input.{max_input, model_of_value}
+use Rattle.vr_app.specs.Input.{model_of_value}
 use Rattle.vr_app.specs.Met.{IsBrokenBy, IsMet, IsMetBy, IsNotMet, IsSpannedBy}
+use Rattle.vr_app.specs.Programs.{HasFailedOf, IsCompleteBy, IsEmptiedBy, IsReplyOf, Program, Run, Wrote}
 use Rattle.vr_app.specs.Reply as replies
-use Rattle.vr_app.specs.Reply.{Replies}
 use Rattle.vr_app.specs.Runs.{AsksCheck, AsksSpans, Imports, IsAskedFor, IsAsking, IsNotAccepted, IsSolutionAsked}
 use Rattle.vr_app.specs.Runs.{IsStatusOfAnswer, ReadsInput, ReadsJson, ReadsNothing, WhereAnswered, WhereAsked}
 use Rattle.vr_app.specs.Runs.{WhereImported, WhereSolved, WhereKnown}
 use Rattle.vr_app.specs.Texts.{refused_tree}
+use Rattle.vr_app.specs.Words.{is_read, request_of}
 use Rattle.vr_app.specs.declared.words.Mode.{Mode}
 
--- a run, as promises speak of it
-pub record Run : Type 0 where
-  -- its words, as bytes
-  pub words : List (List ℕ)
-  -- what the source has left before it and after it, where it is known
-  pub left_before : Option (List ℕ)
-  pub left_after : Option (List ℕ)
-  -- how often the source has failed before it and after it
-  pub read_faults_before : ℕ
-  pub read_faults_after : ℕ
-  -- what the sink has taken before it and after it, where it is known
-  pub written_before : Option (List ℕ)
-  pub written_after : Option (List ℕ)
-  -- how often the sink has failed before it and after it
-  pub write_faults_before : ℕ
-  pub write_faults_after : ℕ
-  pub status : ℕ
+-- the program whose watchers report so
+abbrev pub program_of : (List Event → List ℕ) → Program
+program_of reports = record { reply = replies.reply reports; is_read = λ words. is_read (request_of words) }
 
--- the run of these words, between these states of source and sink
-abbrev pub program_run : List (List ℕ) → Option (List ℕ) → Option (List ℕ) → ℕ → ℕ → Option (List ℕ) → Option (List ℕ)
-    → ℕ → ℕ → ℕ → Run
-program_run words left_before left_after read_faults_before read_faults_after written_before written_after
-    write_faults_before write_faults_after status = record {
-      words = words;
-      left_before = left_before;
-      left_after = left_after;
-      read_faults_before = read_faults_before;
-      read_faults_after = read_faults_after;
-      written_before = written_before;
-      written_after = written_after;
-      write_faults_before = write_faults_before;
-      write_faults_after = write_faults_after;
-      status = status;
-    }
+-- its reply
+abbrev pub IsReply : (List Event → List ℕ) → Run → Type 0
+IsReply reports run = IsReplyOf (program_of reports) run
 
--- the text was written, and is the only one
-abbrev pub Wrote : Run → List ℕ → Type 0
-Wrote run text = Took run.written_before run.written_after text
-
--- status and text are those of the reply to this input
-abbrev pub RepliesTo : (List Event → List ℕ) → Run → List ℕ → Type 0
-RepliesTo reports run bytes =
-    Replies (replies.reply reports run.words bytes) run.written_before run.written_after run.status
-
--- a front of the text of the reply to this input was written
-abbrev pub WroteFront : (List Event → List ℕ) → Run → List ℕ → Type 0
-WroteFront reports run bytes =
-    TookFront run.written_before run.written_after (replies.reply reports run.words bytes).text
-
--- The reply: status and whole text are those of the definition, where the run was settled, whatever the source has
--- where nothing is read; where the sink failed, a front of the text is written.
-pub record IsReply (reports : List Event → List ℕ) (run : Run) : Type 0 where
-  pub read : IsStatusOfAnswer run.status → WhereKnown run.left_before (RepliesTo reports run)
-  pub unread : IsStatusOfAnswer run.status → ReadsNothing run.words → (bytes : List ℕ) → RepliesTo reports run bytes
-  pub front : run.status ≡ 3 → WhereKnown run.left_before (WroteFront reports run)
-  pub unread_front : run.status ≡ 3 → ReadsNothing run.words → (bytes : List ℕ) → WroteFront reports run bytes
-
--- Words that read, an input of at most 64 MiB, and no failure of source or sink: the whole reply, or want of memory. Of
--- words that read nothing, a sink that does not fail is enough.
-pub record IsComplete (reports : List Event → List ℕ) (run : Run) : Type 0 where
-  pub read : ReadsInput run.words → WhereKnown run.left_before (λ bytes. length bytes ≤ max_input
-      → (Rose run.read_faults_before run.read_faults_after → ⊥)
-      → (Rose run.write_faults_before run.write_faults_after → ⊥)
-      → (run.status ≡ 7) ⊎ RepliesTo reports run bytes)
-  pub unread : ReadsNothing run.words → (Rose run.write_faults_before run.write_faults_after → ⊥) → (bytes : List ℕ)
-      → (run.status ≡ 7) ⊎ RepliesTo reports run bytes
+-- its reply is whole, or memory was wanting
+abbrev pub IsComplete : (List Event → List ℕ) → Run → Type 0
+IsComplete reports run = IsCompleteBy (program_of reports) run
 
 -- Of words that ask for a solution, 0 comes exactly where the input is a model with a first solution, 6 exactly where
 -- it is a model without one. What is written is a solution, which meets a check: valid lists with their chosen
@@ -143,14 +87,10 @@ pub record HasCause (run : Run) : Type 0 where
   pub usage_only : run.status ≡ 1 → IsNotAccepted run.words
   pub numbered : IsStatusOfAnswer run.status → ReadsNothing run.words → IsNotAccepted run.words ⊎ (run.status ≡ 0)
 
--- 2 comes only where the source failed, of words that read; 3 only where the sink failed.
-pub record HasFailed (run : Run) : Type 0 where
-  pub read_fault : run.status ≡ 2 → Rose run.read_faults_before run.read_faults_after
-  pub reads : run.status ≡ 2 → ReadsInput run.words
-  pub write_fault : run.status ≡ 3 → Rose run.write_faults_before run.write_faults_after
+-- 2 and 3 come of failures alone
+abbrev pub HasFailed : Run → Type 0
+HasFailed run = HasFailedOf (ReadsInput run.words) run
 
--- Where the input is read, it is read to its end on every status but 2, 7 and 8; on 3 where the reply is not 8.
+-- the input is read to its end
 abbrev pub IsEmptied : (List Event → List ℕ) → Run → Type 0
-IsEmptied reports run = ReadsInput run.words → run.status ≢ 2 → run.status ≢ 7 → run.status ≢ 8
-    → WhereKnown run.left_before (λ bytes. (run.status ≡ 3 → (replies.reply reports run.words bytes).status ≢ 8)
-    → run.left_after ≡ Some [])
+IsEmptied reports run = IsEmptiedBy (program_of reports) run

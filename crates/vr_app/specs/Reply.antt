@@ -7,12 +7,13 @@ use Rattle.vr_json.specs.declared.fault.Fault.{Fault}
 use Rattle.vr_model.specs.declared.records.Model.{Model}
 use Rattle.vr_model.specs.declared.search.Event.{Event}
 use Rattle.vr_io.specs.Edges.{Took}
+use Rattle.vr_check.specs.Check.{rule_word}
 use Rattle.vr_check.specs.declared.finding.Finding.{Finding}
 use Rattle.vr_check.specs.declared.finding.Finding.TheVariants.{Meets, Broken}
 use Rattle.vr_check.specs.declared.finding.Rule.{Rule}
 use Rattle.vr_app.specs.Words.{request_of}
 use Rattle.vr_app.specs.Input.{max_input, input_value, model_of_value}
-use Rattle.vr_app.specs.Texts.{status_tree, refused_tree, met_tree, not_met_tree, summary_of, summary_tree}
+use Rattle.vr_app.specs.Texts.{status_tree, refused_tree, met_tree, broken_tree, summary_of, summary_tree}
 use Rattle.vr_app.specs.Checked.{Checked, checked_of, found_in}
 use Rattle.vr_app.specs.Spans.{spans_of}
 use Rattle.vr_app.specs.Found.{Found, found_for, line_of_found}
@@ -82,9 +83,13 @@ abbrev pub answer_tree : Question → Checked → ℤ → Data
 answer_tree question.Check it cost = met_tree cost
 answer_tree question.Spans it cost = spans_of it
 
+-- the rule of this word is broken, there
+abbrev pub breaks : List ℕ → ℤ → ℤ → Reply
+breaks rule vehicle place = record { status = 9; text = text_line (broken_tree rule vehicle place) }
+
 -- the solution breaks this rule of its model, there
 abbrev pub broken : Rule → ℤ → ℤ → Reply
-broken rule vehicle place = record { status = 9; text = text_line (not_met_tree rule vehicle place) }
+broken rule vehicle place = breaks (rule_word rule) vehicle place
 
 -- the reply to a question, by what the check of the solution finds
 abbrev pub reply_to_finding : Question → Checked → Finding → Reply
@@ -105,15 +110,19 @@ abbrev pub reply_to_tree : Task → (List Event → List ℕ) → Data → Reply
 reply_to_tree (task.Find asked) reports d = reply_to_model asked reports (model_of_value d)
 reply_to_tree (task.Ask asked) reports d = reply_to_checked asked (checked_of d)
 
--- the reply to a value, if there is one
-abbrev pub reply_to_value : Task → (List Event → List ℕ) → Option Data → Reply
-reply_to_value it reports None = not_json
-reply_to_value it reports (Some d) = reply_to_tree it reports d
+-- the reply to a value, if there is one: what is replied to a tree, or that the input is no JSON
+abbrev pub reply_to_json : (Data → Reply) → Option Data → Reply
+reply_to_json of_tree None = not_json
+reply_to_json of_tree (Some d) = of_tree d
 
--- the reply to the bytes of an input
-unfoldable pub reply_to_input : Task → (List Event → List ℕ) → List ℕ → Reply
-reply_to_input it reports bytes =
-    if nat_lt max_input (length bytes) then too_long else reply_to_value it reports (input_value bytes)
+-- the reply to the bytes of an input, by what is replied to a tree
+unfoldable pub reply_to_bytes : (Data → Reply) → List ℕ → Reply
+reply_to_bytes of_tree bytes =
+    if nat_lt max_input (length bytes) then too_long else reply_to_json of_tree (input_value bytes)
+
+-- the same of a task
+abbrev pub reply_to_input : Task → (List Event → List ℕ) → List ℕ → Reply
+reply_to_input it reports bytes = reply_to_bytes (reply_to_tree it reports) bytes
 
 -- the reply to what is imported of a file
 abbrev pub reply_to_imported : Result Data Fault → Reply

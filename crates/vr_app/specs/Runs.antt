@@ -71,17 +71,21 @@ pub record IsStatusOfAnswer (status : ℕ) : Type 0 where
 abbrev pub WhereKnown : Option (List ℕ) → (List ℕ → Type 0) → Type 0
 WhereKnown left P = (bytes : List ℕ) → left ≡ Some bytes → P bytes
 
+-- what is said of the input of a run that was settled, if this is asked of it
+abbrev pub WhereSettled : Type 0 → Option (List ℕ) → ℕ → (List ℕ → Type 0) → Type 0
+WhereSettled asked left status P = IsStatusOfAnswer status → asked → WhereKnown left P
+
 -- what is said of the input of a run that was settled, where it is read
 abbrev pub WhereAnswered : List (List ℕ) → Option (List ℕ) → ℕ → (List ℕ → Type 0) → Type 0
-WhereAnswered words left status P = IsStatusOfAnswer status → ReadsInput words → WhereKnown left P
+WhereAnswered words left status P = WhereSettled (ReadsInput words) left status P
 
 -- the same, where a solution of it is asked for
 abbrev pub WhereSolved : List (List ℕ) → Option (List ℕ) → ℕ → (List ℕ → Type 0) → Type 0
-WhereSolved words left status P = IsStatusOfAnswer status → IsSolutionAsked words → WhereKnown left P
+WhereSolved words left status P = WhereSettled (IsSolutionAsked words) left status P
 
 -- the same, where something is asked about its solution
 abbrev pub WhereAsked : List (List ℕ) → Option (List ℕ) → ℕ → (List ℕ → Type 0) → Type 0
-WhereAsked words left status P = IsStatusOfAnswer status → IsAsking words → WhereKnown left P
+WhereAsked words left status P = WhereSettled (IsAsking words) left status P
 
 -- the same, where it is a file whose model with so many vehicles is asked for
 abbrev pub WhereImported : List (List ℕ) → Option (List ℕ) → ℕ → (ℕ → List ℕ → Type 0) → Type 0

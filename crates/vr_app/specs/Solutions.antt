@@ -36,15 +36,19 @@ pub record IsInLimits (model : Model) (report : Report) : Type 0 where
   pub some_solution : 1 ≤ report.solutions
   pub solutions : report.solutions ≤ model.search.solutions
 
--- the text is the line of a solution, of what the first solution cost, and of a report; a check finds that it meets all
--- rules, with its cost
-pub record PrintsSolution (model : Model) (text : List ℕ) : Type 0 where
+-- the text is the line of a solution, of what the lists cost that the search began with, and of a report; a check finds
+-- that it meets all rules, with its cost
+pub record PrintsBegun (begins : List (List ℕ) → Type 0) (model : Model) (text : List ℕ) : Type 0 where
   pub first : List (List ℕ)
   pub assignment : Assignment
   pub report : Report
-  pub is_first : first_lists model ≡ Some first
+  pub is_first : begins first
   pub is_solution : IsSolution model first assignment
   pub is_in_limits : IsInLimits model report
   pub text_is : text ≡ text_line (assignment_tree model assignment (cost model first) report)
   pub meets : finding model (assignment_tree model assignment (cost model first) report)
       ≡ Meets (cost model assignment.lists)
+
+-- the same of a search that began with the first solution
+abbrev pub PrintsSolution : Model → List ℕ → Type 0
+PrintsSolution model text = PrintsBegun (λ first. first_lists model ≡ Some first) model text

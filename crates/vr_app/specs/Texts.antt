@@ -29,13 +29,17 @@ met_tree cost = object
     (member (codes "cost") (whole cost)
     (member (codes "status") (string (codes "MEETS")) no_members))
 
--- the first rule that a solution breaks, and its vehicle and place
-unfoldable pub not_met_tree : Rule → ℤ → ℤ → Data
-not_met_tree rule vehicle place = object
+-- the word of the first rule that is broken, and its vehicle and place
+unfoldable pub broken_tree : List ℕ → ℤ → ℤ → Data
+broken_tree rule vehicle place = object
     (member (codes "place") (whole place)
-    (member (codes "rule") (string (rule_word rule))
+    (member (codes "rule") (string rule)
     (member (codes "status") (string (codes "NOT_MET"))
     (member (codes "vehicle") (whole vehicle) no_members))))
+
+-- the first rule that a solution breaks, and its vehicle and place
+abbrev pub not_met_tree : Rule → ℤ → ℤ → Data
+not_met_tree rule vehicle place = broken_tree (rule_word rule) vehicle place
 
 -- how many lists are not empty
 abbrev pub used : List (List ℕ) → ℕ

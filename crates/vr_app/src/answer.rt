@@ -11,7 +11,7 @@ ghost use Rattle.vr_app.specs.Reply as replies;
 ghost use Rattle.vr_app.specs.Texts as texts;
 
 use crate::status::Status;
-use crate::texts::{refused_tree, status_tree};
+use crate::texts::{broken_tree, refused_tree, status_tree};
 use serde_json::Value;
 use std::alloc::Global;
 use vr_json::{Fault, to_line};
@@ -87,4 +87,14 @@ pub fn refused(alloc: Global, fault: &Fault) -> Result<Answer, NoMemory>
 {
     let tree = refused_tree(alloc, fault)?;
     answer_of_tree(alloc, Status::Refused, &tree)
+}
+
+/// The answer that reports the first rule that is broken, by its word, with its vehicle and place; -1 stands where a
+/// number does not apply. `NoMemory` where there was no memory.
+pub fn broken(alloc: Global, rule: &str, vehicle: i64, place: i64) -> Result<Answer, NoMemory>
+    ensures reply { IfOk result (AnswersReply (replies.breaks rule.now vehicle place)) }
+    ensures status { IfOk result (λ a. a.status ≡ Status.NotMet) }
+{
+    let tree = broken_tree(alloc, rule, vehicle, place)?;
+    answer_of_tree(alloc, Status::NotMet, &tree)
 }

@@ -12,32 +12,17 @@ ghost use Rattle.vr_app.specs.Answers.{AnswersReply, IsOfChecking};
 ghost use Rattle.vr_app.specs.Checked.{any_tree, checked_at, checked_of, checked_together};
 ghost use Rattle.vr_app.specs.Reply as replies;
 
-use crate::answer::{Answer, answer_of_tree, refused};
+use crate::answer::{Answer, answer_of_tree, broken, refused};
 use crate::spans::spans_tree;
 use crate::status::Status;
-use crate::texts::{met_tree, not_met_tree};
+use crate::texts::met_tree;
 use crate::words::Question;
 use serde_json::Value;
 use std::alloc::Global;
-use vr_check::{Finding, Rule, check};
-use vr_json::{Cause, Datum, Fields, Path, ReadFail, Reader, field, known, settle};
+use vr_check::{Finding, check};
+use vr_given::ModelField;
+use vr_json::{Cause, Fields, Path, ReadFail, field, known, settle};
 use vr_model::{Closed, Model, NoMemory};
-use vr_read::read_model;
-
-/// Reads the field `model` of a question.
-#[derive(Clone, Copy)]
-pub struct ModelField;
-
-impl Reader for ModelField {
-    type Item = Model;
-
-    ghost reads = { λ it earlier path d. model_at path d };
-
-    fn read(&self, _earlier: &[Self::Item], datum: Datum<'_, '_>) -> Result<Self::Item, ReadFail> {
-        let path = datum.place.path()?;
-        read_model(datum.alloc, datum.value, &path)
-    }
-}
 
 // The model in an object.
 fn model_in(alloc: Global, value: &Value, path: &Path) -> Result<Model, ReadFail>
@@ -99,16 +84,6 @@ fn answer_met(
     }
 }
 
-// The answer that reports the first rule that a solution breaks. What vehicle and place are, `Rule` says; -1 stands
-// where a number does not apply.
-fn answer_broken(alloc: Global, rule: Rule, vehicle: i64, place: i64) -> Result<Answer, NoMemory>
-    ensures reply { IfOk result (AnswersReply (replies.broken rule vehicle place)) }
-    ensures status { IfOk result (λ a. IsOfChecking a.status) }
-{
-    let tree = not_met_tree(alloc, rule, vehicle, place)?;
-    answer_of_tree(alloc, Status::NotMet, &tree)
-}
-
 // The answer to a question about a solution of a model.
 fn answer_solution(
     alloc: Global,
@@ -126,7 +101,7 @@ fn answer_solution(
             rule,
             vehicle,
             place,
-        } => answer_broken(alloc, rule, vehicle, place),
+        } => broken(alloc, rule.word(), vehicle, place),
     }
 }
 

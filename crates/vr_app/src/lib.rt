@@ -24,8 +24,11 @@
 //! imported, and the value of a question, whose solution is read from it, stay until the answer is made. A function
 //! owns one large value and lends it on. The lists that a search begins with are valid, and the judge stands at them.
 //!
-//! `vr_cli` calls [`run`] with the words of its command line and the two standard streams. [`first_routes`],
-//! [`read_owned`], [`improve_judged`] and [`FirstSolution`] are public for a test of `vr_app_tests` alone.
+//! `vr_cli` calls [`run`] with the words of its command line and the two standard streams. `vr_refine`, the second
+//! program, has words and a reply of its own. It takes from here what both have: the value of an input, the search of a
+//! mode with its line and reports ([`answer_from`]), the first solution, the answers that say a status, and how
+//! an answer is delivered. What is promised of a run of either is in `specs/Programs`. [`read_owned`],
+//! [`improve_judged`] and [`FirstSolution`] are public for a test of `vr_app_tests` alone.
 //!
 //! The way from `main` to a tried move, with what each frame adds:
 //!
@@ -40,8 +43,9 @@
 //!     answer_value         solving: a solution of it, or a question about one
 //!     answer_solved        solving: the model in the value, which is let go
 //!     answer_model         solving: what is looked up of the model
-//!     answer_over          solving: the line; of `solve --log` the reports of watchers behind it
-//!     line_found           solving: the first solution
+//!     answer_over          solving: the first solution
+//!     answer_from          solving: the line; of `solve --log` the reports of watchers behind it
+//!     line_found           solving: where there is a first solution
 //!     line_from            solving: what this costs, and the line of what is found
 //!     search               search: as the mode asks, the first solution or a search from it
 //!     search_unwatched     search: no watchers, where none are asked for; of `solve --log` this frame is left out
@@ -63,7 +67,7 @@
 //!
 //! The way back from there to the printed line: after each move the search keeps the routes that cost less than any
 //! before (`vr_descent::Incumbent`); `guide` gives these and its report, `guide_from` makes a `Best` of them, and
-//! `line_from` has `vr_print::solution_line_over` find the schedules of these routes and print them; `answer_over` puts
+//! `line_from` has `vr_print::solution_line_over` find the schedules of these routes and print them; `answer_from` puts
 //! the reports of watchers behind the line, by `logs`, where they are asked for; and `run_lent` writes the text of the
 //! answer to the sink and gives the number of its status, with which `main` ends.
 #![tactic(auto)]
@@ -89,12 +93,14 @@ mod texts;
 mod total;
 mod words;
 
+pub use answer::{Answer, broken, none_found, not_json, refused, too_long, usage};
 pub use best::Best;
 pub use first::first_routes;
 pub use improving::{FirstSolution, Watchers};
-pub use input::read_owned;
+pub use input::{parse_owned, read_owned};
 pub use laws::{imported_trees_are_models, printed_meets};
-pub use reply::run;
+pub use reply::{Stop, deliver, run};
 pub use search::improve_judged;
+pub use solving::answer_from;
 pub use status::Status;
 pub use words::{Mode, Question, Request, Task};

@@ -1,10 +1,11 @@
 //! What the program does with the source and the sink.
 
-ghost use Rattle.std.specs.Prelude.{◌≡◌, ◌≢◌, ◌⊎◌, ◌≤◌, List, ℕ, [], Some, IfOk, IsErrOf};
+ghost use Rattle.std.specs.Prelude.{◌≡◌, ◌≢◌, ◌⊎◌, ◌≤◌, List, ℕ, [], Some, Ok, Err, IfOk, IsErrOf};
 ghost use Rattle.vr_io.specs.Edges.{Rose};
 ghost use Rattle.vr_app.specs.Answers.{AnswersReply, IsOfAnswer, IsOfFile, IsOfInput};
-ghost use Rattle.vr_app.specs.Ended.{Ran};
-ghost use Rattle.vr_app.specs.Promises.{program_run, HasCause, HasFailed, IsChecking, IsComplete, IsEmptied};
+ghost use Rattle.vr_app.specs.Ended.{Ends, Ran};
+ghost use Rattle.vr_app.specs.Programs.{program_run};
+ghost use Rattle.vr_app.specs.Promises.{HasCause, HasFailed, IsChecking, IsComplete, IsEmptied};
 ghost use Rattle.vr_app.specs.Promises.{IsImporting, IsReply, IsSolving};
 ghost use Rattle.vr_app.specs.Reply as replies;
 ghost use Rattle.vr_app.specs.Reports.{joined_reports};
@@ -26,10 +27,12 @@ use vr_model::NoMemory;
 use vr_model::limits::MOST_INPUT_BYTES;
 use vr_watch::Watch;
 
-// Why there is no answer to write. Too many bytes are no such reason: there is a text for that.
+/// Why there is no answer to write. Too many bytes are no such reason: there is a text for that.
 #[derive(Clone, Copy)]
-enum Stop {
+pub enum Stop {
+    /// The source failed.
     ReadFault,
+    /// Want of memory.
     NoMemory,
 }
 
@@ -117,6 +120,23 @@ fn respond<S: Source>(
     }
 }
 
+/// Writes an answer to the sink, and gives the number of the status with which a run ends: that of the answer, or that
+/// of what failed, the source, the memory or the sink. `vr_refine` calls it too.
+pub fn deliver<K: Sink>(reply: Result<Answer, Stop>, sink: &mut K) -> u8
+    ensures status { IsStatus result }
+    ensures ends { Ends (λ k. K.written k) (λ k. K.faults k) (λ answer. reply ≡ Ok answer) (reply ≡ Err Stop.ReadFault)
+        sink.old sink.new result }
+{
+    match reply {
+        Ok(answer) => match write_all(sink, answer.text.as_slice()) {
+            Ok(()) => answer.status.number(),
+            Err(_) => Status::WriteFault.number(),
+        },
+        Err(Stop::ReadFault) => Status::ReadFault.number(),
+        Err(Stop::NoMemory) => Status::NoMemory.number(),
+    }
+}
+
 // The same as `run`, by watchers that are lent. Each clause of `run` follows from those here.
 fn run_lent<S: Source, K: Sink>(
     alloc: Global,
@@ -131,14 +151,8 @@ fn run_lent<S: Source, K: Sink>(
         (S.faults source.old) (S.faults source.new) sink.old sink.new result }
     ensures untouched { ReadsNothing (bytes_of words.now) → source.new ≡ source.old }
 {
-    match respond(alloc, words, source, watch) {
-        Ok(answer) => match write_all(sink, answer.text.as_slice()) {
-            Ok(()) => answer.status.number(),
-            Err(_) => Status::WriteFault.number(),
-        },
-        Err(Stop::ReadFault) => Status::ReadFault.number(),
-        Err(Stop::NoMemory) => Status::NoMemory.number(),
-    }
+    let reply = respond(alloc, words, source, watch);
+    deliver(reply, sink)
 }
 
 /// Does all that the program does, and gives its status.

@@ -1,12 +1,13 @@
 //! The answers to the input.
 
-ghost use Rattle.std.specs.Prelude.{◌≡◌, ◌≤◌, Ok, Some, IfOk, OnOk, length, option_map};
+ghost use Rattle.std.specs.Prelude.{◌≡◌, ◌≤◌, Ok, IfOk, IfSome, IsTrue, OnOk, length, option_map};
 ghost use Rattle.serde_json.specs.View.{view};
-ghost use Rattle.vr_model.specs.first.FirstSolutions.{first_lists};
+ghost use Rattle.vr_model.specs.routes.Rules.{is_valid};
 ghost use Rattle.vr_model.specs.tables.Tables.{visits};
+ghost use Rattle.vr_rules.specs.Placing.{lists_in};
 ghost use Rattle.vr_watch.specs.Told.{Reported};
-ghost use Rattle.vr_app.specs.Answers.{AnswersReply, IsOfShort, IsOfSolving};
-ghost use Rattle.vr_app.specs.Found.{found_events, found_for, found_from, line_of_found};
+ghost use Rattle.vr_app.specs.Answers.{AnswersReply, IsOfModel, IsOfShort, IsOfSolving};
+ghost use Rattle.vr_app.specs.Found.{found_events, found_from, found_with, line_of_found};
 ghost use Rattle.vr_app.specs.Input.{max_input, model_of_value};
 ghost use Rattle.vr_app.specs.Reply as replies;
 ghost use Rattle.vr_app.specs.Reports.{joined_reports};
@@ -30,7 +31,7 @@ use vr_plan::Lookups;
 use vr_print::solution_line_over;
 use vr_routes::Routes;
 
-// The line of what a mode finds for a model with this first solution. With `Log` the watchers are told of each event.
+// The line of what a mode finds for a model from these valid routes. With `Log` the watchers are told of each event.
 fn line_from(
     alloc: Global,
     mode: Mode,
@@ -38,7 +39,7 @@ fn line_from(
     first: Routes,
     watch: &mut Watchers,
 ) -> Result<Seq<u8>, NoMemory>
-    requires first { first_lists lookups.now.closed.model.now ≡ Some first.lists }
+    requires valid { IsTrue (is_valid lookups.now.closed.model.now first.lists) }
     requires of_model { first.visits ≡ visits lookups.now.closed.model.now }
     ensures line { IfOk result (λ line. line ≡ line_of_found lookups.now.closed.model.now
         (found_from mode lookups.now.closed.model.now first.lists)) }
@@ -50,25 +51,51 @@ fn line_from(
     solution_line_over(alloc, lookups, &found.routes, first_cost, found.report)
 }
 
-// The line of what a mode finds for a model, over what was looked up of it; none where the construction gives no first
-// solution.
+// The line of what a mode finds for a model from these routes; none if there are none.
 fn line_found(
     alloc: Global,
     mode: Mode,
     lookups: &Lookups<'_>,
+    first: Option<Routes>,
     watch: &mut Watchers,
 ) -> Result<Option<Seq<u8>>, NoMemory>
+    requires valid { IfSome first (λ routes. IsTrue (is_valid lookups.now.closed.model.now routes.lists)) }
+    requires of_model { IfSome first (λ routes. routes.visits ≡ visits lookups.now.closed.model.now) }
     ensures line { IfOk result (λ line. line ≡ option_map (line_of_found lookups.now.closed.model.now)
-        (found_for mode lookups.now.closed.model.now)) }
+        (found_with mode lookups.now.closed.model.now (lists_in first))) }
     ensures told { mode ≡ Mode.Log → OnOk result (Reported (λ w later. after w later) watch.old.items watch.new.items
-        (found_events (found_for mode lookups.now.closed.model.now))) }
+        (found_events (found_with mode lookups.now.closed.model.now (lists_in first)))) }
 {
-    match first_routes(alloc, lookups)? {
+    match first {
         None => Ok(None),
         Some(first) => {
             let line = line_from(alloc, mode, lookups, first, watch)?;
             Ok(Some(line))
         }
+    }
+}
+
+/// The answer of a mode to a model, from these valid routes: the line of what it finds, and the reports of watchers if
+/// they are asked for; without routes, that there is no first solution. `vr_refine` asks it, of routes that it was
+/// given. `NoMemory` where there was no memory.
+pub fn answer_from(
+    alloc: Global,
+    mode: Mode,
+    lookups: &Lookups<'_>,
+    first: Option<Routes>,
+    watch: &mut Watchers,
+) -> Result<Answer, NoMemory>
+    requires valid { IfSome first (λ routes. IsTrue (is_valid lookups.now.closed.model.now routes.lists)) }
+    requires of_model { IfSome first (λ routes. routes.visits ≡ visits lookups.now.closed.model.now) }
+    ensures reply { let reports = joined_reports (λ w later. after w later) watch.old.items in
+        let model = lookups.now.closed.model.now in
+        let found = found_with mode model (lists_in first) in
+        IfOk result (AnswersReply (replies.reply_to_found mode reports model found)) }
+    ensures status { IfOk result (λ a. IsOfModel a.status) }
+{
+    match line_found(alloc, mode, lookups, first, watch)? {
+        Some(line) => done(mode, line, watch),
+        None => none_found(alloc),
     }
 }
 
@@ -83,10 +110,8 @@ fn answer_over(
         IfOk result (AnswersReply (replies.reply_to_model mode reports (Ok lookups.now.closed.model.now))) }
     ensures status { IfOk result (λ a. IsOfSolving a.status) }
 {
-    match line_found(alloc, mode, lookups, watch)? {
-        Some(line) => done(mode, line, watch),
-        None => none_found(alloc),
-    }
+    let first = first_routes(alloc, lookups)?;
+    answer_from(alloc, mode, lookups, first, watch)
 }
 
 // The answer of a mode to a model, which is looked up once for all that ask it.

@@ -9,7 +9,6 @@ ghost use Rattle.vr_app.specs.Texts as texts;
 
 use serde_json::{Value, json};
 use std::alloc::Global;
-use vr_check::Rule;
 use vr_json::{Fault, Tree, text_value};
 use vr_model::NoMemory;
 
@@ -70,14 +69,14 @@ pub(crate) fn met_tree(alloc: Global, cost: i64) -> Result<Value, NoMemory>
     Ok(json!(in alloc; {"cost": cost, "status": "MEETS"})?)
 }
 
-/// The tree of the first rule that a solution breaks, with its vehicle and place.
-pub(crate) fn not_met_tree(
+/// The tree of the first rule that is broken, by its word, with its vehicle and place.
+pub(crate) fn broken_tree(
     alloc: Global,
-    rule: Rule,
+    rule: &str,
     vehicle: i64,
     place: i64,
 ) -> Result<Value, NoMemory>
-    ensures { IfOk result (λ v. view v ≡ texts.not_met_tree rule vehicle place) }
+    ensures { IfOk result (λ v. view v ≡ texts.broken_tree rule.now vehicle place) }
 {
     let mut tree = Tree::new(alloc);
     put_broken(alloc, &mut tree, rule, vehicle, place)?;
@@ -85,19 +84,19 @@ pub(crate) fn not_met_tree(
 }
 
 // Puts the keys of a broken rule into a tree that has none.
-#[tactic(auto, unfolding(crate::specs::Texts::not_met_tree))]
+#[tactic(auto, unfolding(crate::specs::Texts::broken_tree))]
 fn put_broken(
     alloc: Global,
     tree: &mut Tree,
-    rule: Rule,
+    rule: &str,
     vehicle: i64,
     place: i64,
 ) -> Result<(), NoMemory>
     requires { members_put tree.old ≡ no_members }
-    ensures { OnOk result (object (members_put tree.new) ≡ texts.not_met_tree rule vehicle place) }
+    ensures { OnOk result (object (members_put tree.new) ≡ texts.broken_tree rule.now vehicle place) }
 {
     put_whole(tree, "place", place)?;
-    put_text(alloc, tree, "rule", rule.word())?;
+    put_text(alloc, tree, "rule", rule)?;
     put_text(alloc, tree, "status", "NOT_MET")?;
     put_whole(tree, "vehicle", vehicle)
 }

@@ -1,8 +1,9 @@
 -- What a run comes to whose watchers report so.
 use Rattle.std.specs.Prelude.{◌≡◌, ◌⊎◌, ℕ, List}
 use Rattle.vr_model.specs.declared.search.Event.{Event}
+use Rattle.vr_app.specs.Programs.{Run}
 use Rattle.vr_app.specs.Promises.{HasCause, HasFailed, IsChecking, IsComplete, IsEmptied, IsImporting, IsReply}
-use Rattle.vr_app.specs.Promises.{IsSolving, Run}
+use Rattle.vr_app.specs.Promises.{IsSolving}
 use Rattle.vr_app.specs.Runs.{ReadsNothing}
 use Rattle.vr_app.specs.Status.{IsStatus}
 

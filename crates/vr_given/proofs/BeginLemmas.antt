@@ -40,15 +40,3 @@ module _ (model : Model) (given : List (List ℕ)) where
     own = ap (where_valid model) (taken-valid valid) ∙ ap (λ b. cond b (Some given) None) valid;
     ruin = taken-valid valid;
   }
-
-  -- with which lists a search begins, by how it takes them up: as they are, not at all, or filled up
-  pub begun-valid : IsTrue (is_valid model given) → Some given ≡ where_valid model (taken_up model given)
-  begun-valid valid = sym (ap (where_valid model) (taken-valid valid) ∙ ap (λ b. cond b (Some given) None) valid)
-
-  pub begun-none : is_valid model given ≡ false → is_open model given ≡ false → None ≡ where_valid model (taken_up model given)
-  begun-none invalid closed = sym (ap (where_valid model)
-      (ap (λ b. cond b (Some given) (cond (is_open model given) (Some (filled_up model given)) None)) invalid ∙ ap (λ b. cond b (Some (filled_up model given)) None) closed))
-
-  pub begun-filled : is_valid model given ≡ false → IsTrue (is_open model given) → where_valid model (taken_up model given) ≡ cond (is_valid model (filled_up model given)) (Some (filled_up model given)) None
-  begun-filled invalid opened = ap (where_valid model)
-      (ap (λ b. cond b (Some given) (cond (is_open model given) (Some (filled_up model given)) None)) invalid ∙ ap (λ b. cond b (Some (filled_up model given)) None) opened)

@@ -32,7 +32,8 @@ use Rattle.vr_app.specs.Printing.{PrintedMeets}
 use Rattle.vr_app.proofs.printing.Below.{length_below}
 use Rattle.vr_app.proofs.printing.ReadBack.{plan_printed, plans_printed, route_printed, routes_back, solution_back}
 use Rattle.vr_app.proofs.printing.PrintedBack.{routes_printed, between_ends, plan_in_is, no_plans, plans_are, route_at, routes_shaped, lists_back, assignment_back}
-use Rattle.vr_app.proofs.printing.ListsMet.{nothing, right_nowhere, no_wrong_end, are, nothing_dropped, nothing_required, nothing_in_groups, nothing_in_pairs, nothing_of_policies, nothing_of_vehicles, nothing_twice}
+use Rattle.vr_check.proofs.ValidLists.{nothing, are, nothing_required, nothing_in_groups, nothing_in_pairs, nothing_of_policies, nothing_of_vehicles}
+use Rattle.vr_app.proofs.printing.ListsMet.{right_nowhere, no_wrong_end, nothing_dropped, nothing_twice}
 use Rattle.vr_app.proofs.printing.PlansMet.{no_wrong_cumul, no_wrong_slack, no_wrong_break, same_parts}
 use Rattle.vr_app.proofs.printing.Printable.{scheduled, fits, all_vehicles, printable_assignment, printable_parts, dropped_low, dropped_few}
 

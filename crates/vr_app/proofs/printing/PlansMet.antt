@@ -11,7 +11,7 @@ use Rattle.vr_model.specs.declared.records.Parts.{Parts}
 use Rattle.vr_check.specs.Findings.{earlier}
 use Rattle.vr_check.specs.Plans.{cumul_broken_at, cumul_broken, is_right_slack, slack_broken_at, slack_broken, starts_in_range, ends_in_time, carries_breaks, are_breaks_right, break_broken}
 use Rattle.vr_check.specs.Parts.{part_broken, parts_differ}
-use Rattle.vr_app.proofs.printing.ListsMet.{nothing, right, right_place}
+use Rattle.vr_check.proofs.ValidLists.{nothing, right, right_place}
 
 module _ (line : Line) (d v : ℕ) (plan : Plan) (schedule : IsSchedule line plan) where
   pub no_wrong_cumul : cumul_broken line v plan ≡ None

@@ -26,7 +26,7 @@ use Rattle.vr_check.proofs.Lines.{line_arcs, line_stops}
 use Rattle.vr_gen.proofs.ExactReadings.{All-below}
 use Rattle.vr_app.proofs.printing.ReadBack.{IsPrintable, IsPrintablePlan, IsPrintableAssignment, ArePrintableParts}
 use Rattle.vr_app.proofs.printing.PrintedBack.{FitsList, nodes_long}
-use Rattle.vr_app.proofs.printing.ListsMet.{are, opened}
+use Rattle.vr_check.proofs.ValidLists.{are, opened}
 
 -- ---- numbers in range
 

@@ -5,7 +5,8 @@ use Rattle.vr_model.specs.routes.Rules.{is_valid}
 use Rattle.vr_model.proofs.routes.CostFits.{costs_are_bounded}
 use Rattle.vr_app.specs.Found.{found_from}
 use Rattle.vr_app.specs.declared.words.Mode.TheVariants as mode
-use Rattle.vr_app.proofs.SolutionLemmas.{first_lists-valid, improved-sound}
+use Rattle.vr_given.proofs.BeginLemmas.{first_lists-valid}
+use Rattle.vr_app.proofs.SolutionLemmas.{improved-sound}
 use Rattle.vr_app.proofs.demo.summary_of_first.Goals as goal
 
 pub total_over-requires : goal.total_over-requires

@@ -1,19 +1,20 @@
 use Rattle.std.proofs.Common.{inl, inr}
+use Rattle.vr_app.proofs.EndLemmas as ending
 use Rattle.vr_app.proofs.RunLemmas as run
 use Rattle.vr_app.proofs.reply.run.Goals as goal
 
 pub returns-clause-reply : goal.returns-clause-reply
 returns-clause-reply g c = let ran = c.run_lent.ensures.ran in record {
-  read = run.replies ran;
-  unread = run.unread ran;
-  front = run.front ran;
-  unread_front = run.unread_front ran;
+  read = ending.replies ran.by;
+  unread = ending.unread ran.by;
+  front = ending.front ran.by;
+  unread_front = ending.unread_front ran.by;
 }
 
 pub returns-clause-complete : goal.returns-clause-complete
 returns-clause-complete g c = let ran = c.run_lent.ensures.ran in record {
-  read = λ reads bytes known short calm quiet. run.complete ran bytes known calm quiet;
-  unread = run.complete_unread ran;
+  read = λ reads bytes known short calm quiet. ending.complete ran.by bytes known calm quiet;
+  unread = ending.complete_unread ran.by;
 }
 
 pub returns-clause-solving : goal.returns-clause-solving
@@ -32,7 +33,7 @@ returns-clause-checking g c = let ran = c.run_lent.ensures.ran in record {
   spans = run.spans ran;
   not_met = λ settled checks bytes known. (run.classifies-met ran settled checks bytes known).undone;
   broken = run.broken ran;
-  not_met_only = run.not_met_only ran;
+  not_met_only = ending.not_met_only ran.by;
   refused = λ settled checks bytes known. (run.classifies-met ran settled checks bytes known).refused;
   refusal = run.check_refusal ran;
 }
@@ -50,20 +51,20 @@ returns-clause-cause g c = let ran = c.run_lent.ensures.ran in record {
   too_long = λ settled reads bytes known. (run.classifies-text ran settled reads bytes known).too_long;
   not_json = λ settled reads bytes known. (run.classifies-text ran settled reads bytes known).not_json;
   usage = run.usage ran;
-  usage_only = run.usage_only ran;
+  usage_only = ending.usage_only ran.by;
   numbered = run.numbered ran;
 }
 
 pub returns-clause-failed : goal.returns-clause-failed
 returns-clause-failed g c = let ran = c.run_lent.ensures.ran in record {
-  read_fault = λ e. (run.is_failed ran e).1.0;
-  reads = λ e. (run.is_failed ran e).1.1;
-  write_fault = run.write_fault ran;
+  read_fault = λ e. (ending.is_failed ran.by e).1.0;
+  reads = λ e. (ending.is_failed ran.by e).1.1;
+  write_fault = ending.write_fault ran.by;
 }
 
 pub returns-clause-unwritten : goal.returns-clause-unwritten
-returns-clause-unwritten g c (inl e) = (run.is_failed c.run_lent.ensures.ran e).0.same
-returns-clause-unwritten g c (inr e) = (run.is_starved c.run_lent.ensures.ran e).same
+returns-clause-unwritten g c (inl e) = (ending.is_failed c.run_lent.ensures.ran.by e).0.same
+returns-clause-unwritten g c (inr e) = (ending.is_starved c.run_lent.ensures.ran.by e).same
 
 pub returns-clause-emptied : goal.returns-clause-emptied
-returns-clause-emptied g c = run.emptied c.run_lent.ensures.ran
+returns-clause-emptied g c = ending.emptied c.run_lent.ensures.ran.by

@@ -1,29 +1,18 @@
-use Rattle.std.proofs.Common.{inl, inr, subst}
-use Rattle.vr_io.specs.Edges.{Took}
-use Rattle.vr_io.specs.Whole.{TookFront}
+use Rattle.vr_app.proofs.EndLemmas.{delivered, of_err, of_ok}
 use Rattle.vr_app.proofs.reply.run_lent.Goals as goal
 
-pub returns-in-Ok-write_all-clause-ran : goal.returns-in-Ok-write_all-clause-ran
-returns-in-Ok-write_all-clause-ran g c =
-    let is = c.in-Ok.ensures in
+pub returns-clause-ran : goal.returns-clause-ran
+returns-clause-ran g c =
+    let is = c.respond-reply.ensures in
     record {
-      ends = inl (record {
-        answer = c.in-Ok.answer;
-        responds = record { replies = is.reply; unread = is.unread; usage_only = is.usage_only; not_met_only = is.not_met_only; emptied = is.emptied; settled = is.status };
-        status_is = c.number.ensures.number;
-        took = subst (Took (g.K.Sink.written c.args.sink.now) (g.K.Sink.written c.write_all.new.sink)) c.as_slice.ensures c.in-Ok-write_all.ensures.ok;
-      });
-    }
-
-pub returns-in-Ok-clause-ran : goal.returns-in-Ok-clause-ran
-returns-in-Ok-clause-ran g c =
-    let is = c.in-Ok.ensures in
-    record {
-      ends = inr (inl (record {
-        answer = c.in-Ok.answer;
-        responds = record { replies = is.reply; unread = is.unread; usage_only = is.usage_only; not_met_only = is.not_met_only; emptied = is.emptied; settled = is.status };
-        status_is = c.number-in-Err.ensures.number;
-        took = subst (TookFront (g.K.Sink.written c.args.sink.now) (g.K.Sink.written c.write_all.new.sink)) c.as_slice.ensures c.in-Err.ensures.err;
-        fault = c.in-Err.ensures.fault;
-      }));
+      by = record {
+        ends = delivered g.K.Sink.written g.K.Sink.faults _ _ _ _ _ _ _ (λ answer e. record {
+          replies = of_ok _ is.reply answer e;
+          unread = of_ok _ is.unread answer e;
+          usage_only = of_ok _ is.usage_only answer e;
+          not_met_only = of_ok _ is.not_met_only answer e;
+          emptied = of_ok _ is.emptied answer e;
+          settled = of_ok _ is.status answer e;
+        }) (λ e. (is.fault (of_err e), is.reads (of_err e))) c.deliver.ensures.ends;
+      };
     }

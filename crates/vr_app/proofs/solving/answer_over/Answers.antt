@@ -1,15 +1,20 @@
-use Rattle.std.proofs.Common.{◌∙◌, [], sym}
-use Rattle.std.proofs.lemmas.Result.{IfOk-weaker}
-use Rattle.vr_app.specs.Found.{found_for}
+use Rattle.std.proofs.Common.{ℕ, List, Option, subst}
+use Rattle.std.specs.Prelude.{IfOk}
+use Rattle.vr_model.specs.first.FirstSolutions.{first_lists}
+use Rattle.vr_given.proofs.BeginLemmas.{first_lists-valid}
+use Rattle.vr_app.specs.Answers.{AnswersReply}
+use Rattle.vr_app.specs.Found.{found_with}
+use Rattle.vr_app.specs.Reply.{reply_to_found}
 use Rattle.vr_app.specs.Reports.{joined_reports}
-use Rattle.vr_app.proofs.ReplyLemmas.{done-replies, told-joined}
+use Rattle.vr_app.proofs.SolutionLemmas.{valid_in}
 use Rattle.vr_app.proofs.solving.answer_over.Goals as goal
 
-pub returns-in-Some-clause-reply : goal.returns-in-Some-clause-reply
-returns-in-Some-clause-reply g c =
-    let asked = c.args.mode in
+pub answer_from-requires-clause-valid : goal.answer_from-requires-clause-valid
+answer_from-requires-clause-valid g c = let model = c.args.lookups.now.closed.model.now in valid_in model (first_lists model) (first_lists-valid model) c.in_ok-first.first c.in_ok-first.ensures.lists
+
+pub returns-clause-reply : goal.returns-clause-reply
+returns-clause-reply g c =
     let model = c.args.lookups.now.closed.model.now in
-    let old = joined_reports (λ w. (goal.Watch-dyn g (w.vtable, w.value)).after w.value) c.args.watch.now.items in
-    let now = joined_reports (λ w. (goal.Watch-dyn g (w.vtable, w.value)).after w.value) c.line_found.new.watch.items [] in
-    IfOk-weaker c.done.result _ _ (λ given. done-replies asked old model c.in-Some.line now given (found_for asked model)
-    (sym c.in-Some.is ∙ c.in_ok-line.ensures.line) (λ log. told-joined _ _ _ _ (c.in_ok-line.ensures.told log))) c.done.ensures
+    let reports = joined_reports (λ w. (goal.Watch-dyn g (w.vtable, w.value)).after w.value) c.args.watch.now.items in
+    let P : Option (List (List ℕ)) → Type 0 = λ o. IfOk c.answer_from.result (AnswersReply (reply_to_found c.args.mode reports model (found_with c.args.mode model o))) in
+    subst P c.in_ok-first.ensures.lists c.answer_from.ensures.reply

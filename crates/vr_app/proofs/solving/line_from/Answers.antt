@@ -7,26 +7,20 @@ use Rattle.vr_model.specs.routes.Rules.{is_valid}
 use Rattle.vr_model.proofs.routes.CostFits.{costs_are_bounded}
 use Rattle.vr_print.specs.Solution.{solution_tree}
 use Rattle.vr_app.specs.Found.{line_of_found, searched}
-use Rattle.vr_app.proofs.SolutionLemmas.{first_lists-valid, searched-sound}
+use Rattle.vr_app.proofs.SolutionLemmas.{searched-sound}
 use Rattle.vr_app.proofs.solving.line_from.Goals as goal
-
-pub total_over-requires : goal.total_over-requires
-total_over-requires g c = first_lists-valid c.args.lookups.now.closed.model.now c.args.first.lists c.requires.first
-
-pub search-requires-clause-valid : goal.search-requires-clause-valid
-search-requires-clause-valid g c = first_lists-valid c.args.lookups.now.closed.model.now c.args.first.lists c.requires.first
 
 pub search-requires-clause-first_cost : goal.search-requires-clause-first_cost
 search-requires-clause-first_cost g c =
     let model = c.args.lookups.now.closed.model.now in
     let lists = c.args.first.lists in
-    let bounds = costs_are_bounded model c.args.lookups.now.closed.well_formed lists (first_lists-valid model lists c.requires.first) in
+    let bounds = costs_are_bounded model c.args.lookups.now.closed.well_formed lists c.requires.valid in
     omega (arith, ints, c.in_ok-first_cost.ensures, bounds.least, bounds.greatest)
 
 pub solution_line_over-requires : goal.solution_line_over-requires
 solution_line_over-requires g c =
     let model = c.args.lookups.now.closed.model.now in
-    let sound = searched-sound c.args.mode model c.args.first.lists c.args.lookups.now.closed.well_formed (first_lists-valid model c.args.first.lists c.requires.first) in
+    let sound = searched-sound c.args.mode model c.args.first.lists c.args.lookups.now.closed.well_formed c.requires.valid in
     record { valid = ap (is_valid model) c.in_ok-found.ensures.ends.best_is ∙ sound.valid }
 
 pub returns-clause-line : goal.returns-clause-line
@@ -37,7 +31,7 @@ returns-clause-line g c =
     let end = searched c.args.mode model first in
     let found = c.in_ok-found.found in
     let ends = c.in_ok-found.ensures.ends in
-    let bounds = costs_are_bounded model c.args.lookups.now.closed.well_formed first (first_lists-valid model first c.requires.first) in
+    let bounds = costs_are_bounded model c.args.lookups.now.closed.well_formed first c.requires.valid in
     let sum : to_z w64 (of_z w64 c.in_ok-first_cost.first_cost) ≡ cost model first =
     omega (arith, ints, c.in_ok-first_cost.ensures, bounds.least, bounds.greatest) in
     IfOk-weaker c.solution_line_over.result _ _ (λ line is. is

@@ -1,6 +1,0 @@
-use Rattle.std.proofs.Common.{sym, subst}
-use Rattle.vr_app.proofs.ReplyLemmas.{IsPrintable, not_met-printable}
-use Rattle.vr_app.proofs.checked.answer_broken.Goals as goal
-
-pub answer_of_tree-requires : goal.answer_of_tree-requires
-answer_of_tree-requires c = let p = subst IsPrintable (sym c.in_ok-tree.ensures) (not_met-printable _ _ _) in record { whole = p.whole; nested = p.nested }

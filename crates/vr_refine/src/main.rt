@@ -1,0 +1,102 @@
+//! The second program: it prices routes that a planner gives, fills them up, and goes on from them by the search that
+//! their model names.
+//!
+//! An input is an object with a model, and beside it the routes of its vehicles, if there are any (`vr_given`). Three
+//! words ask something of it. `price` says what the routes cost as they are, or the first rule that they break. `first`
+//! says with which routes a search begins: given valid ones as they are, given open ones filled up by parallel cheapest
+//! insertion, and without any the first solution. `solve` says the best routes that the search finds from there.
+//!
+//! What is replied to words and bytes is defined in `specs/Reply`, and `reply::run` gives it. Whatever may be said of
+//! runs of both programs is said in `vr_app` (`specs/Programs`); what is said of this one alone is in `specs/Promises`.
+//! `vr_app` also has the search, the line and the texts, so that both programs write the same of the same routes.
+//!
+//! The way down: `main` has the words and the two standard streams, and `run_watched` the watchers. `reply` reads the
+//! source and writes to the sink; `answers` has the answer to a value, by `pricing` or from where a search begins
+//! (`begin`); `inputs` is what each word reads. It ends with the statuses of `vr_cli`.
+#![tactic(auto)]
+
+mod answers;
+mod begin;
+mod inputs;
+mod pricing;
+mod reply;
+#[cfg(test)]
+mod tests;
+mod words;
+
+ghost use Rattle.std.specs.Prelude.{◌≡◌, IfOk, OnErr};
+ghost use Rattle.vr_app.specs.Programs.{program_run};
+ghost use Rattle.vr_app.specs.Reports.{joined_reports};
+ghost use Rattle.vr_app.specs.Runs.{bytes_of};
+ghost use Rattle.vr_refine.specs.Logged.{IsLogged};
+ghost use Rattle.vr_refine.specs.Reply.{log_of};
+
+use crate::reply::run;
+use std::alloc::{AllocError, Global};
+use std::process::ExitCode;
+use std::{env, io};
+use vr_io::{Sink, Source, StdSink, StdSource};
+use vr_watch::{Tally, Trace, Watch};
+
+// As `run` ends where it finds no memory.
+const NO_MEMORY: u8 = 7;
+
+// No status of `run`: these are 0 to 9.
+const NO_WORDS: u8 = 10;
+
+fn main(rt: HostRuntime) -> ExitCode {
+    let alloc = rt.alloc();
+    let args = match env::args(&rt) {
+        Ok(args) => args,
+        Err(error) if error.kind() == io::ErrorKind::OutOfMemory => {
+            return ExitCode::from(NO_MEMORY);
+        }
+        Err(_) => return ExitCode::from(NO_WORDS),
+    };
+    // the program's own name stands in front of the words
+    let Ok(words) = args.skip(1).collect::<Vec<String>>(alloc) else {
+        return ExitCode::from(NO_MEMORY);
+    };
+    let mut source = StdSource::new(rt.stdin());
+    let mut sink = StdSink::new(rt.stdout());
+    match run_watched(alloc, &words, &mut source, &mut sink) {
+        Ok(status) => ExitCode::from(status),
+        Err(_) => ExitCode::from(NO_MEMORY),
+    }
+}
+
+// Runs with some watchers: what is written is the reply of the definition, with their reports.
+fn run_with<S: Source, K: Sink>(
+    alloc: Global,
+    words: &[String],
+    source: &mut S,
+    sink: &mut K,
+    watch: Vec<Box<dyn Watch>>,
+) -> u8
+    ensures { let reports = joined_reports (λ w later. after w later) watch.items in
+        IsLogged reports (program_run (bytes_of words.now)
+        (S.left source.old) (S.left source.new) (S.faults source.old) (S.faults source.new)
+        (K.written sink.old) (K.written sink.new) (K.faults sink.old) (K.faults sink.new) result) sink.old sink.new }
+{
+    run(alloc, words, source, sink, watch)
+}
+
+// Runs with a tally and a trace, which report in this order: what is written is the reply of the definition, with the
+// log of the search's events. The only refusal is want of memory for these watchers; then nothing is read or written.
+fn run_watched<S: Source, K: Sink>(
+    alloc: Global,
+    words: &[String],
+    source: &mut S,
+    sink: &mut K,
+) -> Result<u8, AllocError>
+    ensures logged { IfOk result (λ given. IsLogged log_of (program_run (bytes_of words.now)
+        (S.left source.old) (S.left source.new) (S.faults source.old) (S.faults source.new)
+        (K.written sink.old) (K.written sink.new) (K.faults sink.old) (K.faults sink.new) given) sink.old sink.new) }
+    ensures unread { OnErr result (source.new ≡ source.old) }
+    ensures unwritten { OnErr result (sink.new ≡ sink.old) }
+{
+    let mut watch: Vec<Box<dyn Watch>> = Vec::new(alloc);
+    watch.push(Box::new(alloc, Tally::new(alloc))?)?;
+    watch.push(Box::new(alloc, Trace::new(alloc))?)?;
+    Ok(run_with(alloc, words, source, sink, watch))
+}
