@@ -1,6 +1,6 @@
 -- What every answer of the search keeps to, as statements.
-use Rattle.std.specs.Prelude.{◌≡◌, ◌⊎◌, ℕ, zero, suc, ◌+◌, ◌*◌, ◌^◌, ◌≤◌, true, false, ◌==◌, List, [], ◌∷◌, length, filter}
-use Rattle.std.specs.Prelude.{is_some, Some, IsTrue, ◌≤ℤ◌}
+use Rattle.std.specs.Prelude.{◌≡◌, ◌⊎◌, ℕ, zero, suc, ◌+◌, ◌*◌, ◌^◌, ◌≤◌, true, false, ◌==◌, List, [], ◌∷◌}
+use Rattle.std.specs.Prelude.{length, filter, is_some, Some, IsTrue, ◌≤ℤ◌}
 use Rattle.std.specs.List.{list_any}
 use Rattle.vr_model.specs.tables.WellFormed.{IsWellFormed}
 use Rattle.vr_model.specs.routes.Rules.{is_valid}

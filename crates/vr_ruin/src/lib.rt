@@ -7,8 +7,8 @@
 //!
 //! The definitions: `specs/Lacking` says what open routes still lack to be valid, `specs/Offers` how an item is put
 //! back, `specs/Steps` what a step makes and whether it is accepted, and `specs/Refining` has the search. What is drawn
-//! stands in `vr_strings`. Routes that lack something take part too, so a search may begin with routes that are open and
-//! not valid, and find valid ones.
+//! stands in `vr_strings`. Routes that lack something take part too, so a search may begin with routes that are open
+//! and not valid, and find valid ones.
 //!
 //! The laws (`laws`): all routes of a search are open, and an answer has the first cheapest of the valid ones that the
 //! search had. `wish` has what is asked of a search.
