@@ -4,3 +4,4 @@ pub mod Strings
 pub mod Turns
 pub mod ItemKeys
 pub mod Rings
+pub mod DrawLaws

@@ -1,7 +1,7 @@
 -- Ruin: strings are taken out of neighbouring lists. A string is some visits in a row, one of which may stay.
-use Rattle.std.specs.Prelude.{◌≡◌, ℕ, suc, ◌+◌, ◌-◌, ◌*◌, ◌/◌, ◌<◌, ◌≤◌, min, max, Bool, true, false, cond, ◌&&◌, ◌==◌}
-use Rattle.std.specs.Prelude.{nat_le, nat_lt, List, [], ◌∷◌, ◌++◌, length, filter, find, slice_index, slice_range, ℤ, pos}
-use Rattle.std.specs.Prelude.{Option, Some, None, fold, not}
+use Rattle.std.specs.Prelude.{◌≡◌, ℕ, suc, ◌+◌, ◌-◌, ◌*◌, ◌/◌, ◌<◌, ◌≤◌, min, max, nat_le, nat_lt, ℤ, pos}
+use Rattle.std.specs.Prelude.{Bool, true, false, cond, not, ◌&&◌, ◌==◌, List, [], ◌∷◌, ◌++◌, length, filter, find, fold}
+use Rattle.std.specs.Prelude.{slice_index, slice_range, Option, Some, None}
 use Rattle.std.specs.List.{list_any, concat}
 use Rattle.rand_pcg.specs.Lcg.{Lcg}
 use Rattle.vr_gen.specs.Draws.{draw}
@@ -54,9 +54,9 @@ abbrev pub ring : Model → ℕ → List ℕ
 ring model visit = visit ∷
     sorted_by (λ other. arc_cost model 0 visit other ∷ pos other ∷ []) (filter (is_other visit) (visits model))
 
--- the same order by a row of a matrix, whose entries begin with the one at place `first`
-abbrev pub nearness : List ℤ → ℕ → ℕ → List ℤ
-nearness entries first other = number_at entries (first + other) ∷ pos other ∷ []
+-- the key of a visit in a ring, by the entries of a matrix, of which the row of the first visit begins at place `first`
+abbrev pub ring_key : List ℤ → ℕ → ℕ → List ℤ
+ring_key entries first other = number_at entries (first + other) ∷ pos other ∷ []
 
 -- the vehicle that has a visit in its list
 abbrev pub vehicle_of : List (List ℕ) → ℕ → Option ℕ
@@ -64,16 +64,16 @@ vehicle_of lists visit = find (λ v. holds (route lists v) visit) (vehicles list
 
 -- ---- a string
 
--- the size of a string in a list of n visits. If it takes out more than one visit, and not all of them, a coin decides
--- whether one more stays among them
+-- the size of a string that takes this many visits out. If one may stay among them, a coin decides whether it does
+abbrev pub size_of : Bool → ℕ → Lcg → StringSize × Lcg
+size_of true out words = let coin = draw 2 words in (record { out = out; kept = cond (coin.0 == 0) 1 0 }, coin.1)
+size_of false out words = (record { out = out; kept = 0 }, words)
+
+-- the size of a string in a list of n visits. One may stay if it takes out more than one visit, and not all of them
 abbrev pub drawn_size : ℕ → ℕ → Lcg → StringSize × Lcg
 drawn_size longest n words = let length_draw = draw (min longest n) words in
     let out = 1 + length_draw.0 in
-    elim (nat_lt 1 out && nat_lt out n) [
-      | true ↦ let coin = draw 2 length_draw.1 in
-          (record { out = out; kept = cond (coin.0 == 0) 1 0 }, coin.1)
-      | false ↦ (record { out = out; kept = 0 }, length_draw.1)
-    ]
+    size_of (nat_lt 1 out && nat_lt out n) out length_draw.1
 
 -- a string of this width contains place p of a list of n visits: its least and its greatest first place
 abbrev pub least_first : ℕ → ℕ → ℕ
@@ -88,12 +88,15 @@ drawn_first width n p words = let lo = least_first width p in
     let shift = draw ((greatest_first width n p - lo) + 1) words in
     (lo + shift.0, shift.1)
 
--- the place that stays, in a string that begins at place a: neither the first nor the last of it
+-- the place that stays, in a string that begins at place a and takes this many visits out: neither the first nor the
+-- last of it
+abbrev pub stay_of : Bool → ℕ → ℕ → Lcg → Option ℕ × Lcg
+stay_of true out a words = (None, words)
+stay_of false out a words = let inside = draw (out - 1) words in (Some ((a + 1) + inside.0), inside.1)
+
+-- the place that stays, if one does
 abbrev pub drawn_stay : StringSize → ℕ → Lcg → Option ℕ × Lcg
-drawn_stay size a words = elim (size.kept == 0) [
-  | true ↦ (None, words)
-  | false ↦ let inside = draw (size.out - 1) words in (Some ((a + 1) + inside.0), inside.1)
-]
+drawn_stay size a words = stay_of (size.kept == 0) size.out a words
 
 -- a string that contains place p of a list of n visits
 abbrev pub drawn_string : ℕ → ℕ → ℕ → Lcg → StringPlaces × Lcg
@@ -119,11 +122,6 @@ pub record IsStringAt (n p : ℕ) (string : StringPlaces) : Type 0 where
   pub within : IsStringIn n string
   pub from : string.first ≤ p
   pub until : p < string.first + string.width
-
--- each string that is drawn is in its list, and contains the place for which it is drawn
-abbrev pub DrawnStringsAreThere : Type 0
-DrawnStringsAreThere =
-    (longest n p : ℕ) (words : Lcg) → 1 ≤ longest → p < n → IsStringAt n p (drawn_string longest n p words).0
 
 -- the visits of a string that are taken out
 abbrev pub string_visits : List ℕ → ℕ → ℕ → Option ℕ → List ℕ

@@ -1,6 +1,6 @@
 //! Draws strings: stretches of a route that are taken out, one visit of which may stay.
 
-ghost use Rattle.std.specs.Prelude.{◌≡◌, ◌≢◌, ◌+◌, ◌<◌, ◌≤◌};
+ghost use Rattle.std.specs.Prelude.{◌≡◌, ◌+◌, ◌<◌, ◌≤◌};
 ghost use Rattle.vr_strings.specs.Strings.{drawn_first, drawn_size, drawn_stay, drawn_string};
 ghost use Rattle.vr_strings.specs.Strings.{IsSizeIn, IsStringAt};
 

@@ -1,6 +1,6 @@
 //! What is left of a route without a string.
 
-ghost use Rattle.std.specs.Prelude.{◌≡◌, ◌<◌, length};
+ghost use Rattle.std.specs.Prelude.{◌≡◌, ◌+◌, ◌<◌, ◌≤◌, length};
 ghost use Rattle.vr_model.specs.routes.Routes.{holds, route};
 ghost use Rattle.vr_strings.specs.Strings.{goes_out as goes_out_of, gone_of, left_of_list, takes_place, IsStringIn};
 
@@ -27,6 +27,7 @@ fn is_taken(routes: &Routes, v: u32, string: StringPlaces, node: u32) -> bool
     ensures { result ≡ holds (gone_of (route routes.now.lists v) string) node }
 {
     let _few = routes.list(v);
+    routes.know_once();
     match routes.seat(node) {
         Some(seat) => seat.vehicle == v && takes(string, seat.place),
         None => false,
@@ -53,9 +54,11 @@ fn goes_out(
     }
 }
 
-/// Writes what is left of the list of vehicle `v` without a string over a row: the visits of the string go, except the
-/// one that stays, and the other node of the pair of each of them goes too. Each visit of the list takes the same time,
-/// however long the list is, and no memory. The routes stay as they are.
+/// Writes what is left of the list of vehicle `v` without a string over a row. The visits of the string go, except the
+/// one that stays. The other node of the pair of each that goes does too, also if it is the one that stays.
+///
+/// Each visit of the list takes the same time, however long the list is. It takes no memory, and the routes stay as
+/// they are.
 pub fn write_left(
     nodes: &NodeTables<'_>,
     routes: &Routes,

@@ -37,6 +37,7 @@ struct Counts {
     used: u32,
 }
 
+// Counts them, list by list.
 fn count(routes: &Routes) -> Counts
     ensures active { result.active ≡ active_count routes.now.lists }
     ensures used { result.used ≡ length (used_vehicles routes.now.lists) }
