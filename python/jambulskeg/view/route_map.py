@@ -12,8 +12,11 @@ from .svg import Picture, Point, circle, group, line, path, rect, shortened, tex
 
 __all__ = ["route_map"]
 
-FEW = 80
-"""Up to so many nodes have their names beside them."""
+FEW = 150
+"""Up to so many nodes have their names beside them, as far as there is room."""
+LETTER = 6.3
+"""The width of a letter of a name."""
+Box = Tuple[float, float, float, float]
 NUMBERED = 250
 """Up to so many stops have their letters and numbers on them."""
 LINES = ("", " dashed", " dotted")
@@ -102,16 +105,32 @@ def spot(day: Day, route: Route, stop: int, at: Point) -> str:
 
 
 def names_of(day: Day, ground: Ground) -> List[str]:
-    """The names of places, beside their marks, and how far away those are that lie at the edge."""
+    """The names of places, beside their marks where there is room, and how far away those at the edge are."""
+    taken = [(x - 14, y - 8, x + 14, y + 8) for x, y in ground.points]
     out = []
-    for node, (x, y) in enumerate(ground.points):
-        is_right = x > WIDTH - 110
+    for node, point in enumerate(ground.points):
         name = shortened(day.names.short(node), 14)
         if node in ground.far:
             name = f"{name}, {ground.far[node]:.0f}{ground.unit} away"
-        at = (x - 10 if is_right else x + 10, y - 9)
-        out.append(text("placename", at, name, "end" if is_right else "start"))
+        for anchor, at, box in sides_of(point, LETTER * len(name)):
+            if not any(overlap(box, other) for other in taken) and 0 < box[0] and box[2] < WIDTH:
+                taken.append(box)
+                out.append(text("placename", at, name, anchor))
+                break
     return out
+
+
+def sides_of(point: Point, wide: float) -> Iterator[Tuple[str, Point, Box]]:
+    """Where words of this width may stand beside a mark: above or below it, to its right or its left."""
+    x, y = point
+    for base in (y - 9, y + 18):
+        yield "start", (x + 10, base), (x + 10, base - 10, x + 10 + wide, base + 1)
+        yield "end", (x - 10, base), (x - 10 - wide, base - 10, x - 10, base + 1)
+
+
+def overlap(one: Box, other: Box) -> bool:
+    """Whether two boxes, each given by its left, upper, right and lower edge, have something in common."""
+    return one[0] < other[2] and other[0] < one[2] and one[1] < other[3] and other[1] < one[3]
 
 
 def scale_of(ground: Ground) -> List[str]:

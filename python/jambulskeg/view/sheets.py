@@ -47,17 +47,18 @@ def sheet(day: Day, route: Route) -> str:
     stops = stops_of(day, route)
     asked = day.rows(route)
     heads, columns = columns_of(day, route, stops)
-    width = sum(1 for head in heads if head)
+    shown = [head for head in heads if head]
+    width = len(shown)
     breaks = day.breaks(route)
     rows: List[str] = [break_row(day, piece, width) for piece in breaks if piece.stop < 0]
     for stop, entry in zip(stops, asked):
         window = day.names.range(entry.window) if entry is not None and entry.window else ""
         cells: List[Any] = [str(stop.number), day.names.node(stop.node), *times(day, stop), window]
         cells += [*stop.loads, *(day.cells(stop.node).get(heading, "") for heading in columns)]
-        rows.append(row([cell for cell, head in zip(cells, heads) if head]))
+        rows.append(row([cell for cell, head in zip(cells, heads) if head], heads=shown))
         rows += [break_row(day, piece, width) for piece in breaks if piece.stop == stop.number]
     title = f"{day.names.vehicle(route.vehicle)}: stops in their order"
-    return table(title, [head for head in heads if head], ["<tbody>", *rows, "</tbody>"], shape="wide")
+    return table(title, shown, ["<tbody>", *rows, "</tbody>"], shape="wide")
 
 
 def columns_of(day: Day, route: Route, stops: Sequence[Stop]) -> Tuple[List[str], List[str]]:

@@ -57,12 +57,15 @@ def table(
     )
 
 
-def row(cells: Sequence[Any], marks: str = "", key: str = "") -> str:
-    """A row; numbers are set to the right, and a key of a colour stands before the first cell."""
+def row(cells: Sequence[Any], marks: str = "", key: str = "", heads: Sequence[str] = ()) -> str:
+    """A row; numbers are set to the right, and a key of a colour stands before the first cell. With `heads` each cell
+    knows its own, for screens on which the row is no row any more."""
     first, *rest = cells
     colour = f'<i class="key {key}"></i>' if key else ""
+    known = [f' data-head="{escaped(head.lstrip("# "))}"' for head in heads[1:]] or [""] * len(rest)
     words = "".join(
-        f'<td class="number">{cell}</td>' if isinstance(cell, int) else f"<td>{marked(cell)}</td>" for cell in rest
+        f'<td class="number"{head}>{cell}</td>' if isinstance(cell, int) else f"<td{head}>{marked(cell)}</td>"
+        for cell, head in zip(rest, known)
     )
     return f'<tr{marks}><th scope="row">{colour}{marked(first)}</th>{words}</tr>'
 
