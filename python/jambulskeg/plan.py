@@ -33,7 +33,7 @@ from .portfolio import portfolio, variants
 from .program import ProgramLike, find
 from .reasons import Reason, why_left_out
 from .records import MOST_TRIES, Group, Improve, Model, Search
-from .rescue import Rescue, missing, rescue, timed_solver, with_search
+from .rescue import Rescue, Way, missing, rescue, timed_solver, with_search
 from .rounds import FIRST_TRIES, Round
 from .solution import Solution
 from .view import page, sheet_page
@@ -53,7 +53,7 @@ NUMBERED = re.compile(r"\b(node|vehicle) (\d+)\b")
 class Planned:
     """A plan of a day. `solution` meets `model`; both are those of the spreadsheets, but that the visits `required`,
     which must be made and found no place, may be left out for nothing. `reasons` say why visits are left out; `how`
-    says how the plan was found, and `doubts` what looks wrong in the day."""
+    says how the plan was found, if not at once, and `doubts` what looks wrong in the day."""
 
     tables: DayTables
     model: Model
@@ -77,7 +77,7 @@ class Planned:
         return (
             f"cost {self.solution.cost}: {len(self.solution.used())} of {len(self.tables.vans)} vehicles leave, "
             f"{visits - left} of {visits} visits are made"
-        )
+        ) + (f", {self.how}" if self.how else "")
 
     def left_out(self) -> List[str]:
         """A sentence for each visit that is left out: why."""
@@ -112,7 +112,8 @@ def plan_day(
     shown = replace(model, groups=[*model.groups, *(Group([node], 0) for node in required)])
     final = leave_later(shown, complete(shown, solution.lists(), program), program)
     reasons = why_left_out(shown, final, required=required)
-    return Planned(tables, shown, final, found.sentence, required, reasons, looks)
+    how = "" if found.way is Way.AS_ASKED or required else found.sentence
+    return Planned(tables, shown, final, how, required, reasons, looks)
 
 
 def by_portfolio(
@@ -211,7 +212,7 @@ def run_plan(asked: argparse.Namespace) -> int:
         to_stdout(plan_csv(planned.model, planned.solution, tables))
     for doubt in planned.doubts[len(tables.doubts):]:
         tell(f"look at: {doubt}")
-    tell(f"{planned.summary()}, {planned.how}" if not planned.required else planned.summary())
+    tell(planned.summary())
     for line in planned.left_out():
         tell(line)
     return LEFT_OUT if planned.required else 0

@@ -357,7 +357,7 @@ class VanTests(unittest.TestCase):
         self.assertEqual(text.count('class="pause"'), sum(len(drawn.breaks(route)) for route in drawn.routes()))
         self.assertIn("> Phone</th>", text)
         self.assertNotIn("empty", text)
-        self.assertIn("<td>03</td>", text)
+        self.assertIn('<td data-head="Phone">03</td>', text)
         self.assertIn("\u2013", text)
         single = sheet_page(drawn, drawn.routes()[0].vehicle, "Monday")
         self.assertEqual((read(single).seen["h1"], "Monday" in single), (1, True))
