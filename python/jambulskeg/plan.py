@@ -202,7 +202,8 @@ def run_plan(asked: argparse.Namespace) -> int:
     files = [path for path in (
         asked.output, asked.page, asked.geojson, asked.ics, asked.model, asked.solution, *sheets
     ) if path]
-    with stopped_by_signals(), new_folder(asked.sheets), Outputs(files) as outputs:
+    inputs = [asked.places, asked.vans]
+    with stopped_by_signals(), new_folder(asked.sheets), Outputs(files, inputs) as outputs:
         planned = plan_day(tables, roads_of(asked, tables), seconds=asked.seconds, jobs=asked.jobs)
         for path, text in texts_of(asked, planned, title, date):
             outputs.write(path, text)

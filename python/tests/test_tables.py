@@ -5,7 +5,7 @@ from __future__ import annotations
 import os
 import tempfile
 import unittest
-from typing import Tuple, Union
+from typing import Dict, Tuple, Union
 
 from jambulskeg.places import (
     METRES, BadTable, DayTables, Measure, Place, Roads, TableSource, Van, model_from_csv, model_of_day, read_day,
@@ -15,7 +15,7 @@ from jambulskeg.tables import Heads, Table, TableLine, finite, read_table, whole
 
 Text = Union[str, bytes]
 
-WRITERS = {
+WRITERS: Dict[str, Tuple[Text, Text]] = {
     # 'CSV UTF-8' with the regional settings of Germany: a mark, semicolons, decimal commas, CR LF, times as 08:30.
     "Excel in Europe, CSV UTF-8": (
         "\ufeffName;X;Y;Demand;Open;Close;Service;Phone\r\nYard;0;0;;;;;\r\nJörg;3,5;-4;2;08:30;10:00;10;0123\r\n"
@@ -97,8 +97,8 @@ class WriterTests(unittest.TestCase):
             for path, text in zip(paths, WRITERS["LibreOffice"]):
                 with open(path, "wb") as file:
                     file.write(as_bytes(text))
-            self.assertEqual(read_day(*paths), day(*WRITERS["LibreOffice"]))
-            self.assertEqual(model_from_csv(*paths), model_of_day(read_day(*paths)))
+            self.assertEqual(read_day(paths[0], paths[1]), day(*WRITERS["LibreOffice"]))
+            self.assertEqual(model_from_csv(paths[0], paths[1]), model_of_day(read_day(paths[0], paths[1])))
             self.assertEqual(read_places(paths[0]), list(PLACES))
             with self.assertRaises(OSError):
                 read_day(os.path.join(folder, "none.csv"), paths[1])

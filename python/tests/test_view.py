@@ -312,7 +312,8 @@ class PageTests(unittest.TestCase):
         self.assertAlmostEqual(ground.far[12], 58.0, 0)
         self.assertGreater(max(x for x, _ in ground.points[:12]) - min(x for x, _ in ground.points[:12]), 700)
         self.assertTrue(0 < ground.points[12][0] <= 970 and 0 < ground.points[12][1] < ground.height)
-        for others in ([Place("far", 60, 1)] * 5, []):
+        clusters: List[List[Place]] = [[Place("far", 60, 1)] * 5, []]
+        for others in clusters:
             self.assertEqual(ground_of([*near, *others], False).far, {})
         self.assertEqual(ground_of([near[0], Place("far", 60, 1)], False).far, {})
         degrees = ground_of([Place("a", 8, 47), Place("b", 8, 48)], True)
