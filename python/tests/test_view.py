@@ -19,7 +19,7 @@ from jambulskeg.places import Place
 from jambulskeg.reasons import why_left_out
 from jambulskeg.view import CannotBeDrawn, Day, Download, Names, compare_page, day_of, drawing, page, sheet_page
 from jambulskeg.view.axis import Axis
-from jambulskeg.view.colours import COLOURS, colours_of, letters
+from jambulskeg.view.colours import ROUTES, colours_of, letters
 from jambulskeg.view.compare import changes_table, signed
 from jambulskeg.view.loads import levels_of
 from jambulskeg.view.route_map import route_map
@@ -335,7 +335,7 @@ class PageTests(unittest.TestCase):
 class VanTests(unittest.TestCase):
     def test_colours_are_those_of_names(self) -> None:
         self.assertEqual(colours_of(("red", "Blue", "van", "red")), (9, 0, 1, 2))
-        self.assertEqual(sorted(colours_of(tuple("x" * at for at in range(12)))), list(range(len(COLOURS))))
+        self.assertEqual(sorted(colours_of(tuple("x" * at for at in range(12)))), list(range(len(ROUTES))))
         many = colours_of(("red",) * 30)
         self.assertLessEqual(max(map(many.count, many)), 3)
         self.assertEqual([letters(at) for at in (0, 25, 26, 99)], ["A", "Z", "AA", "CV"])
