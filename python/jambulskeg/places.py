@@ -12,13 +12,13 @@ import re
 from collections import Counter
 from dataclasses import dataclass, replace
 from enum import Enum
-from typing import Callable, Dict, Iterator, List, Mapping, Optional, Sequence, Set, Tuple
+from typing import Callable, Dict, Iterator, List, Mapping, Optional, Sequence, Tuple
 
 from .records import (
     GREATEST_ENTRY, GREATEST_TRANSIT, HORIZON, MOST_NODES, MOST_VEHICLES, Dimension, Evaluator, Group, Model, NodeRow,
     Search, Vehicle, VehicleRow,
 )
-from .tables import BadTable, Table, TableLine, TableSource, read_table, shown, whole
+from .tables import BadTable, Table, TableSource, read_table, shown, whole
 
 __all__ = [
     "BadTable", "DayTables", "METRES", "Measure", "Place", "Roads", "Rounding", "TableSource", "Van", "from_places",

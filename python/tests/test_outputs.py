@@ -53,7 +53,8 @@ class OutputTests(unittest.TestCase):
         with self.assertRaises(OSError) as caught, Outputs([self.at("a"), "/dev/full"]) as outputs:
             outputs.write(self.at("a"), "new")
             outputs.write("/dev/full", "new")
-        self.assertEqual((caught.exception.filename, caught.exception.strerror), ("/dev/full", "No space left on device"))
+        told = (caught.exception.filename, caught.exception.strerror)
+        self.assertEqual(told, ("/dev/full", "No space left on device"))
         self.assertEqual((self.read("a"), os.listdir(self.folder)), ("old", ["a"]))
         self.assertTrue(stat.S_ISCHR(os.stat("/dev/full").st_mode))
         write_whole(os.devnull, "gone")

@@ -106,6 +106,14 @@ class PlanTests(PlanCase):
         self.assertIn("line 5, column 'name': no vehicle starts or ends at 'Depot 2'", told)
         self.assertIn("look at: to leave a visit of group 0 out costs 5", told)
 
+    def test_doubts_of_the_model_have_names(self) -> None:
+        rows = "yard,0,0,,,\nAda,90,0,0:00,0:30,500\nBen,1,1,0:10,9:00,\n"
+        places = self.write("p.csv", f"name,x,y,open,close,penalty\n{rows}")
+        status, _, told = called("plan", places, self.write("v.csv", "start\nyard\n"), "--seconds", "0")
+        self.assertEqual(status, 0)
+        self.assertIn("look at: no vehicle that drives straight to 'Ada' and on to its end keeps 'time'", told)
+        self.assertIn("left out: Ada: 'time' forbids each of its 2 places", told)
+
     def test_a_day_that_cannot_make_all_visits(self) -> None:
         words = [self.write("p.csv", FULL), self.write("v.csv", ONE), "--seconds", "0", "-o", self.at("plan.csv")]
         status, _, told = called("plan", *words, "--page", self.at("day.html"), "--solution", self.at("s.json"))

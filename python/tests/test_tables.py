@@ -28,7 +28,7 @@ WRITERS: Dict[str, Tuple[Text, Text]] = {
         .encode("cp1252"),
         b"Name;Start;Capacity;From;To\r\nred;Yard;15;08:00;16:00\r\n",
     ),
-    # 'CSV UTF-8' with American settings: commas, 9:00 AM, cells with a comma in quotes, empty rows to the last used one.
+    # 'CSV UTF-8' with American settings: commas, 9:00 AM, empty rows down to the last one that was ever used.
     "Excel in America, CSV UTF-8": (
         "\ufeffName ,X,Y,Demand,Open,Close,Service, Phone\r\nYard,0,0,,,,,\r\n"
         "Jörg,3.5,-4,2,8:30 AM,10:00 AM,10,0123\r\n,,,,,,,\r\n,,,,,,,\r\n",
@@ -170,7 +170,10 @@ class WriterTests(unittest.TestCase):
                 self.bad(sentence, places, vans)
 
     def test_no_text_makes_another_exception(self) -> None:
-        for text in ("\x00", '"', "sep=", "sep=;", ",", "name", "name,x,y\r", "name,x,y\n\"a\"b,1,2", "name;x;y\n1;2;3;4"):
+        texts = (
+            "\x00", '"', "sep=", "sep=;", ",", "name", "name,x,y\r", "name,x,y\n\"a\"b,1,2", "name;x;y\n1;2;3;4",
+        )
+        for text in texts:
             for data in (as_bytes(text), text.encode("utf-16"), b"\xff\xfe" + as_bytes(text)):
                 with self.assertRaises(BadTable):
                     read_day(("p", data), ("v", data))
