@@ -57,7 +57,8 @@ def day_of_tables(
         return day_of(model, solution, time=time, clock=clock, reasons=reasons or {})
     return day_of(
         model, solution, places=tables.places, vehicles=[van.name for van in tables.vans], time=time,
-        clock=0 if clock is None and tables.vans else clock, further=tables.further, reasons=reasons or {},
+        clock=0 if clock is None and tables.vans else clock, further=tables.further, van_further=tables.van_further,
+        reasons=reasons or {},
     )
 
 
@@ -144,7 +145,9 @@ def geojson_of(day: Day) -> str:
 def line_feature(day: Day, route: Route) -> Dict[str, object]:
     """The line of a route."""
     points = [[day.places[node].x, day.places[node].y] for node in route.nodes]
-    properties = {"van": day.names.vehicle(route.vehicle), "visits": len(route.visits)}
+    properties: Dict[str, object] = {"van": day.names.vehicle(route.vehicle), "visits": len(route.visits)}
+    for heading, cell in day.van_cells(route.vehicle).items():
+        properties[another(heading, list(properties))] = cell
     return {"type": "Feature", "geometry": {"type": "LineString", "coordinates": points}, "properties": properties}
 
 

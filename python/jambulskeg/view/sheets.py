@@ -59,7 +59,13 @@ def sheet(day: Day, route: Route) -> str:
         rows.append(row([cell for cell, head in zip(cells, heads) if head], heads=shown))
         rows += [break_row(day, piece, width) for piece in breaks if piece.stop == stop.number]
     title = f"{day.names.vehicle(route.vehicle)}: stops in their order"
-    return table(title, shown, ["<tbody>", *rows, "</tbody>"], shape="wide")
+    return who_drives(day, route.vehicle) + table(title, shown, ["<tbody>", *rows, "</tbody>"], shape="wide")
+
+
+def who_drives(day: Day, vehicle: int) -> str:
+    """The further cells of a vehicle in a line."""
+    words = ", ".join(f"{heading}: {cell}" for heading, cell in day.van_cells(vehicle).items() if cell)
+    return f"<p>{escaped(words)}</p>" if words else ""
 
 
 def columns_of(day: Day, route: Route, stops: Sequence[Stop]) -> Tuple[List[str], List[str]]:
