@@ -49,6 +49,8 @@ GROWS = 4
 LEFT_OUT = 3
 """The exit status of a plan that leaves out visits that must be made."""
 GUIDED = Search(improve=Improve.GUIDED_LOCAL_SEARCH)
+SHEET = re.compile(r"\d{2,3}(?:-.*)?\.html")
+"""How a sheet is called."""
 NUMBERED = re.compile(r"\b(node|vehicle) (\d+)\b")
 """How sentences about a model call nodes and vehicles."""
 
@@ -253,7 +255,7 @@ def run_plan(asked: argparse.Namespace) -> int:
     for doubt in planned.doubts[len(tables.doubts):]:
         tell(f"look at: {doubt}")
     tell(planned.summary())
-    for line in planned.left_out():
+    for line in [*planned.left_out(), *earlier_sheets(asked.sheets, sheets)]:
         tell(line)
     return LEFT_OUT if planned.required else 0
 
@@ -276,6 +278,15 @@ def sheet_paths(folder: Optional[str], tables: DayTables) -> List[str]:
     if not folder:
         return []
     return [os.path.join(folder, name) for name in names_of_sheets([van.name for van in tables.vans], ".html")]
+
+
+def earlier_sheets(folder: Optional[str], sheets: Sequence[str]) -> List[str]:
+    """A sentence for each sheet in the folder that is none of this plan."""
+    if not folder:
+        return []
+    names = sorted(name for name in os.listdir(folder) if SHEET.fullmatch(name))
+    paths = [os.path.join(folder, name) for name in names]
+    return [f"look at: {path} is a sheet of an earlier plan" for path in paths if path not in sheets]
 
 
 @contextmanager

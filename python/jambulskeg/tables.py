@@ -26,6 +26,10 @@ TIME = re.compile(r"(?:(\d+) days? )?(\d+):([0-5]\d)(?::00(?:\.0+)?)?(?:\s*([ap]
 WHOLE = re.compile(r"([+-]?\d+)(?:\.0*)?", re.ASCII)
 """A whole number, also as pandas writes those of a column with gaps: 2.0."""
 REAL = re.compile(r"[+-]?(?:\d+\.?\d*|\.\d+)(?:e[+-]?\d+)?", re.ASCII | re.IGNORECASE)
+DOTTED = re.compile(r"\d{1,2}[.,]\d\d")
+"""What is a time in some countries and a number in others."""
+COMMA = re.compile(r"-?\d+,\d+")
+"""A number with a decimal comma."""
 DELIMITERS = ",;\t"
 SEPARATOR = re.compile(r'"?sep=([,;\t|])"?[,;\t|]*', re.IGNORECASE)
 """The first line of some files for Excel, which says what parts the cells."""
@@ -171,6 +175,9 @@ class TableLine:
         for column, other in ((low, high), (high, low)):
             if not self.has(column):
                 raise self.bad(column, f"the cell is empty, and that of '{other}' is not: give both or none")
+        for column in (low, high):
+            if DOTTED.fullmatch(self.text(column)):
+                raise self.bad(column, f"'{self.text(column)}' may be a time or a number: write 9:30, or 9")
         found = self.whole(low, most), self.whole(high, most)
         if found[0] > found[1]:
             turned = f"{shown(self.text(high))} is before {shown(self.text(low))}"
@@ -180,6 +187,8 @@ class TableLine:
 
 def hint(text: str, point: str) -> str:
     """What a text that is no number may be after all, in words."""
+    if point == "." and COMMA.fullmatch(text):
+        return "; where commas part the cells, a number has a point, as 3.5"
     try:
         found = finite(text.replace(point, "."))
     except ValueError:

@@ -143,6 +143,9 @@ class PlanTests(PlanCase):
         self.assertEqual(status, 0)
         texts = [self.read(os.path.join("s", name)) for name in sorted(os.listdir(self.at("s")))]
         self.assertEqual(["is not used" in text for text in texts].count(True), 1)
+        vans = self.write("v.csv", "name,start\nred,yard\n")
+        told = called("plan", self.at("p.csv"), vans, "--seconds", "0", "--sheets", self.at("s"))[2]
+        self.assertIn(f"look at: {self.at('s/02-blue.html')} is a sheet of an earlier plan\n", told)
 
 
 class FaultTests(PlanCase):
