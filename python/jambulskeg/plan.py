@@ -44,6 +44,8 @@ __all__ = ["LEFT_OUT", "Planned", "add_plan", "plan_day", "run_plan"]
 
 SECONDS = 10.0
 """How long is searched where nobody says."""
+FEW = 20
+"""As many of the visits that are left out are told."""
 GROWS = 4
 """How many times the tries of a portfolio are those of the one before it."""
 LEFT_OUT = 3
@@ -255,7 +257,9 @@ def run_plan(asked: argparse.Namespace) -> int:
     for doubt in planned.doubts[len(tables.doubts):]:
         tell(f"look at: {doubt}")
     tell(planned.summary())
-    for line in [*planned.left_out(), *earlier_sheets(asked.sheets, sheets)]:
+    left = planned.left_out()
+    more = [f".. and {len(left) - FEW} more are left out"] if len(left) > FEW else []
+    for line in [*left[:FEW], *more, *earlier_sheets(asked.sheets, sheets)]:
         tell(line)
     return LEFT_OUT if planned.required else 0
 
