@@ -329,7 +329,7 @@ class PageTests(unittest.TestCase):
                 self.assertIn(f">{drawn.letters(route.vehicle)}{stop}</text>", marks)
         self.assertIn('class="ruler"', marks)
         at_one = day_of(drawn.model, drawn.solution, places=[places[0]] * 17)
-        self.assertEqual(route_map(at_one).body.count('class="zoom"'), 16)
+        self.assertEqual(route_map(at_one).body.count('class="spot'), 16 + 3)
 
 
 class VanTests(unittest.TestCase):
