@@ -43,7 +43,7 @@ from .view import page, sheet_page
 __all__ = ["LEFT_OUT", "Planned", "add_plan", "plan_day", "run_plan"]
 
 SECONDS = 10.0
-"""How long is searched where nobody says."""
+"""How many seconds are searched if nobody says."""
 FEW = 20
 """As many of the visits that are left out are told."""
 GROWS = 4
@@ -100,11 +100,11 @@ def plan_day(
     tables: DayTables, roads: Optional[Roads] = None, *, seconds: float = SECONDS, jobs: int = 1,
     program: ProgramLike = None, progress: Optional[Progress] = None,
 ) -> Planned:
-    """The plan of a day, searched for about so many seconds, by `jobs` searches at a time.
+    """The plan of a day, searched for about `seconds`, by `jobs` searches at a time.
 
     One of them is `rescue`, the others are those of portfolios; `progress` is told of the rounds of the former. Each
-    driver leaves as late as the plan lets him, where that is no dearer. Raises `Refused` where the model has a
-    fault, `NoFirstSolution` where nothing is found, and what the program raises.
+    driver leaves as late as the plan lets him, if that is no dearer. Raises `Refused` if the model has a
+    fault, `NoFirstSolution` if nothing is found, and what the program raises.
     """
     model = model_of_day(tables, roads, GUIDED)
     looks = (*tables.doubts, *(named(tables, doubt.sentence) for doubt in doubts(model)))
@@ -134,7 +134,7 @@ class UntilThen:
         return self.until - time.monotonic()
 
     def run(self, models: Sequence[Model]) -> List[Answer]:
-        """For each model its solution, or what went wrong: `ProgramSlow` where the time was over."""
+        """For each model its solution, or what went wrong: `ProgramSlow` if the time was over."""
         with ThreadPoolExecutor(max_workers=self.jobs) as pool:
             return list(pool.map(self.answer, models))
 
@@ -295,7 +295,7 @@ def earlier_sheets(folder: Optional[str], sheets: Sequence[str]) -> List[str]:
 
 @contextmanager
 def new_folder(folder: Optional[str]) -> Iterator[None]:
-    """Makes a folder where it is not there, and takes it away again if the work within ends by an exception."""
+    """Makes a folder if it is not there, and takes it away again if the work within ends by an exception."""
     is_new = bool(folder) and not os.path.isdir(folder or "")
     if folder:
         os.makedirs(folder, exist_ok=True)

@@ -32,7 +32,7 @@ Namer = Callable[[int], str]
 
 @dataclass(frozen=True)
 class Site:
-    """A place for a visit: behind the node `after` in the route of a vehicle, what it would cost there, and by how much
+    """A place for a visit: after the node `after` in the route of a vehicle, what it would cost there, and by how much
     the penalties would sink."""
 
     vehicle: int
@@ -85,7 +85,7 @@ class Reason:
 def why_left_out(
     model: Model, solution: Solution, seconds: float = SECONDS, required: Sequence[int] = ()
 ) -> Dict[int, Reason]:
-    """For each visit that a solution leaves out the reason, measured within so many seconds for all of them.
+    """For each visit that a solution leaves out the reason, measured within these seconds for all of them.
 
     `required` are visits that the day was to make, whatever they cost. Each visit has its share of the seconds, in
     which those places are tried first whose arcs cost least, and one at least.
@@ -157,7 +157,7 @@ def lists_with(
 
 def forbidding(model: Model, route: Route, nodes: Sequence[int]) -> Optional[str]:
     """The rule that forbids the nodes at all places of a route: the vehicles that may go there, or a load whose values
-    are above the capacity in any order; None where there is none."""
+    are above the capacity in any order; None without any."""
     if any(route.vehicle not in model.vehicles_of(node) for node in nodes):
         return NOT_ALLOWED
     taken = [model.vehicles[route.vehicle].start, *route.visits, *nodes]

@@ -143,7 +143,7 @@ class WriterTests(unittest.TestCase):
             ("vans.csv, line 1, column 'start': there is no such column", YARD, "name\nred\n"),
             ("vans.csv, line 2, column 'start': no place has the name 'Yard'; is 'yard' meant?", YARD, "start\nYard\n"),
             ("vans.csv, line 3, column 'end': no place has the name 'b'", YARD, "start,end\nyard,\nyard,b\n"),
-            ("places.csv, line 3, column 'name': 'yard' stands in an earlier line, line 2", YARD + "yard,1,1\n", RED),
+            ("places.csv, line 3, column 'name': 'yard' is in an earlier line too, line 2", YARD + "yard,1,1\n", RED),
             ("places.csv, line 1: this is a spreadsheet's own file", b"PK\x03\x04..", RED),
             ("places.csv, line 2: this is no text in UTF-8", b"name,x,y\na\x00,1,1\n", RED),
             ("places.csv, line 2: this is no text in UTF-8", b"name,x,y\n\x81\xff,1,1\n", RED),

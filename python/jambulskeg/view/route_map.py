@@ -14,12 +14,12 @@ from .tables import visits_text
 __all__ = ["route_map"]
 
 FEW = 150
-"""Up to so many nodes have their names beside them, as far as there is room."""
+"""Up to this many nodes have their names beside them, as far as there is room."""
 LETTER = 6.3
 """The width of a letter of a name."""
 Box = Tuple[float, float, float, float]
 NUMBERED = 250
-"""Up to so many stops have their letters and numbers on them."""
+"""Up to this many stops have their letters and numbers on them."""
 LINES = ("", " dashed", " dotted")
 
 

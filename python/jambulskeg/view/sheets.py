@@ -69,7 +69,7 @@ def who_drives(day: Day, vehicle: int) -> str:
 
 
 def columns_of(day: Day, route: Route, stops: Sequence[Stop]) -> Tuple[List[str], List[str]]:
-    """The heads of a sheet, empty where its column has nothing to say, and the further columns that some stop has."""
+    """The heads of a sheet, empty if the column has nothing to say, and the further columns that some stop has."""
     waits = any(stop.begins is not None and stop.arrival != stop.begins for stop in stops)
     has_window = any(entry is not None and entry.window for entry in day.rows(route))
     heads = ["stop", "place", *(["arrive", "begin" if waits else "", "leave"] if day.is_timed else ["", "", ""])]
