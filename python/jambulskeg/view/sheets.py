@@ -20,14 +20,15 @@ MANY = 8
 
 def sheets(day: Day) -> str:
     """The sheets of all vehicles that leave, as a part of a page."""
-    state = "" if len(day.routes()) > MANY else " open"
+    is_many = len(day.routes()) > MANY
+    state = "" if is_many else " open"
     parts = [
         f'<details class="sheet" data-vehicle="{route.vehicle}"{state}><summary>{badge(day, route.vehicle)} '
         f"{escaped(day.names.vehicle(route.vehicle))}<span>{escaped(in_short(day, route))}</span></summary>"
         f"{sheet(day, route)}</details>"
         for route in day.routes()
     ]
-    shape = "sheets roomy" if day.cells(0) else "sheets"
+    shape = "sheets many" if is_many else "sheets roomy" if day.cells(0) else "sheets"
     return f'<div class="{shape}">{"".join(parts)}</div>' if parts else "<p>No vehicle leaves.</p>"
 
 
