@@ -16,7 +16,7 @@ from .support import example
 TOTALS = {
     "salesman": [7293], "longest_route": [1552], "capacities": [6208], "time_windows": [71],
     "pickups": [226116, 226116, 226116], "dropped_visits": [7936], "breaks": [71], "spreadsheet": [237],
-    "late_starts": [153, 150, 148],
+    "late_starts": [153, 150, 148], "eleven": [253],
 }
 
 
