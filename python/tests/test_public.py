@@ -14,7 +14,7 @@ from types import ModuleType
 from typing import Iterator, List, Tuple, Union
 
 from jambulskeg import (
-    batch, complete, doubts, engines, errors, model, output, places, portfolio, program, replan, rescue,
+    batch, complete, doubts, engines, errors, formats, model, output, places, portfolio, program, replan, rescue,
     rounds, schedules, view,
 )
 from jambulskeg.routing import pywrapcp
@@ -94,8 +94,8 @@ class PublicTests(unittest.TestCase):
 INHERITED = ("faults", "taken", "tree", "own_faults", "kind_of")
 """What a kind and a record say once, where they are defined first."""
 MODULES = (
-    batch, complete, doubts, engines, errors, model, output, places, portfolio, program, replan, rescue, rounds, schedules,
-    view, pywrapcp,
+    batch, complete, doubts, engines, errors, formats, model, output, places, portfolio, program, replan, rescue,
+    rounds, schedules, view, pywrapcp,
 )
 """The modules whose calls are for users."""
 
