@@ -7,6 +7,7 @@ from __future__ import annotations
 
 import argparse
 import os
+import signal
 import sys
 from typing import List, Optional, Sequence, Tuple
 
@@ -15,15 +16,17 @@ from .commands.replan import add_replan
 from .complete import shape_faults, shorten
 from .doubts import doubts
 from .engines import Engine, GnuParallel, OwnProcesses, Slurm
-from .errors import JambulskegError, NotMet
+from .errors import JambulskegError, NotMet, Stopped
 from .formats.command import add_convert
 from .measures import answer_doubts
 from .model import meets, read_model, read_solution
+from .output import Output
 from .places import Place, read_places, read_vans, whole
 from .portfolio import LAMBDAS, Outcome, Portfolio, portfolio
 from .program import find
 from .records import Model
 from .solution import Solution
+from .stopping import stopping
 from .view import Day, compare_page, day_of, drawing, page
 from .view.day import time_dimension
 
@@ -46,6 +49,8 @@ def main(words: Optional[Sequence[str]] = None) -> int:
         return status
     except KeyboardInterrupt:
         return STOPPED
+    except Stopped as problem:
+        return failed(str(problem)) and 128 + (problem.signal or signal.SIGINT)
     except OSError as problem:
         return failed(f"{problem.filename or 'a file'}: {problem.strerror}")
     except (JambulskegError, ValueError) as problem:
@@ -206,9 +211,9 @@ def days_of(asked: argparse.Namespace, model: Model, solutions: Sequence[Solutio
 
 
 def write(path: str, text: str) -> None:
-    """Writes a file."""
-    with open(path, "w", encoding="utf-8") as file:
-        file.write(text)
+    """Writes a file, whole or not at all."""
+    with Output(path) as out:
+        out.write(text)
 
 
 def run_doubts(asked: argparse.Namespace) -> int:
@@ -240,17 +245,14 @@ def engine_of(asked: argparse.Namespace) -> Engine:
 def run_portfolio(asked: argparse.Namespace) -> int:
     """Writes the cheapest answer of a portfolio, and on standard error what each search came to."""
     model, engine = read_model(asked.model), engine_of(asked)
-    found = portfolio(
-        model, engine, tries=asked.tries, lambdas=asked.lambdas or LAMBDAS, keep_going=asked.keep_going
-    )
-    text = found.solution.text() + "\n"
-    if asked.output:
-        write(asked.output, text)
-    else:
-        sys.stdout.write(text)
+    with stopping() as stop, Output(asked.output) as out:
+        found = portfolio(
+            model, engine, tries=asked.tries, lambdas=asked.lambdas or LAMBDAS, keep_going=asked.keep_going, stop=stop
+        )
+        out.write(found.solution.text() + "\n")
     for number, outcome in enumerate(found.outcomes):
         sys.stderr.write(f"{'*' if number == found.number else ' '} {outcome_line(outcome)}\n")
-    return 0
+    return stop.status
 
 
 def outcome_line(outcome: Outcome) -> str:
@@ -265,18 +267,24 @@ def run_batch(asked: argparse.Namespace) -> int:
     models, faulty = read_folder(asked.models)
     if not models and not faulty:
         return failed(f"the folder {asked.models} has no file NAME.json")
-    found = batch(
-        models, engine_of(asked), tries=asked.tries, lambdas=asked.lambdas or LAMBDAS, keep_going=asked.keep_going
-    )
     output = asked.output or asked.models
     os.makedirs(output, exist_ok=True)
+    with Output(os.path.join(output, "solved.json")):
+        pass  # So it is known before the searches that the folder can be written to.
+    with stopping() as stop:
+        found = batch(
+            models, engine_of(asked), tries=asked.tries, lambdas=asked.lambdas or LAMBDAS,
+            keep_going=asked.keep_going, stop=stop,
+        )
+        for name, entry in found.items():
+            if isinstance(entry, Portfolio):
+                write(os.path.join(output, f"{name}.solved.json"), entry.solution.text() + "\n")
     for name, entry in found.items():
-        if isinstance(entry, Portfolio):
-            write(os.path.join(output, f"{name}.solved.json"), entry.solution.text() + "\n")
         print(model_line(name, entry))
     for name, fault in faulty:
         print(f"{name}: {fault}")
-    return 1 if faulty or any(not isinstance(entry, Portfolio) for entry in found.values()) else 0
+    no_answer = faulty or any(not isinstance(entry, Portfolio) for entry in found.values())
+    return stop.status or (1 if no_answer else 0)
 
 
 def model_line(name: str, entry: Found) -> str:

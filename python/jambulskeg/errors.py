@@ -8,7 +8,7 @@ from typing import Optional
 
 __all__ = [
     "CAUSES", "DeviceFailed", "Fault", "JambulskegError", "NoFirstSolution", "NoMemory", "NotJson", "NotMet",
-    "ProgramFailed", "ProgramKilled", "ProgramMissing", "ProgramSlow", "Refused", "TooLong", "Unsupported",
+    "ProgramFailed", "ProgramKilled", "ProgramMissing", "ProgramSlow", "Refused", "Stopped", "TooLong", "Unsupported",
 ]
 
 CAUSES = {
@@ -64,6 +64,14 @@ class ProgramSlow(JambulskegError):
     def __init__(self, seconds: float) -> None:
         self.seconds = seconds
         super().__init__(f"the program had no answer after {seconds:g} seconds and was ended; ask for fewer tries")
+
+
+class Stopped(JambulskegError):
+    """What was asked was stopped before it had an answer; `signal` is the number of the signal that did it, or 0."""
+
+    def __init__(self) -> None:
+        self.signal = 0
+        super().__init__("stopped before there was an answer")
 
 
 class NoMemory(JambulskegError):

@@ -11,6 +11,7 @@ import json
 import operator
 import os
 from dataclasses import dataclass
+from threading import Event as EventOf
 from typing import Any, Callable, List, Optional, Sequence, Tuple, Union
 
 from .errors import CAUSES, Fault, NotJson, NotMet, ProgramFailed, Refused
@@ -51,14 +52,16 @@ class SearchLog:
 
 
 def solve(
-    model: Model, program: ProgramLike = None, *, checked: bool = True, seconds: Optional[float] = None
+    model: Model, program: ProgramLike = None, *, checked: bool = True, seconds: Optional[float] = None,
+    stop: Optional[EventOf] = None,
 ) -> Solution:
     """The solution of the whole search that the model asks for; the same model always gives the same one.
 
-    `seconds` is the most that each run of the program may take. Raises `Refused` where the model has a fault,
+    `seconds` is the most that each run of the program may take; once the event `stop` is set, it is ended (`Stopped`).
+    Raises `Refused` where the model has a fault,
     `NoFirstSolution` where the construction finds none (see `jambulskeg.rescue`), and what `Program.run` raises.
     """
-    return answered(model, "solve", program, checked, seconds)
+    return answered(model, "solve", program, checked, seconds, stop)
 
 
 def first(
@@ -68,10 +71,13 @@ def first(
     return answered(model, "first", program, checked, seconds)
 
 
-def answered(model: Model, word: str, program: ProgramLike, checked: bool, seconds: Optional[float]) -> Solution:
+def answered(
+    model: Model, word: str, program: ProgramLike, checked: bool, seconds: Optional[float],
+    stop: Optional[EventOf] = None,
+) -> Solution:
     """The solution that a mode of the program writes, found to meet the model where that is asked for."""
     found = program_of(program)
-    solution = solution_of(found.ask([word], model.text(), seconds))
+    solution = solution_of(found.ask([word], model.text(), seconds, stop))
     if checked:
         meets(model, solution, found, seconds=seconds)
     return solution

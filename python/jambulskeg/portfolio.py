@@ -11,14 +11,16 @@ arguments give the same answer, whatever the order in which they end.
 from __future__ import annotations
 
 from dataclasses import dataclass, replace
+from threading import Event
 from typing import List, Optional, Sequence, Tuple
 
 from .engines import Answer, Engine, OwnProcesses
-from .errors import JambulskegError, NoFirstSolution, NotMet, Refused
+from .errors import JambulskegError, NoFirstSolution, NotMet, Refused, Stopped
 from .model import meets
 from .program import ProgramLike
 from .records import First, Improve, Model, Search, moves_of, tries_for
-from .rescue import ALIKE, as_own
+from .rescue import as_own
+from .rounds import ALIKE
 from .solution import Solution
 
 __all__ = ["Incomplete", "LAMBDAS", "Outcome", "Portfolio", "collected", "portfolio", "variants"]
@@ -60,8 +62,8 @@ class Outcome:
 
     @property
     def is_accident(self) -> bool:
-        """Whether it might end otherwise another time."""
-        is_plain = isinstance(self.problem, (NoFirstSolution, Refused, NotMet))
+        """Whether it might end otherwise another time, though nobody stopped it."""
+        is_plain = isinstance(self.problem, (NoFirstSolution, Refused, NotMet, Stopped))
         return self.problem is not None and not is_plain
 
 
@@ -73,6 +75,11 @@ class Portfolio:
     solution: Solution
     number: int
     outcomes: Tuple[Outcome, ...]
+
+    @property
+    def stopped(self) -> int:
+        """How many searches had not ended when the portfolio was stopped."""
+        return sum(1 for outcome in self.outcomes if isinstance(outcome.problem, Stopped))
 
 
 def variants(
@@ -109,16 +116,26 @@ def key_of(search: Search) -> Tuple[First, Improve, Tuple[int, ...]]:
 
 def portfolio(
     model: Model, engine: Optional[Engine] = None, program: ProgramLike = None, *, tries: Optional[int] = None,
-    lambdas: Sequence[Tuple[int, int]] = LAMBDAS, keep_going: bool = False,
+    lambdas: Sequence[Tuple[int, int]] = LAMBDAS, keep_going: bool = False, stop: Optional[Event] = None,
 ) -> Portfolio:
     """The cheapest checked answer of the searches of `variants`, run by an engine (one process, where none is named).
 
-    `program` is the one that checks. Raises `NoFirstSolution` where no search has an answer, `Refused` where the model
-    has a fault, `EngineFailed`, and `Incomplete` where a search ended by an accident, unless `keep_going`.
+    `program` is the one that checks. Once the event `stop` is set, running searches are ended and the best of the
+    others is the answer. Raises `NoFirstSolution` where no search has an answer, `Stopped` where none had one when it
+    was stopped, `Refused` where the model has a fault, `EngineFailed`, and `Incomplete` where a search ended by an
+    accident, unless `keep_going`.
     """
     searches = variants(model, tries, lambdas)
-    answers = (engine or OwnProcesses(1, program)).run([replace(model, search=search) for search in searches])
+    answers = run_by(engine, [replace(model, search=search) for search in searches], program, stop)
     return collected(model, searches, answers, program, keep_going=keep_going)
+
+
+def run_by(
+    engine: Optional[Engine], models: Sequence[Model], program: ProgramLike, stop: Optional[Event]
+) -> List[Answer]:
+    """What an engine answers; one that knows nothing of stops is asked without."""
+    used = engine or OwnProcesses(1, program)
+    return used.run(models) if stop is None else used.run(models, stop)
 
 
 def collected(

@@ -6,18 +6,22 @@ import json
 import os
 import shutil
 import subprocess
+import time
 from dataclasses import dataclass
+from threading import Event
 from typing import Any, Dict, List, Optional, Sequence, Tuple, Type, Union
 
 from .errors import (
     DeviceFailed, Fault, JambulskegError, NoFirstSolution, NoMemory, NotJson, NotMet, ProgramFailed, ProgramKilled,
-    ProgramMissing, ProgramSlow, Refused, TooLong,
+    ProgramMissing, ProgramSlow, Refused, Stopped, TooLong,
 )
 
 __all__ = ["BESIDE", "Program", "ProgramLike", "find", "program_of"]
 
 NAME = "vr_cli"
 VARIABLE = "VR_CLI"
+TICK = 0.05
+"""How many seconds pass at most until a process is ended that is to stop."""
 REPOSITORY = os.path.dirname(os.path.dirname(os.path.dirname(os.path.abspath(__file__))))
 BESIDE = (
     os.path.join(REPOSITORY, "release", "x86_64-linux", NAME),
@@ -75,11 +79,15 @@ class Program:
         """The program that `find` finds."""
         return cls(find(path))
 
-    def run(self, words: Sequence[str], text: Union[str, bytes] = "", seconds: Optional[float] = None) -> str:
+    def run(
+        self, words: Sequence[str], text: Union[str, bytes] = "", seconds: Optional[float] = None,
+        stop: Optional[Event] = None,
+    ) -> str:
         """What the program writes when called with these words on this input.
 
-        `seconds` is how long it may take. Raises `ProgramSlow` after that, `ProgramKilled` where a signal ended it,
-        `ProgramFailed` where it could not be run, and else the exception of its status.
+        `seconds` is how long it may take. Raises `ProgramSlow` after that, `Stopped` soon after `stop` is set,
+        `ProgramKilled` where a signal ended it, `ProgramFailed` where it could not be run, and else the exception of
+        its status. The process is ended before anything is raised.
         """
         command = [self.path, *words]
         data = text if isinstance(text, bytes) else text.encode("utf-8", "surrogatepass")
@@ -91,18 +99,38 @@ class Program:
             raise ProgramFailed(f"the program {self.path} could not be started: {problem.strerror}") from problem
         with process:
             try:
-                out, errors = process.communicate(data, seconds)
-            except subprocess.TimeoutExpired:
-                process.kill()
-                raise ProgramSlow(seconds or 0) from None
+                out, errors = outputs_of(process, data, seconds, stop)
             except BaseException:
                 process.kill()
                 raise
         return answer(process.returncode, out, errors)
 
-    def ask(self, words: Sequence[str], text: Union[str, bytes] = "", seconds: Optional[float] = None) -> Any:
+    def ask(
+        self, words: Sequence[str], text: Union[str, bytes] = "", seconds: Optional[float] = None,
+        stop: Optional[Event] = None,
+    ) -> Any:
         """The JSON object in the first line of what the program writes. Raises as `run` does."""
-        return tree_of(self.run(words, text, seconds).split("\n", 1)[0])
+        return tree_of(self.run(words, text, seconds, stop).split("\n", 1)[0])
+
+
+def outputs_of(
+    process: "subprocess.Popen[Any]", data: Any = None, seconds: Optional[float] = None, stop: Optional[Event] = None
+) -> Tuple[Any, Any]:
+    """What a process writes to its two outputs, its input being `data`. Raises `ProgramSlow` after some seconds, and
+    `Stopped` soon after `stop` is set; the process runs on then."""
+    end = None if seconds is None else time.monotonic() + seconds
+    while True:
+        left = None if end is None else max(0.0, end - time.monotonic())
+        if stop is not None:
+            left = TICK if left is None else min(left, TICK)
+        try:
+            return process.communicate(data, left)
+        except subprocess.TimeoutExpired:
+            data = None
+        if stop is not None and stop.is_set():
+            raise Stopped()
+        if end is not None and time.monotonic() >= end:
+            raise ProgramSlow(seconds or 0)
 
 
 ProgramLike = Union[Program, str, None]

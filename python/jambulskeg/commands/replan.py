@@ -13,6 +13,8 @@ from ..places import Measure, Place, Roads, read_places, whole
 from ..records import Model
 from ..replan import Replanned, Rest, Unavailable, Where, going_on, replan, searched, solve_rest, with_places
 from ..rescue import timed_solver
+from ..rounds import to_terminal
+from ..stopping import stopping
 
 __all__ = ["add_replan", "run_replan"]
 
@@ -45,6 +47,8 @@ def add_replan(command: argparse.ArgumentParser) -> None:
     command.add_argument("--time", metavar="NAME", help="the dimension of times")
     command.add_argument("--seconds", type=seconds, default=10.0, help="how long is searched; 10 where it is left out")
     command.add_argument("--keep", action="store_true", help="do not search: the plan goes on, with new orders put in")
+    command.add_argument("--progress", action="store_true",
+                         help="tell each cheaper plan on standard error; a terminal is told anyway")
     command.set_defaults(run=run_replan)
 
 
@@ -69,19 +73,20 @@ def run_replan(asked: argparse.Namespace) -> int:
     rest = replan(model, morning, moment(asked), done=asked.done, new=day, unavailable=lost, time=asked.time)
     if rest.day != model and asked.day is None:
         raise ValueError("the whole day has another model now: --day says where that is written")
-    with ExitStack() as files:
+    with stopping() as stop, ExitStack() as files:
         models = [
             (files.enter_context(Output(path)), model)
             for path, model in ((asked.day, rest.day), (asked.rest, rest.model)) if path is not None
         ]
         out = files.enter_context(Output(asked.output))
-        found = solve_rest(rest, going_on if asked.keep else searched(timed_solver(asked.seconds)))
+        search = searched(timed_solver(asked.seconds, progress=to_terminal if asked.progress else None, stop=stop))
+        found = solve_rest(rest, going_on if asked.keep else search)
         for file, model in models:
             file.write(model.text() + "\n")
         out.write(found.whole.text() + "\n")
     for line in lines_of(rest, found, [place.name for place in places]):
         print(line)
-    return 0
+    return stop.status
 
 
 def moment(asked: argparse.Namespace) -> int:

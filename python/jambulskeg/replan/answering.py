@@ -5,7 +5,7 @@ from __future__ import annotations
 from dataclasses import dataclass
 from typing import Callable, Optional
 
-from ..errors import NoFirstSolution
+from ..errors import NoFirstSolution, Stopped
 from ..program import ProgramLike
 from ..rescue import Solver, rescue
 from ..solution import Solution
@@ -49,12 +49,12 @@ def searched(solver: Optional[Solver] = None, program: ProgramLike = None) -> Re
 def solve_rest(rest: Rest, solver: Optional[RestSolver] = None, program: ProgramLike = None) -> Replanned:
     """The cheaper one of what a search finds and of the plan of the morning continued, put together with the morning.
 
-    Raises `NoFirstSolution` where the search does and the plan cannot go on.
+    Raises `NoFirstSolution` or `Stopped` where the search does and the plan cannot go on.
     """
     kept = continued(rest, program)
     try:
         found = (solver or searched(program=program))(rest)
-    except NoFirstSolution:
+    except (NoFirstSolution, Stopped):
         if kept is None:
             raise
         found = kept
