@@ -1,4 +1,4 @@
-"""An answer where the construction finds none, and rounds of growing tries."""
+"""An answer where the construction finds none, and rounds that turn through constructions."""
 
 from __future__ import annotations
 
