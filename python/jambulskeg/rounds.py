@@ -190,12 +190,12 @@ class Rounds:
             raise problem
 
     def solved(self, search: Search) -> Solution:
-        """The solution of a round. Raises `ProgramSlow` at the limit, or where another construction takes a twentieth
-        of it for its first round."""
+        """The solution of a round. Raises `ProgramSlow` at the limit, or where the first round of another construction
+        takes a twentieth of it, and twice as long as the first one of all."""
         begin = time.monotonic()
         seconds = None if self.best is None else self.left()
         if seconds is not None and search.first not in self.pace:
-            seconds = min(seconds, max(self.limit / 20, 0.05))
+            seconds = min(seconds, max(self.limit / 20, 2 * self.rounds[0].seconds, 0.1))
         text = f"{self.text}{json.dumps(search.tree())}}}"
         solution = solution_of(self.program.ask(["solve"], text, seconds, self.stop))
         now = time.monotonic()

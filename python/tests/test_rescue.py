@@ -176,9 +176,9 @@ class RoundTests(unittest.TestCase):
     def test_rounds_turn_through_constructions_and_numbers(self) -> None:
         told: List[Tuple[float, int]] = []
         progress: Progress = lambda seconds, cost: told.append((seconds, cost))
-        found = solve_for(with_search(DAY, tries=1), 0.8, progress=progress)
+        found = solve_for(with_search(DAY, tries=1), 1.5, progress=progress)
         rounds: Sequence[Round] = found.rounds
-        self.assertEqual([entry.search.first for entry in rounds[:3]], constructions(DAY.search))
+        self.assertEqual([entry.search.first for entry in rounds[:3]], constructions(DAY.search), rounds)
         self.assertEqual({entry.search.tries for entry in rounds[:3]}, {FIRST_TRIES})
         self.assertEqual([entry.number for entry in rounds], list(range(1, len(rounds) + 1)))
         self.assertGreater(len({tuple(entry.search.lambda_) for entry in rounds}), 1)

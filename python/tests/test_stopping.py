@@ -44,7 +44,7 @@ def is_alive(pid: int) -> bool:
 
 
 class StoppedCommandTests(CommandCase):
-    def stopped(self, number: int, words: List[str], seen: int = 2) -> Tuple[int, str, str]:
+    def stopped(self, number: int, words: List[str], seen: int) -> Tuple[int, str, str]:
         """Runs a command, stops its process alone by a signal once so many guided searches run, and finds that none is
         left soon after. Its status, and what it wrote to its outputs."""
         pids = self.at("pids")
@@ -70,7 +70,7 @@ class StoppedCommandTests(CommandCase):
         model = self.write("day.json", small("service-day").text())
         for number, status in ((signal.SIGTERM, 143), (signal.SIGINT, 130)):
             words = ["portfolio", model, "--jobs", "3", "-o", self.at("a.json")]
-            found, out, told = self.stopped(number, words)
+            found, out, told = self.stopped(number, words, seen=3)
             self.assertEqual((found, out), (status, ""), told)
             self.assertIn("stopped before there was an answer", told)
             self.assertEqual(told.count("*"), 1)
