@@ -10,10 +10,11 @@ from dataclasses import replace
 from threading import Event
 from typing import Dict, List, Mapping, Optional, Sequence, Tuple, Union
 
+from .arguments import A_PATH, MODELS, PAIRS, asks, either, number
 from .engines import Engine
 from .errors import JambulskegError
 from .model import Model, read_model
-from .portfolio import LAMBDAS, Portfolio, collected, run_by, variants
+from .portfolio import LAMBDAS, Portfolio, an_engine, collected, run_by, variants
 from .program import ProgramLike
 
 __all__ = ["Found", "batch", "read_folder"]
@@ -21,6 +22,7 @@ __all__ = ["Found", "batch", "read_folder"]
 Found = Union[Portfolio, JambulskegError]
 
 
+@asks(models=MODELS, engine=either(an_engine), tries=either(number(0)), lambdas=PAIRS)
 def batch(
     models: Mapping[str, Model], engine: Optional[Engine] = None, program: ProgramLike = None, *,
     tries: Optional[int] = None, lambdas: Sequence[Tuple[int, int]] = LAMBDAS, keep_going: bool = False,
@@ -45,6 +47,7 @@ def batch(
     return found
 
 
+@asks(folder=A_PATH)
 def read_folder(folder: str) -> Tuple[Dict[str, Model], List[Tuple[str, str]]]:
     """The models of a folder's files `NAME.json`, by their names in order, and the files that are none, with why.
 

@@ -19,7 +19,8 @@ from dataclasses import dataclass
 from threading import Event
 from typing import IO, Dict, Iterator, List, Optional, Protocol, Sequence, Tuple, Union
 
-from .errors import JambulskegError, ProgramFailed, Stopped
+from .arguments import A_COUNT
+from .errors import JambulskegError, ProgramFailed, Stopped, WrongArgument
 from .model import Model, Solution, solution_of, solve
 from .program import Program, ProgramLike, answer, outputs_of, program_of, tree_of
 
@@ -54,6 +55,9 @@ class OwnProcesses:
     jobs: int = 1
     program: ProgramLike = None
 
+    def __post_init__(self) -> None:
+        look_at_jobs(self)
+
     def run(self, models: Sequence[Model], stop: Optional[Event] = None) -> List[Answer]:
         """For each model its solution, or the exception that `solve` would raise. No process is left, however it ends.
         """
@@ -66,6 +70,13 @@ class OwnProcesses:
             raise
         finally:
             pool.shutdown(wait=True, cancel_futures=True)
+
+
+def look_at_jobs(engine: "Union[OwnProcesses, GnuParallel, Slurm]") -> None:
+    """Raises `WrongArgument` where an engine is to run no searches at a time, or the number is none."""
+    wanted = A_COUNT(engine.jobs)
+    if wanted:
+        raise WrongArgument(type(engine).__name__, "jobs", engine.jobs, wanted)
 
 
 def solved(model: Model, program: Program, stop: Event) -> Answer:
@@ -89,6 +100,9 @@ class GnuParallel:
     program: str = ""
     sshlogins: Sequence[str] = ()
     options: Sequence[str] = ()
+
+    def __post_init__(self) -> None:
+        look_at_jobs(self)
 
     def run(self, models: Sequence[Model], stop: Optional[Event] = None) -> List[Answer]:
         """For each model its solution, or the exception that `solve` would raise."""
@@ -137,6 +151,9 @@ class Slurm:
     program: str = ""
     options: Sequence[str] = ()
     folder: Optional[str] = None
+
+    def __post_init__(self) -> None:
+        look_at_jobs(self)
 
     def run(self, models: Sequence[Model], stop: Optional[Event] = None) -> List[Answer]:
         """For each model its solution, or the exception that `solve` would raise."""

@@ -9,6 +9,7 @@ from typing import Optional
 __all__ = [
     "CAUSES", "DeviceFailed", "Fault", "JambulskegError", "NoFirstSolution", "NoMemory", "NotJson", "NotMet",
     "ProgramFailed", "ProgramKilled", "ProgramMissing", "ProgramSlow", "Refused", "Stopped", "TooLong", "Unsupported",
+    "WrongArgument",
 ]
 
 CAUSES = {
@@ -134,6 +135,16 @@ class NotMet(JambulskegError):
         at = "" if vehicle < 0 else f" of vehicle {vehicle}"
         at += "" if place < 0 else f" at place {place}"
         super().__init__(why or f"the solution breaks the rule '{rule}'{at}")
+
+
+class WrongArgument(JambulskegError, TypeError, ValueError):
+    """A call was given something else than it takes: the name of the `call`, and that of the `argument`."""
+
+    def __init__(self, call: str, argument: str, value: object, wanted: str) -> None:
+        self.call, self.argument = call, argument
+        given = repr(value)
+        given = given if len(given) <= 40 else f"{given[:37]}.."
+        super().__init__(f"{call}: {argument} is {given} of the kind {type(value).__name__}, and not {wanted}")
 
 
 class Unsupported(JambulskegError, NotImplementedError):

@@ -14,6 +14,7 @@ from dataclasses import dataclass, replace
 from threading import Event
 from typing import List, Optional, Sequence, Tuple
 
+from .arguments import A_MODEL, PAIRS, asks, either, number
 from .engines import Answer, Engine, OwnProcesses
 from .errors import JambulskegError, NoFirstSolution, NotMet, Refused, Stopped
 from .model import meets
@@ -24,6 +25,11 @@ from .rounds import ALIKE
 from .solution import Solution
 
 __all__ = ["Incomplete", "LAMBDAS", "Outcome", "Portfolio", "collected", "portfolio", "variants"]
+
+def an_engine(value: object) -> str:
+    """Something that runs searches."""
+    return "" if callable(getattr(value, "run", None)) else "an engine, such as OwnProcesses(4)"
+
 
 LAMBDAS: Sequence[Tuple[int, int]] = ((1, 10), (1, 5), (1, 3), (1, 20))
 """The weights of penalties that guided searches are run with."""
@@ -82,6 +88,7 @@ class Portfolio:
         return sum(1 for outcome in self.outcomes if isinstance(outcome.problem, Stopped))
 
 
+@asks(model=A_MODEL, tries=either(number(0)), lambdas=PAIRS)
 def variants(
     model: Model, tries: Optional[int] = None, lambdas: Sequence[Tuple[int, int]] = LAMBDAS
 ) -> List[Search]:
@@ -114,6 +121,7 @@ def key_of(search: Search) -> Tuple[First, Improve, Tuple[int, ...]]:
     return search.first, search.improve, numbers_of(search)
 
 
+@asks(model=A_MODEL, engine=either(an_engine), tries=either(number(0)), lambdas=PAIRS)
 def portfolio(
     model: Model, engine: Optional[Engine] = None, program: ProgramLike = None, *, tries: Optional[int] = None,
     lambdas: Sequence[Tuple[int, int]] = LAMBDAS, keep_going: bool = False, stop: Optional[Event] = None,

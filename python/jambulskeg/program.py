@@ -13,7 +13,7 @@ from typing import Any, Dict, List, Optional, Sequence, Tuple, Type, Union
 
 from .errors import (
     DeviceFailed, Fault, JambulskegError, NoFirstSolution, NoMemory, NotJson, NotMet, ProgramFailed, ProgramKilled,
-    ProgramMissing, ProgramSlow, Refused, Stopped, TooLong,
+    ProgramMissing, ProgramSlow, Refused, Stopped, TooLong, WrongArgument,
 )
 
 __all__ = ["BESIDE", "Program", "ProgramLike", "find", "program_of"]
@@ -22,6 +22,8 @@ NAME = "vr_cli"
 VARIABLE = "VR_CLI"
 TICK = 0.05
 """How many seconds pass at most until a process is ended that is to stop."""
+LONGEST_WAIT = 3600.0
+"""How many seconds are waited for a process at a time: the operating system takes no more than some days."""
 REPOSITORY = os.path.dirname(os.path.dirname(os.path.dirname(os.path.abspath(__file__))))
 BESIDE = (
     os.path.join(REPOSITORY, "release", "x86_64-linux", NAME),
@@ -49,9 +51,12 @@ PLAIN: Dict[int, Tuple[Type[JambulskegError], str]] = {
 def find(path: Optional[str] = None) -> str:
     """The path of the program: `path`, else that of VR_CLI, else in the repository of this package, else on the path.
 
-    Raises `ProgramMissing` with the places that were looked at, also where `path` or VR_CLI names no program.
+    Raises `ProgramMissing` with the places that were looked at, also where `path` or VR_CLI names no program, and
+    `WrongArgument`.
     """
-    named = path or os.environ.get(VARIABLE)
+    if path is not None and not is_path(path):
+        raise WrongArgument("find", "path", path, "a path")
+    named = os.fspath(path or "") or os.environ.get(VARIABLE)
     if named:
         found = shutil.which(named)
         if found is None:
@@ -66,6 +71,11 @@ def find(path: Optional[str] = None) -> str:
         f"the program {NAME} was not found at {' or '.join(BESIDE)}, and not on the path; build it by ./vr in its "
         f"repository, or let the variable {VARIABLE} name it"
     )
+
+
+def is_path(value: object) -> bool:
+    """Whether a value may name a file or a folder."""
+    return isinstance(value, (str, os.PathLike)) and "\0" not in os.fspath(value)
 
 
 @dataclass(frozen=True)
@@ -89,6 +99,8 @@ class Program:
         `ProgramKilled` where a signal ended it, `ProgramFailed` where it could not be run, and else the exception of
         its status. The process is ended before anything is raised.
         """
+        if not is_path(self.path):
+            raise WrongArgument("Program", "path", self.path, "a path")
         command = [self.path, *words]
         data = text if isinstance(text, bytes) else text.encode("utf-8", "surrogatepass")
         try:
@@ -120,9 +132,9 @@ def outputs_of(
     `Stopped` soon after `stop` is set; the process runs on then."""
     end = None if seconds is None else time.monotonic() + seconds
     while True:
-        left = None if end is None else max(0.0, end - time.monotonic())
+        left = LONGEST_WAIT if end is None else min(max(0.0, end - time.monotonic()), LONGEST_WAIT)
         if stop is not None:
-            left = TICK if left is None else min(left, TICK)
+            left = min(left, TICK)
         try:
             return process.communicate(data, left)
         except subprocess.TimeoutExpired:
@@ -137,7 +149,9 @@ ProgramLike = Union[Program, str, None]
 
 
 def program_of(given: ProgramLike) -> Program:
-    """The program at hand: the one handed in, the one at a path, or the one that is found."""
+    """The program at hand: the one handed in, the one at a path, or the one that is found. Raises `WrongArgument`."""
+    if given is not None and not isinstance(given, (Program, str, os.PathLike)):
+        raise WrongArgument("program_of", "program", given, "a Program or the path of one")
     return given if isinstance(given, Program) else Program.found(given)
 
 

@@ -14,6 +14,7 @@ from enum import Enum
 from threading import Event
 from typing import Callable, List, Optional, Sequence, Tuple
 
+from .arguments import A_LIMIT, A_MODEL, asks, either, number
 from .errors import NoFirstSolution, Refused
 from .model import meets, solve
 from .program import Program, ProgramLike, program_of
@@ -73,6 +74,7 @@ Solver = Callable[[Model], Solved]
 """How a model is solved; raises `NoFirstSolution` where the construction finds nothing."""
 
 
+@asks(model=A_MODEL, seconds=either(A_LIMIT), tries=number(0))
 def rescue(
     model: Model, program: ProgramLike = None, *, checked: bool = True, seconds: Optional[float] = None,
     solver: Optional[Solver] = None, tries: int = RESCUE_TRIES,
@@ -117,11 +119,12 @@ class TimedSolver:
         self.began = now if self.began is None else self.began
         spent = now - self.began
         return solve_for(
-            model, self.time_limit - spent, self.program, checked=self.checked, stop=self.stop,
+            model, max(0.0, self.time_limit - spent), self.program, checked=self.checked, stop=self.stop,
             progress=lambda seconds, cost: self.progress(spent + seconds, cost),
         )
 
 
+@asks(time_limit=A_LIMIT)
 def timed_solver(
     time_limit: float, program: ProgramLike = None, *, checked: bool = True, progress: Optional[Progress] = None,
     stop: Optional[Event] = None,
@@ -176,6 +179,7 @@ def required_visits(model: Model) -> List[int]:
     return [node for node in model.visits() if node not in grouped]
 
 
+@asks(model=A_MODEL)
 def relax(model: Model) -> Tuple[Model, int]:
     """The model with a penalty in place of each duty, and that penalty: above what any day costs, as far as the file
     can say it (2^40)."""

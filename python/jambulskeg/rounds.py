@@ -15,6 +15,7 @@ from dataclasses import dataclass, field, replace
 from threading import Event
 from typing import Any, Callable, Dict, Iterator, List, Optional, Sequence, Tuple
 
+from .arguments import A_LIMIT, A_MODEL, asks
 from .errors import NoFirstSolution, ProgramSlow, Refused, Stopped
 from .model import meets, solution_of
 from .program import Program, ProgramLike, program_of
@@ -70,6 +71,7 @@ Progress = Callable[[float, int], None]
 """What is told of each cheaper solution: the seconds since the beginning, and its cost."""
 
 
+@asks(model=A_MODEL)
 def with_search(model: Model, **fields: Any) -> Model:
     """The model with other fields of its search."""
     return replace(model, search=replace(model.search, **fields))
@@ -99,6 +101,7 @@ def numbers_of(search: Search) -> Iterator[Search]:
     yield from (replace(search, **{name: number}) for number in numbers if number != own)
 
 
+@asks(model=A_MODEL, time_limit=A_LIMIT)
 def solve_for(
     model: Model, time_limit: float, program: ProgramLike = None, *, checked: bool = True,
     progress: Optional[Progress] = None, stop: Optional[Event] = None,

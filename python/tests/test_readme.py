@@ -61,7 +61,7 @@ class ReadmeTests(unittest.TestCase):
     def test_each_exception_is_told(self) -> None:
         with open(README, encoding="utf-8") as file:
             text = file.read()
-        self.assertEqual(len(raised()), 20)
+        self.assertEqual(len(raised()), 21)
         self.assertEqual([name for name in raised() if f"`{name}`" not in text], [])
 
     def test_each_piece_runs(self) -> None:

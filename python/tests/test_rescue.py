@@ -99,7 +99,7 @@ class RescueTests(unittest.TestCase):
             for _ in range(3):
                 solver(DAY)
                 run.call_args.kwargs["progress"](1, 99)
-        self.assertEqual([call.args[1] for call in run.call_args_list], [10, 7, -2])
+        self.assertEqual([call.args[1] for call in run.call_args_list], [10, 7, 0])
         self.assertEqual(told, [(1, 99), (4, 99), (13, 99)])
 
     @staticmethod

@@ -5,6 +5,7 @@ from __future__ import annotations
 from dataclasses import dataclass
 from typing import Callable, Optional
 
+from ..arguments import a, asks
 from ..errors import NoFirstSolution, Stopped
 from ..program import ProgramLike
 from ..rescue import Solver, rescue
@@ -46,6 +47,7 @@ def searched(solver: Optional[Solver] = None, program: ProgramLike = None) -> Re
     return search
 
 
+@asks(rest=a(Rest))
 def solve_rest(rest: Rest, solver: Optional[RestSolver] = None, program: ProgramLike = None) -> Replanned:
     """The cheaper one of what a search finds and of the plan of the morning continued, put together with the morning.
 

@@ -7,6 +7,7 @@ from __future__ import annotations
 
 from typing import Iterator, List, Optional, Sequence, Tuple
 
+from ..arguments import a, asks
 from ..complete import CannotBeDriven, complete, route_of
 from ..costs import arcs_of, soft_of, span_of
 from ..errors import NotMet
@@ -22,6 +23,7 @@ MOST_PLACES = 20
 
 
 
+@asks(rest=a(Rest))
 def continued(rest: Rest, program: ProgramLike = None, *, checked: bool = True) -> Optional[Solution]:
     """The solution of the rest that changes least; None where it leaves a visit out that must be made, or where its
     routes can no longer be driven."""

@@ -5,6 +5,7 @@ from __future__ import annotations
 from dataclasses import dataclass
 from typing import Dict, List, Sequence, Tuple
 
+from ..arguments import A_MODEL, A_SOLUTION, a, asks
 from ..complete import solution_of_routes
 from ..model import meets
 from ..program import ProgramLike
@@ -16,6 +17,7 @@ from .rest import Rest
 __all__ = ["Moved", "glue", "moved"]
 
 
+@asks(model=A_MODEL, rest=a(Rest), solution=A_SOLUTION)
 def glue(
     model: Model, rest: Rest, solution: Solution, program: ProgramLike = None, *, checked: bool = True
 ) -> Solution:
@@ -73,6 +75,7 @@ class Moved:
     left_out: Sequence[int]
 
 
+@asks(before=A_SOLUTION, now=A_SOLUTION)
 def moved(before: Solution, now: Solution) -> Moved:
     """What another plan of a day, or of one with more orders, changes."""
     old, new = vehicles_of(before), vehicles_of(now)

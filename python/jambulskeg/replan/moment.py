@@ -11,7 +11,8 @@ from dataclasses import dataclass
 from enum import Enum
 from typing import FrozenSet, List, Optional, Sequence, Tuple
 
-from ..errors import JambulskegError
+from ..arguments import NUMBERS
+from ..errors import JambulskegError, WrongArgument
 from ..intervals import in_words
 from ..records import HORIZON, Dimension, Model
 from ..schedules import line_of
@@ -30,6 +31,11 @@ class Unavailable:
 
     vehicles: Sequence[int] = ()
     visits: Sequence[int] = ()
+
+    def __post_init__(self) -> None:
+        for name, numbers in (("vehicles", self.vehicles), ("visits", self.visits)):
+            if NUMBERS(numbers):
+                raise WrongArgument("Unavailable", name, numbers, NUMBERS(numbers))
 
 
 class Where(Enum):

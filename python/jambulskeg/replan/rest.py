@@ -5,9 +5,10 @@ from __future__ import annotations
 from dataclasses import dataclass
 from typing import FrozenSet, List, Optional, Sequence, Set, Tuple
 
+from ..arguments import A_MODEL, A_SOLUTION, NUMBERS, a, asks, either, number
 from ..model import meets
 from ..program import ProgramLike
-from ..records import Model
+from ..records import HORIZON, Model
 from ..solution import Solution
 from .building import Building, can_go_on
 from .layout import Layout, layout_of, open_visits, with_taken_back
@@ -43,6 +44,10 @@ class Rest:
         return sum(len(routes[van.vehicle].visits) - len(begun_by(van, self.morning)) for van in self.vans)
 
 
+@asks(
+    model=A_MODEL, solution=A_SOLUTION, now=number(-HORIZON, HORIZON), done=either(NUMBERS), new=either(A_MODEL),
+    unavailable=a(Unavailable),
+)
 def replan(
     model: Model, solution: Solution, now: int, *, done: Optional[Sequence[int]] = None, new: Optional[Model] = None,
     unavailable: Unavailable = Unavailable(), time: Optional[str] = None, program: ProgramLike = None,
