@@ -318,6 +318,7 @@ class RefusedTests(unittest.TestCase):
         other = [[entry + 1 for entry in row] for row in model.matrices[0]]
         self.refused("matrix 0 has other entries", model, plan, 100, new=replace(model, matrices=[other]))
         self.assertRaises(NotMet, lambda: replan(model, replace(plan, cost=1), 100))
+        self.assertEqual(replan(model, replace(plan, tries=10**9), 100).morning, replan(model, plan, 100).morning)
         rest = replan(model, plan, 100)
         self.assertRaisesRegex(CannotBeReplanned, "rest.day", lambda: glue(three, rest, plan))
 

@@ -28,11 +28,13 @@ def continued(rest: Rest, program: ProgramLike = None, *, checked: bool = True) 
     """The solution of the rest that changes least; None where it leaves a visit out that must be made, or where its
     routes can no longer be driven."""
     model, lists = rest.model, [list(nodes) for nodes in rest.lists]
+    prices = [price_of(model, driven(model, vehicle, nodes)) if rest.left else 0 for vehicle, nodes in enumerate(lists)]
     for item in items_of(model, rest.left):
         limit = worth_of(model, lists, item)
-        found = cheapest(rest, lists, item) if limit is None or limit > 0 else None
+        found = cheapest(rest, lists, prices, item) if limit is None or limit > 0 else None
         if found is not None and (limit is None or found[0] < limit):
-            lists[found[1]] = found[2]
+            added_price, vehicle, lists[found[1]] = found
+            prices[vehicle] += added_price
     try:
         return complete(model, lists, program, checked=checked)
     except (CannotBeDriven, NotMet):
@@ -65,8 +67,11 @@ def worth_of(model: Model, lists: Sequence[Sequence[int]], item: Sequence[int]) 
     return worth
 
 
-def cheapest(rest: Rest, lists: Sequence[List[int]], item: Sequence[int]) -> Optional[Tuple[int, int, List[int]]]:
-    """The cheapest place of an item: what it costs more, the vehicle and its list; None where it fits nowhere."""
+def cheapest(
+    rest: Rest, lists: Sequence[List[int]], prices: Sequence[int], item: Sequence[int]
+) -> Optional[Tuple[int, int, List[int]]]:
+    """The cheapest place of an item: what it adds to the price of a list, the vehicle and its longer list; None where
+    it fits nowhere."""
     model = rest.model
     places = sorted(
         (added(model, vehicle, nodes, longer), vehicle, longer)
@@ -75,12 +80,11 @@ def cheapest(rest: Rest, lists: Sequence[List[int]], item: Sequence[int]) -> Opt
         for longer in longer_lists(nodes, item, len(rest.layout.chains.get(vehicle, ())))
         if keeps_policy(model, vehicle, longer)
     )
-    now = [price_of(model, driven(model, vehicle, nodes)) for vehicle, nodes in enumerate(lists)]
     priced: List[Tuple[int, int, List[int]]] = []
     for _, vehicle, longer in places:
         route = driven(model, vehicle, longer)
         if route is not None:
-            priced.append((price_of(model, route) - now[vehicle], vehicle, longer))
+            priced.append((price_of(model, route) - prices[vehicle], vehicle, longer))
         if len(priced) == MOST_PLACES:
             break
     return min(priced, default=None)

@@ -9,6 +9,7 @@ from ..arguments import A_MODEL, A_SOLUTION, NUMBERS, a, asks, either, number
 from ..model import meets
 from ..program import ProgramLike
 from ..records import HORIZON, Model
+from ..rescue import as_own
 from ..solution import Solution
 from .building import Building, can_go_on
 from .layout import Layout, layout_of, open_visits, with_taken_back
@@ -59,11 +60,13 @@ def replan(
     are left; one that has not left begins at `now` or later. No visit that is left begins before `now`. `done` are the
     visits that have been begun, if they are not those of the plan. `new` is the model of the day with the new orders:
     its first nodes are those of `model`. `time` names the dimension of times; without one it is that which looks most
-    like it, and where none has drives, `now` is in arc costs so far.
+    like it, and where none has drives, `now` is in arc costs so far. How the plan was found is not looked at: it may
+    have more tries than `model` asks for.
 
     Raises `CannotBeReplanned` where the rest cannot be said as a model, `NotMet` where the solution does not meet
     `model`.
     """
+    solution = as_own(solution)
     if checked:
         meets(model, solution, program)
     day = with_taken_back(day_of(model, new), unavailable.visits)
