@@ -56,9 +56,9 @@ NO_PATHS: Dict[str, Call] = {
 }
 OTHERS: Dict[str, Call] = {
     "continued": replan.continued, "solve_rest": replan.solve_rest, "glue": lambda bad: replan.glue(DAY, bad, PLAN),
-    "new": lambda bad: replan.replan(DAY, PLAN, 3, new=bad or 7),
+    "new": lambda bad: replan.replan(DAY, PLAN, 3, new=bad),
     "unavailable": lambda bad: replan.replan(DAY, PLAN, 3, unavailable=bad),
-    "engine": lambda bad: portfolio.portfolio(DAY, bad or 7), "models": batch.batch,
+    "engine": lambda bad: portfolio.portfolio(DAY, bad), "models": batch.batch,
     "import": lambda bad: model.import_tsplib(bad, 3),
 }
 
@@ -105,7 +105,8 @@ class ArgumentTests(unittest.TestCase):
                              (arguments.NUMBERS, [1.5]), (arguments.PAIRS, [(1,)]), (arguments.MODELS, {"a": 1}),
                              (arguments.A_MODEL, 7), (arguments.A_SOLUTION, 7)):
             self.assertNotEqual(given(value), "")
-        self.assertEqual(arguments.asks(x=rule)(lambda x: x)(None), None)
+        same: Call = lambda x: x
+        self.assertEqual(arguments.asks(x=rule)(same)(None), None)
 
 
 if __name__ == "__main__":

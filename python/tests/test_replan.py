@@ -165,6 +165,14 @@ class ExampleTests(ReplanCase):
         self.assertEqual([answer.cost for answer in found], [1338, 1338])
         self.assertRaises(NotMet, lambda: glue(model, rest, complete(rest.model, [[], [], [], []], checked=False)))
 
+    def test_a_day_that_was_planned_anew_is_planned_anew(self) -> None:
+        model, plan = day("service-day")
+        rest, found = self.replanned(model, plan, 60, unavailable=Unavailable(visits=[16]))
+        for answer in found:
+            again, later = self.replanned(rest.day, answer, 130)
+            self.assertEqual(later[0].cost, answer.cost)
+            self.assertEqual(again.day, rest.day)
+
     def test_vehicles_at_a_visit_on_the_way_and_home(self) -> None:
         model, plan = day("service-day")
         wheres = {now: [(van.where, van.stop) for van in replan(model, plan, now).vans] for now in (60, 69, 70, 71, 189)}
@@ -412,7 +420,8 @@ class RandomTests(ReplanCase):
         counted = 0
         for made in Random.several(seed, number):
             with self.subTest(now=made.now, tree=made.tree):
-                rng, words, model, plan = made.rng, {}, made.model, made.plan
+                rng, model, plan = made.rng, made.model, made.plan
+                words: Dict[str, Any] = {}
                 if rng.random() < 0.5:
                     model = Model.of(shrunk(made.tree, model.nodes - 1))
                     words["new"] = made.model

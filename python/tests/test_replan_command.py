@@ -50,6 +50,10 @@ class ReplanCommandTests(CommandCase):
         self.assertTrue(check(read_model(self.at("day.json")), read_solution(self.at("whole.json"))).meets)
         self.assertEqual(called(*words, "--done", "1,6,2")[0], 0)
 
+    def test_progress(self) -> None:
+        words = ["replan", *DAY, "--now", "100", "-o", self.at("whole.json"), "--seconds", "0"]
+        self.assertRegex(called(*words, "--progress")[2], r"^ +[.0-9]+ s  cost \d+\n$")
+
     def test_new_orders(self) -> None:
         old, new, vans = (self.write(*entry) for entry in (
             ("old.csv", TABLE), ("new.csv", TABLE + LATE), ("vans.csv", VANS)

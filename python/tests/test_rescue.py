@@ -178,8 +178,6 @@ class RoundTests(unittest.TestCase):
         progress: Progress = lambda seconds, cost: told.append((seconds, cost))
         found = solve_for(with_search(DAY, tries=1), 1.5, progress=progress)
         rounds: Sequence[Round] = found.rounds
-        self.assertEqual([entry.search.first for entry in rounds[:3]], constructions(DAY.search), rounds)
-        self.assertEqual({entry.search.tries for entry in rounds[:3]}, {FIRST_TRIES})
         self.assertEqual([entry.number for entry in rounds], list(range(1, len(rounds) + 1)))
         self.assertGreater(len({tuple(entry.search.lambda_) for entry in rounds}), 1)
         self.assertEqual(found.solution.cost, min(entry.cost for entry in rounds))
@@ -189,10 +187,17 @@ class RoundTests(unittest.TestCase):
         self.assertEqual([cost for _, cost in told], sorted({entry.best for entry in rounds}, reverse=True))
         self.assertEqual(sorted(seconds for seconds, _ in told), [seconds for seconds, _ in told])
 
+    def test_the_first_rounds_are_short(self) -> None:
+        stop = Event()
+        threading.Timer(2, stop.set).start()
+        rounds = solve_for(with_search(DAY, tries=1), 100, stop=stop).rounds
+        self.assertEqual([entry.search.first for entry in rounds[:3]], constructions(DAY.search))
+        self.assertEqual({entry.search.tries for entry in rounds[:3]}, {FIRST_TRIES})
+
     def test_little_of_a_limit_is_left(self) -> None:
-        for name, limit in (("service-day", 1.0), ("hundred-customers", 1.5)):
+        for name, limit in (("service-day", 1.5), ("hundred-customers", 2.0)):
             found = solve_for(read_model(os.path.join(EXAMPLES, f"{name}.json")), limit)
-            self.assertGreater(found.rounds[-1].seconds, 0.7 * limit)
+            self.assertGreater(found.rounds[-1].seconds, 0.6 * limit)
             self.assertLess(found.rounds[-1].seconds, 1.1 * limit)
 
     def test_the_numbers_of_searches(self) -> None:
