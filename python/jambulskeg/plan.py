@@ -44,7 +44,7 @@ NUMBERED = re.compile(r"\b(node|vehicle) (\d+)\b")
 class Planned:
     """A plan of a day. `solution` meets `model`; both are those of the spreadsheets, but that the visits `required`,
     which must be made and found no place, may be left out for nothing. `reasons` say why visits are left out; `how`
-    says how the plan was found, if not at once, and `doubts` what looks wrong in the day."""
+    says how the plan was found, if no construction found it, and `doubts` what looks wrong in the day."""
 
     tables: DayTables
     model: Model
@@ -100,7 +100,7 @@ def plan_day(
     shown = replace(model, groups=[*model.groups, *(Group([node], 0) for node in required)])
     final = leave_later(shown, complete(shown, solution.lists(), program), program)
     reasons = why_left_out(shown, final, required=required)
-    how = "" if found.way is Way.AS_ASKED or required else found.sentence
+    how = found.sentence if found.way is Way.PENALTIES and not required else ""
     return Planned(tables, shown, final, how, required, reasons, looks)
 
 
