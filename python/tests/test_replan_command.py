@@ -50,6 +50,15 @@ class ReplanCommandTests(CommandCase):
         self.assertTrue(check(read_model(self.at("day.json")), read_solution(self.at("whole.json"))).meets)
         self.assertEqual(called(*words, "--done", "1,6,2")[0], 0)
 
+    def test_a_second_tour(self) -> None:
+        words = ["replan", *DAY, "--now", "4:10", "-o", self.at("whole.json"), "--keep", "--day", self.at("day.json")]
+        status, out, _ = called(*words, "--again", "1", "--again", "0")
+        self.assertEqual((status, out.splitlines()[-2:]), (0, [
+            "vehicle 4 is the second tour of vehicle 1", "vehicle 5 is the second tour of vehicle 0"
+        ]))
+        self.assertEqual(len(read_model(self.at("day.json")).vehicles), 6)
+        self.assertIn("vehicle 2 has no second tour", called(*words, "--again", "2")[2])
+
     def test_progress(self) -> None:
         words = ["replan", *DAY, "--now", "100", "-o", self.at("whole.json"), "--seconds", "0"]
         self.assertRegex(called(*words, "--progress")[2], r"^ +[.0-9]+ s  cost \d+\n$")
