@@ -16,7 +16,7 @@ from jambulskeg.places import Place, Roads, model_from_csv, read_places
 from jambulskeg.records import Evaluator, Group, Pair, Policy
 from jambulskeg.replan import (
     CannotBeReplanned, Layout, Moved, Replanned, Rest, RestSolver, Unavailable, Van, Where, continued, glue, going_on, moved,
-    replan, searched, solve_rest, with_places,
+    replan, searched, solve_rest, with_places, with_tours,
 )
 from jambulskeg.replan.moment import Clock, clock_of
 from jambulskeg.rescue import Solved
@@ -300,6 +300,58 @@ class ChangeTests(ReplanCase):
             self.replanned(model, solve(model), 40, new=longer)
 
 
+class TourTests(ReplanCase):
+    def test_a_second_tour(self) -> None:
+        model, plan = day("service-day")
+        now = 245
+        rest, _ = self.replanned(model, plan, now, new=with_tours(model, plan, [0, 1], now))
+        self.assertEqual([van.where for van in rest.vans], [
+            Where.BACK, Where.BACK, Where.HOME, Where.BACK, Where.HOME, Where.HOME
+        ])
+        late = [replace(row, window=(row.window[0], 480)) if row.window else row for row in model.dimensions[0].nodes]
+        longer = shrunk(model.tree(), 16)
+        morning = Model.of(longer)
+        open_late = replace(model, dimensions=[replace(model.dimensions[0], nodes=late), model.dimensions[1]])
+        plan = solve(morning)
+        ends = [route.dimensions[0].cumuls[-1] if route.nodes else 0 for route in plan.routes]
+        now = max(ends) + 1
+        backs = [vehicle for vehicle, end in enumerate(ends) if end]
+        rest, found = self.replanned(morning, plan, now, new=with_tours(open_late, plan, backs, now))
+        tour = len(model.vehicles)
+        begins = rest.model.dimensions[0].starts
+        self.assertEqual({row.vehicle for row in begins} & {tour}, {tour})
+        for answer in found:
+            self.assertEqual(answer.dropped, ())
+            used = next(route for route in answer.routes if 16 in route.visits)
+            self.assertGreaterEqual(used.dimensions[0].cumuls[0], now)
+            first = answer.routes[backs[used.vehicle - tour]] if used.vehicle >= tour else used
+            self.assertLessEqual(first.dimensions[0].cumuls[-1], max(ends) if used.vehicle >= tour else 480)
+
+    def test_what_a_second_tour_takes_over(self) -> None:
+        model, plan = day("parcels")
+        first = plan.routes[0]
+        longer = with_tours(model, plan, [0], 300)
+        self.assertEqual((longer.vehicles[3].start, longer.vehicles[3].end, longer.vehicles[3].fixed), (0, 0, 0))
+        self.assertEqual(longer.vehicles[3].policy, Policy.LIFO)
+        time = longer.dimensions[0]
+        self.assertEqual(time.capacity_of(3), time.capacity_of(0))
+        self.assertEqual([row.window for row in time.starts if row.vehicle == 3], [(first.dimensions[0].cumuls[-1], 2**36)])
+        for row in model.allowed:
+            self.assertEqual(3 in longer.vehicles_of(row.node), 0 in row.vehicles)
+        breaks, plan_of_breaks = day("breaks-day")
+        late = with_tours(breaks, plan_of_breaks, [1], 150).dimensions[0]
+        self.assertEqual([(entry.from_, entry.to) for entry in late.breaks_of(2)], [(141, 141), (210, 210)])
+
+    def test_who_has_no_second_tour(self) -> None:
+        model, plan = day("service-day")
+        for vehicles, now, said in (([0], 100, "vehicle 0 has no second tour: at 100"), ([9], 300, "vehicle 9 has no"),
+                                    ([0] * 97, 300, "at most 100 vehicles")):
+            with self.assertRaisesRegex(CannotBeReplanned, said):
+                with_tours(model, plan, vehicles, now)
+        reloads, plan = day("reloads")
+        self.assertRaisesRegex(CannotBeReplanned, "'fix_start'", lambda: with_tours(reloads, plan, [0], 150))
+
+
 class RefusedTests(unittest.TestCase):
     def refused(self, said: str, model: Model, plan: Solution, now: int, **words: Any) -> None:
         """What cannot be said is told in a sentence."""
@@ -400,7 +452,7 @@ class RefusedTests(unittest.TestCase):
 
 
 class RandomTests(ReplanCase):
-    def test_the_plan_goes_on_at_any_moment(self, number: int = 80, seed: int = 0) -> None:
+    def test_the_plan_goes_on_at_any_moment(self, number: int = 60, seed: int = 0) -> None:
         """The plan of the morning is a plan of its rest, and both cost the same but for what is past."""
         for made in Random.several(seed, number):
             with self.subTest(now=made.now, tree=made.tree):
@@ -415,7 +467,7 @@ class RandomTests(ReplanCase):
                 if not any(dimension.global_span_cost for dimension in made.model.dimensions):
                     self.assertEqual(self.whole(rest, found).cost - found.cost, whole.cost - kept.cost)
 
-    def test_days_that_change(self, number: int = 60, seed: int = 10000) -> None:
+    def test_days_that_change(self, number: int = 40, seed: int = 10000) -> None:
         """New orders, lost vehicles, visits taken back, and vehicles that are late."""
         counted = 0
         for made in Random.several(seed, number):

@@ -50,6 +50,15 @@ class ReplanCommandTests(CommandCase):
         self.assertTrue(check(read_model(self.at("day.json")), read_solution(self.at("whole.json"))).meets)
         self.assertEqual(called(*words, "--done", "1,6,2")[0], 0)
 
+    def test_a_second_tour(self) -> None:
+        words = ["replan", *DAY, "--now", "4:10", "-o", self.at("whole.json"), "--keep", "--day", self.at("day.json")]
+        status, out, _ = called(*words, "--again", "1", "--again", "0")
+        self.assertEqual((status, out.splitlines()[-2:]), (0, [
+            "vehicle 4 is the second tour of vehicle 1", "vehicle 5 is the second tour of vehicle 0"
+        ]))
+        self.assertEqual(len(read_model(self.at("day.json")).vehicles), 6)
+        self.assertIn("vehicle 2 has no second tour", called(*words, "--again", "2")[2])
+
     def test_progress(self) -> None:
         words = ["replan", *DAY, "--now", "100", "-o", self.at("whole.json"), "--seconds", "0"]
         self.assertRegex(called(*words, "--progress")[2], r"^ +[.0-9]+ s  cost \d+\n$")
@@ -72,6 +81,19 @@ class ReplanCommandTests(CommandCase):
         status, more, _ = called(*words, *files, "--new", self.at("longer.json"))
         self.assertEqual(more.replace("3, 4", "3 (Eve), 4 (Fay)"), out)
         self.assertIn("measure, the scale and the pace", called(*words, *files, "--new", new)[2])
+
+    def test_new_orders_in_degrees(self) -> None:
+        table = "name,lat,lon,open,close\nyard,0,0,,\nAda,0,0.1,8:00,20:00\nBen,0.1,0.1,8:00,20:00\n"
+        old, new, vans = (self.write(*entry) for entry in (
+            ("old.csv", table), ("new.csv", table + "Eve,0.1,0,8:00,20:00\n"), ("vans.csv", VANS)
+        ))
+        model = model_from_csv(old, vans)
+        self.write("day.json", model.text())
+        self.write("plan.json", complete(model, [[1, 2], []]).text())
+        words = ["replan", self.at("day.json"), self.at("plan.json"), "--now", "8:10", "--seconds", "0"]
+        status, _, told = called(*words, "-o", self.at("whole.json"), "--day", self.at("longer.json"), "--new", new)
+        self.assertEqual((status, told), (0, ""))
+        self.assertEqual(read_model(self.at("longer.json")).matrices, model_from_csv(new, vans).matrices)
 
     def test_what_is_wrong_is_said(self) -> None:
         words = ["replan", *DAY, "-o", self.at("whole.json"), "--seconds", "0"]

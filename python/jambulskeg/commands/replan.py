@@ -5,13 +5,16 @@ from __future__ import annotations
 import argparse
 import math
 from contextlib import ExitStack
+from dataclasses import replace
 from typing import List, Optional, Sequence, Tuple
 
 from ..model import read_model, read_solution
 from ..output import Output
-from ..places import Measure, Place, Roads, read_places, whole
+from ..places import METRES, Measure, Place, Roads, strict_places, whole
 from ..records import Model
-from ..replan import Replanned, Rest, Unavailable, Where, going_on, replan, searched, solve_rest, with_places
+from ..replan import (
+    Replanned, Rest, Unavailable, Where, going_on, replan, searched, solve_rest, with_places, with_tours,
+)
 from ..rescue import timed_solver
 from ..rounds import to_terminal
 from ..stopping import stopping
@@ -35,13 +38,16 @@ def add_replan(command: argparse.ArgumentParser) -> None:
     command.add_argument("--measure", choices=[entry.value for entry in Measure], default=Measure.EUCLID.value,
                          help="with --new CSV: how far places are apart, as when the day was made")
     command.add_argument("--scale", type=float, default=1.0, help="with --new CSV: a distance times this is a cost")
-    command.add_argument("--pace", type=float, default=1.0, help="with --new CSV: a distance times this is a time")
+    command.add_argument("--pace", type=float, help="with --new CSV: a distance times this is a time; 1, and of lat "
+                         "and lon that of 40 kilometres an hour")
     command.add_argument("--done", metavar="N,..", type=numbers, help="the visits that have been begun, if they are "
                          "not those that the plan begins until now")
     command.add_argument("--without-vehicle", metavar="N", type=int, action="append", default=[],
                          help="a vehicle that makes nothing more")
     command.add_argument("--without-visit", metavar="N", type=int, action="append", default=[],
                          help="a visit that the customer has taken back")
+    command.add_argument("--again", metavar="N", type=int, action="append", default=[],
+                         help="a vehicle that is back, or drives home, and may leave once more")
     command.add_argument("--clock", metavar="H:MM", type=whole, default=0,
                          help="the time of day at which the model's time 0 lies; 0:00 where it is left out")
     command.add_argument("--time", metavar="NAME", help="the dimension of times")
@@ -69,23 +75,27 @@ def run_replan(asked: argparse.Namespace) -> int:
     """Writes the solution of the whole day, and tells what it changes."""
     model, morning = read_model(asked.model), read_solution(asked.solution)
     day, places = new_day(asked, model)
+    if asked.again:
+        day = with_tours(day or model, morning, asked.again, moment(asked), asked.time)
     lost = Unavailable(asked.without_vehicle, asked.without_visit)
     rest = replan(model, morning, moment(asked), done=asked.done, new=day, unavailable=lost, time=asked.time)
     if rest.day != model and asked.day is None:
         raise ValueError("the whole day has another model now: --day says where that is written")
     with stopping() as stop, ExitStack() as files:
         models = [
-            (files.enter_context(Output(path)), model)
-            for path, model in ((asked.day, rest.day), (asked.rest, rest.model)) if path is not None
+            (files.enter_context(Output(path)), entry)
+            for path, entry in ((asked.day, rest.day), (asked.rest, rest.model)) if path is not None
         ]
         out = files.enter_context(Output(asked.output))
         search = searched(timed_solver(asked.seconds, progress=to_terminal if asked.progress else None, stop=stop))
         found = solve_rest(rest, going_on if asked.keep else search)
-        for file, model in models:
-            file.write(model.text() + "\n")
+        for file, entry in models:
+            file.write(entry.text() + "\n")
         out.write(found.whole.text() + "\n")
     for line in lines_of(rest, found, [place.name for place in places]):
         print(line)
+    for tour, vehicle in enumerate(asked.again, len(model.vehicles)):
+        print(f"vehicle {tour} is the second tour of vehicle {vehicle}")
     return stop.status
 
 
@@ -104,9 +114,10 @@ def new_day(asked: argparse.Namespace, model: Model) -> Tuple[Optional[Model], S
         return None, ()
     if asked.new.endswith(".json"):
         return read_model(asked.new), ()
-    places = read_places(asked.new)
-    roads = Roads(Measure(asked.measure), scale=asked.scale, pace=asked.pace)
-    return with_places(model, places, roads, asked.time), places
+    tables = strict_places(asked.new)
+    known = METRES if tables.degrees else Roads(Measure(asked.measure))
+    roads = replace(known, scale=asked.scale, pace=known.pace if asked.pace is None else asked.pace)
+    return with_places(model, tables.places, roads, asked.time), tables.places
 
 
 def lines_of(rest: Rest, found: Replanned, names: Sequence[str]) -> List[str]:

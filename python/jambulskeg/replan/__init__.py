@@ -14,8 +14,10 @@ from .layout import Layout
 from .moment import CannotBeReplanned, Clock, Unavailable, Van, Where
 from .orders import with_places
 from .rest import Rest, replan
+from .tours import with_tours
 
 __all__ = [
     "CannotBeReplanned", "Clock", "Layout", "Moved", "Replanned", "Rest", "RestSolver", "Unavailable", "Van", "Where",
-    "continued", "glue", "going_on", "moved", "replan", "searched", "solve_rest", "with_places",
+    "continued", "glue", "going_on", "moved", "replan", "searched", "solve_rest",
+    "with_places", "with_tours",
 ]

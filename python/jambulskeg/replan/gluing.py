@@ -24,7 +24,8 @@ def glue(
     """The solution of the whole day: what was made until the moment, and then what a solution of the rest makes.
 
     `model` is the model of the day, with the new orders where there are any: `rest.day`. Raises `CannotBeReplanned`
-    where it is another one, `NotMet` where the solution is none of the rest.
+    where it is another one, `NotMet` where the solution is none of the rest, or where the model with the new orders
+    does not allow what was made.
     """
     if model != rest.day:
         raise CannotBeReplanned("the rest is not one of this model: glue takes `rest.day`, which has the new orders")
@@ -45,15 +46,11 @@ def glued(rest: Rest, van: Van, later: Route) -> Route:
         return Route(van.vehicle, nodes, later.dimensions[:len(rest.day.dimensions)])
     chain = len(rest.layout.chains[van.vehicle])
     whole = [*earlier.nodes[:van.stop], *nodes[chain:]]
-    plans = [
-        Plan(
-            plan.name,
-            cumuls := [*plan.cumuls[:van.stop], *later.dimensions[at].cumuls[chain:]],
-            slacks_of(rest.day, at, van.vehicle, whole, cumuls),
-            [*plan.breaks[:van.taken[at]], *later.dimensions[at].breaks],
-        )
-        for at, plan in enumerate(earlier.dimensions)
-    ]
+    plans: List[Plan] = []
+    for at, plan in enumerate(earlier.dimensions):
+        cumuls = [*plan.cumuls[:van.stop], *later.dimensions[at].cumuls[chain:]]
+        breaks = [*plan.breaks[:van.taken[at]], *later.dimensions[at].breaks]
+        plans.append(Plan(plan.name, cumuls, slacks_of(rest.day, at, van.vehicle, whole, cumuls), breaks))
     return Route(van.vehicle, whole, plans)
 
 

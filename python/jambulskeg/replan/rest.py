@@ -2,7 +2,7 @@
 
 from __future__ import annotations
 
-from dataclasses import dataclass
+from dataclasses import dataclass, replace
 from typing import FrozenSet, List, Optional, Sequence, Set, Tuple
 
 from ..arguments import A_MODEL, A_SOLUTION, NUMBERS, a, asks, either, number
@@ -10,7 +10,7 @@ from ..model import meets
 from ..program import ProgramLike
 from ..records import HORIZON, Model
 from ..rescue import as_own
-from ..solution import Solution
+from ..solution import Route, Solution
 from .building import Building, can_go_on
 from .layout import Layout, layout_of, open_visits, with_taken_back
 from .moment import CannotBeReplanned, Clock, Unavailable, Van, Where, clock_of, on_board, vans_of
@@ -59,9 +59,9 @@ def replan(
     Each vehicle on the road begins at the visit where it is, or to which it drives, with its cumuls and the breaks that
     are left; one that has not left begins at `now` or later. No visit that is left begins before `now`. `done` are the
     visits that have been begun, if they are not those of the plan. `new` is the model of the day with the new orders:
-    its first nodes are those of `model`. `time` names the dimension of times; without one it is that which looks most
-    like it, and where none has drives, `now` is in arc costs so far. How the plan was found is not looked at: it may
-    have more tries than `model` asks for.
+    its first nodes and vehicles are those of `model`. `time` names the dimension of times; without one it is that which
+    looks most like it, and where none has drives, `now` is in arc costs so far. How the plan was found is not looked
+    at: it may have more tries than `model` asks for.
 
     Raises `CannotBeReplanned` where the rest cannot be said as a model, `NotMet` where the solution does not meet
     `model`.
@@ -70,6 +70,8 @@ def replan(
     if checked:
         meets(model, solution, program)
     day = with_taken_back(day_of(model, new), unavailable.visits)
+    further = range(len(solution.routes), len(day.vehicles))
+    solution = replace(solution, routes=[*solution.routes, *(Route(vehicle, (), ()) for vehicle in further)])
     clock, lost = clock_of(day, now, time), frozenset(unavailable.vehicles)
     vans = vans_of(day, solution, clock, done, lost)
     look_for_lost(day, solution, vans, lost)
@@ -91,7 +93,7 @@ def day_of(model: Model, new: Optional[Model]) -> Model:
         return model
     same = (
         (new.nodes >= model.nodes, "it has fewer nodes"),
-        (ends_of(new) == ends_of(model), "its vehicles have other starts and ends"),
+        (ends_of(new)[:len(model.vehicles)] == ends_of(model), "its vehicles have other starts and ends"),
         (names_of(new) == names_of(model), "it has other dimensions"),
         (len(new.matrices) == len(model.matrices), "it has other matrices"),
     )
