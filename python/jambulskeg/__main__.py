@@ -182,8 +182,9 @@ def run_view(asked: argparse.Namespace) -> int:
             days = days_of(asked, model, solutions, tables)
             titles = titles_of(asked, files)
             outputs.write(asked.output, text_of(asked, tables, days, (titles, note)))
-    if note:
-        sys.stderr.write(note + "\n")
+    looks = [f"look at: {doubt}" for doubt in (tables.doubts if tables is not None else ())]
+    for line in [*looks, *([note] if note else [])]:
+        sys.stderr.write(line + "\n")
     return 0
 
 
