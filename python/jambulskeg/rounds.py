@@ -160,29 +160,33 @@ class Rounds:
         words = constructions(self.model.search)
         for search in numbers_of(self.model.search):
             turn = [replace(search, first=word) for word in words]
-            while turn:
-                turn = [again for entry in turn if self.goes_on() for again in self.rounds_after(entry, words)]
-            if not self.goes_on():
-                return
+            while turn and self.goes_on():
+                turn = self.turned(turn, words)
 
-    def rounds_after(self, search: Search, words: List[First]) -> List[Search]:
-        """Runs a round of a search; the search itself if longer rounds of it are to come. A construction that finds
+    def turned(self, turn: Sequence[Search], words: List[First]) -> List[Search]:
+        """Runs a round of each search of a turn; those of which longer rounds are to come. A construction that finds
         nothing, or is too slow, is taken out of the words."""
-        if search.first not in words:
-            return []
+        again = []
+        for search in turn:
+            if search.first not in words or not self.goes_on():
+                continue
+            try:
+                if self.is_short(search):
+                    again.append(search)
+            except (NoFirstSolution, ProgramSlow, Refused) as problem:
+                self.look_at(problem, search)
+                words.remove(search.first)
+        return again
+
+    def is_short(self, search: Search) -> bool:
+        """Runs a round of a search; whether it was shorter than it should be, and a longer one may find more."""
         aim = min(self.limit / 10, self.left() / 3)
         seconds, tries = self.pace.get(search.first, (aim, 0))
         least = tries_for(search.improve, FIRST_TRIES)
         wanted = int(tries * aim / max(seconds, 1e-6))
         asked = replace(search, tries=min(max(wanted, least), GROWTH * tries or least, MOST_TRIES))
-        try:
-            solution = self.solved(asked)
-        except (NoFirstSolution, ProgramSlow, Refused) as problem:
-            self.look_at(problem, asked)
-            words.remove(search.first)
-            return []
-        is_short = asked.tries < min(wanted, MOST_TRIES) or tries == 0
-        return [search] if is_short and solution.stop is Stop.TRIES else []
+        solution = self.solved(asked)
+        return solution.stop is Stop.TRIES and (tries == 0 or asked.tries < min(wanted, MOST_TRIES))
 
     def look_at(self, problem: Exception, asked: Search) -> None:
         """Raises the problem of a round if it is one of the model."""
