@@ -25,7 +25,7 @@ __all__ = [
 
 F = TypeVar("F", bound=Callable[..., Any])
 Rule = Callable[[Any], str]
-"""What is wanted in place of a value, in words; empty where the value will do."""
+"""What is wanted in place of a value, in words; empty if the value will do."""
 
 
 def asks(**rules: Rule) -> Callable[[F], F]:

@@ -23,11 +23,11 @@ __all__ = ["Output", "Outputs"]
 
 
 class Output:
-    """Where an answer goes: a file, or standard output where there is no path.
+    """Where an answer goes: a file, or standard output if there is no path.
 
     A regular file is written beside its place and then takes it, so a reader never sees a half, and an older file stays
     as it is until then. Devices and pipes are written to as they are. Raises `OSError` with the path, at the beginning
-    where nothing can be written there, at the end where the disk is full.
+    if nothing can be written there, at the end if the disk is full.
     """
 
     def __init__(self, path: Optional[str]) -> None:
@@ -157,7 +157,7 @@ def beside(path: str) -> str:
 
 
 def mode_of(path: str) -> Optional[int]:
-    """The permissions of a file, None where it is not there. Raises `OSError` where it may not be written."""
+    """The permissions of a file, None if it is not there. Raises `OSError` if it may not be written."""
     if os.path.isdir(path):
         raise IsADirectoryError(errno.EISDIR, os.strerror(errno.EISDIR), path)
     if not os.path.exists(path):

@@ -31,7 +31,7 @@ ALIKE = 23
 """The code of a construction that asks for vehicles that are alike."""
 
 FIRST_TRIES = 50000
-"""The tries of the first round, of path LNS so many fewer that it takes about as long."""
+"""The tries of the first round, of path LNS fewer, so that it takes about as long."""
 
 GROWTH = 8
 """How many times as many tries the next round of a construction may have."""
@@ -84,7 +84,7 @@ def to_terminal(seconds: float, cost: int) -> None:
 
 
 def teller() -> Progress:
-    """What is told of cheaper solutions where nothing else is asked for: the terminal, if there is one."""
+    """What is told of cheaper solutions if nothing else is asked for: the terminal, if there is one."""
     return to_terminal if sys.stderr.isatty() else lambda seconds, cost: None
 
 
@@ -109,8 +109,8 @@ def solve_for(
     """The cheapest solution of rounds within `time_limit` seconds; with 0 seconds, that of the first round.
 
     No round is ended before there is a solution. Ends early if no search has anything left to do, or if `stop` is set:
-    then the best so far is handed out. `progress` is told of each cheaper solution; where it is None, a terminal is.
-    Raises `NoFirstSolution` where no construction finds one, `Stopped` where `stop` was set before there was a
+    then the best so far is handed out. `progress` is told of each cheaper solution; if it is None, a terminal is.
+    Raises `NoFirstSolution` if no construction finds one, `Stopped` if `stop` was set before there was a
     solution, and what `solve` raises.
     """
     rounds = Rounds(model, time_limit, program_of(program), progress or teller(), stop)
@@ -160,32 +160,36 @@ class Rounds:
         words = constructions(self.model.search)
         for search in numbers_of(self.model.search):
             turn = [replace(search, first=word) for word in words]
-            while turn:
-                turn = [again for entry in turn if self.goes_on() for again in self.rounds_after(entry, words)]
-            if not self.goes_on():
-                return
+            while turn and self.goes_on():
+                turn = self.turned(turn, words)
 
-    def rounds_after(self, search: Search, words: List[First]) -> List[Search]:
-        """Runs a round of a search; the search itself where longer rounds of it are to come. A construction that finds
+    def turned(self, turn: Sequence[Search], words: List[First]) -> List[Search]:
+        """Runs a round of each search of a turn; those of which longer rounds are to come. A construction that finds
         nothing, or is too slow, is taken out of the words."""
-        if search.first not in words:
-            return []
+        again = []
+        for search in turn:
+            if search.first not in words or not self.goes_on():
+                continue
+            try:
+                if self.is_short(search):
+                    again.append(search)
+            except (NoFirstSolution, ProgramSlow, Refused) as problem:
+                self.look_at(problem, search)
+                words.remove(search.first)
+        return again
+
+    def is_short(self, search: Search) -> bool:
+        """Runs a round of a search; whether it was shorter than it should be, and a longer one may find more."""
         aim = min(self.limit / 10, self.left() / 3)
         seconds, tries = self.pace.get(search.first, (aim, 0))
         least = tries_for(search.improve, FIRST_TRIES)
         wanted = int(tries * aim / max(seconds, 1e-6))
         asked = replace(search, tries=min(max(wanted, least), GROWTH * tries or least, MOST_TRIES))
-        try:
-            solution = self.solved(asked)
-        except (NoFirstSolution, ProgramSlow, Refused) as problem:
-            self.look_at(problem, asked)
-            words.remove(search.first)
-            return []
-        is_short = asked.tries < min(wanted, MOST_TRIES) or tries == 0
-        return [search] if is_short and solution.stop is Stop.TRIES else []
+        solution = self.solved(asked)
+        return solution.stop is Stop.TRIES and (tries == 0 or asked.tries < min(wanted, MOST_TRIES))
 
     def look_at(self, problem: Exception, asked: Search) -> None:
-        """Raises the problem of a round where it is one of the model."""
+        """Raises the problem of a round if it is one of the model."""
         if isinstance(problem, NoFirstSolution):
             self.problem = problem
         is_own = asked.first is self.model.search.first
@@ -193,7 +197,7 @@ class Rounds:
             raise problem
 
     def solved(self, search: Search) -> Solution:
-        """The solution of a round. Raises `ProgramSlow` at the limit, or where the first round of another construction
+        """The solution of a round. Raises `ProgramSlow` at the limit, or if the first round of another construction
         takes a twentieth of it, and twice as long as the first one of all."""
         begin = time.monotonic()
         seconds = None if self.best is None else self.left()

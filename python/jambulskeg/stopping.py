@@ -22,7 +22,7 @@ class Stop(threading.Event):
 
     @property
     def status(self) -> int:
-        """The exit status of a command that a signal stopped, as shells have it; 0 where none did."""
+        """The exit status of a command that a signal stopped, as shells have it; 0 if none did."""
         return 128 + self.number if self.number else 0
 
 

@@ -28,7 +28,7 @@ def add_replan(command: argparse.ArgumentParser) -> None:
     command.add_argument("solution", metavar="SOLUTION", help="the plan of the morning: a solution of it")
     command.add_argument("--now", metavar="TIME", required=True, help="the moment: 11:00, or a time of the model")
     command.add_argument("-o", "--output", metavar="FILE", required=True, help="the solution of the whole day")
-    command.add_argument("--day", metavar="FILE", help="the model of the whole day, where it has new orders")
+    command.add_argument("--day", metavar="FILE", help="the model of the whole day, if it has new orders")
     command.add_argument("--rest", metavar="FILE", help="the model of the rest of the day")
     command.add_argument(
         "--new", metavar="FILE",
@@ -49,9 +49,9 @@ def add_replan(command: argparse.ArgumentParser) -> None:
     command.add_argument("--again", metavar="N", type=int, action="append", default=[],
                          help="a vehicle that is back, or drives home, and may leave once more")
     command.add_argument("--clock", metavar="H:MM", type=whole, default=0,
-                         help="the time of day at which the model's time 0 lies; 0:00 where it is left out")
+                         help="the time of day at which the model's time 0 lies; 0:00 if it is left out")
     command.add_argument("--time", metavar="NAME", help="the dimension of times")
-    command.add_argument("--seconds", type=seconds, default=10.0, help="how long is searched; 10 where it is left out")
+    command.add_argument("--seconds", type=seconds, default=10.0, help="how long is searched; 10 if it is left out")
     command.add_argument("--keep", action="store_true", help="do not search: the plan goes on, with new orders put in")
     command.add_argument("--progress", action="store_true",
                          help="tell each cheaper plan on standard error; a terminal is told anyway")
@@ -100,7 +100,7 @@ def run_replan(asked: argparse.Namespace) -> int:
 
 
 def moment(asked: argparse.Namespace) -> int:
-    """The moment in the time of the model. Raises `ValueError` where it is none."""
+    """The moment in the time of the model. Raises `ValueError` if it is none."""
     try:
         text, clock = str(asked.now), int(asked.clock)
         return whole(text) - (clock if ":" in text else 0)
@@ -109,7 +109,7 @@ def moment(asked: argparse.Namespace) -> int:
 
 
 def new_day(asked: argparse.Namespace, model: Model) -> Tuple[Optional[Model], Sequence[Place]]:
-    """The day with the new orders, and its places where they are known."""
+    """The day with the new orders, and its places if they are known."""
     if asked.new is None:
         return None, ()
     if asked.new.endswith(".json"):

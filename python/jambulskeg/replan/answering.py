@@ -24,7 +24,7 @@ given routes begins with `rest.lists`, or with the lists of `continued(rest)`.""
 @dataclass(frozen=True)
 class Replanned:
     """The day replanned: `whole` is the solution of the whole day, `rest` that of its rest; `kept` is the cost of the
-    whole day if the plan of the morning goes on, with new orders where they cost least, None where that cannot be;
+    whole day if the plan of the morning goes on, with new orders where they cost least, None if that cannot be;
     `is_kept` says whether that plan is the answer; `moved` is what changes."""
 
     whole: Solution
@@ -51,7 +51,7 @@ def searched(solver: Optional[Solver] = None, program: ProgramLike = None) -> Re
 def solve_rest(rest: Rest, solver: Optional[RestSolver] = None, program: ProgramLike = None) -> Replanned:
     """The cheaper one of what a search finds and of the plan of the morning continued, put together with the morning.
 
-    Raises `NoFirstSolution` or `Stopped` where the search does and the plan cannot go on.
+    Raises `NoFirstSolution` or `Stopped` if the search does and the plan cannot go on.
     """
     kept = continued(rest, program)
     try:
@@ -67,7 +67,7 @@ def solve_rest(rest: Rest, solver: Optional[RestSolver] = None, program: Program
 
 
 def going_on(rest: Rest) -> Solution:
-    """A solver of the rest that does not search: the plan of the morning continued. Raises `NoFirstSolution` where it
+    """A solver of the rest that does not search: the plan of the morning continued. Raises `NoFirstSolution` if it
     cannot be."""
     found = continued(rest)
     if found is None:

@@ -62,7 +62,7 @@ class Building:
         return {*self.layout.starts.values(), *(node for chain in self.layout.chains.values() for node in chain[:-1])}
 
     def model(self) -> Model:
-        """The model. Raises `CannotBeReplanned` where the day has no room for what it takes."""
+        """The model. Raises `CannotBeReplanned` if the day has no room for what it takes."""
         number = self.layout.number()
         search = self.day.search
         if search.first is First.SAVINGS:
@@ -127,7 +127,7 @@ class Building:
         return out
 
     def gate(self) -> Iterator[Dimension]:
-        """The dimension that bars arcs where that of times cannot."""
+        """The dimension that bars arcs if that of times cannot."""
         if not self.layout.chains or self.bars_in_time():
             return
         names = [dimension.name for dimension in self.day.dimensions]
@@ -200,7 +200,7 @@ class Building:
 
     def breaks(self, at: int) -> Iterator[VehicleBreaks]:
         """The breaks that are left; those of a vehicle on the road begin where its rest does, or later. Raises
-        `CannotBeReplanned` where one was to begin earlier."""
+        `CannotBeReplanned` if one was to begin earlier."""
         for row in self.day.dimensions[at].breaks:
             van = self.vans[row.vehicle]
             if van.where is not Where.ROAD:

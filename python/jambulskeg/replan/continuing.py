@@ -1,4 +1,4 @@
-"""The plan of the morning continued: its routes, and each visit that stands in none of them where it costs least.
+"""The plan of the morning continued: its routes, and each visit that is in none of them where it costs least.
 
 A search that begins with nothing may well end with a dearer day, in which many visits have changed vehicle.
 """
@@ -25,7 +25,7 @@ MOST_PLACES = 20
 
 @asks(rest=a(Rest))
 def continued(rest: Rest, program: ProgramLike = None, *, checked: bool = True) -> Optional[Solution]:
-    """The solution of the rest that changes least; None where it leaves a visit out that must be made, or where its
+    """The solution of the rest that changes least; None if it leaves a visit out that must be made, or if its
     routes can no longer be driven."""
     model, lists = rest.model, [list(nodes) for nodes in rest.lists]
     prices = [price_of(model, driven(model, vehicle, nodes)) if rest.left else 0 for vehicle, nodes in enumerate(lists)]
@@ -51,7 +51,7 @@ def items_of(model: Model, left: Sequence[int]) -> List[Tuple[int, ...]]:
 
 
 def worth_of(model: Model, lists: Sequence[Sequence[int]], item: Sequence[int]) -> Optional[int]:
-    """What it may cost to put an item in: the penalties that it spares, 0 where its group is complete; None where it
+    """What it may cost to put an item in: the penalties that it spares, 0 if its group is complete; None if it
     must be made."""
     made = {node for nodes in lists for node in nodes}
     worth = 0
@@ -70,7 +70,7 @@ def worth_of(model: Model, lists: Sequence[Sequence[int]], item: Sequence[int]) 
 def cheapest(
     rest: Rest, lists: Sequence[List[int]], prices: Sequence[int], item: Sequence[int]
 ) -> Optional[Tuple[int, int, List[int]]]:
-    """The cheapest place of an item: what it adds to the price of a list, the vehicle and its longer list; None where
+    """The cheapest place of an item: what it adds to the price of a list, the vehicle and its longer list; None if
     it fits nowhere."""
     model = rest.model
     places = sorted(
@@ -113,7 +113,7 @@ def length_of(model: Model, vehicle: int, nodes: Sequence[int]) -> int:
 
 
 def driven(model: Model, vehicle: int, nodes: Sequence[int]) -> Optional[Route]:
-    """The route of a list; None where it cannot be driven."""
+    """The route of a list; None if it cannot be driven."""
     try:
         return route_of(model, vehicle, nodes)
     except CannotBeDriven:

@@ -23,8 +23,8 @@ def glue(
 ) -> Solution:
     """The solution of the whole day: what was made until the moment, and then what a solution of the rest makes.
 
-    `model` is the model of the day, with the new orders where there are any: `rest.day`. Raises `CannotBeReplanned`
-    where it is another one, `NotMet` where the solution is none of the rest, or where the model with the new orders
+    `model` is the model of the day, with the new orders if there are any: `rest.day`. Raises `CannotBeReplanned`
+    if it is another one, `NotMet` if the solution is none of the rest, or if the model with the new orders
     does not allow what was made.
     """
     if model != rest.day:

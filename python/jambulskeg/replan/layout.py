@@ -60,7 +60,7 @@ class Layout:
 
 def layout_of(day: Model, vans: Sequence[Van], morning: Solution, still_open: Sequence[int]) -> Layout:
     """The nodes of the rest: starts, ends, chains and open visits in the order of the day, then the starts on the road.
-    Raises `CannotBeReplanned` where they are too many."""
+    Raises `CannotBeReplanned` if they are too many."""
     road = [van for van in vans if van.where is Where.ROAD]
     stands = {van.vehicle: morning.routes[van.vehicle].nodes[van.stop] for van in road}
     chains = {van.vehicle: (*van.on_board, stands[van.vehicle]) for van in road}
@@ -102,7 +102,7 @@ class Open:
     vehicles: Set[int]
 
     def why_not(self, node: int, taken_back: Sequence[int]) -> str:
-        """Why a visit can no longer be made; empty where it can."""
+        """Why a visit can no longer be made; empty if it can."""
         if node in taken_back:
             return "it is taken back"
         if not self.vehicles.intersection(self.day.vehicles_of(node)):
@@ -125,7 +125,7 @@ def open_visits(
 ) -> List[int]:
     """The visits that are still to be made or may be: not `fixed` (made or begun), and not out of reach for good.
 
-    `vehicles` are those that go on. Raises `CannotBeReplanned` where a visit that must be made cannot be.
+    `vehicles` are those that go on. Raises `CannotBeReplanned` if a visit that must be made cannot be.
     """
     rest = Open(day, clock, fixed, vehicles)
     for node in taken_back:
@@ -144,7 +144,7 @@ def open_visits(
 
 
 def take_pairs_out(rest: Open, gone: Dict[int, str]) -> None:
-    """A pair of which one half is gone is gone. Raises `CannotBeReplanned` where the other half is on board."""
+    """A pair of which one half is gone is gone. Raises `CannotBeReplanned` if the other half is on board."""
     for pair in rest.day.pairs:
         for one, other in ((pair.pickup, pair.delivery), (pair.delivery, pair.pickup)):
             if one in gone and other in rest.fixed:
@@ -155,11 +155,11 @@ def take_pairs_out(rest: Open, gone: Dict[int, str]) -> None:
 
 
 def look_for_duties(rest: Open, gone: Mapping[int, str]) -> None:
-    """Raises `CannotBeReplanned` where a visit is gone that must be made."""
+    """Raises `CannotBeReplanned` if a visit is gone that must be made."""
     grouped = {node for group in rest.day.groups for node in group.nodes}
     for node in sorted(set(gone) - grouped):
         raise CannotBeReplanned(f"visit {node} must be made, and {gone[node]}")
     for number, group in enumerate(rest.day.groups):
         left = [node for node in group.nodes if node not in rest.fixed and node not in gone]
         if group.penalty is None and len(left) < rest.left_of(group):
-            raise CannotBeReplanned(f"group {number} asks for {group.max} visits, and so many can no longer be made")
+            raise CannotBeReplanned(f"group {number} asks for {group.max} visits, and as many can no longer be made")

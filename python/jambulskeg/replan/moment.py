@@ -65,7 +65,7 @@ class Van:
 
 @dataclass(frozen=True)
 class Clock:
-    """The moment `now` in the dimension of the number `time`; where that is None, in arc costs so far."""
+    """The moment `now` in the dimension of the number `time`; if that is None, in arc costs so far."""
 
     now: int
     time: Optional[int]
@@ -91,7 +91,7 @@ class Clock:
 def clock_of(model: Model, now: int, name: Optional[str] = None) -> Clock:
     """The clock of a moment, along the dimension of a name, or along the one that looks most like times.
 
-    Raises `CannotBeReplanned` where no dimension has the name, where the moment is before the time 0, and where a time
+    Raises `CannotBeReplanned` if no dimension has the name, if the moment is before the time 0, and if a time
     may run backwards.
     """
     if not 0 <= now <= HORIZON:
@@ -166,7 +166,7 @@ def van_of(model: Model, route: Route, clock: Clock, done: Optional[Sequence[int
 
 
 def begun_of(route: Route, stops: Sequence[int], now: int, done: Optional[Sequence[int]]) -> int:
-    """The last stop that has been begun, -1 where the vehicle has not left: by the plan, or by what is said to be done.
+    """The last stop that has been begun, -1 if the vehicle has not left: by the plan, or by what is said to be done.
     Raises `CannotBeReplanned`."""
     has_left = bool(stops) and stops[0] < now
     planned = sum(1 for stop in stops if stop <= now) - 1 if has_left else -1
@@ -200,7 +200,7 @@ def is_at(model: Model, route: Route, clock: Clock, stop: int) -> bool:
 def late_begin(model: Model, route: Route, clock: Clock, stop: int) -> int:
     """When a visit begins that should have been begun: the first moment from now on that it allows.
 
-    Raises `CannotBeReplanned` where there is none, or where the way there may not take so long.
+    Raises `CannotBeReplanned` if there is none, or if the way there may not take so long.
     """
     assert clock.time is not None
     vehicle, node = route.vehicle, route.nodes[stop]

@@ -16,7 +16,7 @@ def with_places(model: Model, places: Sequence[Place], roads: Roads = Roads(), t
     """The day of a model with further places, which are the last of `places`; the first are those of its nodes.
 
     The day was made of places, as `model_of` does it, with these roads: each matrix is one of costs or of times, a
-    dimension without drives has the demands, the others the service times. Raises `CannotBeReplanned` where it was not.
+    dimension without drives has the demands, the others the service times. Raises `CannotBeReplanned` if it was not.
     """
     if len(places) < model.nodes:
         raise CannotBeReplanned(f"there are {len(places)} places for {model.nodes} nodes: the places of the day come "

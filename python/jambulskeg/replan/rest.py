@@ -25,7 +25,7 @@ class Rest:
     `model` is what is still to be planned; `day` is the model of the whole day with the new orders, in which visits
     that were taken back may be left out for nothing. `layout.nodes` tells the node of the day of each node of the
     model. `vans` says where each vehicle is, `morning` is the plan so far. `lists` is what that plan would still make,
-    as visits of the model, for a search that begins with given routes; `left` are the visits that stand in none of
+    as visits of the model, for a search that begins with given routes; `left` are the visits that are in none of
     them.
     """
 
@@ -60,10 +60,10 @@ def replan(
     are left; one that has not left begins at `now` or later. No visit that is left begins before `now`. `done` are the
     visits that have been begun, if they are not those of the plan. `new` is the model of the day with the new orders:
     its first nodes and vehicles are those of `model`. `time` names the dimension of times; without one it is that which
-    looks most like it, and where none has drives, `now` is in arc costs so far. How the plan was found is not looked
+    looks most like it, and if none has drives, `now` is in arc costs so far. How the plan was found is not looked
     at: it may have more tries than `model` asks for.
 
-    Raises `CannotBeReplanned` where the rest cannot be said as a model, `NotMet` where the solution does not meet
+    Raises `CannotBeReplanned` if the rest cannot be said as a model, `NotMet` if the solution does not meet
     `model`.
     """
     solution = as_own(solution)
@@ -88,7 +88,7 @@ def replan(
 
 
 def day_of(model: Model, new: Optional[Model]) -> Model:
-    """The day with the new orders. Raises `CannotBeReplanned` where it is not the same day with more nodes."""
+    """The day with the new orders. Raises `CannotBeReplanned` if it is not the same day with more nodes."""
     if new is None:
         return model
     same = (
@@ -120,7 +120,7 @@ def names_of(model: Model) -> List[str]:
 
 
 def look_for_lost(day: Model, morning: Solution, vans: Sequence[Van], lost: FrozenSet[int]) -> None:
-    """Raises `CannotBeReplanned` where a lost vehicle has something on board, or is none of the day."""
+    """Raises `CannotBeReplanned` if a lost vehicle has something on board, or is none of the day."""
     for vehicle in sorted(lost):
         if not 0 <= vehicle < len(day.vehicles):
             raise CannotBeReplanned(f"there is no vehicle {vehicle}")
@@ -132,7 +132,7 @@ def look_for_lost(day: Model, morning: Solution, vans: Sequence[Van], lost: Froz
 
 
 def look_for_halves(day: Model, vans: Sequence[Van], morning: Solution, fixed: Set[int]) -> None:
-    """Raises `CannotBeReplanned` where one half of a pair is made so that the other can no longer be, as may be in new
+    """Raises `CannotBeReplanned` if one half of a pair is made so that the other can no longer be, as may be in new
     orders."""
     carried = {node for van in vans if van.where is Where.ROAD for node in on_board(day, begun_by(van, morning))}
     for number, pair in enumerate(day.pairs):

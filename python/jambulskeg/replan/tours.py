@@ -24,8 +24,8 @@ def with_tours(
 ) -> Model:
     """The day with a further vehicle for each of some vehicles that are back at `now`, or drive home, in their order.
 
-    `solution` is the plan of the morning. Raises `CannotBeReplanned` where a vehicle is not back, where the model has
-    100 vehicles, and where times begin at 0 for all vehicles.
+    `solution` is the plan of the morning. Raises `CannotBeReplanned` if a vehicle is not back, if the model has
+    100 vehicles, and if times begin at 0 for all vehicles.
     """
     clock = clock_of(model, now, time)
     vans = {van.vehicle: van for van in vans_of(model, solution, clock, None, frozenset())}
