@@ -219,15 +219,21 @@ class FaultTests(PlanCase):
         self.assertEqual(os.listdir(self.folder), ["pid"])
 
     def test_it_is_stopped_and_writes_the_best_so_far(self) -> None:
-        process = subprocess.Popen(
-            [sys.executable, "-m", "jambulskeg", "plan", PLACES, VANS, "--seconds", "120", *self.words], cwd=TOP,
-            env=environment(), stderr=subprocess.PIPE,
+        body = (
+            "print(file=open(os.environ['RUNS'], 'a'), flush=True)\n"
+            "sys.exit(subprocess.run([REAL, *sys.argv[1:]], input=text, text=True).returncode)"
         )
-        time.sleep(2)
-        process.send_signal(signal.SIGTERM)
-        told = process.communicate(timeout=60)[1].decode()
+        with Fake(body) as path:
+            process = subprocess.Popen(
+                [sys.executable, "-m", "jambulskeg", "plan", PLACES, VANS, "--seconds", "120", *self.words], cwd=TOP,
+                env=environment(VR_CLI=path, RUNS=self.at("runs")), stderr=subprocess.PIPE,
+            )
+            while not os.path.exists(self.at("runs")) or os.path.getsize(self.at("runs")) < 4:
+                time.sleep(0.05)
+            process.send_signal(signal.SIGTERM)
+            told = process.communicate(timeout=60)[1].decode()
         self.assertEqual((process.returncode, "3 of 3 vehicles leave" in told), (143, True), told)
-        self.assertEqual(sorted(os.listdir(self.folder)), ["day.html", "plan.csv", "sheets"])
+        self.assertEqual(sorted(os.listdir(self.folder)), ["day.html", "plan.csv", "runs", "sheets"])
 
     def test_the_words_are_registered(self) -> None:
         self.assertEqual(SECONDS, 10)
