@@ -1,6 +1,7 @@
 """python -m jambulskeg: plans from spreadsheets, pictures of a day, what looks wrong in a model, many searches.
 
 Ends with 0 where there is an answer, with 1 and a sentence where there is none, with 2 where the words are unknown.
+`plan` ends with 3 if visits that must be made are left out.
 """
 
 from __future__ import annotations
