@@ -9,26 +9,29 @@ from __future__ import annotations
 import argparse
 import datetime
 import os
+import signal
 import sys
 from typing import Iterator, List, Optional, Sequence, Tuple
 
 from .batch import Found, batch, read_folder
+from .commands.plan import add_plan
+from .commands.replan import add_replan
 from .complete import shape_faults, shorten
 from .doubts import doubts
 from .engines import Engine, GnuParallel, OwnProcesses, Slurm
-from .errors import JambulskegError, NotMet
+from .errors import JambulskegError, NotMet, Stopped
 from .exports import day_of_tables, downloads, geojson, icalendar, plan_csv
 from .formats.command import add_convert
 from .measures import answer_doubts
 from .model import meets, read_model, read_solution
-from .outputs import Outputs, write_whole
+from .output import Output, Outputs
 from .places import DayTables, read_day, strict_places, whole
-from .plan import add_plan
 from .portfolio import LAMBDAS, Outcome, Portfolio, portfolio
 from .program import find
 from .reasons import why_left_out, why_not_shorter
 from .records import Model
 from .solution import Solution
+from .stopping import stopping
 from .view import Day, compare_page, drawing, page
 from .view.day import time_dimension
 
@@ -51,6 +54,8 @@ def main(words: Optional[Sequence[str]] = None) -> int:
         return status
     except KeyboardInterrupt:
         return STOPPED
+    except Stopped as problem:
+        return failed(str(problem)) and 128 + (problem.signal or signal.SIGINT)
     except OSError as problem:
         return failed(f"{problem.filename or 'a file'}: {problem.strerror}")
     except (JambulskegError, ValueError) as problem:
@@ -66,7 +71,7 @@ def failed(sentence: str) -> int:
 def parser() -> argparse.ArgumentParser:
     """The words that are taken."""
     out = argparse.ArgumentParser(prog="python -m jambulskeg", description="Vehicle routing by the program vr_cli.")
-    commands = out.add_subparsers(required=True, metavar="plan|view|doubts|portfolio|batch|convert")
+    commands = out.add_subparsers(required=True, metavar="plan|view|doubts|portfolio|batch|convert|replan")
     add_plan(commands.add_parser("plan", help="from two spreadsheets to a plan, a page, and a sheet a driver"))
     add_view(commands.add_parser("view", help="a page (or an SVG) of a day, or of two side by side"))
     look = commands.add_parser("doubts", help="what a model may say and looks wrong, a line each")
@@ -88,6 +93,7 @@ def parser() -> argparse.ArgumentParser:
     for command in (one, many):
         add_search(command)
     add_convert(commands.add_parser("convert", help="a file of Solomon, Li and Lim, VRPLIB or VROOM as a model"))
+    add_replan(commands.add_parser("replan", help="the rest of a day that has begun, planned anew at a moment"))
     return out
 
 
@@ -263,6 +269,12 @@ def days_of(
     ]
 
 
+def write(path: str, text: str) -> None:
+    """Writes a file, whole or not at all."""
+    with Output(path) as out:
+        out.write(text)
+
+
 def run_doubts(asked: argparse.Namespace) -> int:
     """Writes the path and the sentence of each doubt."""
     model = read_model(asked.model)
@@ -292,17 +304,14 @@ def engine_of(asked: argparse.Namespace) -> Engine:
 def run_portfolio(asked: argparse.Namespace) -> int:
     """Writes the cheapest answer of a portfolio, and on standard error what each search came to."""
     model, engine = read_model(asked.model), engine_of(asked)
-    found = portfolio(
-        model, engine, tries=asked.tries, lambdas=asked.lambdas or LAMBDAS, keep_going=asked.keep_going
-    )
-    text = found.solution.text() + "\n"
-    if asked.output:
-        write_whole(asked.output, text)
-    else:
-        sys.stdout.write(text)
+    with stopping() as stop, Output(asked.output) as out:
+        found = portfolio(
+            model, engine, tries=asked.tries, lambdas=asked.lambdas or LAMBDAS, keep_going=asked.keep_going, stop=stop
+        )
+        out.write(found.solution.text() + "\n")
     for number, outcome in enumerate(found.outcomes):
         sys.stderr.write(f"{'*' if number == found.number else ' '} {outcome_line(outcome)}\n")
-    return 0
+    return stop.status
 
 
 def outcome_line(outcome: Outcome) -> str:
@@ -317,18 +326,24 @@ def run_batch(asked: argparse.Namespace) -> int:
     models, faulty = read_folder(asked.models)
     if not models and not faulty:
         return failed(f"the folder {asked.models} has no file NAME.json")
-    found = batch(
-        models, engine_of(asked), tries=asked.tries, lambdas=asked.lambdas or LAMBDAS, keep_going=asked.keep_going
-    )
     output = asked.output or asked.models
     os.makedirs(output, exist_ok=True)
+    with Output(os.path.join(output, "solved.json")):
+        pass  # So it is known before the searches that the folder can be written to.
+    with stopping() as stop:
+        found = batch(
+            models, engine_of(asked), tries=asked.tries, lambdas=asked.lambdas or LAMBDAS,
+            keep_going=asked.keep_going, stop=stop,
+        )
+        for name, entry in found.items():
+            if isinstance(entry, Portfolio):
+                write(os.path.join(output, f"{name}.solved.json"), entry.solution.text() + "\n")
     for name, entry in found.items():
-        if isinstance(entry, Portfolio):
-            write_whole(os.path.join(output, f"{name}.solved.json"), entry.solution.text() + "\n")
         print(model_line(name, entry))
     for name, fault in faulty:
         print(f"{name}: {fault}")
-    return 1 if faulty or any(not isinstance(entry, Portfolio) for entry in found.values()) else 0
+    no_answer = faulty or any(not isinstance(entry, Portfolio) for entry in found.values())
+    return stop.status or (1 if no_answer else 0)
 
 
 def model_line(name: str, entry: Found) -> str:

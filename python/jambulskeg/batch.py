@@ -7,12 +7,14 @@ from __future__ import annotations
 
 import os
 from dataclasses import replace
+from threading import Event
 from typing import Dict, List, Mapping, Optional, Sequence, Tuple, Union
 
-from .engines import Engine, OwnProcesses
+from .arguments import A_PATH, MODELS, PAIRS, asks, either, number
+from .engines import Engine
 from .errors import JambulskegError
 from .model import Model, read_model
-from .portfolio import LAMBDAS, Portfolio, collected, variants
+from .portfolio import LAMBDAS, Portfolio, an_engine, collected, run_by, variants
 from .program import ProgramLike
 
 __all__ = ["Found", "batch", "read_folder"]
@@ -20,17 +22,20 @@ __all__ = ["Found", "batch", "read_folder"]
 Found = Union[Portfolio, JambulskegError]
 
 
+@asks(models=MODELS, engine=either(an_engine), tries=either(number(0)), lambdas=PAIRS)
 def batch(
     models: Mapping[str, Model], engine: Optional[Engine] = None, program: ProgramLike = None, *,
     tries: Optional[int] = None, lambdas: Sequence[Tuple[int, int]] = LAMBDAS, keep_going: bool = False,
+    stop: Optional[Event] = None,
 ) -> Dict[str, Found]:
-    """For each model what `portfolio` gives or raises; one that has no answer leaves the others alone.
+    """For each model what `portfolio` gives or raises; one that has no answer leaves the others alone. Once the event
+    `stop` is set, running searches are ended.
 
     Raises `EngineFailed` where the engine itself fails.
     """
     asked = {name: variants(model, tries, lambdas) for name, model in models.items()}
     tasks = [replace(models[name], search=search) for name, searches in asked.items() for search in searches]
-    answers = (engine or OwnProcesses(1, program)).run(tasks)
+    answers = run_by(engine, tasks, program, stop)
     found: Dict[str, Found] = {}
     begin = 0
     for name, searches in asked.items():
@@ -42,6 +47,7 @@ def batch(
     return found
 
 
+@asks(folder=A_PATH)
 def read_folder(folder: str) -> Tuple[Dict[str, Model], List[Tuple[str, str]]]:
     """The models of a folder's files `NAME.json`, by their names in order, and the files that are none, with why.
 

@@ -12,6 +12,7 @@ import operator
 from dataclasses import replace
 from typing import Any, Iterator, List, Mapping, Sequence
 
+from .arguments import A_MODEL, A_SOLUTION, asks
 from .costs import parts_of
 from .errors import Fault, JambulskegError, Refused
 from .intervals import common, in_words
@@ -34,6 +35,7 @@ class CannotBeDriven(JambulskegError, ValueError):
         super().__init__(f"vehicle {vehicle} cannot drive its list in the dimension '{dimension}': {why}")
 
 
+@asks(model=A_MODEL)
 def complete(
     model: Model, lists: Sequence[Sequence[int]], program: ProgramLike = None, *, checked: bool = True
 ) -> Solution:
@@ -119,6 +121,7 @@ def why_not(line: Line, nodes: Sequence[int], stop: int) -> str:
     )
 
 
+@asks(model=A_MODEL, solution=A_SOLUTION)
 def leave_later(
     model: Model, solution: Solution, program: ProgramLike = None, *, checked: bool = True
 ) -> Solution:
@@ -162,6 +165,7 @@ def later_plan(model: Model, number: int, route: Route) -> Plan:
     return tight(replace(line, allowed=allowed)) or printed
 
 
+@asks(model=A_MODEL, solution=A_SOLUTION)
 def shorten(model: Model, solution: Solution, program: ProgramLike = None, *, checked: bool = True) -> Solution:
     """The same routes, each with the schedule of its least span, as `model.spans` tells it, where it is no dearer.
 
@@ -177,6 +181,7 @@ def shorten(model: Model, solution: Solution, program: ProgramLike = None, *, ch
     return meets(model, solution, program) if checked else solution
 
 
+@asks(model=A_MODEL)
 def shape_faults(model: Model, tree: Any) -> List[Fault]:
     """Each fault of the form of a solution, given as the JSON object, with its path; none where `check` finds no fault
     of the rule `shape`. The rules of the form are those of docs/FORMAT.md."""

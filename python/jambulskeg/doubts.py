@@ -11,6 +11,7 @@ from dataclasses import dataclass
 from enum import Enum
 from typing import Callable, Iterator, List, Optional, Sequence, Tuple
 
+from .arguments import A_MODEL, asks
 from .intervals import Numbers, common
 from .records import Dimension, Evaluator, Model, NodeRow
 from .schedules import chain_of, numbers_of
@@ -54,6 +55,7 @@ class Doubt:
 Look = Callable[[Model, int], Iterator[Doubt]]
 
 
+@asks(model=A_MODEL)
 def doubts(model: Model) -> List[Doubt]:
     """What looks wrong in a model, dimension by dimension, and then in its pairs and groups."""
     found = [doubt for number in range(len(model.dimensions)) for look in LOOKS for doubt in look(model, number)]

@@ -16,11 +16,13 @@ import time
 from concurrent.futures import ThreadPoolExecutor
 from contextlib import contextmanager
 from dataclasses import dataclass
+from threading import Event
 from typing import IO, Dict, Iterator, List, Optional, Protocol, Sequence, Tuple, Union
 
-from .errors import JambulskegError, ProgramFailed
+from .arguments import A_COUNT
+from .errors import JambulskegError, ProgramFailed, Stopped, WrongArgument
 from .model import Model, Solution, solution_of, solve
-from .program import Program, ProgramLike, answer, program_of, tree_of
+from .program import Program, ProgramLike, answer, outputs_of, program_of, tree_of
 
 __all__ = ["Answer", "Engine", "EngineFailed", "GnuParallel", "OwnProcesses", "Slurm"]
 
@@ -41,8 +43,9 @@ class EngineFailed(JambulskegError):
 class Engine(Protocol):
     """What runs searches."""
 
-    def run(self, models: Sequence[Model]) -> List[Answer]:
-        """For each model its solution, or the exception that `solve` would raise."""
+    def run(self, models: Sequence[Model], stop: Optional[Event] = None) -> List[Answer]:
+        """For each model its solution, or the exception that `solve` would raise; `Stopped` for those that had not
+        ended when `stop` was set."""
 
 
 @dataclass(frozen=True)
@@ -52,20 +55,34 @@ class OwnProcesses:
     jobs: int = 1
     program: ProgramLike = None
 
-    def run(self, models: Sequence[Model]) -> List[Answer]:
-        """For each model its solution, or the exception that `solve` would raise."""
-        found = program_of(self.program)
+    def __post_init__(self) -> None:
+        look_at_jobs(self)
+
+    def run(self, models: Sequence[Model], stop: Optional[Event] = None) -> List[Answer]:
+        """For each model its solution, or the exception that `solve` would raise. No process is left, however it ends.
+        """
+        found, ended = program_of(self.program), stop or Event()
         pool = ThreadPoolExecutor(max_workers=max(1, self.jobs))
         try:
-            return list(pool.map(lambda model: solved(model, found), models))
+            return list(pool.map(lambda model: solved(model, found, ended), models))
+        except BaseException:
+            ended.set()
+            raise
         finally:
             pool.shutdown(wait=True, cancel_futures=True)
 
 
-def solved(model: Model, program: Program) -> Answer:
+def look_at_jobs(engine: "Union[OwnProcesses, GnuParallel, Slurm]") -> None:
+    """Raises `WrongArgument` where an engine is to run no searches at a time, or the number is none."""
+    wanted = A_COUNT(engine.jobs)
+    if wanted:
+        raise WrongArgument(type(engine).__name__, "jobs", engine.jobs, wanted)
+
+
+def solved(model: Model, program: Program, stop: Event) -> Answer:
     """The solution of a model, or what `solve` raises."""
     try:
-        return solve(model, program, checked=False)
+        return Stopped() if stop.is_set() else solve(model, program, checked=False, stop=stop)
     except JambulskegError as problem:
         return problem
 
@@ -84,28 +101,33 @@ class GnuParallel:
     sshlogins: Sequence[str] = ()
     options: Sequence[str] = ()
 
-    def run(self, models: Sequence[Model]) -> List[Answer]:
+    def __post_init__(self) -> None:
+        look_at_jobs(self)
+
+    def run(self, models: Sequence[Model], stop: Optional[Event] = None) -> List[Answer]:
         """For each model its solution, or the exception that `solve` would raise."""
         with tempfile.TemporaryFile("w+", encoding="utf-8") as texts:
             longest = 0
             for model in models:
                 longest = max(longest, texts.write(model.text() + "\n"))
             texts.seek(0)
-            out, errors = self.called(longest, texts)
+            out, errors = self.called(longest, texts, stop)
         found = results(out)
-        return [answer_of(found, task, errors) for task in range(1, len(models) + 1)]
+        return [answer_of(found, task, errors, stop) for task in range(1, len(models) + 1)]
 
-    def called(self, longest: int, texts: IO[str]) -> Tuple[str, str]:
+    def called(self, longest: int, texts: IO[str], stop: Optional[Event]) -> Tuple[str, str]:
         """What GNU parallel wrote to its two outputs; it is ended where this process is stopped."""
         process = started(self.words(longest), os.getcwd(), texts)
         with process:
             try:
-                return process.communicate()
-            except BaseException:
+                return outputs_of(process, stop=stop)
+            except BaseException as problem:
                 for _ in range(2):  # At the first signal it starts nothing more, at the second it ends what runs.
                     process.terminate()
                     time.sleep(0.5)
-                raise
+                if not isinstance(problem, Stopped):
+                    raise
+                return process.communicate()
 
     def words(self, longest: int) -> List[str]:
         """The call, for models whose texts have at most so many characters."""
@@ -130,7 +152,10 @@ class Slurm:
     options: Sequence[str] = ()
     folder: Optional[str] = None
 
-    def run(self, models: Sequence[Model]) -> List[Answer]:
+    def __post_init__(self) -> None:
+        look_at_jobs(self)
+
+    def run(self, models: Sequence[Model], stop: Optional[Event] = None) -> List[Answer]:
         """For each model its solution, or the exception that `solve` would raise."""
         with working_folder(self.folder) as folder:
             for task, model in enumerate(models):
@@ -138,11 +163,12 @@ class Slurm:
                     file.write(model.text())
             errors = ""
             for begin in range(0, len(models), MOST_TASKS):
-                errors += self.submit(folder, begin, min(MOST_TASKS, len(models) - begin))
-            end = time.monotonic() + LATE_FILES
-            return [answer_of(results_of(folder, task, end), task, errors) for task in range(len(models))]
+                if stop is None or not stop.is_set():
+                    errors += self.submit(folder, begin, min(MOST_TASKS, len(models) - begin), stop)
+            end = time.monotonic() + (0 if stop is not None and stop.is_set() else LATE_FILES)
+            return [answer_of(results_of(folder, task, end), task, errors, stop) for task in range(len(models))]
 
-    def submit(self, folder: str, begin: int, tasks: int) -> str:
+    def submit(self, folder: str, begin: int, tasks: int, stop: Optional[Event] = None) -> str:
         """Runs a job array over some of the models, to its end; what sbatch said of it."""
         path = os.path.join(folder, f"job-{begin}.sh")
         with open(path, "w", encoding="utf-8") as file:
@@ -152,10 +178,13 @@ class Slurm:
         with process:
             job = (process.stdout.readline() if process.stdout else "").strip().split(";")[0]
             try:
+                errors: str = outputs_of(process, stop=stop)[1]
+            except BaseException as problem:
+                with started(["scancel", job], folder) as ending:
+                    ending.communicate()
+                if not isinstance(problem, Stopped):
+                    raise
                 errors = process.communicate()[1]
-            except BaseException:
-                started(["scancel", job], folder).wait()
-                raise
         if not job:
             raise EngineFailed(f"sbatch took no job; it said: {last_of(errors)}")
         return errors
@@ -228,8 +257,11 @@ def results_of(folder: str, task: int, end: float) -> Results:
         time.sleep(0.2)
 
 
-def answer_of(found: Results, task: int, errors: str) -> Answer:
+def answer_of(found: Results, task: int, errors: str, stop: Optional[Event] = None) -> Answer:
     """The solution of a task, or the exception of its status. Raises `EngineFailed` where it wrote nothing."""
+    is_stopped = stop is not None and stop.is_set()
+    if is_stopped and (task not in found or found[task][0] > 128):
+        return Stopped()
     if task not in found:
         raise EngineFailed(f"a task has no result (number {task}); the engine said: {last_of(errors)}")
     status, text = found[task]

@@ -8,7 +8,8 @@ from typing import Optional
 
 __all__ = [
     "CAUSES", "DeviceFailed", "Fault", "JambulskegError", "NoFirstSolution", "NoMemory", "NotJson", "NotMet",
-    "ProgramFailed", "ProgramKilled", "ProgramMissing", "ProgramSlow", "Refused", "TooLong", "Unsupported",
+    "ProgramFailed", "ProgramKilled", "ProgramMissing", "ProgramSlow", "Refused", "Stopped", "TooLong", "Unsupported",
+    "WrongArgument",
 ]
 
 CAUSES = {
@@ -64,6 +65,14 @@ class ProgramSlow(JambulskegError):
     def __init__(self, seconds: float) -> None:
         self.seconds = seconds
         super().__init__(f"the program had no answer after {seconds:g} seconds and was ended; ask for fewer tries")
+
+
+class Stopped(JambulskegError):
+    """What was asked was stopped before it had an answer; `signal` is the number of the signal that did it, or 0."""
+
+    def __init__(self) -> None:
+        self.signal = 0
+        super().__init__("stopped before there was an answer")
 
 
 class NoMemory(JambulskegError):
@@ -126,6 +135,16 @@ class NotMet(JambulskegError):
         at = "" if vehicle < 0 else f" of vehicle {vehicle}"
         at += "" if place < 0 else f" at place {place}"
         super().__init__(why or f"the solution breaks the rule '{rule}'{at}")
+
+
+class WrongArgument(JambulskegError, TypeError, ValueError):
+    """A call was given something else than it takes: the name of the `call`, and that of the `argument`."""
+
+    def __init__(self, call: str, argument: str, value: object, wanted: str) -> None:
+        self.call, self.argument = call, argument
+        given = repr(value)
+        given = given if len(given) <= 40 else f"{given[:37]}.."
+        super().__init__(f"{call}: {argument} is {given} of the kind {type(value).__name__}, and not {wanted}")
 
 
 class Unsupported(JambulskegError, NotImplementedError):

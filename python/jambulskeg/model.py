@@ -11,8 +11,10 @@ import json
 import operator
 import os
 from dataclasses import dataclass
+from threading import Event as EventOf
 from typing import Any, Callable, List, Optional, Sequence, Tuple, Union
 
+from .arguments import A_FILE, A_LIMIT, A_MODEL, A_PATH, A_SOLUTION, asks, either, number
 from .errors import CAUSES, Fault, NotJson, NotMet, ProgramFailed, Refused
 from .findings import Finding, explain
 from .kinds import Whole
@@ -50,17 +52,21 @@ class SearchLog:
     events: Tuple[Event, ...]
 
 
+@asks(model=A_MODEL, seconds=either(A_LIMIT))
 def solve(
-    model: Model, program: ProgramLike = None, *, checked: bool = True, seconds: Optional[float] = None
+    model: Model, program: ProgramLike = None, *, checked: bool = True, seconds: Optional[float] = None,
+    stop: Optional[EventOf] = None,
 ) -> Solution:
     """The solution of the whole search that the model asks for; the same model always gives the same one.
 
-    `seconds` is the most that each run of the program may take. Raises `Refused` where the model has a fault,
+    `seconds` is the most that each run of the program may take; once the event `stop` is set, it is ended (`Stopped`).
+    Raises `Refused` where the model has a fault,
     `NoFirstSolution` where the construction finds none (see `jambulskeg.rescue`), and what `Program.run` raises.
     """
-    return answered(model, "solve", program, checked, seconds)
+    return answered(model, "solve", program, checked, seconds, stop)
 
 
+@asks(model=A_MODEL, seconds=either(A_LIMIT))
 def first(
     model: Model, program: ProgramLike = None, *, checked: bool = True, seconds: Optional[float] = None
 ) -> Solution:
@@ -68,15 +74,19 @@ def first(
     return answered(model, "first", program, checked, seconds)
 
 
-def answered(model: Model, word: str, program: ProgramLike, checked: bool, seconds: Optional[float]) -> Solution:
+def answered(
+    model: Model, word: str, program: ProgramLike, checked: bool, seconds: Optional[float],
+    stop: Optional[EventOf] = None,
+) -> Solution:
     """The solution that a mode of the program writes, found to meet the model where that is asked for."""
     found = program_of(program)
-    solution = solution_of(found.ask([word], model.text(), seconds))
+    solution = solution_of(found.ask([word], model.text(), seconds, stop))
     if checked:
         meets(model, solution, found, seconds=seconds)
     return solution
 
 
+@asks(model=A_MODEL, seconds=either(A_LIMIT))
 def solve_with_log(
     model: Model, program: ProgramLike = None, *, checked: bool = True, seconds: Optional[float] = None
 ) -> Tuple[Solution, SearchLog]:
@@ -107,6 +117,7 @@ def solution_of(tree: object) -> Solution:
         raise ProgramFailed(f"the program wrote a solution of another form: {fault}") from fault
 
 
+@asks(model=A_MODEL, solution=A_SOLUTION, seconds=either(A_LIMIT))
 def check(
     model: Model, solution: Solution, program: ProgramLike = None, *, seconds: Optional[float] = None
 ) -> Finding:
@@ -128,6 +139,7 @@ def beside(model: Model, solution: Solution) -> str:
     return f'{{"model":{model.text()},"solution":{solution.text()}}}'
 
 
+@asks(model=A_MODEL, solution=A_SOLUTION, seconds=either(A_LIMIT))
 def meets(
     model: Model, solution: Solution, program: ProgramLike = None, *, seconds: Optional[float] = None
 ) -> Solution:
@@ -138,6 +150,7 @@ def meets(
     return solution
 
 
+@asks(model=A_MODEL, solution=A_SOLUTION, seconds=either(A_LIMIT))
 def spans(
     model: Model, solution: Solution, program: ProgramLike = None, *, seconds: Optional[float] = None
 ) -> List[LeastSpan]:
@@ -157,11 +170,13 @@ def spans(
         raise ProgramFailed(f"the program wrote spans that cannot be read: {fault}") from fault
 
 
+@asks(number=number(0, 2**64 - 1))
 def generate(number: int, program: ProgramLike = None) -> Model:
     """A model to try things with, of a number up to 2^64 - 1: sixty visits, six vehicles."""
     return Model.of(program_of(program).ask(["generate", str(number)]))
 
 
+@asks(file=A_FILE, seconds=either(A_LIMIT))
 def import_tsplib(
     file: Union[str, "os.PathLike[str]", bytes], vehicles: int, program: ProgramLike = None, *,
     seconds: Optional[float] = None
@@ -197,11 +212,13 @@ def at_line(fault: Fault) -> Fault:
     return Fault(fault.code, fault.path, f"{place}, {CAUSES.get(fault.code, 'something is wrong')}")
 
 
+@asks(path=A_PATH)
 def read_model(path: str) -> Model:
     """The model of a file. Raises `OSError`, `Refused`, and `NotJson` where the file is no JSON."""
     return Model.of(json_of(path, json.loads))
 
 
+@asks(path=A_PATH)
 def read_solution(path: str) -> Solution:
     """The solution in the first line of a file. Raises as `read_model` does."""
     return Solution.of(json_of(path, lambda text: json.JSONDecoder().raw_decode(text.lstrip())[0]))

@@ -11,17 +11,25 @@ arguments give the same answer, whatever the order in which they end.
 from __future__ import annotations
 
 from dataclasses import dataclass, replace
+from threading import Event
 from typing import List, Optional, Sequence, Tuple
 
+from .arguments import A_MODEL, PAIRS, asks, either, number
 from .engines import Answer, Engine, OwnProcesses
-from .errors import JambulskegError, NoFirstSolution, NotMet, Refused
+from .errors import JambulskegError, NoFirstSolution, NotMet, Refused, Stopped
 from .model import meets
 from .program import ProgramLike
 from .records import First, Improve, Model, Search, moves_of, tries_for
-from .rescue import ALIKE, as_own
+from .rescue import as_own
+from .rounds import ALIKE
 from .solution import Solution
 
 __all__ = ["Incomplete", "LAMBDAS", "Outcome", "Portfolio", "collected", "portfolio", "variants"]
+
+def an_engine(value: object) -> str:
+    """Something that runs searches."""
+    return "" if callable(getattr(value, "run", None)) else "an engine, such as OwnProcesses(4)"
+
 
 LAMBDAS: Sequence[Tuple[int, int]] = ((1, 10), (1, 5), (1, 3), (1, 20))
 """The weights of penalties that guided searches are run with."""
@@ -60,8 +68,8 @@ class Outcome:
 
     @property
     def is_accident(self) -> bool:
-        """Whether it might end otherwise another time."""
-        is_plain = isinstance(self.problem, (NoFirstSolution, Refused, NotMet))
+        """Whether it might end otherwise another time, though nobody stopped it."""
+        is_plain = isinstance(self.problem, (NoFirstSolution, Refused, NotMet, Stopped))
         return self.problem is not None and not is_plain
 
 
@@ -74,7 +82,13 @@ class Portfolio:
     number: int
     outcomes: Tuple[Outcome, ...]
 
+    @property
+    def stopped(self) -> int:
+        """How many searches had not ended when the portfolio was stopped."""
+        return sum(1 for outcome in self.outcomes if isinstance(outcome.problem, Stopped))
 
+
+@asks(model=A_MODEL, tries=either(number(0)), lambdas=PAIRS)
 def variants(
     model: Model, tries: Optional[int] = None, lambdas: Sequence[Tuple[int, int]] = LAMBDAS
 ) -> List[Search]:
@@ -107,18 +121,29 @@ def key_of(search: Search) -> Tuple[First, Improve, Tuple[int, ...]]:
     return search.first, search.improve, numbers_of(search)
 
 
+@asks(model=A_MODEL, engine=either(an_engine), tries=either(number(0)), lambdas=PAIRS)
 def portfolio(
     model: Model, engine: Optional[Engine] = None, program: ProgramLike = None, *, tries: Optional[int] = None,
-    lambdas: Sequence[Tuple[int, int]] = LAMBDAS, keep_going: bool = False,
+    lambdas: Sequence[Tuple[int, int]] = LAMBDAS, keep_going: bool = False, stop: Optional[Event] = None,
 ) -> Portfolio:
     """The cheapest checked answer of the searches of `variants`, run by an engine (one process, where none is named).
 
-    `program` is the one that checks. Raises `NoFirstSolution` where no search has an answer, `Refused` where the model
-    has a fault, `EngineFailed`, and `Incomplete` where a search ended by an accident, unless `keep_going`.
+    `program` is the one that checks. Once the event `stop` is set, running searches are ended and the best of the
+    others is the answer. Raises `NoFirstSolution` where no search has an answer, `Stopped` where none had one when it
+    was stopped, `Refused` where the model has a fault, `EngineFailed`, and `Incomplete` where a search ended by an
+    accident, unless `keep_going`.
     """
     searches = variants(model, tries, lambdas)
-    answers = (engine or OwnProcesses(1, program)).run([replace(model, search=search) for search in searches])
+    answers = run_by(engine, [replace(model, search=search) for search in searches], program, stop)
     return collected(model, searches, answers, program, keep_going=keep_going)
+
+
+def run_by(
+    engine: Optional[Engine], models: Sequence[Model], program: ProgramLike, stop: Optional[Event]
+) -> List[Answer]:
+    """What an engine answers; one that knows nothing of stops is asked without."""
+    used = engine or OwnProcesses(1, program)
+    return used.run(models) if stop is None else used.run(models, stop)
 
 
 def collected(

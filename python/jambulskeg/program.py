@@ -6,18 +6,24 @@ import json
 import os
 import shutil
 import subprocess
+import time
 from dataclasses import dataclass
+from threading import Event
 from typing import Any, Dict, List, Optional, Sequence, Tuple, Type, Union
 
 from .errors import (
     DeviceFailed, Fault, JambulskegError, NoFirstSolution, NoMemory, NotJson, NotMet, ProgramFailed, ProgramKilled,
-    ProgramMissing, ProgramSlow, Refused, TooLong,
+    ProgramMissing, ProgramSlow, Refused, Stopped, TooLong, WrongArgument,
 )
 
 __all__ = ["BESIDE", "Program", "ProgramLike", "find", "program_of"]
 
 NAME = "vr_cli"
 VARIABLE = "VR_CLI"
+TICK = 0.05
+"""How many seconds pass at most until a process is ended that is to stop."""
+LONGEST_WAIT = 3600.0
+"""How many seconds are waited for a process at a time: the operating system takes no more than some days."""
 REPOSITORY = os.path.dirname(os.path.dirname(os.path.dirname(os.path.abspath(__file__))))
 BESIDE = (
     os.path.join(REPOSITORY, "release", "x86_64-linux", NAME),
@@ -45,9 +51,12 @@ PLAIN: Dict[int, Tuple[Type[JambulskegError], str]] = {
 def find(path: Optional[str] = None) -> str:
     """The path of the program: `path`, else that of VR_CLI, else in the repository of this package, else on the path.
 
-    Raises `ProgramMissing` with the places that were looked at, also where `path` or VR_CLI names no program.
+    Raises `ProgramMissing` with the places that were looked at, also where `path` or VR_CLI names no program, and
+    `WrongArgument`.
     """
-    named = path or os.environ.get(VARIABLE)
+    if path is not None and not is_path(path):
+        raise WrongArgument("find", "path", path, "a path")
+    named = os.fspath(path or "") or os.environ.get(VARIABLE)
     if named:
         found = shutil.which(named)
         if found is None:
@@ -64,6 +73,11 @@ def find(path: Optional[str] = None) -> str:
     )
 
 
+def is_path(value: object) -> bool:
+    """Whether a value may name a file or a folder."""
+    return isinstance(value, (str, os.PathLike)) and "\0" not in os.fspath(value)
+
+
 @dataclass(frozen=True)
 class Program:
     """The built program at a path. It keeps no state: calls may be made side by side, from threads too."""
@@ -75,12 +89,18 @@ class Program:
         """The program that `find` finds."""
         return cls(find(path))
 
-    def run(self, words: Sequence[str], text: Union[str, bytes] = "", seconds: Optional[float] = None) -> str:
+    def run(
+        self, words: Sequence[str], text: Union[str, bytes] = "", seconds: Optional[float] = None,
+        stop: Optional[Event] = None,
+    ) -> str:
         """What the program writes when called with these words on this input.
 
-        `seconds` is how long it may take. Raises `ProgramSlow` after that, `ProgramKilled` where a signal ended it,
-        `ProgramFailed` where it could not be run, and else the exception of its status.
+        `seconds` is how long it may take. Raises `ProgramSlow` after that, `Stopped` soon after `stop` is set,
+        `ProgramKilled` where a signal ended it, `ProgramFailed` where it could not be run, and else the exception of
+        its status. The process is ended before anything is raised.
         """
+        if not is_path(self.path):
+            raise WrongArgument("Program", "path", self.path, "a path")
         command = [self.path, *words]
         data = text if isinstance(text, bytes) else text.encode("utf-8", "surrogatepass")
         try:
@@ -91,25 +111,47 @@ class Program:
             raise ProgramFailed(f"the program {self.path} could not be started: {problem.strerror}") from problem
         with process:
             try:
-                out, errors = process.communicate(data, seconds)
-            except subprocess.TimeoutExpired:
-                process.kill()
-                raise ProgramSlow(seconds or 0) from None
+                out, errors = outputs_of(process, data, seconds, stop)
             except BaseException:
                 process.kill()
                 raise
         return answer(process.returncode, out, errors)
 
-    def ask(self, words: Sequence[str], text: Union[str, bytes] = "", seconds: Optional[float] = None) -> Any:
+    def ask(
+        self, words: Sequence[str], text: Union[str, bytes] = "", seconds: Optional[float] = None,
+        stop: Optional[Event] = None,
+    ) -> Any:
         """The JSON object in the first line of what the program writes. Raises as `run` does."""
-        return tree_of(self.run(words, text, seconds).split("\n", 1)[0])
+        return tree_of(self.run(words, text, seconds, stop).split("\n", 1)[0])
+
+
+def outputs_of(
+    process: "subprocess.Popen[Any]", data: Any = None, seconds: Optional[float] = None, stop: Optional[Event] = None
+) -> Tuple[Any, Any]:
+    """What a process writes to its two outputs, its input being `data`. Raises `ProgramSlow` after some seconds, and
+    `Stopped` soon after `stop` is set; the process runs on then."""
+    end = None if seconds is None else time.monotonic() + seconds
+    while True:
+        left = LONGEST_WAIT if end is None else min(max(0.0, end - time.monotonic()), LONGEST_WAIT)
+        if stop is not None:
+            left = min(left, TICK)
+        try:
+            return process.communicate(data, left)
+        except subprocess.TimeoutExpired:
+            data = None
+        if stop is not None and stop.is_set():
+            raise Stopped()
+        if end is not None and time.monotonic() >= end:
+            raise ProgramSlow(seconds or 0)
 
 
 ProgramLike = Union[Program, str, None]
 
 
 def program_of(given: ProgramLike) -> Program:
-    """The program at hand: the one handed in, the one at a path, or the one that is found."""
+    """The program at hand: the one handed in, the one at a path, or the one that is found. Raises `WrongArgument`."""
+    if given is not None and not isinstance(given, (Program, str, os.PathLike)):
+        raise WrongArgument("program_of", "program", given, "a Program or the path of one")
     return given if isinstance(given, Program) else Program.found(given)
 
 

@@ -11,25 +11,24 @@ from __future__ import annotations
 import time
 from dataclasses import dataclass, replace
 from enum import Enum
+from threading import Event
 from typing import Callable, List, Optional, Sequence, Tuple
 
+from .arguments import A_LIMIT, A_MODEL, asks, either, number
 from .errors import NoFirstSolution, Refused
 from .model import meets, solve
-from .program import ProgramLike, program_of
+from .program import Program, ProgramLike, program_of
 from .records import GREATEST_ENTRY, First, Group, Improve, Model, StopRow
-from .rounds import FIRST_TRIES, Progress, Round, Solved, solve_for, with_search
+from .rounds import ALIKE, FIRST_TRIES, Progress, Round, Solved, constructions, solve_for, teller, with_search
 from .solution import Solution, Stop
 
 __all__ = [
-    "FIRST_TRIES", "RESCUE_TRIES", "Progress", "Rescue", "Round", "Solved", "Solver", "Way", "relax", "rescue",
-    "solve_for", "timed_solver", "with_search",
+    "FIRST_TRIES", "RESCUE_TRIES", "Progress", "Rescue", "Round", "Solved", "Solver", "TimedSolver", "Way", "relax",
+    "rescue", "solve_for", "timed_solver", "with_search",
 ]
 
 RESCUE_TRIES = 1000000
 """The tries of a search that is to bring in visits that were left out, where no more are asked for."""
-
-ALIKE = 23
-"""The code of a construction that asks for vehicles that are alike."""
 
 
 class Way(Enum):
@@ -75,6 +74,7 @@ Solver = Callable[[Model], Solved]
 """How a model is solved; raises `NoFirstSolution` where the construction finds nothing."""
 
 
+@asks(model=A_MODEL, seconds=either(A_LIMIT), tries=number(0))
 def rescue(
     model: Model, program: ProgramLike = None, *, checked: bool = True, seconds: Optional[float] = None,
     solver: Optional[Solver] = None, tries: int = RESCUE_TRIES,
@@ -88,10 +88,10 @@ def rescue(
     """
     found = program_of(program)
     solver = solver or (lambda asked: Solved(asked, solve(asked, found, checked=checked, seconds=seconds)))
-    for construction in constructions(model):
+    for construction in words_for(solver, model):
         solved = tried(solver, with_search(model, first=construction), construction is model.search.first)
         if solved is not None:
-            way = Way.AS_ASKED if construction is model.search.first else Way.OTHER_CONSTRUCTION
+            way = Way.AS_ASKED if solved.model.search.first is model.search.first else Way.OTHER_CONSTRUCTION
             return Rescue(way, solved.model, solved, solved.solution)
     best = by_penalties(model, solver, tries)
     if not best.left_out:
@@ -100,26 +100,50 @@ def rescue(
     return best
 
 
+@dataclass
+class TimedSolver:
+    """A solver by rounds, all of whose models together have `time_limit` seconds from the first one on. It turns
+    through the constructions by itself."""
+
+    time_limit: float
+    program: Program
+    checked: bool
+    progress: Progress
+    stop: Optional[Event]
+    began: Optional[float] = None
+
+    def __call__(self, model: Model) -> Solved:
+        """The cheapest solution of rounds; each model gets one round at least, also where no seconds are left. Raises
+        as `solve_for` does."""
+        now = time.monotonic()
+        self.began = now if self.began is None else self.began
+        spent = now - self.began
+        return solve_for(
+            model, max(0.0, self.time_limit - spent), self.program, checked=self.checked, stop=self.stop,
+            progress=lambda seconds, cost: self.progress(spent + seconds, cost),
+        )
+
+
+@asks(time_limit=A_LIMIT)
 def timed_solver(
-    time_limit: float, program: ProgramLike = None, *, checked: bool = True, progress: Optional[Progress] = None
-) -> Solver:
-    """A solver for `rescue` by rounds of growing tries, all of whose models together have `time_limit` seconds.
+    time_limit: float, program: ProgramLike = None, *, checked: bool = True, progress: Optional[Progress] = None,
+    stop: Optional[Event] = None,
+) -> TimedSolver:
+    """A solver for `rescue` that has `time_limit` seconds.
 
-    Each model gets one round at least, also where nothing is left of them.
+        rescue(model, solver=timed_solver(10, progress=show, stop=pressed))
+
+    `progress` is told of each cheaper solution, by the seconds since the beginning and its cost; where it is None, a
+    terminal is. Penalties for visits that must be made are a part of that cost as long as `rescue` needs them. Once the
+    event `stop` is set, by another thread or a signal, the best solution so far is the answer.
     """
-    found, began = program_of(program), time.monotonic()
-
-    def solver(model: Model) -> Solved:
-        left = time_limit - (time.monotonic() - began)
-        return solve_for(model, left, found, checked=checked, progress=progress)
-
-    return solver
+    return TimedSolver(time_limit, program_of(program), checked, progress or teller(), stop)
 
 
-def constructions(model: Model) -> Sequence[First]:
-    """The constructions, the model's own first."""
-    asked = model.search.first
-    return [asked, *(word for word in First if word is not asked)]
+def words_for(solver: Solver, model: Model) -> Sequence[First]:
+    """The constructions with which a solver is asked, the model's own first; a timed solver turns through them itself.
+    """
+    return [model.search.first] if isinstance(solver, TimedSolver) else constructions(model.search)
 
 
 def tried(solver: Solver, model: Model, is_asked: bool) -> Optional[Solved]:
@@ -155,6 +179,7 @@ def required_visits(model: Model) -> List[int]:
     return [node for node in model.visits() if node not in grouped]
 
 
+@asks(model=A_MODEL)
 def relax(model: Model) -> Tuple[Model, int]:
     """The model with a penalty in place of each duty, and that penalty: above what any day costs, as far as the file
     can say it (2^40)."""
@@ -185,7 +210,7 @@ def by_penalties(model: Model, solver: Solver, tries: int) -> Rescue:
     asked = model.search.tries if model.search.improve is Improve.GUIDED_LOCAL_SEARCH else 0
     relaxed = with_search(relaxed, improve=Improve.GUIDED_LOCAL_SEARCH, tries=max(asked, tries))
     found: List[Rescue] = []
-    for construction in constructions(model):
+    for construction in words_for(solver, model):
         solved = tried(solver, with_search(relaxed, first=construction), False)
         if solved is not None:
             left = tuple(missing(model, solved.solution))

@@ -33,7 +33,9 @@ def called(*words: str) -> Tuple[int, str, str]:
     return status, out.getvalue(), told.getvalue()
 
 
-class CommandTests(unittest.TestCase):
+class CommandCase(unittest.TestCase):
+    """Tests with a folder of their own."""
+
     def setUp(self) -> None:
         folder = tempfile.TemporaryDirectory()
         self.addCleanup(folder.cleanup)
@@ -54,6 +56,8 @@ class CommandTests(unittest.TestCase):
         with open(self.at(name), encoding="utf-8") as file:
             return file.read()
 
+
+class CommandTests(CommandCase):
     def test_portfolio_then_view(self) -> None:
         model = self.write("three.json", Model.of(THREE).text())
         status, out, told = called("portfolio", model, "--jobs", "2", "--tries", "50", "--lambda", "1/4")

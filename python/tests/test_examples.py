@@ -17,6 +17,7 @@ TOTALS = {
     "salesman": [7293], "longest_route": [1552], "capacities": [6208], "time_windows": [71],
     "pickups": [226116, 226116, 226116], "dropped_visits": [7936], "breaks": [71], "spreadsheet": [237],
     "late_starts": [153, 150, 148], "several_trips": [6208], "from_others": [1051, 383, 110, 6, 405],
+    "eleven": [253],
 }
 
 

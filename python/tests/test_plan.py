@@ -15,9 +15,10 @@ from typing import Tuple
 from unittest import mock
 
 from jambulskeg.__main__ import main
+from jambulskeg.commands.plan import LEFT_OUT, add_plan, run_plan
 from jambulskeg.model import check, read_model, read_solution
 from jambulskeg.places import Roads, read_day
-from jambulskeg.plan import LEFT_OUT, Planned, add_plan, plan_day, run_plan
+from jambulskeg.plan import SECONDS, Planned, plan_day
 
 from .support import EXAMPLES, Fake, environment
 
@@ -198,7 +199,7 @@ class FaultTests(PlanCase):
         self.assertEqual(os.listdir(self.folder), [])
 
     def test_a_folder_that_is_not_there_is_told_before_the_search(self) -> None:
-        with mock.patch("jambulskeg.plan.plan_day", side_effect=AssertionError("the search has begun")):
+        with mock.patch("jambulskeg.commands.plan.plan_day", side_effect=AssertionError("the search has begun")):
             status, _, told = self.plan("-o", self.at("none/plan.csv"))
         self.assertEqual((status, told.endswith("none/plan.csv: No such file or directory\n")), (1, True), told)
 
@@ -217,7 +218,25 @@ class FaultTests(PlanCase):
             os.kill(pid, 0)
         self.assertEqual(os.listdir(self.folder), ["pid"])
 
+    def test_it_is_stopped_and_writes_the_best_so_far(self) -> None:
+        body = (
+            "print(file=open(os.environ['RUNS'], 'a'), flush=True)\n"
+            "sys.exit(subprocess.run([REAL, *sys.argv[1:]], input=text, text=True).returncode)"
+        )
+        with Fake(body) as path:
+            process = subprocess.Popen(
+                [sys.executable, "-m", "jambulskeg", "plan", PLACES, VANS, "--seconds", "120", *self.words], cwd=TOP,
+                env=environment(VR_CLI=path, RUNS=self.at("runs")), stderr=subprocess.PIPE,
+            )
+            while not os.path.exists(self.at("runs")) or os.path.getsize(self.at("runs")) < 4:
+                time.sleep(0.05)
+            process.send_signal(signal.SIGTERM)
+            told = process.communicate(timeout=60)[1].decode()
+        self.assertEqual((process.returncode, "3 of 3 vehicles leave" in told), (143, True), told)
+        self.assertEqual(sorted(os.listdir(self.folder)), ["day.html", "plan.csv", "runs", "sheets"])
+
     def test_the_words_are_registered(self) -> None:
+        self.assertEqual(SECONDS, 10)
         self.assertTrue(callable(add_plan) and callable(run_plan))
         self.assertIn("--sheets DIR", called("plan", "-h")[1])
 

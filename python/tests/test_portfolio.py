@@ -13,7 +13,8 @@ import tempfile
 import unittest
 from contextlib import contextmanager
 from dataclasses import replace
-from typing import Dict, Iterator, List, Sequence, Tuple
+from threading import Event
+from typing import Dict, Iterator, List, Optional, Sequence, Tuple
 from unittest import mock
 
 from jambulskeg.batch import Found, batch, read_folder
@@ -95,7 +96,7 @@ def engine_on_path(name: str, body: str, lost: int = -1) -> Iterator[str]:
 class Backwards:
     """An engine whose searches end the last first."""
 
-    def run(self, models: Sequence[Model]) -> List[Answer]:
+    def run(self, models: Sequence[Model], stop: Optional[Event] = None) -> List[Answer]:
         found: List[Answer] = []
         for model in reversed(models):
             found = OwnProcesses(1).run([model]) + found

@@ -1,23 +1,25 @@
-"""An answer where the construction finds none, and rounds of growing tries."""
+"""An answer where the construction finds none, and rounds that turn through constructions."""
 
 from __future__ import annotations
 
 import io
-import itertools
 import os
+import threading
+import time
 import unittest
 from dataclasses import replace
-from typing import Any, List
+from threading import Event
+from typing import Any, List, Sequence, Tuple
 from unittest import mock
 
-from jambulskeg.errors import NoFirstSolution, NotMet, ProgramSlow, Refused
-from jambulskeg.model import First, Group, Improve, Model, Solution, Stop, check, read_model, solve
-from jambulskeg.records import GREATEST_ENTRY, MOST_TRIES
+from jambulskeg.errors import NoFirstSolution, NotMet, ProgramSlow, Refused, Stopped
+from jambulskeg.model import First, Group, Improve, Model, Search, Solution, check, read_model, solve
+from jambulskeg.records import GREATEST_ENTRY
 from jambulskeg.rescue import (
-    FIRST_TRIES, RESCUE_TRIES, Progress, Rescue, Round, Solved, Way, as_own, by_penalties, constructions, greatest_cost,
+    FIRST_TRIES, RESCUE_TRIES, Progress, Rescue, Round, Solved, TimedSolver, Way, as_own, by_penalties, greatest_cost,
     missing, relax, required_visits, rescue, solve_for, timed_solver, tried, with_search,
 )
-from jambulskeg.rounds import to_terminal
+from jambulskeg.rounds import ALIKE, constructions, numbers_of, teller, to_terminal
 
 from .support import EXAMPLES, THREE, Fake, example, need_searches
 
@@ -91,11 +93,14 @@ class RescueTests(unittest.TestCase):
                          [1000, greatest_cost(model) + 1001])
 
     def test_all_models_share_the_time_limit(self) -> None:
-        with mock.patch("jambulskeg.rescue.solve_for") as run, mock.patch("time.monotonic", side_effect=[0, 3, 12]):
-            solver = timed_solver(10)
-            solver(DAY)
-            solver(DAY)
-        self.assertEqual([call.args[1] for call in run.call_args_list], [7, -2])
+        told: List[Tuple[float, int]] = []
+        with mock.patch("jambulskeg.rescue.solve_for") as run, mock.patch("time.monotonic", side_effect=[2, 5, 14]):
+            solver = timed_solver(10, progress=lambda seconds, cost: told.append((seconds, cost)))
+            for _ in range(3):
+                solver(DAY)
+                run.call_args.kwargs["progress"](1, 99)
+        self.assertEqual([call.args[1] for call in run.call_args_list], [10, 7, 0])
+        self.assertEqual(told, [(1, 99), (4, 99), (13, 99)])
 
     @staticmethod
     def only_relaxed(solver: Any, model: Model, is_asked: bool) -> Any:
@@ -132,7 +137,7 @@ class RescueTests(unittest.TestCase):
         solution = solve(DAY)
         self.assertEqual(missing(model, replace(solution, dropped=[1, 2, 3, 4])), [1, 2, 4])
         self.assertEqual(missing(model, replace(solution, dropped=[1, 3])), [])
-        self.assertEqual(constructions(with_search(DAY, first=First.SAVINGS))[0], First.SAVINGS)
+        self.assertEqual(constructions(with_search(DAY, first=First.SAVINGS).search)[0], First.SAVINGS)
         own = as_own(solution)
         self.assertEqual((own.first_cost, own.tries, own.solutions), (solution.cost, 0, 1))
         self.assertGreaterEqual(RESCUE_TRIES, FIRST_TRIES)
@@ -141,6 +146,7 @@ class RescueTests(unittest.TestCase):
         def asked(model: Model) -> Solved:
             return Solved(model, solve(model))
 
+        self.assertEqual(ALIKE, 23)
         unlike = replace(impossible(), vehicles=[{"start": 0, "end": 0}, {"start": 0, "end": 0, "fixed": 1}])
         savings = with_search(unlike, first=First.SAVINGS)
         self.assertIsNone(tried(asked, savings, False))
@@ -167,63 +173,116 @@ class RescueTests(unittest.TestCase):
 
 
 class RoundTests(unittest.TestCase):
-    def test_rounds(self) -> None:
-        told: List[Round] = []
-        progress: Progress = told.append
-        with mock.patch("jambulskeg.rounds.time.monotonic", side_effect=itertools.count(0, 100)):
-            found = solve_for(with_search(DAY, tries=1), 450, progress=progress, tries=1000)
-        self.assertEqual([entry.tries for entry in told], [1000 * 2**at for at in range(len(told))])
-        self.assertEqual(list(found.rounds), told)
-        self.assertEqual([entry.seconds for entry in told], [100, 200, 300, 400, 500])
-        self.assertEqual(found.solution.cost, min(entry.cost for entry in told))
+    def test_rounds_turn_through_constructions_and_numbers(self) -> None:
+        told: List[Tuple[float, int]] = []
+        progress: Progress = lambda seconds, cost: told.append((seconds, cost))
+        found = solve_for(with_search(DAY, tries=1), 1.5, progress=progress)
+        rounds: Sequence[Round] = found.rounds
+        self.assertEqual([entry.number for entry in rounds], list(range(1, len(rounds) + 1)))
+        self.assertGreater(len({tuple(entry.search.lambda_) for entry in rounds}), 1)
+        self.assertEqual(found.solution.cost, min(entry.cost for entry in rounds))
         self.assertEqual(solve(found.model), found.solution)
-        costs = [entry.cost for entry in told]
-        self.assertEqual([entry.best for entry in told], [min(costs[:at + 1]) for at in range(len(told))])
+        costs = [entry.cost for entry in rounds]
+        self.assertEqual([entry.best for entry in rounds], [min(costs[:at + 1]) for at in range(len(costs))])
+        self.assertEqual([cost for _, cost in told], sorted({entry.best for entry in rounds}, reverse=True))
+        self.assertEqual(sorted(seconds for seconds, _ in told), [seconds for seconds, _ in told])
 
-    def test_rounds_end_at_the_most_tries_and_the_first_of_equal_ones_is_kept(self) -> None:
-        cut_short = replace(solve(with_search(DAY, tries=100)), stop=Stop.TRIES)
-        with mock.patch("jambulskeg.rounds.solve", return_value=cut_short):
-            found = solve_for(DAY, 60, checked=False, tries=MOST_TRIES // 3)
-        self.assertEqual([entry.tries for entry in found.rounds],
-                         [MOST_TRIES // 3, 2 * (MOST_TRIES // 3), MOST_TRIES])
-        self.assertEqual(found.model.search.tries, MOST_TRIES // 3)
+    def test_the_first_rounds_are_short(self) -> None:
+        stop = Event()
+        threading.Timer(2, stop.set).start()
+        rounds = solve_for(with_search(DAY, tries=1), 100, stop=stop).rounds
+        self.assertEqual([entry.search.first for entry in rounds[:3]], constructions(DAY.search))
+        self.assertEqual({entry.search.tries for entry in rounds[:3]}, {FIRST_TRIES})
+
+    def test_little_of_a_limit_is_left(self) -> None:
+        for name, limit in (("service-day", 1.5), ("hundred-customers", 2.0)):
+            found = solve_for(read_model(os.path.join(EXAMPLES, f"{name}.json")), limit)
+            self.assertGreater(found.rounds[-1].seconds, 0.6 * limit)
+            self.assertLess(found.rounds[-1].seconds, 1.1 * limit)
+
+    def test_the_numbers_of_searches(self) -> None:
+        searches = list(numbers_of(Search(improve=Improve.GUIDED_LOCAL_SEARCH, lambda_=(1, 20))))
+        self.assertEqual([tuple(entry.lambda_) for entry in searches[:3]], [(1, 20), (1, 10), (1, 5)])
+        self.assertEqual([entry.cut for entry in numbers_of(Search(improve=Improve.PATH_LNS, cut=4))][:3], [4, 10, 5])
+        self.assertEqual([entry.tenure for entry in numbers_of(Search(improve=Improve.TABU_SEARCH))][:3], [10, 5, 3])
+        self.assertEqual(len(list(numbers_of(Search()))), 1)
 
     def test_no_time_gives_one_round(self) -> None:
-        found = solve_for(DAY, 0, tries=500)
-        self.assertEqual([entry.tries for entry in found.rounds], [500])
-        self.assertEqual(found.solution, solve(with_search(DAY, tries=500)))
+        found = solve_for(DAY, 0)
+        self.assertEqual([entry.search.tries for entry in found.rounds], [FIRST_TRIES])
+        self.assertEqual(found.solution, solve(with_search(DAY, tries=FIRST_TRIES)))
 
     def test_a_descent_ends_early(self) -> None:
         model = with_search(DAY, improve=Improve.GREEDY_DESCENT)
-        self.assertEqual(len(solve_for(model, 60).rounds), 1)
+        self.assertEqual([entry.search.first for entry in solve_for(model, 60).rounds], constructions(DAY.search))
+        none = with_search(DAY, improve=Improve.NONE)
+        self.assertEqual(len(solve_for(none, 60).rounds), 3)
 
     def test_a_first_round_of_cuts_is_as_long_as_one_of_moves(self) -> None:
         need_searches()
         for improve, tries in ((Improve.PATH_LNS, FIRST_TRIES // 1000), (Improve.TABU_SEARCH, FIRST_TRIES)):
             found = solve_for(with_search(DAY, improve=improve), 0)
-            self.assertEqual([entry.tries for entry in found.rounds], [tries])
+            self.assertEqual([entry.search.tries for entry in found.rounds], [tries])
             self.assertLess(found.solution.cost, found.solution.first_cost)
+
+    def test_constructions_that_find_nothing_are_passed_over(self) -> None:
+        late = read_model(os.path.join(EXAMPLES, "shifts-tight.json"))
+        late = with_search(late, first=First.PATH_CHEAPEST_ARC)
+        self.assertRaises(NoFirstSolution, lambda: solve(late))
+        found = rescue(late, solver=timed_solver(0.3))
+        self.assertIs(found.way, Way.OTHER_CONSTRUCTION)
+        self.assertEqual(found.solved.solution.cost, 745)
+        self.assertRaises(NoFirstSolution, lambda: solve_for(impossible(), 0.1))
+        unlike = replace(DAY, vehicles=[*DAY.vehicles[:3], replace(DAY.vehicles[3], fixed=60)])
+        self.assertNotIn(First.SAVINGS, {entry.search.first for entry in solve_for(unlike, 0.3).rounds})
+        self.assertRaises(Refused, lambda: solve_for(with_search(unlike, first=First.SAVINGS), 0.3))
 
     def test_a_round_that_the_limit_ends_gives_nothing(self) -> None:
         body = (
-            "if b'\"tries\":2000' in text.encode(): time.sleep(60)\n"
+            "if b'\"tries\"' not in text.encode() or b'SAVINGS' in text.encode(): time.sleep(60)\n"
             "ran = subprocess.run([REAL, *sys.argv[1:]], input=text, stdout=subprocess.PIPE, text=True)\n"
             "sys.stdout.write(ran.stdout); sys.exit(ran.returncode)"
         )
         with Fake(body) as path:
-            found = solve_for(DAY, 1.0, path, tries=1000)
-            self.assertEqual(len(found.rounds), 1)
-            self.assertRaises(ProgramSlow, lambda: rescue(with_search(DAY, tries=2000), path, seconds=0.3))
+            begin = time.monotonic()
+            found = solve_for(DAY, 2.0, path)
+            self.assertLess(time.monotonic() - begin, 3.0)
+            self.assertNotIn(First.SAVINGS, {entry.search.first for entry in found.rounds})
+            self.assertRaises(ProgramSlow, lambda: rescue(with_search(DAY, tries=100000), path, seconds=0.3))
+
+    def test_it_stops_with_the_best_so_far(self) -> None:
+        stop = Event()
+        told: List[int] = []
+
+        def progress(seconds: float, cost: int) -> None:
+            told.append(cost)
+            threading.Timer(0.2, stop.set).start()
+
+        begin = time.monotonic()
+        found = rescue(DAY, solver=timed_solver(60, progress=progress, stop=stop))
+        self.assertLess(time.monotonic() - begin, 10)
+        self.assertEqual(found.solved.solution.cost, told[-1])
+        stop.set()
+        self.assertRaises(Stopped, lambda: rescue(DAY, solver=timed_solver(60, stop=stop)))
+        stopped = timed_solver(60, stop=stop)
+        self.assertIsInstance(stopped, TimedSolver)
+        with Fake("time.sleep(60)") as path:
+            waiting = Event()
+            threading.Timer(0.3, waiting.set).start()
+            self.assertRaises(Stopped, lambda: solve(DAY, path, stop=waiting))
+            self.assertRaises(Stopped, lambda: solve_for(DAY, 60, path, stop=waiting))
 
     def test_progress_on_a_terminal(self) -> None:
         with mock.patch("sys.stderr", new=io.StringIO()) as stderr:
-            to_terminal(Round(1, 1000, 7, 6, 0.25))
-            self.assertEqual(stderr.getvalue(), "round 1: 1000 tries, cost 7, best 6, 0.2 s\n")
-            solve_for(DAY, 0, tries=10)
+            to_terminal(12.25, 7)
+            self.assertEqual(stderr.getvalue(), "    12.2 s  cost 7\n")
+            solve_for(DAY, 0)
+            timed_solver(0)(DAY)
             self.assertEqual(len(stderr.getvalue().splitlines()), 1)
             with mock.patch.object(stderr, "isatty", return_value=True):
-                solve_for(DAY, 0, tries=10)
-            self.assertRegex(stderr.getvalue(), "round 1: 10 tries, cost")
+                self.assertIs(teller(), to_terminal)
+                solve_for(DAY, 0)
+            self.assertRegex(stderr.getvalue(), "[.0-9]+ s  cost 1338")
 
     def test_unchecked(self) -> None:
         with Fake("sys.stdout.write(subprocess.run([REAL, 'first'], input=text, stdout=subprocess.PIPE, text=True)"

@@ -187,7 +187,7 @@ class SolvingTests(RoutingTest):
             solution = routing.SolveWithParameters(parameters)
         self.assertEqual(solution.ObjectiveValue(), 18)
         self.assertTrue(check(solution.model, solution.solution).meets)
-        self.assertRegex(stderr.getvalue(), "^round 1: 50000 tries, cost 18, best 18")
+        self.assertRegex(stderr.getvalue(), "^ +[.0-9]+ s  cost 18")
 
     def test_assignments_of_routes(self) -> None:
         _, routing, number = made()

@@ -3,8 +3,8 @@
 from __future__ import annotations
 
 import argparse
-import sys
 
+from ..output import Output
 from ..places import Rounding
 from ..records import Model
 from .benchmarks import read_li_lim, read_solomon
@@ -29,12 +29,8 @@ def add_convert(command: argparse.ArgumentParser) -> None:
 
 def run_convert(asked: argparse.Namespace) -> int:
     """Writes the model of a file."""
-    text = model_of(asked).text() + "\n"
-    if asked.output:
-        with open(asked.output, "w", encoding="utf-8") as file:
-            file.write(text)
-    else:
-        sys.stdout.write(text)
+    with Output(asked.output) as out:
+        out.write(model_of(asked).text() + "\n")
     return 0
 
 

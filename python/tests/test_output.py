@@ -2,15 +2,20 @@
 
 from __future__ import annotations
 
-import contextlib
-import io
 import os
 import stat
 import tempfile
 import unittest
 from typing import List, Tuple
 
-from jambulskeg.outputs import Outputs, names_of_sheets, to_stdout, write_whole
+from jambulskeg.commands.plan import names_of_sheets
+from jambulskeg.output import Output, Outputs
+
+
+def write_whole(path: str, text: str) -> None:
+    """Writes one file."""
+    with Output(path) as out:
+        out.write(text)
 
 
 class OutputTests(unittest.TestCase):
@@ -39,6 +44,13 @@ class OutputTests(unittest.TestCase):
         self.assertTrue(os.path.islink(self.at("link")))
         self.assertEqual(stat.S_IMODE(os.stat(self.at("a")).st_mode), 0o640)
         self.assertEqual(sorted(os.listdir(self.folder)), ["a", "b", "link"])
+
+    def test_one_file_is_filled_and_then_put_in_its_place(self) -> None:
+        with Output(self.at("a")) as out:
+            out.fill("text")
+            self.assertFalse(os.path.exists(self.at("a")))
+            out.put()
+        self.assertEqual(self.read("a"), "text")
 
     def test_none_is_written_after_an_exception(self) -> None:
         for fault in (ValueError, KeyboardInterrupt):
@@ -77,11 +89,6 @@ class OutputTests(unittest.TestCase):
                 Outputs(paths, inputs)
         Outputs([os.devnull, os.devnull])
         self.assertEqual(self.read("a"), "kept")
-
-    def test_standard_output(self) -> None:
-        with contextlib.redirect_stdout(io.TextIOWrapper(io.BytesIO(), "ascii")) as out:
-            to_stdout("ä\n")
-        self.assertEqual(out.buffer.getvalue(), "ä\n".encode())  # type: ignore[attr-defined]
 
     def test_names_of_sheets(self) -> None:
         self.assertEqual(names_of_sheets(["red", "../../etc", "Jörg & Söhne", "*"], ".html"),
