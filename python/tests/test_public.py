@@ -14,7 +14,7 @@ from types import ModuleType
 from typing import Iterator, List, Tuple, Union
 
 from jambulskeg import (
-    batch, complete, doubts, engines, errors, model, places, portfolio, program, rescue, rounds, schedules, view,
+    batch, complete, desk, doubts, engines, errors, model, places, portfolio, program, rescue, rounds, schedules, view,
 )
 from jambulskeg.routing import pywrapcp
 
@@ -90,10 +90,11 @@ class PublicTests(unittest.TestCase):
         self.assertEqual(wide, [])
 
 
-INHERITED = ("faults", "taken", "tree", "own_faults", "kind_of")
-"""What a kind and a record say once, where they are defined first."""
+INHERITED = ("faults", "taken", "tree", "own_faults", "kind_of", "applied", "words")
+"""What a kind, a record and a change of a day say once, where they are defined first."""
 MODULES = (
-    batch, complete, doubts, engines, errors, model, places, portfolio, program, rescue, rounds, schedules, view, pywrapcp,
+    batch, complete, desk, doubts, engines, errors, model, places, portfolio, program, rescue, rounds, schedules, view,
+    pywrapcp,
 )
 """The modules whose calls are for users."""
 

@@ -1,0 +1,110 @@
+"""How a day is made: of two spreadsheets, of a model file, or of an example."""
+
+from __future__ import annotations
+
+import json
+import os
+import re
+import tempfile
+from dataclasses import dataclass, replace
+from typing import Any, List, Sequence, Tuple
+
+from ..doubts import doubts
+from ..errors import NoFirstSolution, NotJson
+from ..model import first
+from ..places import Measure, Roads, model_of, read_places, read_vans
+from ..program import REPOSITORY, Program
+from ..records import Improve, Model, ScheduleRule, Search
+from ..view.day import Names
+from .folder import Basis
+from .states import BadChange
+
+__all__ = ["Tables", "basis_of_model", "basis_of_tables", "example_basis", "examples"]
+
+EXAMPLES = os.path.join(REPOSITORY, "examples")
+SHEETS = os.path.join(REPOSITORY, "python", "examples")
+OF_SHEETS = "three vans (two spreadsheets)"
+"""The example that is made of spreadsheets."""
+CLOCK = re.compile(rb"\b\d{1,2}:[0-5]\d\b")
+Upload = Tuple[str, bytes]
+"""A file from the page: its name, which is only shown, and what it has."""
+
+
+@dataclass(frozen=True)
+class Tables:
+    """Two spreadsheets and how their places are joined."""
+
+    places: Upload
+    vans: Upload
+    roads: Roads
+
+
+def basis_of_tables(tables: Tables) -> Basis:
+    """The day of two spreadsheets. Raises `BadTable` with the file, the line and the column, and `Refused`."""
+    with tempfile.TemporaryDirectory() as folder:
+        files = []
+        for name, (_, data) in (("places.csv", tables.places), ("vans.csv", tables.vans)):
+            files.append(os.path.join(folder, name))
+            with open(files[-1], "wb") as file:
+                file.write(data)
+        places = read_places(files[0])
+        vans = read_vans(files[1], places)
+    model = timely(model_of(places, vans, tables.roads, Search(improve=Improve.GUIDED_LOCAL_SEARCH)))
+    has_clock = any(CLOCK.search(data) for _, data in (tables.places, tables.vans))
+    names = Names([place.name for place in places], [van.name for van in vans], 0 if has_clock else None)
+    in_degrees = tables.roads.measure is Measure.GREAT_CIRCLE
+    return Basis(model, names, places, in_degrees, doubted(model), f"{tables.places[0]} and {tables.vans[0]}")
+
+
+def timely(model: Model) -> Model:
+    """The model whose vehicles leave as late as their days allow, so that no shift begins with waiting."""
+    vehicles = [replace(vehicle, schedule=ScheduleRule.TIGHT) for vehicle in model.vehicles]
+    return replace(model, vehicles=vehicles, format=2)
+
+
+def doubted(model: Model) -> List[str]:
+    """What looks wrong in a model, in sentences."""
+    return [doubt.sentence for doubt in doubts(model)]
+
+
+def basis_of_model(upload: Upload, program: Program) -> Basis:
+    """The day of a model file. Raises `NotJson`, and `Refused` with the path of the faulty field."""
+    name, data = upload
+    try:
+        tree: Any = json.loads(data.decode("utf-8"))
+    except (ValueError, RecursionError) as fault:
+        raise NotJson(f"{name} is no JSON text in UTF-8: {fault}") from None
+    model = Model.of(tree)
+    accepted(model, program)
+    return Basis(model, Names(), (), False, doubted(model), name)
+
+
+def accepted(model: Model, program: Program) -> None:
+    """Lets the program read a model. Raises `Refused` where it does not take it."""
+    try:
+        first(model, program, checked=False)
+    except NoFirstSolution:
+        pass
+
+
+def examples() -> List[str]:
+    """The names of the examples that are at hand: the models of the repository, and its two spreadsheets."""
+    found: Sequence[str] = os.listdir(EXAMPLES) if os.path.isdir(EXAMPLES) else ()
+    models = sorted(name[:-5] for name in found if re.fullmatch(r"[a-z-]+\.json", name))
+    return [*([OF_SHEETS] if os.path.isfile(os.path.join(SHEETS, "places.csv")) else []), *models]
+
+
+def example_basis(name: str, program: Program) -> Basis:
+    """The day of an example. Raises `BadChange` where there is none of this name."""
+    if name not in examples():
+        raise BadChange("there is no such example")
+    if name == OF_SHEETS:
+        uploads = [upload(os.path.join(SHEETS, file)) for file in ("places.csv", "vans.csv")]
+        return replace(basis_of_tables(Tables(uploads[0], uploads[1], Roads(pace=2, slack_max=480))), source=name)
+    return replace(basis_of_model(upload(os.path.join(EXAMPLES, f"{name}.json")), program), source=name)
+
+
+def upload(path: str) -> Upload:
+    """A file of this machine as one from the page."""
+    with open(path, "rb") as file:
+        return os.path.basename(path), file.read()
