@@ -12,6 +12,7 @@ from typing import List, Optional, Sequence, Tuple
 
 from .batch import Found, batch, read_folder
 from .complete import shape_faults, shorten
+from .desk.command import add_desk
 from .doubts import doubts
 from .engines import Engine, GnuParallel, OwnProcesses, Slurm
 from .errors import JambulskegError, NotMet
@@ -57,7 +58,7 @@ def failed(sentence: str) -> int:
 def parser() -> argparse.ArgumentParser:
     """The words that are taken."""
     out = argparse.ArgumentParser(prog="python -m jambulskeg", description="Vehicle routing by the program vr_cli.")
-    commands = out.add_subparsers(required=True, metavar="view|doubts|portfolio|batch")
+    commands = out.add_subparsers(required=True, metavar="view|doubts|portfolio|batch|desk")
     add_view(commands.add_parser("view", help="a page (or an SVG) of a day, or of two side by side"))
     look = commands.add_parser("doubts", help="what a model may say and looks wrong, a line each")
     look.add_argument("model", metavar="MODEL", help="the model file")
@@ -74,6 +75,7 @@ def parser() -> argparse.ArgumentParser:
     many.set_defaults(run=run_batch)
     for command in (one, many):
         add_search(command)
+    add_desk(commands.add_parser("desk", help="a folder of days in a browser: planned, seen, and changed by hand"))
     return out
 
 

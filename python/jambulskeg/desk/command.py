@@ -1,0 +1,70 @@
+"""The words of `python -m jambulskeg desk`."""
+
+from __future__ import annotations
+
+import argparse
+import signal
+import sys
+import webbrowser
+from typing import Any
+
+from ..program import Program
+from .folder import Folder
+from .searching import Searches
+from .server import DeskServer, serve
+from .service import Service
+
+__all__ = ["add_desk", "run_desk"]
+
+MOST_JOBS = 64
+
+
+def add_desk(command: argparse.ArgumentParser) -> None:
+    """Adds the words of `desk` to a command."""
+    command.add_argument("folder", metavar="FOLDER", nargs="?", default="days",
+                         help="the folder of days, made where it is missing; 'days' without one")
+    command.add_argument("--port", type=port, default=0, metavar="P", help="the port of 127.0.0.1; else a free one")
+    command.add_argument("--no-browser", action="store_true", help="only write the address of the page")
+    command.add_argument("--jobs", type=jobs, default=1, metavar="N", help="searches at a time")
+    command.set_defaults(run=run_desk)
+
+
+def port(text: str) -> int:
+    """The number of a port."""
+    found = int(text)
+    if not 0 <= found < 65536:
+        raise argparse.ArgumentTypeError(f"{text} is no port")
+    return found
+
+
+def jobs(text: str) -> int:
+    """How many searches may run at a time."""
+    found = int(text)
+    if not 1 <= found <= MOST_JOBS:
+        raise argparse.ArgumentTypeError(f"{text} is not 1 to {MOST_JOBS}")
+    return found
+
+
+def run_desk(asked: argparse.Namespace) -> int:
+    """Serves a folder of days until it is stopped from the keyboard."""
+    folder = Folder(asked.folder)
+    try:
+        service = Service(folder, Program.found(), Searches(asked.jobs))
+        server = DeskServer(service, asked.port)
+    except BaseException:
+        folder.close()
+        raise
+    signal.signal(signal.SIGTERM, stopped)
+    serve(server, tell, None if asked.no_browser else webbrowser.open)
+    return 0
+
+
+def stopped(number: int, frame: Any) -> None:
+    """Ends the desk as the keyboard does."""
+    raise KeyboardInterrupt
+
+
+def tell(address: str) -> None:
+    """Writes the address of the page."""
+    sys.stdout.write(f"The desk is at {address}\nControl and C closes it.\n")
+    sys.stdout.flush()

@@ -1,0 +1,98 @@
+/* A search: it is begun with its seconds, shows how the cost falls, and is stopped. */
+
+import {get, post} from "./ask.js";
+import {byId, drawn, make, table} from "./make.js";
+import {desk, on, reload, tell} from "./store.js";
+
+const EVERY = 350, WIDTH = 600, HEIGHT = 150, EDGE = 46;
+let timer = null;
+
+function isBusy(found) {
+  return found.status === "waiting" || found.status === "searching";
+}
+
+function buttons() {
+  const busy = desk.searching, day = desk.day;
+  byId("plan").hidden = busy;
+  byId("plan").textContent = day.status === "empty" || day.status === "broken" ? "Plan" : "Improve from here";
+  byId("stop").hidden = !busy;
+  byId("undo").disabled = busy || !day.can_undo;
+  byId("redo").disabled = busy || !day.can_redo;
+}
+
+function words(found) {
+  const last = found.points[found.points.length - 1];
+  const best = last ? " The best costs " + last[1] + (last[2] ? " and leaves " + last[2] + " visits that must be made." : ".") : "";
+  return found.sentence + " " + found.spent + " of " + found.asked + " seconds, " + found.rounds + " rounds." + best;
+}
+
+/** The cost over time as a line of steps; the table says the same. */
+function curve(found) {
+  const points = found.points.filter((point) => point[2] === found.points[found.points.length - 1][2]);
+  const costs = points.map((point) => point[1]), low = Math.min(...costs), high = Math.max(...costs, low + 1);
+  const x = (seconds) => EDGE + (WIDTH - EDGE - 10) * Math.min(1, seconds / found.asked);
+  const y = (cost) => 12 + (HEIGHT - 36) * (high - cost) / (high - low);
+  let way = "M" + x(points[0][0]) + " " + y(costs[0]);
+  for (const [seconds, cost] of points.slice(1)) { way += "H" + x(seconds) + "V" + y(cost); }
+  const now = Math.max(found.spent, points[points.length - 1][0]);
+  const label = (at, words, anchor, value) => drawn("text", {x: at, y: value, "text-anchor": anchor, class: "number"}, words);
+  return drawn("svg", {viewBox: "0 0 " + WIDTH + " " + HEIGHT, role: "img", "aria-label": "The best cost over time, from " + costs[0] + " to "
+    + costs[costs.length - 1] + ". The table below says the same."},
+  drawn("path", {class: "curve", d: way + "H" + x(now)}),
+  drawn("circle", {class: "dot-now", cx: x(now), cy: y(costs[costs.length - 1]), r: 4}),
+  label(EDGE - 6, String(high), "end", 16), label(EDGE - 6, String(low), "end", HEIGHT - 20), label(EDGE, "0 s", "start", HEIGHT - 5),
+  label(WIDTH - 10, found.asked + " s", "end", HEIGHT - 5));
+}
+
+function show(found) {
+  byId("progress").hidden = found.status === "none";
+  if (found.status === "none") { return; }
+  byId("progress-words").textContent = words(found);
+  byId("progress-chart").replaceChildren(...(found.points.length ? [curve(found)] : []));
+  byId("progress-table").replaceChildren(table("The best cost over time", ["seconds", "cost", "must be made and is not"],
+    found.points.map((point) => point.map(String))));
+}
+
+async function look() {
+  window.clearTimeout(timer);
+  const id = desk.day.id;
+  const found = await get("day/" + id + "/search").catch(() => null);
+  if (desk.day.id !== id) { return; }
+  const was = desk.searching;
+  desk.searching = found !== null && isBusy(found);
+  if (found) { show(found); }
+  if (was && !desk.searching) {
+    desk.answer = desk.refusal = null;
+    await reload();
+    byId("said").textContent = found ? found.sentence : "The desk does not answer.";
+  }
+  if (was !== desk.searching) { tell("searching"); }
+  if (desk.searching) { timer = window.setTimeout(look, EVERY); }
+}
+
+async function plan() {
+  const seconds = Number(byId("seconds").value);
+  try {
+    await post("day/" + desk.day.id + "/plan", {seconds});
+    desk.answer = null;
+    desk.refusal = null;
+  } catch (problem) {
+    desk.refusal = {sentence: problem.message, made: false};
+  }
+  tell("said");
+  await look();
+}
+
+export function begin() {
+  byId("plan").addEventListener("click", plan);
+  byId("stop").addEventListener("click", () => post("day/" + desk.day.id + "/stop", {}).then(look, look));
+  on("day", buttons);
+  on("searching", buttons);
+  on("opened", () => { desk.searching = false; look(); });
+}
+
+export function stepsOf(steps, go) {
+  return make("ol", {class: "steps", reversed: true, start: steps.length}, steps.map((step, at) => make("li", {},
+    step.words + (step.number ? ", cost " + step.cost + (step.fine ? "" : ", unfinished") : "") + " ",
+    at ? make("button", {type: "button", "aria-label": "Go to: " + step.words, onclick: () => go(step.number)}, "Go to") : "(now)")));
+}

@@ -1,0 +1,250 @@
+"""Better days: a search runs rounds of the program in a thread until its seconds are over or it is stopped.
+
+A round is a run of the program with a construction, a search and a number of tries, which grow from pass to pass. What
+a round finds is put to the program as a whole day and is kept if it leaves fewer required visits unmade, or as many and
+costs less. The day changes once, at the end, and never for the worse.
+"""
+
+from __future__ import annotations
+
+import subprocess
+import threading
+import time
+from dataclasses import dataclass, replace
+from typing import Any, Dict, Iterator, List, Optional, Sequence, Tuple
+
+from ..complete import CannotBeDriven
+from ..errors import JambulskegError, NoFirstSolution, NotMet, ProgramFailed, ProgramSlow, Refused
+from ..program import Program, answer, tree_of
+from ..records import First, Improve, Model, tries_for
+from ..rescue import ALIKE, relax
+from ..rounds import with_search
+from ..solution import Solution
+from .asking import Verdict
+from .days import Answer, OpenDay
+from .part import Part, part_of
+from .states import BadChange, Lists, State
+
+__all__ = ["Point", "Search", "Searches", "run_until"]
+
+FIRST_TRIES = 20000
+MOST_TRIES = 10**9
+LEAST, MOST = 1, 3600
+"""The seconds that a search may be given."""
+PATIENCE = 0.05
+"""So many seconds after it is stopped, a run of the program is ended at the latest."""
+KINDS: Sequence[Tuple[First, Improve, Tuple[int, int]]] = (
+    (First.PARALLEL_CHEAPEST_INSERTION, Improve.GUIDED_LOCAL_SEARCH, (1, 10)),
+    (First.PATH_CHEAPEST_ARC, Improve.GUIDED_LOCAL_SEARCH, (1, 10)),
+    (First.PARALLEL_CHEAPEST_INSERTION, Improve.PATH_LNS, (1, 10)),
+    (First.SAVINGS, Improve.GUIDED_LOCAL_SEARCH, (1, 5)),
+    (First.PARALLEL_CHEAPEST_INSERTION, Improve.GUIDED_LOCAL_SEARCH, (1, 3)),
+)
+"""What the rounds of a pass search with."""
+
+
+@dataclass(frozen=True)
+class Point:
+    """The best day that a search knew after some seconds: its cost, and how many required visits it leaves unmade."""
+
+    seconds: float
+    cost: int
+    missing: int
+
+
+def run_until(program: Program, words: Sequence[str], text: str, seconds: float, stop: threading.Event) -> str:
+    """What the program writes, as `Program.run` has it. Raises `ProgramSlow` too when `stop` is set."""
+    try:
+        process = subprocess.Popen(
+            [program.path, *words], stdin=subprocess.PIPE, stdout=subprocess.PIPE, stderr=subprocess.PIPE
+        )
+    except OSError as problem:
+        raise ProgramFailed(f"the program {program.path} could not be started: {problem.strerror}") from problem
+    end = time.monotonic() + seconds
+    data: Optional[bytes] = text.encode("utf-8", "surrogatepass")
+    with process:
+        try:
+            while True:
+                try:
+                    out, errors = process.communicate(data, PATIENCE)
+                    return answer(process.returncode, out, errors)
+                except subprocess.TimeoutExpired:
+                    data = None  # what was handed over is kept by the process
+                    if stop.is_set() or time.monotonic() > end:
+                        raise ProgramSlow(seconds) from None
+        finally:
+            process.kill()
+
+
+def rounds_of(model: Model) -> Iterator[Model]:
+    """The models of the rounds: in each pass each of `KINDS`, then twice the tries."""
+    tries = FIRST_TRIES
+    while True:
+        for first, improve, weight in KINDS:
+            yield with_search(
+                model, first=first, improve=improve, lambda_=weight, tries=tries_for(improve, min(tries, MOST_TRIES)),
+                solutions=MOST_TRIES,
+            )
+        tries *= 2
+
+
+class Search(threading.Thread):
+    """A search of better routes for a day as it is at its present step."""
+
+    def __init__(self, day: OpenDay, seconds: float, turn: threading.Semaphore) -> None:
+        """Raises `BadChange` where nothing may be changed, or the seconds are none that may be given."""
+        if not LEAST <= seconds <= MOST:
+            raise BadChange(f"a search takes {LEAST} to {MOST} seconds")
+        super().__init__(daemon=True)
+        self.day, self.seconds = day, seconds
+        self.stopped = threading.Event()
+        self.points: List[Point] = []
+        self.status = "waiting"
+        self.sentence = "The search waits for another one to end."
+        self.rounds = 0
+        self._turn, self._began = turn, time.monotonic()
+        self._state = day.step.state
+        self._at = day.at
+        self._asker = day.asker(self._state.edits)
+        self._part: Part = part_of(self._asker.model, self._state)
+        self._best: Optional[Tuple[Lists, Verdict]] = None
+
+    @property
+    def is_alive_still(self) -> bool:
+        """Whether the search has not ended."""
+        return self.status in ("waiting", "searching")
+
+    def tree(self) -> Dict[str, Any]:
+        """How the search goes, as JSON."""
+        spent = 0.0 if self.status == "waiting" else time.monotonic() - self._began
+        return {
+            "status": self.status, "sentence": self.sentence, "rounds": self.rounds, "asked": self.seconds,
+            "spent": round(min(spent, self.seconds), 1),
+            "points": [[round(point.seconds, 2), point.cost, point.missing] for point in list(self.points)],
+        }
+
+    def stop(self) -> None:
+        """Ends the search; the best day is kept."""
+        self.stopped.set()
+
+    def run(self) -> None:
+        """Searches, and changes the day once."""
+        while not self._turn.acquire(timeout=PATIENCE):
+            if self.stopped.is_set():
+                self.status, self.sentence = "ended", "The search was stopped before its turn."
+                return
+        try:
+            self._began = time.monotonic()
+            self.status, self.sentence = "searching", "The search is at work."
+            self.search()
+            sentence = self.adopted().sentence
+            self.status, self.sentence = "ended", sentence
+        except (JambulskegError, OSError) as problem:
+            self.status, self.sentence = "failed", f"The search failed: {problem}"
+        finally:
+            if self.is_alive_still:
+                self.status, self.sentence = "failed", "The search failed by a fault of the desk."
+            self._turn.release()
+
+    def left(self) -> float:
+        """The seconds that are left."""
+        return self.seconds - (time.monotonic() - self._began)
+
+    def search(self) -> None:
+        """Runs rounds until the time is over; where no construction finds a day, of the relaxed model."""
+        try:
+            self.consider(self._state.lists, self._asker.judged(self._state.lists))
+        except (CannotBeDriven, NotMet):
+            pass
+        try:
+            self.run_rounds(self._part.model)
+        except NoFirstSolution:
+            self.run_rounds(relax(self._part.model)[0])
+
+    def run_rounds(self, model: Model) -> None:
+        """Runs rounds of a model until the time is over. Raises `NoFirstSolution` where a whole pass finds none."""
+        failed, has_found = 0, False
+        for asked in rounds_of(model):
+            if self.left() <= 0 or self.stopped.is_set():
+                return
+            try:
+                self.try_round(asked)
+                has_found = True
+            except ProgramSlow:
+                return
+            except NoFirstSolution:
+                failed += 1
+            except Refused as refused:
+                if refused.code != ALIKE:
+                    raise
+                failed += 1
+            if failed >= len(KINDS) and not has_found:
+                raise NoFirstSolution("no construction finds a first solution")
+
+    def try_round(self, asked: Model) -> None:
+        """Runs a round, and keeps what it finds where that is better."""
+        text = run_until(self.day.asker(self._state.edits).program, ["solve"], asked.text(), self.left(), self.stopped)
+        found = Solution.of(tree_of(text.split("\n", 1)[0]))
+        self.rounds += 1
+        lists = self._part.lists(found.lists(), self._state)
+        self.consider(lists, self._asker.judged(lists))
+
+    def consider(self, lists: Lists, verdict: Verdict) -> None:
+        """Keeps a day where it is better than the best so far."""
+        if self._best is None or worth(verdict) < worth(self._best[1]):
+            self._best = lists, verdict
+            spent = time.monotonic() - self._began
+            self.points.append(Point(spent, verdict.solution.cost, len(verdict.missing)))
+
+    def adopted(self) -> Answer:
+        """Makes a step of the best day, if it is better than the one that the search began with."""
+        if self._best is None:
+            return Answer(False, self._at, "The search found no day.")
+        state: State = replace(self._state, lists=self._best[0])
+        with self.day.lock:
+            if self.day.at != self._at:
+                return Answer(False, self.day.at, "The day was changed meanwhile; what was found is not kept.")
+            if state == self._state:
+                return Answer(True, self._at, "The search found nothing better, so the routes stay as they are.")
+            spent = round(min(self.seconds, time.monotonic() - self._began))
+            return self.day.made(state, f"planned in {spent} s")
+
+
+def worth(verdict: Verdict) -> Tuple[int, int]:
+    """What days are compared by: the required visits that nobody makes, then the cost."""
+    return len(verdict.missing), verdict.solution.cost
+
+
+class Searches:
+    """The latest search of each day, at most so many at a time."""
+
+    def __init__(self, jobs: int) -> None:
+        self._turn = threading.BoundedSemaphore(jobs)
+        self._lock = threading.Lock()
+        self._latest: Dict[str, Search] = {}
+
+    def begin(self, day: OpenDay, seconds: float) -> Search:
+        """Begins a search. Raises `BadChange` where one is at work on the day, and as `Search` does."""
+        with self._lock:
+            if self.is_busy(day.identity):
+                raise BadChange("a search is at work on this day")
+            search = Search(day, seconds, self._turn)
+            self._latest[day.identity] = search
+            search.start()
+            return search
+
+    def of(self, identity: str) -> Optional[Search]:
+        """The latest search of a day."""
+        return self._latest.get(identity)
+
+    def is_busy(self, identity: str) -> bool:
+        """Whether a search of a day has not ended."""
+        search = self._latest.get(identity)
+        return search is not None and search.is_alive_still
+
+    def stop_all(self) -> None:
+        """Ends all searches, and waits for them."""
+        for search in list(self._latest.values()):
+            search.stop()
+        for search in list(self._latest.values()):
+            search.join(5)
