@@ -1,32 +1,33 @@
 """From coordinates and spreadsheets to a model.
 
-A matrix of whole numbers from coordinates: `from_places(places, Measure.EUCLID)`. A whole model from two CSV files, one
-of places and one of vehicles: `model_from_csv("places.csv", "vehicles.csv")`.
+A matrix of whole numbers from coordinates: `from_places(places, Measure.EUCLID)`. A whole day from two CSV files, one
+of places and one of vehicles, with what looks wrong in them: `tables = read_day("places.csv", "vans.csv")`, and its
+model: `model_of_day(tables)`.
 """
 
 from __future__ import annotations
 
-import csv
-import io
 import math
 import re
-from dataclasses import dataclass
+from collections import Counter
+from dataclasses import dataclass, replace
 from enum import Enum
-from typing import Callable, Dict, Iterator, List, Mapping, Optional, Sequence, Tuple, TypeVar
+from typing import Callable, Dict, Iterator, List, Mapping, Optional, Sequence, Set, Tuple
 
-from .errors import JambulskegError
-from .records import HORIZON, Dimension, Evaluator, Group, Model, NodeRow, Search, Vehicle, VehicleRow
+from .records import (
+    GREATEST_ENTRY, GREATEST_TRANSIT, HORIZON, MOST_NODES, MOST_VEHICLES, Dimension, Evaluator, Group, Model, NodeRow,
+    Search, Vehicle, VehicleRow,
+)
+from .tables import BadTable, Table, TableLine, TableSource, read_table, whole
 
 __all__ = [
-    "BadTable", "Measure", "Place", "Roads", "Rounding", "Van", "from_places", "great_circle", "model_from_csv",
-    "model_of", "read_places", "read_vans", "rounded",
+    "BadTable", "DayTables", "METRES", "Measure", "Place", "Roads", "Rounding", "TableSource", "Van", "from_places",
+    "great_circle", "model_from_csv", "model_of", "model_of_day", "read_day", "read_places", "read_vans", "rounded",
+    "whole",
 ]
 
 EARTH = 6371008.8
 """The mean radius of the Earth in metres."""
-TIME = re.compile(r"(\d+):([0-5]\d)(?::00)?")
-"""A time of day in whole minutes, as people and spreadsheets write it."""
-T = TypeVar("T")
 
 
 class Measure(Enum):
@@ -50,15 +51,6 @@ class Rounding(Enum):
     NEAREST = "nearest"
     UP = "up"
     DOWN = "down"
-
-
-class BadTable(JambulskegError, ValueError):
-    """A CSV file that cannot be read: the `file`, the `line` from 1, the `column` (empty for the line), and why."""
-
-    def __init__(self, file: str, line: int, column: str, why: str) -> None:
-        self.file, self.line, self.column = file, line, column
-        place = f", column '{column}'" if column else ""
-        super().__init__(f"{file}, line {line}{place}: {why}")
 
 
 @dataclass(frozen=True)
@@ -139,135 +131,192 @@ def scaled(ways: Sequence[Sequence[float]], rounding: Rounding, scale: float) ->
     return [row + [lower[head][tail] for head in range(tail + 1, len(lower))] for tail, row in enumerate(lower)]
 
 
-def whole(text: str) -> int:
-    """A whole number, also as a time of day: 8:30, or 8:30:00, is 510 minutes."""
-    time = TIME.fullmatch(text)
-    return 60 * int(time[1]) + int(time[2]) if time else int(text)
+PLACE_COLUMNS = ("name", "x", "y", "lat", "lon", "demand", "open", "close", "service", "penalty")
+VAN_COLUMNS = ("name", "start", "end", "capacity", "fixed", "from", "to")
+OTHER_NAMES = {"latitude": "lat", "longitude": "lon", "lng": "lon", "long": "lon"}
+FARTHEST = 1e8
+"""The greatest coordinate that is read."""
+YARD = re.compile(r"\b(?:yards?|depots?|dépôts?|depósitos?|warehouses?|garages?|hubs?|betriebshof|lager)(?:\b|\d)")
+"""Names of places where vehicles mostly start."""
+FINE = re.compile(r"-?\d{1,3}[.,]\d{3,}")
+"""A coordinate as one in degrees is written."""
 
 
 @dataclass(frozen=True)
-class TableLine:
-    """A line of a CSV file, which says where it stands when a cell is faulty; `point` is its decimal point."""
+class DayTables:
+    """A day as two spreadsheets say it: node i is place i, vehicle k is van k.
 
-    file: str
-    number: int
-    cells: Mapping[str, str]
-    point: str = "."
-
-    def text(self, column: str, default: Optional[str] = None) -> str:
-        """The text of a cell that has one, else the default. Raises `BadTable` where there is neither."""
-        found = (self.cells.get(column) or "").strip() or default
-        if found is None:
-            raise BadTable(self.file, self.number, column, "the cell is empty")
-        return found
-
-    def read(self, column: str, read: Callable[[str], T], kind: str, default: T) -> T:
-        """The value of a cell, or the default where it is empty. Raises `BadTable` where it is no such value."""
-        text = self.text(column, "")
-        try:
-            return read(text) if text else default
-        except ValueError:
-            raise BadTable(self.file, self.number, column, f"'{text}' is no {kind}") from None
-
-    def whole(self, column: str, default: int = 0) -> int:
-        """The whole number of a cell."""
-        return self.read(column, whole, "whole number", default)
-
-    def maybe(self, column: str) -> Optional[int]:
-        """The whole number of a cell, None where it is empty."""
-        return self.read(column, whole, "whole number", None) if self.text(column, "") else None
-
-    def real(self, column: str) -> float:
-        """The number of a cell that must have one."""
-        self.text(column)
-        return self.read(column, lambda text: finite(text.replace(self.point, ".")), "number", 0.0)
-
-    def window(self, low: str, high: str) -> Optional[Tuple[int, int]]:
-        """The interval of two cells, None where both are empty. Raises `BadTable` where one is, or they are turned."""
-        if not self.text(low, "") and not self.text(high, ""):
-            return None
-        self.text(low), self.text(high)
-        found = self.whole(low), self.whole(high)
-        if found[0] > found[1]:
-            raise BadTable(self.file, self.number, high, f"{found[1]} is before {found[0]}")
-        return found
-
-
-def finite(text: str) -> float:
-    """The number of a text. Raises `ValueError` where it is none, or not finite."""
-    found = float(text)
-    if not math.isfinite(found):
-        raise ValueError(text)
-    return found
-
-
-PLACE_COLUMNS = ("name", "x", "y", "demand", "open", "close", "service", "penalty")
-DELIMITERS = ",;\t"
-VAN_COLUMNS = ("name", "start", "end", "capacity", "fixed", "from", "to")
-
-
-def lines_of(path: str, columns: Sequence[str]) -> Iterator[TableLine]:
-    """The lines of a CSV file whose first line names its columns, with commas, semicolons or tabs between cells. Where
-    these are no commas, a comma is a decimal point.
-
-    Raises `BadTable` at a column that is unknown, at a line with too many cells, and at bytes that are no UTF-8.
+    `further` has for each place the cells of the columns that nobody asks for (a phone number, a note), by their
+    headings and in their order; `van_further` has those of the vehicles. `degrees` says that x is the longitude and y
+    the latitude. `doubts` are sentences about what may be said and looks wrong all the same.
     """
-    text = text_of(path)
-    delimiter = max(DELIMITERS, key=text.split("\n", 1)[0].count)
-    reader = csv.DictReader(io.StringIO(text, newline=""), delimiter=delimiter)
-    for column in reader.fieldnames or ():
-        if column not in columns:
-            raise BadTable(path, 1, column, f"there is no such column; there are {', '.join(columns)}")
-    for cells in reader:
-        if None in cells:
-            raise BadTable(path, reader.line_num, columns[-1], "the line has more cells than there are columns")
-        yield TableLine(path, reader.line_num, cells, "." if delimiter == "," else ",")
+
+    places: Tuple[Place, ...]
+    vans: Tuple[Van, ...]
+    further: Tuple[Mapping[str, str], ...] = ()
+    van_further: Tuple[Mapping[str, str], ...] = ()
+    degrees: bool = False
+    doubts: Tuple[str, ...] = ()
 
 
-def text_of(path: str) -> str:
-    """The text of a CSV file. Raises `BadTable` at the line that is no UTF-8, `OSError`."""
-    with open(path, "rb") as file:
-        data = file.read()
-    try:
-        return data.decode("utf-8-sig")
-    except UnicodeDecodeError as fault:
-        line = data.count(b"\n", 0, fault.start) + 1
-        raise BadTable(path, line, "", "this is no text in UTF-8; save the file as 'CSV UTF-8'") from None
+def read_day(places: TableSource, vans: TableSource) -> DayTables:
+    """The day of two CSV files, each a path, or a name and the bytes of an upload.
+
+    Places have the columns name, x and y (or lat and lon), and as far as they are there demand, open, close (when a
+    visit may begin), service, penalty (empty: the visit must be made). Vehicles have start and end (names of places;
+    an empty end is the start), name, capacity, fixed (the cost of using it), from, to (its shift). Raises `BadTable`
+    at the first cell that cannot be read, with its line and column; `OSError`.
+    """
+    table, degrees, found = table_of_places(places)
+    stops = places_of(table, degrees)
+    van_table = read_table(vans, VAN_COLUMNS, {})
+    drivers = vans_of(van_table, stops)
+    looks = [*found, *van_table.doubts, *doubts_of_places(table, stops, drivers, degrees)]
+    looks += doubled_names(van_table, [van.name for van in drivers])
+    return DayTables(
+        tuple(stops), tuple(drivers), tuple(line.further for line in table.lines),
+        tuple(line.further for line in van_table.lines), degrees, tuple(map(str, looks)),
+    )
 
 
 def read_places(path: str) -> List[Place]:
-    """The places of a CSV file: columns name, x, y, and as far as they are there demand, open, close (when a visit may
-    begin), service, penalty (empty: the visit must be made). Times may be written 8:30. Raises `BadTable`, `OSError`.
+    """The places of a CSV file, as `read_day` reads them; where it doubts the form of the file, that is a fault here.
+
+    Raises `BadTable`, `OSError`.
     """
+    return list(strict_places(path).places)
+
+
+def strict_places(path: str) -> DayTables:
+    """The places of a CSV file, with no vehicles. Raises `BadTable` also where the form of the file is doubted."""
+    table, degrees, doubts = table_of_places(path)
+    if doubts:
+        raise doubts[0]
+    return DayTables(tuple(places_of(table, degrees)), (), degrees=degrees)
+
+
+def read_vans(path: str, places: Sequence[Place]) -> List[Van]:
+    """The vehicles of a CSV file, as `read_day` reads them; where it doubts the form of the file, that is a fault here.
+
+    Raises `BadTable`, `OSError`.
+    """
+    table = read_table(path, VAN_COLUMNS, {})
+    if table.doubts:
+        raise table.doubts[0]
+    return vans_of(table, places)
+
+
+def table_of_places(source: TableSource) -> Tuple[Table, bool, List[BadTable]]:
+    """The table of places, whether it says where they lie in degrees, and what looks wrong in its form."""
+    table = read_table(source, PLACE_COLUMNS, OTHER_NAMES)
+    doubts, known = list(table.doubts), table.heads.known
+    degrees = "lat" in known and "lon" in known
+    if degrees and "x" in known and "y" in known:
+        doubts.append(table.heads.bad("x", "lat and lon are there too, so x and y are not read"))
+    return table.without(*(("x", "y") if degrees else ("lat", "lon"))), degrees, doubts
+
+
+def places_of(table: Table, degrees: bool) -> List[Place]:
+    """The places of a table."""
+    heads = table.heads
+    across, up = ("lon", "lat") if degrees else ("x", "y")
+    heads.need("name", across, up)
+    if not table.lines:
+        raise BadTable(heads.file, heads.number, "", "there are no places below the headings")
+    if len(table.lines) > MOST_NODES:
+        raise table.lines[MOST_NODES].bad("", f"there may be {MOST_NODES} places at most")
+    names: Dict[str, int] = {}
     places: List[Place] = []
-    for line in lines_of(path, PLACE_COLUMNS):
+    for line in table.lines:
         name = line.text("name")
-        if any(place.name == name for place in places):
-            raise BadTable(path, line.number, "name", f"'{name}' stands in an earlier line")
+        if name in names:
+            raise line.bad("name", f"'{name}' stands in an earlier line, line {names[name]}")
+        names[name] = line.number
         places.append(Place(
-            name, line.real("x"), line.real("y"), line.whole("demand"), line.window("open", "close"),
-            line.whole("service"), line.maybe("penalty"),
+            name, line.real(across, 180 if degrees else FARTHEST), line.real(up, 90 if degrees else FARTHEST),
+            line.whole("demand", GREATEST_TRANSIT, -GREATEST_TRANSIT), line.window("open", "close", HORIZON),
+            line.whole("service", GREATEST_TRANSIT), line.maybe("penalty", GREATEST_ENTRY),
         ))
     return places
 
 
-def read_vans(path: str, places: Sequence[Place]) -> List[Van]:
-    """The vehicles of a CSV file: columns name, start and end (names of places; an empty end is the start), and as far
-    as they are there capacity, fixed (the cost of using it), from, to (its shift). Raises `BadTable`, `OSError`.
-    """
+def vans_of(table: Table, places: Sequence[Place]) -> List[Van]:
+    """The vehicles of a table; their starts and ends are among the places."""
+    table.heads.need("start")
+    if not table.lines:
+        raise BadTable(table.heads.file, table.heads.number, "", "there are no vehicles below the headings")
+    if len(table.lines) > MOST_VEHICLES:
+        raise table.lines[MOST_VEHICLES].bad("", f"there may be {MOST_VEHICLES} vehicles at most")
     names = {place.name for place in places}
     vans: List[Van] = []
-    for line in lines_of(path, VAN_COLUMNS):
+    for line in table.lines:
         start = line.text("start")
         van = Van(
-            line.text("name", f"vehicle {len(vans)}"), start, line.text("end", start), line.maybe("capacity"),
-            line.whole("fixed"), line.window("from", "to"),
+            line.text("name", f"vehicle {len(vans)}"), start, line.text("end", start),
+            line.maybe("capacity", GREATEST_ENTRY), line.whole("fixed", GREATEST_ENTRY),
+            line.window("from", "to", HORIZON),
         )
         for column, name in (("start", van.start), ("end", van.end)):
             if name not in names:
-                raise BadTable(path, line.number, column, f"no place has the name '{name}'")
+                near = next((entry for entry in names if entry.casefold() == name.casefold()), None)
+                meant = f"; is '{near}' meant?" if near else ""
+                raise line.bad(column, f"no place has the name '{name}'{meant}")
         vans.append(van)
     return vans
+
+
+def doubled_names(table: Table, names: Sequence[str]) -> Iterator[BadTable]:
+    """A doubt at each name that an earlier line has too."""
+    count = Counter(names)
+    for at, (line, name) in enumerate(zip(table.lines, names)):
+        if count[name] > 1 and name in names[:at]:
+            yield line.bad("name", f"an earlier vehicle is called '{name}' too")
+
+
+def doubts_of_places(
+    table: Table, places: Sequence[Place], vans: Sequence[Van], degrees: bool
+) -> Iterator[BadTable]:
+    """What looks wrong in a table of places: a second yard, cells that are not used, coordinates."""
+    ends = {name for van in vans for name in (van.start, van.end)}
+    visits = [(line, place) for line, place in zip(table.lines, places) if place.name not in ends]
+    plain = [place for _, place in visits if is_plain(place)]
+    for line, place in visits:
+        if YARD.search(place.name.casefold()) or (len(visits) > 2 and plain == [place]):
+            yield line.bad("name", f"no vehicle starts or ends at '{place.name}', so it is a visit like the others")
+    for line, place in zip(table.lines, places):
+        unused = [column for column in ("open", "penalty") if place.name in ends and line.has(column)]
+        if unused:
+            column, instead = unused[0], "; write 'from' and 'to' of the vehicles" if unused[0] == "open" else ""
+            yield line.bad(column, f"vehicles start or end at '{place.name}', so this is not used{instead}")
+    yield from coordinate_doubts(table, places, degrees)
+
+
+def is_plain(place: Place) -> bool:
+    """Whether nothing is said of a place but where it lies."""
+    return place.window is None and place.penalty is None and not place.demand and not place.service
+
+
+def coordinate_doubts(table: Table, places: Sequence[Place], degrees: bool) -> Iterator[BadTable]:
+    """Places that all lie at one point, and degrees in the columns x and y."""
+    first = table.lines[0]
+    across, up = ("lon", "lat") if degrees else ("x", "y")
+    wide = max(max(values) - min(values) for values in ([place.x for place in places], [place.y for place in places]))
+    if not degrees and looks_like_degrees(table, places):
+        yield first.bad(across, "x and y look like degrees; call the columns 'lon' and 'lat'")
+    elif len(places) > 1 and (wide == 0 or not degrees and wide < 0.5 and are_close(places)):
+        yield first.bad(across, f"all distances of '{across}' and '{up}' are 0 (they are rounded to whole numbers)")
+
+
+def looks_like_degrees(table: Table, places: Sequence[Place]) -> bool:
+    """Whether most coordinates are written as those of a map: at most 180 and 90, and finer than a hundredth."""
+    fine = [line for line in table.lines if FINE.fullmatch(line.text("x")) and FINE.fullmatch(line.text("y"))]
+    within = all(abs(place.x) <= 180 and abs(place.y) <= 90 for place in places)
+    return within and len(places) > 1 and 2 * len(fine) > len(places)
+
+
+def are_close(places: Sequence[Place]) -> bool:
+    """Whether all distances are rounded to 0."""
+    return not any(map(any, from_places(places)))
 
 
 @dataclass(frozen=True)
@@ -282,10 +331,30 @@ class Roads:
     slack_max: int = 60
 
 
-def model_from_csv(places: str, vehicles: str, roads: Roads = Roads(), search: Search = Search()) -> Model:
-    """The model of two CSV files; see `model_of`. Raises `BadTable`, `OSError`, `Refused`."""
-    found = read_places(places)
-    return model_of(found, read_vans(vehicles, found), roads, search)
+METRES = Roads(Measure.GREAT_CIRCLE, pace=60 / 40000)
+"""For places in degrees: arcs cost metres, and take the minutes of 40 kilometres an hour as the crow flies."""
+
+
+def model_of_day(tables: DayTables, roads: Optional[Roads] = None, search: Search = Search()) -> Model:
+    """The model of a day; see `model_of`. Places in degrees are always apart by great circles.
+
+    Without `roads` these are `METRES` for places in degrees, and else `Roads()`. Raises `Refused`.
+    """
+    found = roads or (METRES if tables.degrees else Roads())
+    if tables.degrees:
+        found = replace(found, measure=Measure.GREAT_CIRCLE)
+    return model_of(tables.places, tables.vans, found, search)
+
+
+def model_from_csv(
+    places: str, vehicles: str, roads: Optional[Roads] = None, search: Search = Search()
+) -> Model:
+    """The model of two CSV files; see `model_of`. Places with lat and lon are apart by great circles.
+
+    Raises `BadTable`, `OSError`, `Refused`.
+    """
+    found = strict_places(places)
+    return model_of_day(replace(found, vans=tuple(read_vans(vehicles, found.places))), roads, search)
 
 
 def model_of(

@@ -105,13 +105,18 @@ class TableTests(unittest.TestCase):
 
     def test_faults_of_places(self) -> None:
         for column, line, text in (
-            ("colour", 1, "name,x,y,colour\n"),
+            ("", 1, ""),
+            ("", 1, "name,x,y\n"),
+            ("demnd", 1, "name,x,y,demnd\na,1,1,2\n"),
+            ("x", 1, "name,x,x,y\na,1,2,3\n"),
+            ("y", 1, "name,x,colour\na,1,red\n"),
             ("x", 2, "name,x,y\na,,1\n"),
             ("x", 2, "name,x,y\na,east,1\n"),
             ("y", 2, "name,x,y\na,1,nan\n"),
             ("y", 2, "name,x,y\na,1\n"),
             ("name", 3, "name,x,y\na,1,1\na,2,2\n"),
-            ("name", 2, "x,y\n1,1\n"),
+            ("name", 1, "x,y\n1,1\n"),
+            ("name", 2, "name,x,y\n,1,1\n"),
             ("demand", 2, "name,x,y,demand\na,1,1,2.5\n"),
             ("close", 2, "name,x,y,open,close\na,1,1,5,\n"),
             ("close", 2, "name,x,y,open,close\na,1,1,5,4\n"),

@@ -14,7 +14,8 @@ from types import ModuleType
 from typing import Iterator, List, Tuple, Union
 
 from jambulskeg import (
-    batch, complete, desk, doubts, engines, errors, model, places, portfolio, program, rescue, rounds, schedules, view,
+    batch, complete, desk, doubts, engines, errors, model, places, portfolio, program, rescue, rounds, schedules,
+    tables, view,
 )
 from jambulskeg.routing import pywrapcp
 
@@ -93,8 +94,8 @@ class PublicTests(unittest.TestCase):
 INHERITED = ("faults", "taken", "tree", "own_faults", "kind_of", "applied", "words")
 """What a kind, a record and a change of a day say once, where they are defined first."""
 MODULES = (
-    batch, complete, desk, doubts, engines, errors, model, places, portfolio, program, rescue, rounds, schedules, view,
-    pywrapcp,
+    batch, complete, desk, doubts, engines, errors, model, places, portfolio, program, rescue, rounds, schedules,
+    tables, view, pywrapcp,
 )
 """The modules whose calls are for users."""
 

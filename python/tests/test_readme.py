@@ -66,7 +66,7 @@ class ReadmeTests(unittest.TestCase):
 
     def test_each_piece_runs(self) -> None:
         pieces = [block for block in blocks() if block.startswith("from ")]
-        self.assertEqual(len(pieces), 7)
+        self.assertEqual(len(pieces), 8)
         model = read_model(os.path.join(EXAMPLES, "service-day.json"))
         solution = read_solution(os.path.join(EXAMPLES, "service-day.solved.json"))
         write("model.json", model.text())

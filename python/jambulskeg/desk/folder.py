@@ -16,7 +16,7 @@ import re
 import shutil
 import tempfile
 from dataclasses import dataclass
-from typing import IO, Any, Dict, List, Sequence, Tuple
+from typing import IO, Any, Dict, List, Mapping, Sequence, Tuple
 
 from ..errors import JambulskegError
 from ..model import read_model
@@ -47,7 +47,8 @@ class NoSuchDay(JambulskegError):
 
 @dataclass(frozen=True)
 class Basis:
-    """What a day was opened with: the model, names, where places lie, and what looked odd in the tables."""
+    """What a day was opened with: the model, names, where places lie, what looked odd, what it was read from, and what
+    else the table says of each place."""
 
     model: Model
     names: Names
@@ -55,13 +56,14 @@ class Basis:
     in_degrees: bool = False
     doubts: Sequence[str] = ()
     source: str = ""
+    further: Sequence[Mapping[str, str]] = ()
 
     def tree(self) -> Dict[str, Any]:
         """What is kept beside the model, as JSON."""
         return {
             "places": list(self.names.places), "vehicles": list(self.names.vehicles), "clock": self.names.clock,
             "points": [[place.x, place.y] for place in self.places], "degrees": self.in_degrees,
-            "doubts": list(self.doubts), "source": self.source,
+            "doubts": list(self.doubts), "source": self.source, "further": [dict(row) for row in self.further],
         }
 
     @classmethod
@@ -69,7 +71,7 @@ class Basis:
         """The basis of a model and of what `tree` wrote."""
         names = Names(tree["places"], tree["vehicles"], tree["clock"])
         places = [Place(name, x, y) for name, (x, y) in zip(tree["places"], tree["points"])]
-        return cls(model, names, places, tree["degrees"], tree["doubts"], tree["source"])
+        return cls(model, names, places, tree["degrees"], tree["doubts"], tree["source"], tree["further"])
 
 
 class Folder:

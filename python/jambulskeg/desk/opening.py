@@ -5,21 +5,20 @@ from __future__ import annotations
 import json
 import os
 import re
-import tempfile
 from dataclasses import dataclass, replace
 from typing import Any, List, Sequence, Tuple
 
 from ..doubts import doubts
 from ..errors import NoFirstSolution, NotJson
 from ..model import first
-from ..places import Measure, Roads, model_of, read_places, read_vans
+from ..places import Measure, Roads, model_of_day, read_day
 from ..program import REPOSITORY, Program
 from ..records import Improve, Model, ScheduleRule, Search
 from ..view.day import Names
 from .folder import Basis
 from .states import BadChange
 
-__all__ = ["Tables", "basis_of_model", "basis_of_tables", "example_basis", "examples"]
+__all__ = ["Upload", "Ways", "basis_of_model", "basis_of_tables", "example_basis", "examples"]
 
 EXAMPLES = os.path.join(REPOSITORY, "examples")
 SHEETS = os.path.join(REPOSITORY, "python", "examples")
@@ -31,29 +30,32 @@ Upload = Tuple[str, bytes]
 
 
 @dataclass(frozen=True)
-class Tables:
-    """Two spreadsheets and how their places are joined."""
+class Ways:
+    """How places are joined: by straight lines or along the sides of blocks, how many kilometres a unit of x and y is,
+    how many of them a van drives in an hour, what one costs, and how long a van may wait on a drive."""
 
-    places: Upload
-    vans: Upload
-    roads: Roads
+    measure: Measure = Measure.EUCLID
+    unit: float = 1.0
+    speed: float = 40.0
+    cost: float = 1.0
+    wait: int = 480
+
+    def roads(self, in_degrees: bool) -> Roads:
+        """The same as the package says it; in degrees, distances are metres."""
+        unit = 0.001 if in_degrees else self.unit
+        return Roads(self.measure, scale=self.cost * unit, pace=60 * unit / self.speed, slack_max=self.wait)
 
 
-def basis_of_tables(tables: Tables) -> Basis:
+def basis_of_tables(places: Upload, vans: Upload, ways: Ways) -> Basis:
     """The day of two spreadsheets. Raises `BadTable` with the file, the line and the column, and `Refused`."""
-    with tempfile.TemporaryDirectory() as folder:
-        files = []
-        for name, (_, data) in (("places.csv", tables.places), ("vans.csv", tables.vans)):
-            files.append(os.path.join(folder, name))
-            with open(files[-1], "wb") as file:
-                file.write(data)
-        places = read_places(files[0])
-        vans = read_vans(files[1], places)
-    model = timely(model_of(places, vans, tables.roads, Search(improve=Improve.GUIDED_LOCAL_SEARCH)))
-    has_clock = any(CLOCK.search(data) for _, data in (tables.places, tables.vans))
-    names = Names([place.name for place in places], [van.name for van in vans], 0 if has_clock else None)
-    in_degrees = tables.roads.measure is Measure.GREAT_CIRCLE
-    return Basis(model, names, places, in_degrees, doubted(model), f"{tables.places[0]} and {tables.vans[0]}")
+    tables = read_day(places, vans)
+    model = model_of_day(tables, ways.roads(tables.degrees), Search(improve=Improve.GUIDED_LOCAL_SEARCH))
+    has_clock = any(CLOCK.search(data) for _, data in (places, vans))
+    names = Names([place.name for place in tables.places], [van.name for van in tables.vans], 0 if has_clock else None)
+    return Basis(
+        timely(model), names, tables.places, tables.degrees, [*tables.doubts, *doubted(model)],
+        f"{places[0]} and {vans[0]}", tables.further,
+    )
 
 
 def timely(model: Model) -> Model:
@@ -100,7 +102,7 @@ def example_basis(name: str, program: Program) -> Basis:
         raise BadChange("there is no such example")
     if name == OF_SHEETS:
         uploads = [upload(os.path.join(SHEETS, file)) for file in ("places.csv", "vans.csv")]
-        return replace(basis_of_tables(Tables(uploads[0], uploads[1], Roads(pace=2, slack_max=480))), source=name)
+        return replace(basis_of_tables(uploads[0], uploads[1], Ways(speed=30)), source=name)
     return replace(basis_of_model(upload(os.path.join(EXAMPLES, f"{name}.json")), program), source=name)
 
 

@@ -48,7 +48,7 @@ def told(day: OpenDay) -> Dict[str, Any]:
             **out, "status": status_of(step.state, verdict.is_fine), "missing": names,
             "cost": verdict.solution.cost, "parts": parts_tree(verdict.solution.parts), "time": time_name(drawn),
             "load": load_name(drawn.model), "vehicles": vehicles_of(drawn, step.state), "nodes": nodes_of(drawn),
-            "left": list(verdict.solution.dropped),
+            "left": list(verdict.solution.dropped), "further": [dict(row) for row in day.basis.further],
         }
 
 

@@ -12,7 +12,7 @@ from dataclasses import dataclass, field
 from typing import Any, Callable, Dict, List, Mapping, Optional, Sequence, Tuple
 
 from ..errors import JambulskegError
-from ..places import Measure, Roads
+from ..places import Measure
 from ..program import Program
 from .assets import ASSETS, asset
 from .changes import change_of
@@ -21,7 +21,7 @@ from .exporting import EXPORTS, exported
 from .folder import Basis, Folder, NoSuchDay
 from .guard import Turned
 from .offers import offers
-from .opening import Tables, Upload, basis_of_model, basis_of_tables, example_basis, examples
+from .opening import Upload, Ways, basis_of_model, basis_of_tables, example_basis, examples
 from .pages import beside, drawn_parts, problem_of, told
 from .searching import Searches
 from .states import BadChange
@@ -31,7 +31,9 @@ __all__ = ["Reply", "Service"]
 MOST_OPEN = 6
 """As many days are kept open."""
 FAR = 10**6
-"""The greatest scale, pace and wait that a day of spreadsheets may have."""
+"""The greatest number of a form."""
+UNITS = {"km": 1.0, "m": 0.001}
+"""How many kilometres the units of x and y are."""
 
 
 @dataclass(frozen=True)
@@ -204,7 +206,7 @@ class Service:
         if kind != "tables":
             raise BadChange("a day is made of tables, of a model, or of an example")
         places, vans = upload_of(tree, "places"), upload_of(tree, "vans")
-        return basis_of_tables(Tables(places, vans, roads_of(tree))), [("places.csv", places[1]), ("vans.csv", vans[1])]
+        return basis_of_tables(places, vans, ways_of(tree)), [("places.csv", places[1]), ("vans.csv", vans[1])]
 
 
 def name_of(tree: Mapping[str, Any], basis: Basis) -> str:
@@ -242,14 +244,13 @@ def seconds_of(tree: Mapping[str, Any]) -> float:
     return real_of(tree, "seconds", 10)
 
 
-def roads_of(tree: Mapping[str, Any]) -> Roads:
+def ways_of(tree: Mapping[str, Any]) -> Ways:
     """How the places of a request are joined. Raises `BadChange`."""
-    word = tree.get("measure", Measure.EUCLID.value)
-    if word not in [measure.value for measure in Measure]:
-        raise BadChange(f"'measure' is one of {', '.join(measure.value for measure in Measure)}")
-    wait = real_of(tree, "wait", 480)
-    return Roads(
-        Measure(word), scale=real_of(tree, "scale", 1), pace=real_of(tree, "pace", 1), slack_max=int(wait)
+    word, unit = tree.get("measure", Measure.EUCLID.value), tree.get("unit", "km")
+    if word not in (Measure.EUCLID.value, Measure.MANHATTAN.value) or unit not in UNITS:
+        raise BadChange("the distances are none that the desk knows")
+    return Ways(
+        Measure(word), UNITS[unit], real_of(tree, "speed", 40), real_of(tree, "cost", 1), int(real_of(tree, "wait", 480))
     )
 
 

@@ -71,8 +71,10 @@ async function asked() {
   if (kind === "tables") {
     tree.places = await file("file-places", "places");
     tree.vans = await file("file-vans", "vans");
-    tree.measure = byId("measure").value;
-    for (const name of ["pace", "scale", "wait"]) { tree[name] = Number(byId(name).value); }
+    for (const name of ["measure", "unit"]) { tree[name] = byId(name).value; }
+    for (const [name, id] of [["speed", "speed"], ["cost", "cost-km"], ["wait", "wait"]]) {
+      tree[name] = Number(byId(id).value);
+    }
   }
   return tree;
 }

@@ -17,6 +17,7 @@ function shownOf(node) {
   if (desk.day.load !== null) { rows.push([desk.day.load, String(demand)]); }
   rows.push(["left out for", kind === "choice" ? "it is one of a choice" : penalty === null ? "never: it must be made" : String(penalty)]);
   if (partner !== null) { rows.push(["goes with", name(partner)]); }
+  for (const [key, value] of Object.entries(desk.day.further[node] || {})) { if (value) { rows.push([key, value]); } }
   return make("dl", {}, rows.flatMap(([key, value]) => [make("dt", {}, key), make("dd", {}, value)]));
 }
 
