@@ -53,9 +53,9 @@ class DayTests(unittest.TestCase):
 
     def again(self, identity: str) -> OpenDay:
         """A day as it is on the disk."""
-        basis, journal = self.folder.opened(identity)
-        self.addCleanup(journal.close)
-        return OpenDay(identity, basis, journal, PROGRAM)
+        day = OpenDay(identity, *self.folder.opened(identity), PROGRAM)
+        self.addCleanup(day.close)
+        return day
 
     def three_vans(self) -> OpenDay:
         """The day of the two spreadsheets."""
@@ -348,7 +348,8 @@ class OfferTests(unittest.TestCase):
         lists = tupled(solve(model).lists())
         state = State(lists)
         within = Within(asker.model, names)
-        cost = asker.judged(lists).solution.cost
+        state = Move((9,), None).applied(state, within)
+        cost = asker.judged(state.lists).solution.cost
         for node in (3, 9, 16):
             for offer in offers(asker, state, node, within):
                 if offer["extra"] is None:

@@ -7,13 +7,19 @@ that it changes alone. Then the program checks the whole day. A later program ma
 from __future__ import annotations
 
 import json
+import os
+import subprocess
+import tempfile
+import threading
+import weakref
 from collections import OrderedDict
 from dataclasses import dataclass, replace
 from typing import Dict, List, Optional, Sequence, Tuple
 
 from ..complete import route_of, solution_of_routes
+from ..errors import ProgramFailed
 from ..kinds import Matrix
-from ..program import Program
+from ..program import Program, answer, tree_of
 from ..records import Group, Model
 from ..rescue import missing, required_visits
 from ..solution import Route, Solution
@@ -86,18 +92,62 @@ class Texts:
         return json.dumps(tree, separators=(",", ":"))[:-1] + f',"matrices":{self._known[1]}}}'
 
 
+class Held:
+    """A model in a file without a name, which the program reads together with the solution that is checked; so what
+    never changes is handed over once."""
+
+    def __init__(self, text: str) -> None:
+        self._file, path = tempfile.mkstemp()
+        os.unlink(path)
+        weakref.finalize(self, os.close, self._file)
+        self._length = self._written(f'{{"model":{text},"solution":', 0)
+        self._lock = threading.Lock()
+
+    def _written(self, text: str, place: int) -> int:
+        """Writes from a place on, where the file then ends; that end."""
+        data = memoryview(text.encode("utf-8", "surrogatepass"))
+        os.ftruncate(self._file, place)
+        while data:
+            count = os.pwrite(self._file, data, place)
+            data, place = data[count:], place + count
+        return place
+
+    def check(self, program: Program, solution: Solution) -> None:
+        """Asks whether a solution meets the model. Raises `NotMet`, and as `Program.run` does."""
+        with self._lock:
+            self._written(f"{solution.text()}}}", self._length)
+            os.lseek(self._file, 0, os.SEEK_SET)
+            tree_of(run_on(program, ["check"], self._file))
+
+
+def run_on(program: Program, words: Sequence[str], file: int) -> str:
+    """What the program writes when it reads a file, as `Program.run` has it."""
+    try:
+        ran = subprocess.run(
+            [program.path, *words], stdin=file, stdout=subprocess.PIPE, stderr=subprocess.PIPE, check=False
+        )
+    except OSError as problem:
+        raise ProgramFailed(f"the program {program.path} could not be started: {problem.strerror}") from problem
+    return answer(ran.returncode, ran.stdout, ran.stderr)
+
+
 class Asker:
-    """Asks the program about days of one model."""
+    """Asks the program about days of one model, for one thread at a time."""
 
     def __init__(self, model: Model, program: Program, texts: Optional[Texts] = None) -> None:
         self.model, self.program = model, program
         self._texts = texts or Texts()
+        self._lock = threading.Lock()
         self._routes: "OrderedDict[Tuple[int, Tuple[int, ...]], Route]" = OrderedDict()
-        self._heads: Dict[bool, bytes] = {}
+        self._held: Dict[bool, Held] = {}
 
     def of_model(self, model: Model) -> "Asker":
         """An asker about another model, mostly of the same matrices."""
         return self if model is self.model else Asker(model, self.program, self._texts)
+
+    def apart(self) -> "Asker":
+        """An asker about the same model for another thread."""
+        return Asker(self.model, self.program, self._texts)
 
     def judged(self, lists: Lists) -> Verdict:
         """What the program finds of these lists, with the schedules that it would choose.
@@ -122,7 +172,7 @@ class Asker:
 
     def check(self, solution: Solution, is_lenient: bool) -> None:
         """Asks whether a solution meets the model, or the lenient one. Raises `NotMet`, and as `Program.run` does."""
-        if is_lenient not in self._heads:
-            text = self._texts.of(lenient(self.model) if is_lenient else self.model)
-            self._heads[is_lenient] = f'{{"model":{text},"solution":'.encode("utf-8", "surrogatepass")
-        self.program.ask(["check"], self._heads[is_lenient] + f"{solution.text()}}}".encode("utf-8", "surrogatepass"))
+        with self._lock:
+            if is_lenient not in self._held:
+                self._held[is_lenient] = Held(self._texts.of(lenient(self.model) if is_lenient else self.model))
+        self._held[is_lenient].check(self.program, solution)

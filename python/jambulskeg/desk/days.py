@@ -8,7 +8,7 @@ from __future__ import annotations
 
 import threading
 from collections import OrderedDict
-from dataclasses import dataclass, replace
+from dataclasses import dataclass
 from typing import Any, Dict, List, Mapping, Optional
 
 from ..complete import CannotBeDriven
@@ -17,7 +17,7 @@ from ..program import Program
 from ..records import Model
 from ..solution import Parts
 from ..view.day import Day, time_dimension
-from .asking import Asker, Verdict, merged
+from .asking import Asker, Verdict
 from .changes import Change, Within
 from .folder import Basis
 from .journal import Journal
@@ -76,7 +76,7 @@ class OpenDay:
 
     def __init__(self, identity: str, basis: Basis, journal: Journal, program: Program) -> None:
         self.identity, self.journal = identity, journal
-        self.basis = replace(basis, model=merged(basis.model))
+        self.basis = basis
         self.lock = threading.RLock()
         self.name = identity
         empty: Lists = tuple(() for _ in self.basis.model.vehicles)
@@ -249,6 +249,11 @@ class OpenDay:
         self.journal.append({"do": "at", "number": number})
         self.go(number)
         return Answer(True, number, capital(sentence), before=before)
+
+    def close(self) -> None:
+        """Closes the journal."""
+        with self.lock:
+            self.journal.close()
 
     def rename(self, name: str) -> None:
         """Gives the day another name. Raises `BadChange` where it is none."""

@@ -133,10 +133,13 @@ class Folder:
     def opened(self, identity: str) -> Tuple[Basis, Journal]:
         """A day that was kept. Raises `NoSuchDay`, `JournalFaulty`, `OSError`, and as `read_model` does."""
         path = self.path_of(identity)
-        journal = Journal.opened(os.path.join(path, JOURNAL))
         with open(os.path.join(path, DAY), encoding="utf-8") as file:
             tree = json.load(file)
-        return Basis.of(read_model(os.path.join(path, MODEL)), tree), journal
+        return Basis.of(read_model(os.path.join(path, MODEL)), tree), self.journal(identity)
+
+    def journal(self, identity: str) -> Journal:
+        """The journal of a day. Raises as `opened` does."""
+        return Journal.opened(os.path.join(self.path_of(identity), JOURNAL))
 
     def told(self, identity: str) -> Dict[str, Any]:
         """A day as the list of days shows it, read from its journal alone."""

@@ -6,7 +6,7 @@ These are reckoned here and told as offers. Who takes one moves the visit, and t
 from __future__ import annotations
 
 from dataclasses import dataclass
-from typing import Any, Dict, List, Optional
+from typing import Any, Dict, List, Optional, Set
 
 from ..complete import CannotBeDriven
 from ..costs import arcs_of, soft_of, span_of
@@ -19,7 +19,7 @@ from .words import sentence_of
 
 __all__ = ["offers"]
 
-MOST_PLACES = 25
+MOST_PLACES = 12
 """As many places of a route are tried, those with the cheapest arcs first."""
 
 
@@ -68,10 +68,21 @@ class Offers:
         return Move((self.node,), vehicle, before).applied(self.state, self.within).lists
 
     def extra(self, vehicle: int, before: Optional[int]) -> int:
-        """What the routes that change cost more. Raises `BadChange`, `CannotBeDriven`."""
+        """What the day costs more, but for global spans. Raises `BadChange`, `CannotBeDriven`."""
         lists = self.moved(vehicle, before)
-        changed = [number for number, (now, was) in enumerate(zip(lists, self.state.lists)) if now != was]
-        return sum(self.cost(number, lists) - self.cost(number, self.state.lists) for number in changed)
+        was = self.state.lists
+        changed = [number for number, visits in enumerate(lists) if visits != was[number]]
+        moved = {node for number in changed for node in set(lists[number]) ^ set(was[number])}
+        routes = sum(self.cost(number, lists) - self.cost(number, was) for number in changed)
+        return routes + self.penalties(lists, moved) - self.penalties(was, moved)
+
+    def penalties(self, lists: Lists, nodes: Set[int]) -> int:
+        """What the groups of some visits cost."""
+        made = {node for visits in lists for node in visits}
+        return sum(
+            group.penalty * (group.max - len(made.intersection(group.nodes))) for group in self.asker.model.groups
+            if group.penalty is not None and not nodes.isdisjoint(group.nodes)
+        )
 
     def cost(self, vehicle: int, lists: Lists) -> int:
         """What a route costs by itself."""

@@ -15,6 +15,7 @@ from ..places import Measure, Roads, model_of_day, read_day
 from ..program import REPOSITORY, Program
 from ..records import Improve, Model, ScheduleRule, Search
 from ..view.day import Names
+from .asking import merged
 from .folder import Basis
 from .states import BadChange
 
@@ -49,7 +50,7 @@ class Ways:
 def basis_of_tables(places: Upload, vans: Upload, ways: Ways) -> Basis:
     """The day of two spreadsheets. Raises `BadTable` with the file, the line and the column, and `Refused`."""
     tables = read_day(places, vans)
-    model = model_of_day(tables, ways.roads(tables.degrees), Search(improve=Improve.GUIDED_LOCAL_SEARCH))
+    model = merged(model_of_day(tables, ways.roads(tables.degrees), Search(improve=Improve.GUIDED_LOCAL_SEARCH)))
     has_clock = any(CLOCK.search(data) for _, data in (places, vans))
     names = Names([place.name for place in tables.places], [van.name for van in tables.vans], 0 if has_clock else None)
     return Basis(
@@ -76,7 +77,7 @@ def basis_of_model(upload: Upload, program: Program) -> Basis:
         tree: Any = json.loads(data.decode("utf-8"))
     except (ValueError, RecursionError) as fault:
         raise NotJson(f"{name} is no JSON text in UTF-8: {fault}") from None
-    model = Model.of(tree)
+    model = merged(Model.of(tree))
     accepted(model, program)
     return Basis(model, Names(), (), False, doubted(model), name)
 

@@ -105,7 +105,7 @@ class Search(threading.Thread):
         self._turn, self._began = turn, time.monotonic()
         self._state = day.step.state
         self._at = day.at
-        self._asker = day.asker(self._state.edits)
+        self._asker = day.asker(self._state.edits).apart()
         self._part: Part = part_of(self._asker.model, self._state)
         self._best: Optional[Tuple[Lists, Verdict]] = None
 
@@ -183,7 +183,7 @@ class Search(threading.Thread):
 
     def try_round(self, asked: Model) -> None:
         """Runs a round, and keeps what it finds where that is better."""
-        text = run_until(self.day.asker(self._state.edits).program, ["solve"], asked.text(), self.left(), self.stopped)
+        text = run_until(self._asker.program, ["solve"], asked.text(), self.left(), self.stopped)
         found = Solution.of(tree_of(text.split("\n", 1)[0]))
         self.rounds += 1
         lists = self._part.lists(found.lists(), self._state)

@@ -70,7 +70,7 @@ class Service:
         """Ends searches, and leaves the folder."""
         self.searches.stop_all()
         for day in self.days.values():
-            day.journal.close()
+            day.close()
         self.folder.close()
 
     def get(self, parts: Sequence[str]) -> Reply:
@@ -130,8 +130,7 @@ class Service:
         """A day, opened where it was not. Raises `NoSuchDay`, and as `Folder.opened` does."""
         with self.lock:
             if identity not in self.days:
-                basis, journal = self.folder.opened(identity)
-                self.days[identity] = OpenDay(identity, basis, journal, self.program)
+                self.days[identity] = OpenDay(identity, *self.folder.opened(identity), self.program)
                 self.make_room()
             self.days.move_to_end(identity)
             return self.days[identity]
@@ -140,7 +139,7 @@ class Service:
         """Closes days that were not asked for of late."""
         for identity in list(self.days)[:-MOST_OPEN]:
             if not self.searches.is_busy(identity):
-                self.days.pop(identity).journal.close()
+                self.days.pop(identity).close()
 
     def step(self, day: OpenDay, text: str) -> Optional[int]:
         """A step of a day by its number, or `now`."""
@@ -153,10 +152,10 @@ class Service:
     def why(self, day: OpenDay, text: str) -> Reply:
         """Where a visit could go, and why it fits nowhere else."""
         with day.lock:
-            state, within = day.step.state, day.within
-            if not text.isdecimal() or len(text) > 4 or int(text) not in within.model.visits():
-                raise Turned(404, "the day has no such visit")
-            return Reply.of({"offers": offers(day.asker(state.edits), state, int(text), within)})
+            state, within, asker = day.step.state, day.within, day.asker(day.step.state.edits).apart()
+        if not text.isdecimal() or len(text) > 4 or int(text) not in within.model.visits():
+            raise Turned(404, "the day has no such visit")
+        return Reply.of({"offers": offers(asker, state, int(text), within)})
 
     def search_tree(self, day: OpenDay) -> Any:
         """How the latest search of a day goes."""
@@ -166,8 +165,7 @@ class Service:
     def posted(self, parts: List[str], tree: Mapping[str, Any]) -> Reply:
         """The answer to a change behind `api`."""
         if parts == ["days"]:
-            basis, keep = self.basis_of(tree)
-            return Reply.of({"id": self.folder.created(basis, name_of(tree, basis), keep)})
+            return Reply.of({"id": self.made(tree)})
         if parts[:1] != ["day"] or len(parts) != 3:
             raise Turned(404, "there is nothing here")
         day, word = self.day(parts[1]), parts[2]
@@ -182,6 +180,15 @@ class Service:
             day.rename(text_of(tree, "name"))
             return Reply.of({"name": day.name})
         return self.changed(day, word, tree)
+
+    def made(self, tree: Mapping[str, Any]) -> str:
+        """Makes a day, which is open at once; the word that it is found by."""
+        basis, keep = self.basis_of(tree)
+        with self.lock:
+            identity = self.folder.created(basis, name_of(tree, basis), keep)
+            self.days[identity] = OpenDay(identity, basis, self.folder.journal(identity), self.program)
+            self.make_room()
+        return identity
 
     def changed(self, day: OpenDay, word: str, tree: Mapping[str, Any]) -> Reply:
         """The answer to a change of a day, and the day after it."""

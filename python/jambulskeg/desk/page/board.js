@@ -11,6 +11,11 @@ export function rows() {
   return [...found, {vehicle: null, visits: desk.day.left}];
 }
 
+/** Visits in the order of their rows. */
+export function ordered(nodes) {
+  return rows().flatMap((row) => row.visits).filter((node) => nodes.includes(node));
+}
+
 export function chipOf(node) {
   return board.querySelector('.chip[data-node="' + node + '"]');
 }
@@ -47,7 +52,8 @@ function chips(vehicle, visits) {
 }
 
 function pressed(label, words, isPressed, listener, disabled) {
-  return make("button", {type: "button", "aria-pressed": isPressed, "aria-label": label, disabled, onclick: listener}, words);
+  const attributes = {type: "button", "aria-pressed": isPressed, "aria-label": label, disabled, onclick: listener};
+  return make("button", attributes, words);
 }
 
 function about(van, vehicle) {
@@ -56,7 +62,8 @@ function about(van, vehicle) {
   return make("div", {class: "about"},
     make("b", {class: "route-name"}, make("i", {class: key, "aria-hidden": "true"}), van.name),
     times, van.load ? make("span", {}, "; load " + van.load) : null, make("br"),
-    pressed("Pin " + van.name, "Pin", van.pinned, () => change({kind: "pin", vehicle, pinned: !van.pinned}), desk.searching),
+    pressed("Pin " + van.name, "Pin", van.pinned, () => change({kind: "pin", vehicle, pinned: !van.pinned}),
+      desk.searching),
     pressed("Switch " + van.name + " off", "Off", van.off, () => change({kind: "switch", vehicle, on: van.off}),
       desk.searching));
 }

@@ -38,7 +38,8 @@ function again(words, vehicle) {
 }
 
 function filter() {
-  const words = byId("search").value.toLowerCase().split(/\s+/).filter(Boolean), rows = Array.from(byId("visits").tBodies[0].rows);
+  const words = byId("search").value.toLowerCase().split(/\s+/).filter(Boolean);
+  const rows = Array.from(byId("visits").tBodies[0].rows);
   let shown = 0;
   for (const row of rows) {
     const text = row.textContent.toLowerCase(), fits = words.every((word) => text.includes(word));

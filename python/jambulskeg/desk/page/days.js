@@ -2,7 +2,6 @@
 
 import {get, post} from "./ask.js";
 import {byId, make, piece, table} from "./make.js";
-import {stepsOf} from "./search.js";
 import {ask, desk, on, open, tell} from "./store.js";
 
 const EXPORTS = [["csv", "stops as CSV"], ["json", "model and solution for the program (JSON)"]];
@@ -10,7 +9,7 @@ let known = {days: [], examples: []};
 
 export async function list() {
   known = await get("days");
-  const options = known.days.map((day) => make("option", {value: day.id}, day.name + (day.cost === null ? "" : ": cost " + day.cost)));
+  const options = known.days.map((day) => make("option", {value: day.id}, dayWords(day)));
   const first = make("option", {value: ""}, known.days.length ? "choose" : "none yet");
   byId("days").replaceChildren(first, ...options);
   if (desk.day) { byId("days").value = desk.day.id; }
@@ -38,8 +37,16 @@ function opened() {
   list();
 }
 
+function stepLine(step, at) {
+  const cost = step.number ? ", cost " + step.cost + (step.fine ? "" : ", unfinished") : "";
+  const press = () => ask("goto", () => ({number: step.number}));
+  const button = make("button", {type: "button", "aria-label": "Go to: " + step.words, onclick: press}, "Go to");
+  return make("li", {}, step.words + cost + " ", at ? button : "(now)");
+}
+
 function steps() {
-  byId("steps").replaceChildren(stepsOf(desk.day.steps, (number) => ask("goto", () => ({number}))));
+  const found = desk.day.steps;
+  byId("steps").replaceChildren(make("ol", {class: "steps", reversed: true, start: found.length}, found.map(stepLine)));
 }
 
 function fileTree(file) {
@@ -79,18 +86,18 @@ async function asked() {
   return tree;
 }
 
-/** The lines of a table around a faulty one, with the faulty cell marked. */
-async function faultyLines(tree, asks) {
-  const place = asks.places, vans = asks.vans;
-  const file = [place, vans].find((entry) => entry && tree.file && tree.file.endsWith(entry.name)) || (tree.column !== undefined ? null : null);
-  if (!file || !tree.line) { return null; }
-  const text = new TextDecoder().decode(Uint8Array.from(atob(file.data), (letter) => letter.charCodeAt(0)));
-  const lines = text.split(/\r\n|\n|\r/), comma = [",", ";", "\t"].sort((a, b) => lines[0].split(b).length - lines[0].split(a).length)[0];
-  const heads = lines[0].split(comma), from = Math.max(1, tree.line - 3);
-  const rows = lines.slice(from, tree.line + 2).map((line, at) => [String(from + at + 1), ...line.split(comma)]);
-  const shown = table(file.name, ["line", ...heads], rows);
-  const row = shown.tBodies[0].rows[tree.line - 1 - from], column = heads.indexOf(tree.column);
-  if (row) { (column >= 0 ? row.cells[column + 1] || row : row).classList.add("faulty"); }
+/** The lines of a table around a faulty one, with the faulty cell marked; null where no line was told. */
+function faultyLines(fault, asks) {
+  const file = [asks.places, asks.vans].find((entry) => entry && fault.file === entry.name);
+  if (!file || !fault.line) { return null; }
+  const bytes = Uint8Array.from(atob(file.data), (letter) => letter.charCodeAt(0));
+  const lines = new TextDecoder().decode(bytes).split(/\r\n|\n|\r/);
+  const comma = [",", ";", "\t"].sort((a, b) => lines[0].split(b).length - lines[0].split(a).length)[0];
+  const heads = lines[0].split(comma), from = Math.max(1, fault.line - 3);
+  const rows = lines.slice(from, fault.line + 2).map((line, at) => [String(from + at + 1), ...line.split(comma)]);
+  const shown = table(file.name, ["line", ...heads], rows), row = shown.tBodies[0].rows[fault.line - 1 - from];
+  const column = heads.findIndex((head) => head.trim().toLowerCase() === fault.column);
+  if (row) { (row.cells[column + 1] && column >= 0 ? row.cells[column + 1] : row).classList.add("faulty"); }
   return make("div", {class: "scroll", tabindex: 0, role: "region", "aria-label": "The faulty line"}, shown);
 }
 
@@ -106,7 +113,7 @@ async function made(event) {
     await open(found.id);
   } catch (problem) {
     box.replaceChildren(make("strong", {}, "The day was not made. "), problem.message);
-    const lines = problem.tree ? await faultyLines(problem.tree, asks) : null;
+    const lines = problem.tree ? faultyLines(problem.tree, asks) : null;
     if (lines) { box.append(lines); }
     box.hidden = false;
   }
@@ -126,12 +133,16 @@ async function named(event) {
   }
 }
 
+function dayWords(day) {
+  return day.name + (day.cost === null ? "" : ": cost " + day.cost);
+}
+
 async function comparing() {
   await list();
   const others = known.days.filter((day) => day.id !== desk.day.id)
-    .map((day) => make("option", {value: day.id + "/now"}, day.name + (day.cost === null ? "" : ": cost " + day.cost)));
-  const steps = desk.day.steps.slice(1)
-    .map((step) => make("option", {value: desk.day.id + "/" + step.number}, "as it was: " + step.words + ", cost " + step.cost));
+    .map((day) => make("option", {value: day.id + "/now"}, dayWords(day)));
+  const steps = desk.day.steps.slice(1).map((step) =>
+    make("option", {value: desk.day.id + "/" + step.number}, "as it was: " + step.words + ", cost " + step.cost));
   byId("other").replaceChildren(...steps, ...others);
   byId("dialog-compare").showModal();
 }
@@ -140,13 +151,14 @@ async function compared(event) {
   event.preventDefault();
   byId("dialog-compare").close();
   if (!byId("other").value) { return; }
-  const found = await get("beside/" + byId("other").value + "/" + desk.day.id + "/now").catch((problem) => problem);
-  if (found.html === undefined) {
-    desk.refusal = {sentence: found.message, made: false};
+  try {
+    const found = await get("beside/" + byId("other").value + "/" + desk.day.id + "/now");
+    piece(byId("beside-body"), found.html);
+  } catch (problem) {
+    desk.refusal = {sentence: problem.message, made: false};
     tell("said");
     return;
   }
-  piece(byId("beside-body"), found.html);
   byId("beside").hidden = false;
   byId("beside").scrollIntoView();
 }
@@ -180,10 +192,17 @@ async function isOfVans(file) {
 
 export function begin() {
   byId("days").addEventListener("change", () => { if (byId("days").value) { open(byId("days").value); } });
-  byId("new").addEventListener("click", () => { byId("new-problem").hidden = true; chosenShown(); byId("dialog-new").showModal(); });
+  byId("new").addEventListener("click", () => {
+    byId("new-problem").hidden = true;
+    chosenShown();
+    byId("dialog-new").showModal();
+  });
   byId("form-new").addEventListener("submit", made);
   byId("form-new").addEventListener("change", chosenShown);
-  byId("rename").addEventListener("click", () => { byId("name").value = desk.day.name; byId("dialog-name").showModal(); });
+  byId("rename").addEventListener("click", () => {
+    byId("name").value = desk.day.name;
+    byId("dialog-name").showModal();
+  });
   byId("form-name").addEventListener("submit", named);
   byId("compare").addEventListener("click", comparing);
   byId("form-compare").addEventListener("submit", compared);
@@ -191,8 +210,13 @@ export function begin() {
   for (const word of ["new", "name", "compare"]) {
     byId(word + "-cancel").addEventListener("click", () => byId("dialog-" + word).close());
   }
-  document.addEventListener("dragover", (event) => { event.preventDefault(); document.body.classList.add("dropping"); });
-  document.addEventListener("dragleave", (event) => { if (!event.relatedTarget) { document.body.classList.remove("dropping"); } });
+  document.addEventListener("dragover", (event) => {
+    event.preventDefault();
+    document.body.classList.add("dropping");
+  });
+  document.addEventListener("dragleave", (event) => {
+    if (!event.relatedTarget) { document.body.classList.remove("dropping"); }
+  });
   document.addEventListener("drop", dropped);
   on("opened", opened);
   on("day", steps);

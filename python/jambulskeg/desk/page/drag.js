@@ -1,6 +1,6 @@
 /* Visits are dragged by a pointer: mouse, pen or finger. */
 
-import {board, chipOf, listOf, pick, put, rows} from "./board.js";
+import {board, chipOf, listOf, ordered, pick, put} from "./board.js";
 import {make} from "./make.js";
 import {desk, name} from "./store.js";
 
@@ -19,14 +19,10 @@ function began(event) {
     ghost: null, place: null, pointer: event.pointerId};
 }
 
-/** Visits in the order of their rows. */
-function ordered(nodes) {
-  return rows().flatMap((row) => row.visits).filter((node) => nodes.includes(node));
-}
-
 function lifted() {
   const first = name(drag.nodes[0]);
-  drag.ghost = make("div", {class: "ghost"}, drag.nodes.length > 1 ? first + " and " + (drag.nodes.length - 1) + " more" : first);
+  const more = drag.nodes.length > 1 ? " and " + (drag.nodes.length - 1) + " more" : "";
+  drag.ghost = make("div", {class: "ghost"}, first + more);
   drag.slot = make("li", {class: "slot", "aria-hidden": "true"});
   document.body.append(drag.ghost);
   board.setPointerCapture(drag.pointer);

@@ -1,9 +1,9 @@
 /* Everything that a pointer does, by the keyboard. */
 
-import {board, chipOf, focusOn, listOf, put, rows, run, vanName} from "./board.js";
+import {board, chipOf, focusOn, listOf, ordered, put, rows, run, vanName} from "./board.js";
 import {isDown} from "./drag.js";
 import {byId, make} from "./make.js";
-import {ask, change, choose, desk, name, on} from "./store.js";
+import {ask, choose, desk, name, on} from "./store.js";
 
 const STEPS = {ArrowLeft: -1, ArrowRight: 1, ArrowUp: -1, ArrowDown: 1};
 let carried = null;
@@ -27,7 +27,8 @@ function placeOf(node) {
 function walk(node, key) {
   const found = rows();
   let {row, at} = placeOf(node);
-  if (key === "Home" || key === "End") { return found[row].visits[key === "Home" ? 0 : found[row].visits.length - 1]; }
+  if (key === "Home") { return found[row].visits[0]; }
+  if (key === "End") { return found[row].visits[found[row].visits.length - 1]; }
   if (key === "ArrowLeft" || key === "ArrowRight") { return found[row].visits[at + STEPS[key]]; }
   do { row += STEPS[key]; } while (found[row] && !found[row].visits.length);
   return found[row] ? found[row].visits[Math.min(at, found[row].visits.length - 1)] : undefined;
@@ -54,11 +55,12 @@ function directed(from, to) {
 }
 
 function lift(node) {
-  const nodes = desk.chosen.includes(node) ? rows().flatMap((row) => row.visits).filter((n) => desk.chosen.includes(n)) : [node];
+  const nodes = desk.chosen.includes(node) ? ordered(desk.chosen) : [node];
   choose(nodes);
   const {row, at} = placeOf(node);
   const others = free(row, nodes);
-  carried = {nodes, node, row, at: Math.min(at, others.length), slot: make("li", {class: "slot", "aria-hidden": "true"})};
+  const slot = make("li", {class: "slot", "aria-hidden": "true"});
+  carried = {nodes, node, row, at: Math.min(at, others.length), slot};
   show();
   said(words(nodes) + " taken up. Arrows choose a place, Enter puts down, Escape lets it be.");
 }
@@ -89,7 +91,8 @@ function shifted(key) {
     carried.at = Math.min(carried.at, free(carried.row, carried.nodes).length);
   } else {
     const most = free(carried.row, carried.nodes).length;
-    carried.at = key === "Home" ? 0 : key === "End" ? most : Math.min(most, Math.max(0, carried.at + STEPS[key]));
+    const next = Math.min(most, Math.max(0, carried.at + (STEPS[key] || 0)));
+    carried.at = key === "Home" ? 0 : key === "End" ? most : next;
   }
   show();
   said(placeWords());
@@ -114,25 +117,50 @@ function letBe() {
   carried = null;
 }
 
+function isWay(key) {
+  return key in STEPS || key === "Home" || key === "End";
+}
+
+/** What a key does while visits are carried; whether it did anything. */
+function carriedKey(key) {
+  if (isWay(key)) {
+    shifted(key);
+  } else if (key === "Enter" || key === " ") {
+    dropped();
+  } else if (key === "Escape") {
+    letBe();
+    said("Let be.");
+  } else {
+    if (key === "Tab") { letBe(); }
+    return false;
+  }
+  return true;
+}
+
+/** What a key does at a visit; whether it did anything. */
+function restingKey(node, event) {
+  if (isWay(event.key)) {
+    went(node, event);
+  } else if (event.key === "Enter" || event.key === " ") {
+    lift(node);
+  } else if (event.key === "Delete") {
+    put(desk.chosen.includes(node) ? desk.chosen : [node], null, null);
+  } else {
+    return false;
+  }
+  return true;
+}
+
 function pressed(event) {
   const node = focused();
   if (node === null || desk.searching || event.ctrlKey || event.metaKey || event.altKey) { return; }
-  const isWay = event.key in STEPS || event.key === "Home" || event.key === "End";
-  if (carried) {
-    if (isWay) { shifted(event.key); } else if (event.key === "Enter" || event.key === " ") { dropped(); } else if (event.key === "Escape") {
-      letBe();
-      said("Let be.");
-    } else if (event.key === "Tab") { letBe(); return; } else { return; }
-  } else if (isWay) { went(node, event); } else if (event.key === "Enter" || event.key === " ") { lift(node); } else if (event.key === "Delete") {
-    change({kind: "move", nodes: desk.chosen.includes(node) ? desk.chosen : [node], vehicle: null});
-  } else { return; }
-  event.preventDefault();
+  if (carried ? carriedKey(event.key) : restingKey(node, event)) { event.preventDefault(); }
 }
 
 function undoing(event) {
-  if (!(event.ctrlKey || event.metaKey) || !desk.day || desk.searching || event.target.closest("input, dialog")) { return; }
-  const key = event.key.toLowerCase();
-  if (key === "z" && !event.shiftKey) { ask("undo", () => ({})); } else if (key === "y" || key === "z") { ask("redo", () => ({})); } else { return; }
+  const key = event.key.toLowerCase(), isAsked = (event.ctrlKey || event.metaKey) && (key === "z" || key === "y");
+  if (!isAsked || !desk.day || desk.searching || event.target.closest("input, dialog")) { return; }
+  ask(key === "z" && !event.shiftKey ? "undo" : "redo", () => ({}));
   event.preventDefault();
 }
 

@@ -40,9 +40,14 @@ export function piece(place, html) {
   place.replaceChildren(template.content);
 }
 
+function tableCell(cell, at) {
+  if (at === 0) { return make("th", {scope: "row"}, cell); }
+  return cell instanceof Node ? cell : make("td", {class: "number"}, cell);
+}
+
+/** A table of texts; the first cell of each row names it. A cell may be an element of its own. */
 export function table(caption, heads, rows) {
   return make("table", {}, make("caption", {}, caption),
     make("thead", {}, make("tr", {}, heads.map((head) => make("th", {scope: "col"}, head)))),
-    make("tbody", {}, rows.map((cells) => make("tr", {}, cells.map((cell, at) =>
-      at === 0 ? make("th", {scope: "row"}, cell) : cell instanceof Node ? cell : make("td", {class: "number"}, cell))))));
+    make("tbody", {}, rows.map((cells) => make("tr", {}, cells.map(tableCell)))));
 }

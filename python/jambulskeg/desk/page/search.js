@@ -22,26 +22,29 @@ function buttons() {
 
 function words(found) {
   const last = found.points[found.points.length - 1];
-  const best = last ? " The best costs " + last[1] + (last[2] ? " and leaves " + last[2] + " visits that must be made." : ".") : "";
+  const missing = last && last[2] ? " and leaves " + last[2] + " visits that must be made" : "";
+  const best = last ? " The best costs " + last[1] + missing + "." : "";
   return found.sentence + " " + found.spent + " of " + found.asked + " seconds, " + found.rounds + " rounds." + best;
+}
+
+function label(x, y, words, anchor) {
+  return drawn("text", {x, y, "text-anchor": anchor, class: "number"}, words);
 }
 
 /** The cost over time as a line of steps; the table says the same. */
 function curve(found) {
-  const points = found.points.filter((point) => point[2] === found.points[found.points.length - 1][2]);
-  const costs = points.map((point) => point[1]), low = Math.min(...costs), high = Math.max(...costs, low + 1);
+  const last = found.points[found.points.length - 1];
+  const points = found.points.filter((point) => point[2] === last[2]), costs = points.map((point) => point[1]);
+  const low = Math.min(...costs), high = Math.max(...costs, low + 1), now = Math.max(found.spent, last[0]);
   const x = (seconds) => EDGE + (WIDTH - EDGE - 10) * Math.min(1, seconds / found.asked);
   const y = (cost) => 12 + (HEIGHT - 36) * (high - cost) / (high - low);
-  let way = "M" + x(points[0][0]) + " " + y(costs[0]);
-  for (const [seconds, cost] of points.slice(1)) { way += "H" + x(seconds) + "V" + y(cost); }
-  const now = Math.max(found.spent, points[points.length - 1][0]);
-  const label = (at, words, anchor, value) => drawn("text", {x: at, y: value, "text-anchor": anchor, class: "number"}, words);
-  return drawn("svg", {viewBox: "0 0 " + WIDTH + " " + HEIGHT, role: "img", "aria-label": "The best cost over time, from " + costs[0] + " to "
-    + costs[costs.length - 1] + ". The table below says the same."},
-  drawn("path", {class: "curve", d: way + "H" + x(now)}),
-  drawn("circle", {class: "dot-now", cx: x(now), cy: y(costs[costs.length - 1]), r: 4}),
-  label(EDGE - 6, String(high), "end", 16), label(EDGE - 6, String(low), "end", HEIGHT - 20), label(EDGE, "0 s", "start", HEIGHT - 5),
-  label(WIDTH - 10, found.asked + " s", "end", HEIGHT - 5));
+  const steps = points.slice(1).map(([seconds, cost]) => "H" + x(seconds) + "V" + y(cost)).join("");
+  const words = "The best cost over time, from " + costs[0] + " to " + last[1] + ". The table below says the same.";
+  return drawn("svg", {viewBox: "0 0 " + WIDTH + " " + HEIGHT, role: "img", "aria-label": words},
+    drawn("path", {class: "curve", d: "M" + x(points[0][0]) + " " + y(costs[0]) + steps + "H" + x(now)}),
+    drawn("circle", {class: "dot-now", cx: x(now), cy: y(last[1]), r: 4}),
+    label(EDGE - 6, 16, String(high), "end"), label(EDGE - 6, HEIGHT - 20, String(low), "end"),
+    label(EDGE, HEIGHT - 5, "0 s", "start"), label(WIDTH - 10, HEIGHT - 5, found.asked + " s", "end"));
 }
 
 function show(found) {
@@ -49,8 +52,9 @@ function show(found) {
   if (found.status === "none") { return; }
   byId("progress-words").textContent = words(found);
   byId("progress-chart").replaceChildren(...(found.points.length ? [curve(found)] : []));
-  byId("progress-table").replaceChildren(table("The best cost over time", ["seconds", "cost", "must be made and is not"],
-    found.points.map((point) => point.map(String))));
+  const heads = ["seconds", "cost", "must be made and is not"];
+  byId("progress-table").replaceChildren(
+    table("The best cost over time", heads, found.points.map((point) => point.map(String))));
 }
 
 async function look() {
@@ -89,10 +93,4 @@ export function begin() {
   on("day", buttons);
   on("searching", buttons);
   on("opened", () => { desk.searching = false; look(); });
-}
-
-export function stepsOf(steps, go) {
-  return make("ol", {class: "steps", reversed: true, start: steps.length}, steps.map((step, at) => make("li", {},
-    step.words + (step.number ? ", cost " + step.cost + (step.fine ? "" : ", unfinished") : "") + " ",
-    at ? make("button", {type: "button", "aria-label": "Go to: " + step.words, onclick: () => go(step.number)}, "Go to") : "(now)")));
 }
