@@ -169,7 +169,7 @@ def beside(days: Tuple[OpenDay, OpenDay], steps: Tuple[Optional[int], Optional[i
         for title, entry, day in zip(titles, drawn, days)
     )
     is_alike = names_of(drawn[0]) == names_of(drawn[1])
-    table = changes_table(drawn, (one, other)) if is_alike else (
+    table = changes_table(drawn, (one, other)).replace(' id="visits"', "", 1) if is_alike else (
         "<p>The two days have other visits, so only their costs and routes stand beside each other.</p>"
     )
     return {"html": inert(f'{costs_beside(drawn, (one, other))}<div class="beside">{columns}</div>{table}')}

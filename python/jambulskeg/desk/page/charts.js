@@ -5,7 +5,14 @@ import {byId, piece} from "./make.js";
 import {desk, on} from "./store.js";
 
 const PLACES = {charts: "charts", costs: "parts", left: "left", visits: "visits-part", stops: "stops"};
-let asked = -1;
+const PAUSE = 150;
+let asked = -1, timer = null;
+
+/** Draws a little after the last change, so that one change after another is answered first. */
+function later() {
+  window.clearTimeout(timer);
+  timer = window.setTimeout(show, PAUSE);
+}
 
 async function show() {
   if (desk.day.status === "broken") {
@@ -58,5 +65,5 @@ function bringOut() {
 }
 
 export function begin() {
-  on("day", show);
+  on("day", later);
 }

@@ -10,6 +10,8 @@ export function make(name, attributes, ...children) {
   for (const [key, value] of Object.entries(attributes || {})) {
     if (key.startsWith("on")) {
       made.addEventListener(key.slice(2), value);
+    } else if (key.startsWith("aria-")) {
+      made.setAttribute(key, String(value));
     } else if (value === true) {
       made.setAttribute(key, "");
     } else if (value !== false && value !== null && value !== undefined) {

@@ -5,7 +5,7 @@ import {byId, drawn, make, table} from "./make.js";
 import {desk, on, reload, tell} from "./store.js";
 
 const EVERY = 350, WIDTH = 600, HEIGHT = 150, EDGE = 46;
-let timer = null;
+let timer = null, turn = 0;
 
 function isBusy(found) {
   return found.status === "waiting" || found.status === "searching";
@@ -57,11 +57,13 @@ function show(found) {
     table("The best cost over time", heads, found.points.map((point) => point.map(String))));
 }
 
+/** Looks how the search goes; of two looks at a time the later one counts. */
 async function look() {
   window.clearTimeout(timer);
-  const id = desk.day.id;
+  turn += 1;
+  const id = desk.day.id, own = turn;
   const found = await get("day/" + id + "/search").catch(() => null);
-  if (desk.day.id !== id) { return; }
+  if (desk.day.id !== id || own !== turn) { return; }
   const was = desk.searching;
   desk.searching = found !== null && isBusy(found);
   if (found) { show(found); }
