@@ -1,4 +1,4 @@
-"""python -m jambulskeg: pictures of a day, what looks wrong in a model, many searches of it, many models.
+"""python -m jambulskeg: plans from spreadsheets, pictures of a day, what looks wrong in a model, many searches.
 
 Ends with 0 where there is an answer, with 1 and a sentence where there is none, with 2 where the words are unknown.
 """
@@ -6,9 +6,10 @@ Ends with 0 where there is an answer, with 1 and a sentence where there is none,
 from __future__ import annotations
 
 import argparse
+import datetime
 import os
 import sys
-from typing import List, Optional, Sequence, Tuple
+from typing import Iterator, List, Optional, Sequence, Tuple
 
 from .batch import Found, batch, read_folder
 from .complete import shape_faults, shorten
@@ -16,13 +17,20 @@ from .desk.command import add_desk
 from .doubts import doubts
 from .engines import Engine, GnuParallel, OwnProcesses, Slurm
 from .errors import JambulskegError, NotMet
+from .exports import day_of_tables, downloads, geojson, icalendar, plan_csv
+from .formats.command import add_convert
+from .measures import answer_doubts
 from .model import meets, read_model, read_solution
-from .places import Place, read_places, read_vans, whole
+from .outputs import Outputs, write_whole
+from .places import DayTables, read_day, strict_places, whole
+from .plan import add_plan
 from .portfolio import LAMBDAS, Outcome, Portfolio, portfolio
 from .program import find
+from .reasons import why_left_out, why_not_shorter
 from .records import Model
 from .solution import Solution
-from .view import Day, compare_page, day_of, drawing, page
+from .view import Day, compare_page, drawing, page
+from .view.day import time_dimension
 
 __all__ = ["main"]
 
@@ -58,10 +66,14 @@ def failed(sentence: str) -> int:
 def parser() -> argparse.ArgumentParser:
     """The words that are taken."""
     out = argparse.ArgumentParser(prog="python -m jambulskeg", description="Vehicle routing by the program vr_cli.")
-    commands = out.add_subparsers(required=True, metavar="view|doubts|portfolio|batch|desk")
+    commands = out.add_subparsers(required=True, metavar="plan|view|doubts|portfolio|batch|convert|desk")
+    add_plan(commands.add_parser("plan", help="from two spreadsheets to a plan, a page, and a sheet a driver"))
     add_view(commands.add_parser("view", help="a page (or an SVG) of a day, or of two side by side"))
     look = commands.add_parser("doubts", help="what a model may say and looks wrong, a line each")
     look.add_argument("model", metavar="MODEL", help="the model file")
+    look.add_argument("solution", metavar="SOLUTION", nargs="?", help="an answer to it, which is looked at too")
+    look.add_argument("--longest-ride", type=int, metavar="N", help="how long a pair may be on board")
+    look.add_argument("--time", metavar="NAME", help="the dimension in which rides are measured")
     look.set_defaults(run=run_doubts)
     one = commands.add_parser("portfolio", help="many searches of a model, the cheapest checked answer kept")
     one.add_argument("model", metavar="MODEL", help="the model file")
@@ -75,6 +87,7 @@ def parser() -> argparse.ArgumentParser:
     many.set_defaults(run=run_batch)
     for command in (one, many):
         add_search(command)
+    add_convert(commands.add_parser("convert", help="a file of Solomon, Li and Lim, VRPLIB or VROOM as a model"))
     add_desk(commands.add_parser("desk", help="a folder of days in a browser: planned, seen, and changed by hand"))
     return out
 
@@ -87,7 +100,7 @@ def add_view(command: argparse.ArgumentParser) -> None:
     command.add_argument(
         "--shorter", action="store_true", help="beside it the same routes, as short as can be where that is no dearer"
     )
-    command.add_argument("-o", "--output", metavar="FILE", required=True, help="the page that is written")
+    command.add_argument("-o", "--output", metavar="FILE", help="the page that is written")
     command.add_argument("--svg", action="store_true", help="an SVG in place of a page")
     command.add_argument("--places", metavar="CSV", help="a place for each node: columns name, x, y and more")
     command.add_argument("--degrees", action="store_true", help="x is the longitude and y the latitude, in degrees")
@@ -96,6 +109,10 @@ def add_view(command: argparse.ArgumentParser) -> None:
     command.add_argument(
         "--clock", metavar="H:MM", type=whole, help="times are minutes from this time of day; 0:00 for midnight"
     )
+    command.add_argument("--csv", metavar="FILE", help="a table with a row for each stop")
+    command.add_argument("--geojson", metavar="FILE", help="with --places: the day as a map")
+    command.add_argument("--ics", metavar="FILE", help="with --clock: the day as a calendar")
+    command.add_argument("--date", type=datetime.date.fromisoformat, metavar="YYYY-MM-DD", help="the day: today")
     command.add_argument("--title", help="the title of the page")
     command.add_argument("--unchecked", action="store_true", help="do not ask whether the solution meets the model")
     command.set_defaults(run=run_view)
@@ -133,25 +150,57 @@ def weight(text: str) -> Tuple[int, int]:
 
 
 def run_view(asked: argparse.Namespace) -> int:
-    """Writes a page or an SVG."""
+    """Writes a page or an SVG, and the day for other programs."""
     if (asked.solution is None) == (asked.compare is None) or (asked.compare and asked.shorter):
         return failed("view takes a SOLUTION, perhaps with --shorter, or --compare A B")
+    exports = [path for path in (asked.csv, asked.geojson, asked.ics) if path]
+    if exports and asked.compare:
+        return failed("--csv, --geojson and --ics take one SOLUTION, without --compare")
+    paths = [path for path in (asked.output, *exports) if path]
+    if not paths:
+        return failed("view writes a file: say -o, --csv, --geojson or --ics")
     model = read_model(asked.model)
     files: List[str] = asked.compare or [asked.solution]
     solutions = [read_solution(file) for file in files]
     if not asked.unchecked:
         for file, solution in zip(files, solutions):
             check_file(model, file, solution)
+    note = ""
     if asked.shorter:
         solutions.append(shorten(model, solutions[0], checked=not asked.unchecked))
-    days = days_of(asked, model, solutions)
-    titles = titles_of(asked, files)
-    found = "The proved check was not asked." if asked.unchecked else (
+        note = why_not_shorter(model, solutions[0]) if solutions[1] == solutions[0] else ""
+    tables = tables_of(asked)
+    with Outputs(paths) as outputs:
+        for path, text in exported(asked, model, solutions[0], tables):
+            outputs.write(path, text)
+        if asked.output:
+            days = days_of(asked, model, solutions, tables)
+            titles = titles_of(asked, files)
+            outputs.write(asked.output, text_of(asked, days, titles, note))
+    if note:
+        sys.stderr.write(note + "\n")
+    return 0
+
+
+def found_of(asked: argparse.Namespace, days: Sequence[Day]) -> str:
+    """What was checked, in a sentence."""
+    return "The proved check was not asked." if asked.unchecked else (
         f"The proved check found that {'both keep' if len(days) == 2 else 'this keeps'} all rules of the model and "
         f"{'cost what they say' if len(days) == 2 else 'costs what it says'}."
     )
-    write(asked.output, text_of(asked, days, titles, found))
-    return 0
+
+
+def exported(
+    asked: argparse.Namespace, model: Model, solution: Solution, tables: Optional[DayTables]
+) -> Iterator[Tuple[str, str]]:
+    """The path and the text of each file for other programs."""
+    if asked.csv:
+        yield asked.csv, plan_csv(model, solution, tables, time=asked.time, clock=asked.clock)
+    if asked.geojson:
+        yield asked.geojson, geojson(model, solution, tables, time=asked.time, clock=asked.clock)
+    if asked.ics:
+        date = asked.date or datetime.date.today()
+        yield asked.ics, icalendar(model, solution, date, tables, time=asked.time, clock=asked.clock)
 
 
 def check_file(model: Model, file: str, solution: Solution) -> None:
@@ -164,13 +213,17 @@ def check_file(model: Model, file: str, solution: Solution) -> None:
         raise ValueError(f"{file}: {why}") from None
 
 
-def text_of(asked: argparse.Namespace, days: Sequence[Day], titles: Sequence[str], found: str) -> str:
-    """The text of a page or of an SVG."""
+def text_of(asked: argparse.Namespace, days: Sequence[Day], titles: Sequence[str], note: str) -> str:
+    """The text of a page or of an SVG, with a note on both days."""
     if asked.svg:
-        return drawing(days, titles, asked.degrees)
+        return drawing(days, titles, asked.degrees, note)
+    found = f"{found_of(asked, days)} {note}".strip()
     if len(days) == 2:
         return compare_page((days[0], days[1]), (titles[0], titles[1]), found, asked.degrees)
-    return page(days[0], titles[0], found, asked.degrees)
+    tables, day = tables_of(asked), days[0]
+    date = asked.date or (datetime.date.today() if asked.clock is not None else None)
+    files = downloads(day.model, day.solution, tables, date=date, time=asked.time, clock=asked.clock)
+    return page(day, titles[0], found, asked.degrees, files)
 
 
 def titles_of(asked: argparse.Namespace, files: Sequence[str]) -> List[str]:
@@ -184,29 +237,37 @@ def titles_of(asked: argparse.Namespace, files: Sequence[str]) -> List[str]:
     return [*names, f"{names[0]}, shorter"] if asked.shorter else names
 
 
-def days_of(asked: argparse.Namespace, model: Model, solutions: Sequence[Solution]) -> List[Day]:
+def tables_of(asked: argparse.Namespace) -> Optional[DayTables]:
+    """The places and vehicles that are named beside the model; None where there are none."""
+    if asked.vehicles and not asked.places:
+        raise ValueError("--vehicles asks for --places, where its starts and ends have their names")
+    if not asked.places:
+        return None
+    tables = read_day(asked.places, asked.vehicles) if asked.vehicles else strict_places(asked.places)
+    asked.degrees = asked.degrees or tables.degrees
+    return tables
+
+
+def days_of(
+    asked: argparse.Namespace, model: Model, solutions: Sequence[Solution], tables: Optional[DayTables]
+) -> List[Day]:
     """The days to be drawn."""
-    places: Sequence[Place] = read_places(asked.places) if asked.places else ()
-    vehicles: Sequence[str] = ()
-    if asked.vehicles:
-        if not asked.places:
-            raise ValueError("--vehicles asks for --places, where its starts and ends have their names")
-        vehicles = [van.name for van in read_vans(asked.vehicles, places)]
     return [
-        day_of(model, solution, places=places, vehicles=vehicles, time=asked.time, clock=asked.clock)
-        for solution in solutions
+        day_of_tables(
+            model, solution, tables, time=asked.time, clock=asked.clock, reasons=why_left_out(model, solution)
+        ) for solution in solutions
     ]
-
-
-def write(path: str, text: str) -> None:
-    """Writes a file."""
-    with open(path, "w", encoding="utf-8") as file:
-        file.write(text)
 
 
 def run_doubts(asked: argparse.Namespace) -> int:
     """Writes the path and the sentence of each doubt."""
-    for doubt in doubts(read_model(asked.model)):
+    model = read_model(asked.model)
+    found = doubts(model)
+    if asked.solution is not None:
+        solution = read_solution(asked.solution)
+        check_file(model, asked.solution, solution)
+        found += answer_doubts(model, solution, asked.longest_ride, time_dimension(model, asked.time) or 0)
+    for doubt in found:
         print(f"{doubt.path}: {doubt.sentence}")
     return 0
 
@@ -232,7 +293,7 @@ def run_portfolio(asked: argparse.Namespace) -> int:
     )
     text = found.solution.text() + "\n"
     if asked.output:
-        write(asked.output, text)
+        write_whole(asked.output, text)
     else:
         sys.stdout.write(text)
     for number, outcome in enumerate(found.outcomes):
@@ -259,7 +320,7 @@ def run_batch(asked: argparse.Namespace) -> int:
     os.makedirs(output, exist_ok=True)
     for name, entry in found.items():
         if isinstance(entry, Portfolio):
-            write(os.path.join(output, f"{name}.solved.json"), entry.solution.text() + "\n")
+            write_whole(os.path.join(output, f"{name}.solved.json"), entry.solution.text() + "\n")
         print(model_line(name, entry))
     for name, fault in faulty:
         print(f"{name}: {fault}")

@@ -148,7 +148,8 @@ class DayTables:
 
     `further` has for each place the cells of the columns that nobody asks for (a phone number, a note), by their
     headings and in their order; `van_further` has those of the vehicles. `degrees` says that x is the longitude and y
-    the latitude. `doubts` are sentences about what may be said and looks wrong all the same.
+    the latitude. `doubts` are sentences about what may be said and looks wrong all the same. `delimiter` parts the
+    cells of the places.
     """
 
     places: Tuple[Place, ...]
@@ -157,6 +158,7 @@ class DayTables:
     van_further: Tuple[Mapping[str, str], ...] = ()
     degrees: bool = False
     doubts: Tuple[str, ...] = ()
+    delimiter: str = ","
 
 
 def read_day(places: TableSource, vans: TableSource) -> DayTables:
@@ -175,7 +177,7 @@ def read_day(places: TableSource, vans: TableSource) -> DayTables:
     looks += doubled_names(van_table, [van.name for van in drivers])
     return DayTables(
         tuple(stops), tuple(drivers), tuple(line.further for line in table.lines),
-        tuple(line.further for line in van_table.lines), degrees, tuple(map(str, looks)),
+        tuple(line.further for line in van_table.lines), degrees, tuple(map(str, looks)), table.delimiter,
     )
 
 
@@ -192,7 +194,8 @@ def strict_places(path: str) -> DayTables:
     table, degrees, doubts = table_of_places(path)
     if doubts:
         raise doubts[0]
-    return DayTables(tuple(places_of(table, degrees)), (), degrees=degrees)
+    found = tuple(places_of(table, degrees))
+    return DayTables(found, (), tuple(line.further for line in table.lines), (), degrees, (), table.delimiter)
 
 
 def read_vans(path: str, places: Sequence[Place]) -> List[Van]:

@@ -17,7 +17,7 @@ from typing import Callable, Dict, Iterator, List, Mapping, Optional, Sequence, 
 
 from .errors import JambulskegError
 
-__all__ = ["BadTable", "Heads", "Table", "TableLine", "TableSource", "finite", "read_table", "whole"]
+__all__ = ["BadTable", "Heads", "Table", "TableLine", "TableSource", "another", "finite", "read_table", "whole"]
 
 TableSource = Union[str, Tuple[str, bytes]]
 """A path, or the name and the bytes of a file that was handed in."""
@@ -187,6 +187,7 @@ class Table:
     heads: Heads
     lines: Tuple[TableLine, ...]
     doubts: Tuple[BadTable, ...]
+    delimiter: str = ","
 
     def without(self, *columns: str) -> "Table":
         """The same table, these columns being further ones."""
@@ -211,7 +212,7 @@ def read_table(source: TableSource, columns: Sequence[str], others: Mapping[str,
     heads, found = heads_of(Heads(name, number), headings, columns, others, [cells for _, cells in lines])
     point = "." if delimiter == "," else ","
     table = tuple(TableLine(heads, at, filled(heads, at, cells, len(headings)), point) for at, cells in lines)
-    return Table(heads, table, (*doubts, *found))
+    return Table(heads, table, (*doubts, *found), delimiter)
 
 
 def bytes_of(path: str) -> bytes:

@@ -22,12 +22,13 @@
     last = level;
   }
   if (document.documentElement.lang !== "en" || !document.title) { found.push("no language or title"); }
-  for (const e of document.querySelectorAll("svg")) {
+  for (const e of document.querySelectorAll("svg:not(svg svg)")) {
     if (e.getAttribute("aria-hidden") !== "true" && !e.closest("[aria-hidden=true]") && !(e.getAttribute("role") === "img" && e.getAttribute("aria-label"))) { say("a drawing without words", e); }
   }
   for (const e of document.querySelectorAll("svg[role=img]")) {
     const words = e.getAttribute("aria-label"), table = /table '([^']+)'/.exec(words);
-    if (!table && !/table below/.test(words)) { say("a chart without a table", e); }
+    const sheets = /sheets of the vehicles/.test(words) && document.querySelector(".sheet table");
+    if (!table && !sheets && !/table below/.test(words)) { say("a chart without a table", e); }
     if (table && !Array.from(document.querySelectorAll("caption")).some((c) => c.textContent === table[1])) { say("its table is missing", e); }
   }
   const colour = (text) => { const m = text.match(/[\d.]+/g).map(Number); return m.length > 3 ? m : [...m, 1]; };

@@ -96,6 +96,41 @@ class CommandTests(unittest.TestCase):
         status, _, told = called("view", words[0], *pair, "--shorter", "-o", self.at("b.html"))
         self.assertEqual((status, told.split(", ")[0]), (1, "jambulskeg: view takes a SOLUTION"))
 
+    def test_shorter_days_that_are_equal_say_why(self) -> None:
+        words = [os.path.join(EXAMPLES, f"service-day.{end}") for end in ("json", "solved.json")]
+        why = "Both days are equal: in 'time' drivers have breaks, and no shortest schedules are told there"
+        status, _, told = called("view", *words, "--shorter", "-o", self.at("a.html"))
+        self.assertEqual((status, told[:len(why)]), (0, why))
+        self.assertIn(why.replace("'", "&#x27;"), self.read("a.html"))
+        self.assertEqual(called("view", *words, "--shorter", "--svg", "-o", self.at("a.svg"))[0], 0)
+        self.assertIn("Both days are equal", self.read("a.svg"))
+
+    def test_exports(self) -> None:
+        model = self.write("three.json", Model.of(THREE).text())
+        self.assertEqual(called("portfolio", model, "-o", self.at("a.json"))[0], 0)
+        places = self.write("places.csv", "name,lat,lon,Phone\nyard,0,0,\nAda,1,2,01\nBen,3,1,02\n")
+        words = ["view", model, self.at("a.json"), "--places", places]
+        self.assertEqual(called(*words, "--csv", self.at("a.csv"), "--geojson", self.at("a.geojson"))[:2], (0, ""))
+        self.assertIn("vehicle 0,1,Ada,,,,,01", self.read("a.csv"))
+        self.assertEqual(len(json.loads(self.read("a.geojson"))["features"]), 5)
+        self.assertEqual(called(*words, "-o", self.at("a.html"))[0], 0)
+        self.assertIn('download="plan.geojson"', self.read("a.html"))
+        day = [os.path.join(EXAMPLES, f"service-day.{end}") for end in ("json", "solved.json")]
+        status, _, told = called("view", *day, "--clock", "8:00", "--ics", self.at("a.ics"), "--date", "2026-12-01")
+        self.assertEqual((status, told, "DTSTART:20261201T080000" in self.read("a.ics")), (0, "", True))
+        for more, said in (
+            ([*words[:3], "--geojson", self.at("b")], "asks for the places"),
+            ([*words, "--ics", self.at("b")], "asks for times of day"),
+            (words, "view writes a file: say -o, --csv, --geojson or --ics"),
+            (["view", model, "--compare", self.at("a.json"), self.at("a.json"), "--csv", self.at("b")], "one SOLUTION"),
+            ([*words, "-o", self.at("none/b")], "none/b: No such file"),
+            ([*words, "-o", "/dev/full"], "/dev/full: No space left on device"),
+        ):
+            status, out, told = called(*more)
+            self.assertEqual((status, out), (1, ""), more)
+            self.assertIn(said, told)
+        self.assertFalse(os.path.exists(self.at("b")))
+
     def test_doubts(self) -> None:
         self.assertEqual(called("doubts", self.write("three.json", Model.of(THREE).text())), (0, "", ""))
         status, out, _ = called("doubts", os.path.join(EXAMPLES, "service-day.json"))

@@ -146,11 +146,18 @@ class PageTests(DeskTests):
     def test_files_for_others(self) -> None:
         day = self.made()
         self.planned(day)
-        for kind, begin in (("json", b'{"model"'), ("csv", b"\xef\xbb\xbfvehicle,stop")):
+        for kind, ending, begin in (
+            ("json", "json", b'{"model"'), ("csv", "csv", b"\xef\xbb\xbfvan"), ("page", "html", b"<!DOCTYPE"),
+            ("sheets", "zip", b"PK"), ("geojson", "geojson", b"{"), ("icalendar-2026-12-01", "ics", b"BEGIN:VCALENDAR"),
+        ):
             status, headers, data = self.asked("GET", f"api/{day}/export/{kind}")
             self.assertEqual((status, data[:len(begin)]), (200, begin))
-            self.assertEqual(headers["Content-Disposition"], f'attachment; filename="{day[4:]}.{kind}"')
-        self.assertEqual(self.asked("GET", f"api/{day}/export/exe")[0], 404)
+            self.assertEqual(headers["Content-Disposition"], f'attachment; filename="{day[4:]}.{ending}"')
+        for kind in ("exe", "icalendar-2026-13-01", "icalendar-x"):
+            self.assertEqual(self.asked("GET", f"api/{day}/export/{kind}")[0], 404)
+        plain = self.made(**{"from": "example", "example": "pickups"})
+        for kind in ("geojson", "icalendar-2026-12-01"):
+            self.assertIn("asks for", json.loads(self.asked("GET", f"api/{plain}/export/{kind}")[2])["error"])
 
 
 class ProcessTests(unittest.TestCase):

@@ -14,8 +14,8 @@ from types import ModuleType
 from typing import Iterator, List, Tuple, Union
 
 from jambulskeg import (
-    batch, complete, desk, doubts, engines, errors, model, places, portfolio, program, rescue, rounds, schedules,
-    tables, view,
+    batch, complete, desk, doubts, engines, errors, exports, formats, model, outputs, places, plan, portfolio, program,
+    reasons, rescue, rounds, schedules, tables, view,
 )
 from jambulskeg.routing import pywrapcp
 
@@ -94,8 +94,8 @@ class PublicTests(unittest.TestCase):
 INHERITED = ("faults", "taken", "tree", "own_faults", "kind_of", "applied", "words")
 """What a kind, a record and a change of a day say once, where they are defined first."""
 MODULES = (
-    batch, complete, desk, doubts, engines, errors, model, places, portfolio, program, rescue, rounds, schedules,
-    tables, view, pywrapcp,
+    batch, complete, desk, doubts, engines, errors, exports, formats, model, outputs, places, plan, portfolio, program,
+    reasons, rescue, rounds, schedules, tables, view, pywrapcp,
 )
 """The modules whose calls are for users."""
 

@@ -16,14 +16,18 @@ from jambulskeg.complete import complete, leave_later
 from jambulskeg.errors import NoFirstSolution
 from jambulskeg.model import Model, Solution, read_model, solve
 from jambulskeg.places import Place
-from jambulskeg.view import CannotBeDrawn, Day, Names, compare_page, day_of, drawing, page
+from jambulskeg.reasons import why_left_out
+from jambulskeg.view import CannotBeDrawn, Day, Download, Names, compare_page, day_of, drawing, page, sheet_page
 from jambulskeg.view.axis import Axis
+from jambulskeg.view.colours import COLOURS, colours_of, letters
 from jambulskeg.view.compare import changes_table, signed
 from jambulskeg.view.loads import levels_of
-from jambulskeg.view.route_map import projected
+from jambulskeg.view.route_map import route_map
+from jambulskeg.view.sheets import sheets
+from jambulskeg.view.ground import ground_of, length_of_scale
 from jambulskeg.view.svg import escaped, script_json
 from jambulskeg.view.tables import left_table, stops_table, visits_table
-from jambulskeg.view.timeline import axis_of, timeline
+from jambulskeg.view.timeline import axis_of, rooms, timeline
 
 from .support import EXAMPLES, THREE, random_tree
 
@@ -221,8 +225,12 @@ class PageTests(unittest.TestCase):
         tree["dimensions"][1]["name"] = "</script><i>"
         model = Model.of(tree)
         places = [Place(f"{NASTY}{node}", node, node * node) for node in range(model.nodes)]
-        drawn = day_of(model, solve(model), places=places, vehicles=[NASTY, "b"])
-        texts = [page(drawn, NASTY, NASTY), compare_page((drawn, drawn), (NASTY, "b"), NASTY)]
+        cells = [{NASTY: NASTY}] * model.nodes
+        drawn = day_of(model, solve(model), places=places, vehicles=[NASTY, "b"], further=cells)
+        files = [Download(NASTY, "text/csv", NASTY, NASTY)]
+        read(sheet_page(drawn, 0, NASTY))
+        self.assertNotIn("<script", sheet_page(drawn, 0, NASTY))
+        texts = [page(drawn, NASTY, NASTY, files=files), compare_page((drawn, drawn), (NASTY, "b"), NASTY)]
         texts.append(drawing([drawn], [NASTY]))
         for text in texts:
             self.assertNotIn("<script>alert", text)
@@ -238,9 +246,11 @@ class PageTests(unittest.TestCase):
         self.assertNotIn("<", script_json("</script>"))
 
     def test_a_page_needs_no_network(self) -> None:
-        text = page(day("service-day"), "day", "")
+        files = [Download("plan.csv", "text/csv", "van,stop\n", "Table")]
+        text = page(day("service-day"), "day", "", files=files)
         marks = read(text).marks
-        self.assertEqual([value for _, name, value in marks if name in ("src", "href", "action", "data")], ["#tables"])
+        self.assertEqual([value for _, name, value in marks if name in ("src", "href", "action", "data")],
+                         ["#tables", "data:text/csv;base64,dmFuLHN0b3AK"])
         self.assertNotRegex(text, r"https?://|@import|url\((?!#)")
         self.assertIn("default-src 'none'", text)
 
@@ -288,11 +298,92 @@ class PageTests(unittest.TestCase):
     def test_places_lie_within_the_map(self) -> None:
         places = [Place(str(at), 8 + at / 10, 50 - at / 20) for at in range(5)]
         for in_degrees in (False, True):
-            points, height = projected(places, in_degrees)
-            self.assertTrue(all(0 < x < 1000 and 0 < y < height for x, y in points))
-            self.assertLess(points[0][1], points[4][1])
-        points, height = projected([Place("a", 3, 4)] * 2, False)
-        self.assertEqual(points, [(500, height / 2)] * 2)
+            ground = ground_of(places, in_degrees)
+            self.assertTrue(all(0 < x < 1000 and 0 < y < ground.height for x, y in ground.points))
+            self.assertLess(ground.points[0][1], ground.points[4][1])
+        ground = ground_of([Place("a", 3, 4)] * 2, False)
+        self.assertEqual(ground.points, [(500, ground.height / 2)] * 2)
+        self.assertEqual(length_of_scale(ground)[0], 100)
+
+    def test_a_place_far_out_does_not_squeeze_the_map(self) -> None:
+        near = [Place(str(at), at % 4, at // 4) for at in range(12)]
+        ground = ground_of([*near, Place("far", 60, 1)], False)
+        self.assertEqual(list(ground.far), [12])
+        self.assertAlmostEqual(ground.far[12], 58.0, 0)
+        self.assertGreater(max(x for x, _ in ground.points[:12]) - min(x for x, _ in ground.points[:12]), 700)
+        self.assertTrue(0 < ground.points[12][0] <= 970 and 0 < ground.points[12][1] < ground.height)
+        for others in ([Place("far", 60, 1)] * 5, []):
+            self.assertEqual(ground_of([*near, *others], False).far, {})
+        self.assertEqual(ground_of([near[0], Place("far", 60, 1)], False).far, {})
+        degrees = ground_of([Place("a", 8, 47), Place("b", 8, 48)], True)
+        self.assertAlmostEqual((degrees.points[0][1] - degrees.points[1][1]) / degrees.scale, 111.2, 1)
+        self.assertEqual((degrees.unit, length_of_scale(degrees)[0]), (" km", 20))
+
+    def test_a_map_has_letters_numbers_and_a_scale(self) -> None:
+        places = [Place(f"p{node}", node % 5, node // 5) for node in range(17)]
+        drawn = day("service-day", places=places)
+        marks = route_map(drawn).body
+        for route in drawn.routes():
+            for stop in range(1, len(route.nodes) - 1):
+                self.assertIn(f">{drawn.letters(route.vehicle)}{stop}</text>", marks)
+        self.assertIn('class="ruler"', marks)
+        at_one = day_of(drawn.model, drawn.solution, places=[places[0]] * 17)
+        self.assertEqual(route_map(at_one).body.count('class="zoom"'), 16)
+
+
+class VanTests(unittest.TestCase):
+    def test_colours_are_those_of_names(self) -> None:
+        self.assertEqual(colours_of(("red", "Blue", "van", "red")), (9, 0, 1, 2))
+        self.assertEqual(sorted(colours_of(tuple("x" * at for at in range(12)))), list(range(len(COLOURS))))
+        many = colours_of(("red",) * 30)
+        self.assertLessEqual(max(map(many.count, many)), 3)
+        self.assertEqual([letters(at) for at in (0, 25, 26, 99)], ["A", "Z", "AA", "CV"])
+
+    def test_a_van_has_one_colour_everywhere(self) -> None:
+        places = [Place(f"p{node}", node % 5, node // 5) for node in range(17)]
+        drawn = day("service-day", places=places, vehicles=["one", "red", "two", "three"])
+        text = page(drawn, "day", "")
+        self.assertEqual([drawn.colour(vehicle) for vehicle in range(4)], [0, 9, 1, 2])
+        for kind in ("visit", "swatch", "level", "area", "route", "spot", "badge"):
+            self.assertIn(f'class="{kind} c9"', text)
+        self.assertNotIn('class="visit"', text)
+
+    def test_a_sheet_has_all_that_is_known(self) -> None:
+        model = read_model(os.path.join(EXAMPLES, "breaks-day.json"))
+        cells = [{"Phone": f"0{node}", "empty": ""} for node in range(model.nodes)]
+        drawn = day_of(model, solve(model), further=cells, clock=480)
+        text = sheets(drawn)
+        self.assertEqual(text.count("<details"), len(drawn.routes()))
+        self.assertEqual(text.count('class="pause"'), sum(len(drawn.breaks(route)) for route in drawn.routes()))
+        self.assertIn("> Phone</th>", text)
+        self.assertNotIn("empty", text)
+        self.assertIn("<td>03</td>", text)
+        self.assertIn("\u2013", text)
+        single = sheet_page(drawn, drawn.routes()[0].vehicle, "Monday")
+        self.assertEqual((read(single).seen["h1"], "Monday" in single), (1, True))
+        unused = day("service-day")
+        self.assertIn("This vehicle is not used.", sheet_page(unused, 2, ""))
+
+    def test_why_a_visit_is_left_out(self) -> None:
+        drawn = day("optional-visits")
+        left = drawn.solution.dropped[0]
+        self.assertEqual(drawn.reasons, why_left_out(drawn.model, drawn.solution))
+        self.assertEqual(drawn.why_left(left), "'hours' forbids each of its 5 places")
+        for text in (left_table(drawn), page(drawn, "", ""), drawing([drawn], [""])):
+            self.assertIn(escaped(drawn.why_left(left)), text)
+        quiet = day_of(drawn.model, drawn.solution, reasons={})
+        self.assertEqual(quiet.why_left(left), "")
+
+    def test_words_are_shown_where_there_is_room(self) -> None:
+        self.assertEqual(rooms([(0.0, "x" * 10), (0.05, "y"), (0.5, "z"), (0.999, "w")], False),
+                         ["wl wm ws", "", "wl wm ws", ""])
+        self.assertEqual(rooms([(0.1, "x" * 12), (0.2, "y")], False), ["wl wm ws", "wl"])
+        self.assertEqual(rooms([(0.0, "left"), (0.5, "mid"), (0.5, "")], True), ["", "wl wm ws", ""])
+
+    def test_tables_are_sorted_and_wide(self) -> None:
+        text = page(day("service-day"), "", "")
+        self.assertEqual((text.count('class="sorts"'), text.count("container-type")), (2, 2))
+        self.assertIn("aria-sort", text)
 
 
 class LargeTests(unittest.TestCase):

@@ -141,9 +141,9 @@ def load_and_plan(planner: Planner, folder: str) -> None:
     planner.page.click("#new-cancel")
     planner.made_of_tables(places, vans, "Monday")
     planner.page.wait("document.querySelectorAll('.chip').length == 12")
-    held("nothing is planned yet", planner.text(".badge") == "nothing is planned yet")
+    held("nothing is planned yet", planner.text(".verdict") == "nothing is planned yet")
     planner.planned(1)
-    held("the day is planned and keeps all rules", (planner.text(".badge"), planner.cost()) == ("keeps all rules", 237))
+    held("the day is planned and keeps all rules", (planner.text(".verdict"), planner.cost()) == ("keeps all rules", 237))
     held("progress has its table", planner.page.value("document.querySelectorAll('#progress-table tbody tr').length"))
     planner.picture("desk-planned")
 
@@ -182,7 +182,7 @@ def edit_and_improve(planner: Planner) -> None:
     blue = planner.routes()[1]
     page.click('button[aria-label="Switch green off"]')
     page.wait("document.querySelector('#said').textContent.startsWith('Green switched off')")
-    held("the visits of a van that is off are left out", planner.text(".badge") == "unfinished")
+    held("the visits of a van that is off are left out", planner.text(".verdict") == "unfinished")
     held("green stays at home", planner.routes()[2] == "")
     planner.picture("desk-unfinished")
     page.click('button[aria-label="Switch green off"]')
@@ -195,7 +195,7 @@ def edit_and_improve(planner: Planner) -> None:
     planner.planned(1)
     held("the pinned van stays as it is", planner.routes()[1] == blue)
     held("nothing required is left out, nothing got dearer but what was missing",
-         planner.text(".badge") == "keeps all rules" and cost > 0)
+         planner.text(".verdict") == "keeps all rules" and cost > 0)
     page.click(planner.chip("Ada"))
     page.value("document.querySelector('#edit-open').value='8:00';document.querySelector('#edit-close').value='8:05'")
     page.click("#edit-close")

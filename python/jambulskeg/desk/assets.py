@@ -6,7 +6,7 @@ import os
 from functools import lru_cache
 from typing import Mapping, Tuple
 
-from ..view.style import PATTERNS, ROUTES, page_style
+from ..view.style import PATTERNS, page_script, page_style
 
 __all__ = ["ASSETS", "asset"]
 
@@ -18,21 +18,19 @@ SCRIPTS = (
 ASSETS: Mapping[str, Tuple[str, str]] = {
     "page": ("text/html; charset=utf-8", "desk.html"),
     "desk.css": ("text/css; charset=utf-8", "desk.css"),
+    "view.js": ("text/javascript; charset=utf-8", ""),
     **{name: ("text/javascript; charset=utf-8", name) for name in SCRIPTS},
 }
-"""For each path the kind of its file and the file; nothing else of this machine is ever served as a file."""
+"""For each path the kind of its file and the file, none for the script of `view`; nothing else of this machine is ever
+served as a file."""
 
 
 @lru_cache(maxsize=None)
 def asset(name: str) -> Tuple[str, bytes]:
     """The kind and the bytes of a file of the page."""
     kind, file = ASSETS[name]
+    if not file:
+        return kind, page_script().encode("utf-8")
     with open(os.path.join(FOLDER, file), encoding="utf-8") as opened:
         text = opened.read().replace("<!-- patterns -->", PATTERNS)
-    return kind, (page_style() + route_keys() + text if file.endswith(".css") else text).encode("utf-8")
-
-
-def route_keys() -> str:
-    """The colours of routes beside the names of vans, light, and dark where a screen asks for it."""
-    shades = ["".join(f".key-{at}{{background:{pair[shade]}}}" for at, pair in enumerate(ROUTES)) for shade in (0, 1)]
-    return f"{shades[0]}@media screen and (prefers-color-scheme:dark){{{shades[1]}}}"
+    return kind, (page_style() + text if file.endswith(".css") else text).encode("utf-8")

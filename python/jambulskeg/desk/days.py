@@ -76,7 +76,7 @@ class OpenDay:
 
     def __init__(self, identity: str, basis: Basis, journal: Journal, program: Program) -> None:
         self.identity, self.journal = identity, journal
-        self.basis = basis
+        self.basis, self.names = basis, basis.names
         self.lock = threading.RLock()
         self.name = identity
         empty: Lists = tuple(() for _ in self.basis.model.vehicles)
@@ -128,7 +128,7 @@ class OpenDay:
 
     def within_of(self, state: State) -> Within:
         """The model of a state, and names."""
-        return Within(self.asker(state.edits).model, self.basis.names)
+        return Within(self.asker(state.edits).model, self.names)
 
     def asker(self, edits: Edits) -> Asker:
         """Who asks about days with some edits. Raises `BadChange` where these cannot be said in the model."""
@@ -171,7 +171,8 @@ class OpenDay:
         with self.lock:
             verdict = self.verdict(number)
             model = self.asker(self.steps[self.at if number is None else number].state.edits).model
-            return Day(model, verdict.solution, self.basis.names, time_dimension(model), self.basis.places)
+            basis = self.basis
+            return Day(model, verdict.solution, self.names, time_dimension(model), basis.places, basis.further)
 
     def change(self, change: Change, at: Optional[int] = None) -> Answer:
         """Makes a change where the program finds that the day then keeps its rules, but for visits that must be made

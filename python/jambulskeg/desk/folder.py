@@ -16,11 +16,11 @@ import re
 import shutil
 import tempfile
 from dataclasses import dataclass
-from typing import IO, Any, Dict, List, Mapping, Sequence, Tuple
+from typing import IO, Any, Dict, List, Mapping, Optional, Sequence, Tuple
 
 from ..errors import JambulskegError
 from ..model import read_model
-from ..places import Place
+from ..places import DayTables, Place, Van
 from ..records import Model
 from ..view.day import Names
 from .journal import Journal, line_of, lines_read, synced_folder, write_whole
@@ -47,31 +47,66 @@ class NoSuchDay(JambulskegError):
 
 @dataclass(frozen=True)
 class Basis:
-    """What a day was opened with: the model, names, where places lie, what looked odd, what it was read from, and what
-    else the table says of each place."""
+    """What a day was opened with: the model, the two tables where it was made of them, the minute at which the time 0
+    lies, what looked odd, and what it was read from."""
 
     model: Model
-    names: Names
-    places: Sequence[Place] = ()
-    in_degrees: bool = False
+    tables: Optional[DayTables] = None
+    clock: Optional[int] = None
     doubts: Sequence[str] = ()
     source: str = ""
-    further: Sequence[Mapping[str, str]] = ()
+
+    @property
+    def names(self) -> Names:
+        """How nodes, vehicles and times are called."""
+        if self.tables is None:
+            return Names((), (), self.clock)
+        vans = [van.name for van in self.tables.vans]
+        return Names([place.name for place in self.tables.places], vans, self.clock)
+
+    @property
+    def places(self) -> Sequence[Place]:
+        """Where the nodes lie, as far as that is known."""
+        return () if self.tables is None else self.tables.places
+
+    @property
+    def further(self) -> Sequence[Mapping[str, str]]:
+        """What else the table says of each place."""
+        return () if self.tables is None else self.tables.further
+
+    @property
+    def in_degrees(self) -> bool:
+        """Whether places lie by longitude and latitude."""
+        return self.tables is not None and self.tables.degrees
 
     def tree(self) -> Dict[str, Any]:
         """What is kept beside the model, as JSON."""
         return {
-            "places": list(self.names.places), "vehicles": list(self.names.vehicles), "clock": self.names.clock,
-            "points": [[place.x, place.y] for place in self.places], "degrees": self.in_degrees,
-            "doubts": list(self.doubts), "source": self.source, "further": [dict(row) for row in self.further],
+            "clock": self.clock, "doubts": list(self.doubts), "source": self.source,
+            "tables": None if self.tables is None else tables_tree(self.tables),
         }
 
     @classmethod
-    def of(cls, model: Model, tree: Dict[str, Any]) -> "Basis":
+    def of(cls, model: Model, tree: Mapping[str, Any]) -> "Basis":
         """The basis of a model and of what `tree` wrote."""
-        names = Names(tree["places"], tree["vehicles"], tree["clock"])
-        places = [Place(name, x, y) for name, (x, y) in zip(tree["places"], tree["points"])]
-        return cls(model, names, places, tree["degrees"], tree["doubts"], tree["source"], tree["further"])
+        tables = None if tree["tables"] is None else tables_of(tree["tables"])
+        return cls(model, tables, tree["clock"], tree["doubts"], tree["source"])
+
+
+def tables_tree(tables: DayTables) -> Dict[str, Any]:
+    """What pages and files need of two tables; the rest is in the model."""
+    return {
+        "places": [[place.name, place.x, place.y] for place in tables.places],
+        "vans": [[van.name, van.start, van.end] for van in tables.vans],
+        "further": [dict(row) for row in tables.further], "degrees": tables.degrees, "delimiter": tables.delimiter,
+    }
+
+
+def tables_of(tree: Mapping[str, Any]) -> DayTables:
+    """The tables of what `tables_tree` wrote."""
+    places = tuple(Place(name, x, y) for name, x, y in tree["places"])
+    vans = tuple(Van(name, start, end) for name, start, end in tree["vans"])
+    return DayTables(places, vans, tuple(tree["further"]), (), tree["degrees"], (), tree["delimiter"])
 
 
 class Folder:

@@ -14,7 +14,6 @@ from ..model import first
 from ..places import Measure, Roads, model_of_day, read_day
 from ..program import REPOSITORY, Program
 from ..records import Improve, Model, ScheduleRule, Search
-from ..view.day import Names
 from .asking import merged
 from .folder import Basis
 from .states import BadChange
@@ -52,11 +51,8 @@ def basis_of_tables(places: Upload, vans: Upload, ways: Ways) -> Basis:
     tables = read_day(places, vans)
     model = merged(model_of_day(tables, ways.roads(tables.degrees), Search(improve=Improve.GUIDED_LOCAL_SEARCH)))
     has_clock = any(CLOCK.search(data) for _, data in (places, vans))
-    names = Names([place.name for place in tables.places], [van.name for van in tables.vans], 0 if has_clock else None)
-    return Basis(
-        timely(model), names, tables.places, tables.degrees, [*tables.doubts, *doubted(model)],
-        f"{places[0]} and {vans[0]}", tables.further,
-    )
+    looks = [*tables.doubts, *doubted(model)]
+    return Basis(timely(model), tables, 0 if has_clock else None, looks, f"{places[0]} and {vans[0]}")
 
 
 def timely(model: Model) -> Model:
@@ -79,7 +75,7 @@ def basis_of_model(upload: Upload, program: Program) -> Basis:
         raise NotJson(f"{name} is no JSON text in UTF-8: {fault}") from None
     model = merged(Model.of(tree))
     accepted(model, program)
-    return Basis(model, Names(), (), False, doubted(model), name)
+    return Basis(model, None, None, doubted(model), name)
 
 
 def accepted(model: Model, program: Program) -> None:

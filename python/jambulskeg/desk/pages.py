@@ -5,15 +5,18 @@ Texts from files are handed over as they are; the page writes them as text alone
 
 from __future__ import annotations
 
+from dataclasses import replace
 from typing import Any, Dict, List, Optional, Sequence, Tuple
 
 from ..complete import CannotBeDriven
 from ..errors import JambulskegError, NotMet
-from ..records import HORIZON, Model
+from ..reasons import why_left_out
+from ..records import HORIZON, Group, Model
 from ..solution import Parts, Route
 from ..view.compare import changes_table, costs_beside
 from ..view.day import Day
 from ..view.page import bar, charts, choice, details, facts, search
+from ..view.sheets import sheets
 from ..view.svg import escaped
 from ..view.tables import PARTS, cost_table, left_table, parts_table, stops_table, visits_table
 from ..view.timeline import axis_of
@@ -23,6 +26,8 @@ from .words import sentence_of
 
 __all__ = ["beside", "drawn_parts", "parts_tree", "problem_of", "told"]
 
+SECONDS = 0.4
+"""How long it is measured why visits are left out."""
 MOST_STEPS = 60
 """As many of the latest steps are told at a time."""
 
@@ -36,7 +41,7 @@ def told(day: OpenDay) -> Dict[str, Any]:
             "can_undo": step.number > 0, "can_redo": day.can_redo, "doubts": list(day.basis.doubts),
             "steps": [{"number": entry.number, "words": entry.words, "cost": entry.cost, "fine": entry.is_fine}
                       for entry in day.path_to(step.number, MOST_STEPS)],
-            "clock": day.basis.names.clock,
+            "clock": day.basis.clock, "has_places": bool(day.basis.places),
         }
         try:
             drawn, verdict = day.drawn(), day.verdict()
@@ -79,7 +84,8 @@ def vehicles_of(day: Day, state: State) -> List[Dict[str, Any]]:
     """Each vehicle with its route, and when its visits begin."""
     return [
         {
-            "name": day.names.vehicle(route.vehicle), "off": route.vehicle in state.off,
+            "name": day.names.vehicle(route.vehicle), "colour": day.colour(route.vehicle),
+            "letters": day.letters(route.vehicle), "off": route.vehicle in state.off,
             "pinned": route.vehicle in state.pinned, "visits": list(route.visits),
             "begins": begins_of(day, route), "load": load_of(day, route),
             "start": day.names.node(day.model.vehicles[route.vehicle].start),
@@ -145,8 +151,13 @@ def inert(text: str) -> str:
 
 
 def drawn_parts(day: OpenDay) -> Dict[str, str]:
-    """The charts and tables of the present step, as pieces of a page."""
-    drawn = day.drawn()
+    """The charts and tables of the present step, as pieces of a page, and why visits are left out."""
+    with day.lock:
+        drawn, missing = day.drawn(), day.verdict().missing
+    alone = [Group([node], 0) for node in missing if is_alone(drawn, node)]
+    shown = replace(drawn.model, groups=[*drawn.model.groups, *alone])
+    reasons = why_left_out(shown, drawn.solution, SECONDS, missing)
+    drawn = replace(drawn, model=shown, reasons=reasons)
     axis = axis_of([drawn])
     return {
         "charts": inert(choice(drawn) + charts(drawn, axis, day.basis.in_degrees)),
@@ -155,7 +166,13 @@ def drawn_parts(day: OpenDay) -> Dict[str, str]:
         "left": left_table(drawn),
         "visits": search() + visits_table(drawn),
         "stops": details("Stops of each vehicle", stops_table(drawn)),
+        "sheets": sheets(drawn),
     }
+
+
+def is_alone(day: Day, node: int) -> bool:
+    """Whether a visit stands in no group."""
+    return all(node not in group.nodes for group in day.model.groups)
 
 
 def beside(days: Tuple[OpenDay, OpenDay], steps: Tuple[Optional[int], Optional[int]]) -> Dict[str, str]:

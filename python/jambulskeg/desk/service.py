@@ -17,7 +17,7 @@ from ..program import Program
 from .assets import ASSETS, asset
 from .changes import change_of
 from .days import Answer, OpenDay
-from .exporting import EXPORTS, exported
+from .exporting import exported
 from .folder import Basis, Folder, NoSuchDay
 from .guard import Turned
 from .offers import offers
@@ -115,9 +115,8 @@ class Service:
         day, rest = self.day(parts[1]), parts[2:]
         if rest[:1] == ["why"] and len(rest) == 2:
             return self.why(day, rest[1])
-        if rest[:1] == ["export"] and len(rest) == 2 and rest[1] in EXPORTS:
-            kind = EXPORTS[rest[1]]
-            return Reply(200, kind.kind, exported(day, rest[1]), f"{day.identity}.{kind.ending}")
+        if rest[:1] == ["export"] and len(rest) == 2:
+            return self.file(day, rest[1])
         plain: Dict[Tuple[str, ...], Callable[[], Any]] = {
             (): lambda: told(day), ("charts",): lambda: drawn_parts(day), ("search",): lambda: self.search_tree(day),
             ("steps",): lambda: steps_tree(day),
@@ -148,6 +147,14 @@ class Service:
         if not text.isdecimal() or len(text) > 9 or int(text) not in day.steps:
             raise Turned(404, "the day has no such step")
         return int(text)
+
+    def file(self, day: OpenDay, word: str) -> Reply:
+        """A day as a file for others."""
+        found = exported(day, word)
+        if found is None:
+            raise Turned(404, "there is no such kind of file")
+        kind, ending, data = found
+        return Reply(200, kind, data, f"{day.identity}.{ending}")
 
     def why(self, day: OpenDay, text: str) -> Reply:
         """Where a visit could go, and why it fits nowhere else."""

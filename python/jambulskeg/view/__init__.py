@@ -1,4 +1,4 @@
-"""Pictures of a day: one page without a network, or one SVG.
+"""Pictures of a day: one page without a network, or one SVG, and a sheet for each driver.
 
     day = day_of(model, solution, places=read_places("places.csv"))
     text = page(day, "Monday", "")
@@ -6,16 +6,21 @@
 
 from __future__ import annotations
 
-from typing import Optional, Sequence
+from typing import Mapping, Optional, Sequence
 
 from ..errors import JambulskegError
 from ..model import Model, Solution
 from ..places import Place
+from ..reasons import Reason, why_left_out
 from .day import Day, Names, time_dimension
+from .downloads import Download
 from .drawing import drawing
 from .page import compare_page, page
+from .sheets import sheet_page
 
-__all__ = ["CannotBeDrawn", "Day", "Names", "compare_page", "day_of", "drawing", "page"]
+__all__ = [
+    "CannotBeDrawn", "Day", "Download", "Names", "compare_page", "day_of", "drawing", "page", "sheet_page",
+]
 
 
 class CannotBeDrawn(JambulskegError, ValueError):
@@ -24,20 +29,26 @@ class CannotBeDrawn(JambulskegError, ValueError):
 
 def day_of(
     model: Model, solution: Solution, *, places: Sequence[Place] = (), vehicles: Sequence[str] = (),
-    time: Optional[str] = None, clock: Optional[int] = None,
+    time: Optional[str] = None, clock: Optional[int] = None, further: Sequence[Mapping[str, str]] = (),
+    reasons: Optional[Mapping[int, Reason]] = None,
 ) -> Day:
     """A day to be drawn. The solution meets the model (see `model.meets`).
 
-    `places` has a place for each node, `vehicles` a name for each vehicle. `time` names the dimension that the day is
-    drawn along; without it the one that looks most like times is taken. `clock` is the minute of the day at which the
-    time 0 lies, where times are minutes. Raises `CannotBeDrawn` where these do not belong to the model.
+    `places` has a place for each node, `further` more cells of each, `vehicles` a name for each vehicle. `time` names
+    the dimension that the day is drawn along; without it the one that looks most like times is taken. `clock` is the
+    minute of the day at which the time 0 lies, where times are minutes. `reasons` say why visits are left out; without
+    them they are measured, for two seconds at most. Raises `CannotBeDrawn` where these do not belong to the model.
     """
-    if places and len(places) != model.nodes:
-        raise CannotBeDrawn(f"there are {len(places)} places, and the model has {model.nodes} nodes")
-    if vehicles and len(vehicles) != len(model.vehicles):
-        raise CannotBeDrawn(f"there are {len(vehicles)} names, and the model has {len(model.vehicles)} vehicles")
+    for what, entries, count, of in (
+        ("places", places, model.nodes, "nodes"), ("rows of further cells", further, model.nodes, "nodes"),
+        ("names", vehicles, len(model.vehicles), "vehicles"),
+    ):
+        if entries and len(entries) != count:
+            raise CannotBeDrawn(f"there are {len(entries)} {what}, and the model has {count} {of}")
     try:
         number = time_dimension(model, time)
     except ValueError as fault:
         raise CannotBeDrawn(str(fault)) from None
-    return Day(model, solution, Names([place.name for place in places], vehicles, clock), number, places)
+    measured = why_left_out(model, solution) if reasons is None else reasons
+    names = Names([place.name for place in places], vehicles, clock)
+    return Day(model, solution, names, number, places, further, measured)

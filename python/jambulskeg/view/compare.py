@@ -5,7 +5,7 @@ from __future__ import annotations
 from typing import Any, List, Tuple
 
 from .day import Day
-from .tables import PARTS, clock_cell, row, table
+from .tables import PARTS, clock_cell, clock_head, row, table, van_cell
 
 __all__ = ["changes_table", "costs_beside", "signed"]
 
@@ -32,20 +32,20 @@ def signed(value: int) -> str:
 def changes_table(days: Tuple[Day, Day], titles: Tuple[str, str]) -> str:
     """Each visit on both days: who makes it, and when; a mark says what changed."""
     heads = ["visit", *(f"vehicle, {title}" for title in titles)]
-    heads += [f"#begins, {title}" for title in titles] if days[0].is_timed else []
+    heads += [clock_head(days[0], f"begins, {title}") for title in titles] if days[0].is_timed else []
     made = [day.made_by() for day in days]
     routes = [{route.vehicle: route for route in day.routes()} for day in days]
     rows = []
     for node in days[0].model.visits():
         places = [found.get(node, (-1, -1)) for found in made]
         cells: List[Any] = [days[0].names.node(node)]
-        cells += [days[0].names.vehicle(vehicle) if stop > 0 else "left out" for vehicle, stop in places]
+        cells += [van_cell(days[0], vehicle) if stop > 0 else "left out" for vehicle, stop in places]
         begins = [day.stops(by[vehicle])[stop] if stop > 0 else None
                   for day, by, (vehicle, stop) in zip(days, routes, places)]
         if days[0].is_timed:
             cells += ["" if at is None else clock_cell(day, at) for day, at in zip(days, begins)]
         rows.append(row([*cells, changed(places, begins)]))
-    return table("Each visit on both days", [*heads, "what changed"], ["<tbody>", *rows, "</tbody>"], "visits")
+    return table("Each visit on both days", [*heads, "what changed"], ["<tbody>", *rows, "</tbody>"], "visits", "sorts")
 
 
 def changed(places: List[Tuple[int, int]], begins: List[Any]) -> str:

@@ -6,13 +6,15 @@ the arc costs so far, or, where no arc costs anything, along the numbers of the 
 
 from __future__ import annotations
 
-from dataclasses import dataclass
-from typing import Dict, List, Optional, Sequence, Tuple
+from dataclasses import dataclass, field
+from typing import Dict, List, Mapping, Optional, Sequence, Tuple
 
 from ..places import Place
+from ..reasons import Reason
 from ..records import Dimension, Group, Model, NodeRow, StopRow
 from ..schedules import rows_of
 from ..solution import Plan, Route, Solution
+from .colours import colours_of, letters
 
 __all__ = ["Day", "Names", "Penalty", "Piece", "time_dimension"]
 
@@ -47,6 +49,10 @@ class Names:
         days, minute = divmod(value + self.clock, 1440)
         return f"{minute // 60}:{minute % 60:02}" + (f" (day {days + 1})" if days else "")
 
+    def range(self, window: Sequence[int]) -> str:
+        """An interval of times as it is written where there is little room."""
+        return f"{self.time(window[0])}\u2013{self.time(window[1])}"
+
 
 @dataclass(frozen=True)
 class Piece:
@@ -77,13 +83,16 @@ class Penalty:
 @dataclass(frozen=True)
 class Day:
     """A solution of a model, to be drawn. `time` is the number of the dimension along which it is, None where none is
-    one of drives; `places` are where the nodes lie, as far as that is known."""
+    one of drives; `places` are where the nodes lie, as far as that is known. `further` has more cells of each node by
+    their headings (a phone number, a note), `reasons` why visits are left out."""
 
     model: Model
     solution: Solution
     names: Names = Names()
     time: Optional[int] = None
     places: Sequence[Place] = ()
+    further: Sequence[Mapping[str, str]] = ()
+    reasons: Mapping[int, Reason] = field(default_factory=dict)
 
     @property
     def is_timed(self) -> bool:
@@ -96,6 +105,23 @@ class Day:
         if self.time is not None:
             return self.model.dimensions[self.time].name
         return "arc costs so far" if self.solution.parts.arcs else "stops"
+
+    def colour(self, vehicle: int) -> int:
+        """The number of the colour of a vehicle."""
+        return colours_of(tuple(self.names.vehicle(number) for number in range(len(self.model.vehicles))))[vehicle]
+
+    def letters(self, vehicle: int) -> str:
+        """The letters of a vehicle, which tell it apart without its colour."""
+        return letters(vehicle)
+
+    def cells(self, node: int) -> Mapping[str, str]:
+        """The further cells of a node."""
+        return self.further[node] if node < len(self.further) else {}
+
+    def why_left(self, node: int) -> str:
+        """Why a visit is left out, in words; nothing where that was not measured."""
+        reason = self.reasons.get(node)
+        return reason.sentence(self.names.node, self.names.vehicle) if reason is not None else ""
 
     def routes(self) -> List[Route]:
         """The routes of the vehicles that leave."""

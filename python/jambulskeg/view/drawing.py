@@ -22,14 +22,15 @@ FEW = 20
 """So many of the visits that are left out are named."""
 
 
-def drawing(days: Sequence[Day], titles: Sequence[str], in_degrees: bool = False) -> str:
-    """The SVG of days beside each other, along one axis."""
+def drawing(days: Sequence[Day], titles: Sequence[str], in_degrees: bool = False, note: str = "") -> str:
+    """The SVG of days beside each other, along one axis, with a note below the titles."""
     axis = axis_of(days)
     x: float = MARGIN
     height: float = 0
     columns: List[str] = []
     for day, title in zip(days, titles):
-        marks, width, below = column(pictures_of(day, axis, in_degrees), [title, cost_of(day), left_of(day)])
+        lines = [title, cost_of(day), left_of(day), *whys_of(day), *([note] if note else [])]
+        marks, width, below = column(pictures_of(day, axis, in_degrees), lines)
         columns.append(f'<g transform="translate({x:g} {MARGIN})">{marks}</g>')
         x, height = x + width + MARGIN, max(height, below)
     words = "; ".join(f"{title}: {cost_of(day)}; {left_of(day)}" for day, title in zip(days, titles))
@@ -64,6 +65,12 @@ def left_of(day: Day) -> str:
     names = [day.names.node(node) for node in day.solution.dropped]
     more = f" and {len(names) - FEW} more" if len(names) > FEW else ""
     return f"left out: {', '.join(names[:FEW])}{more}" if names else "every visit is made"
+
+
+def whys_of(day: Day) -> List[str]:
+    """Why the first visits that were left out are, a line each."""
+    left = day.solution.dropped[:FEW] if day.reasons else ()
+    return [f"{day.names.node(node)}: {day.why_left(node)}" for node in left]
 
 
 def column(pictures: Sequence[Picture], lines: Sequence[str]) -> Tuple[str, float, float]:

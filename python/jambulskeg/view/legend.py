@@ -9,7 +9,8 @@ from .svg import Picture
 __all__ = ["LEGEND", "marks_of"]
 
 LEGEND = (
-    ("visit", '<rect class="visit" x="2" width="30" height="16"/>', "visit"),
+    ("visit", "".join(f'<rect class="visit c{at}" x="{10 * at + 2}" width="9" height="16"/>' for at in range(3)),
+     "visit, in the colour of its vehicle"),
     ("travel", '<path class="travel" d="M2 8L32 8"/>', "drive"),
     ("wait", '<rect class="wait" x="2" y="4" width="30" height="8"/>', "waiting"),
     ("break", '<rect class="break" x="2" y="2" width="30" height="12"/>', "break"),
@@ -26,4 +27,9 @@ LEGEND = (
 
 def marks_of(picture: Picture) -> List[Tuple[str, str]]:
     """The marks that a picture has, and what they mean."""
-    return [(mark, words) for kind, mark, words in LEGEND if f'class="{kind}"' in picture.body]
+    return [(mark, words) for kind, mark, words in LEGEND if is_there(picture, kind)]
+
+
+def is_there(picture: Picture, kind: str) -> bool:
+    """Whether a picture has a mark of a class."""
+    return f'class="{kind}"' in picture.body or f'class="{kind} ' in picture.body

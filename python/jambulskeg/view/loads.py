@@ -8,7 +8,7 @@ from ..records import HORIZON
 from ..solution import Route
 from .axis import Axis
 from .day import Day
-from .svg import Picture, group, line, path, text
+from .svg import Picture, group, line, path, stretched, text
 from .timeline import EVERY, HEAD, LABELS, WIDTH, band, grid, heading, name_of
 
 __all__ = ["levels_of", "loads"]
@@ -42,11 +42,12 @@ def loads(day: Day, number: int, axis: Axis) -> Picture:
     labels: List[str] = []
     body: List[str] = []
     bands: List[str] = []
+    words: List[str] = []
     for place, route in enumerate(day.routes()):
         if place % EVERY == 0:
             y += HEAD
-            body.append(heading(day, axis, y))
-        labels += [name_of(day, route, y + 18), text("note", (21, y + 34), most_text(day, number, route))]
+            words.append(heading(day, axis, y))
+        labels += [name_of(day, route, y + 18), text("note", (32, y + 34), most_text(day, number, route))]
         bands.append(band(place, y, ROW))
         body.append(row_of(day, number, axis, route, (y, most)))
         y += ROW
@@ -55,8 +56,8 @@ def loads(day: Day, number: int, axis: Axis) -> Picture:
         f"A line for each vehicle shows its {dimension.name} along the day, beside its capacity. "
         "The table 'Stops of each vehicle' says the same."
     )
-    marks = "".join([*bands, *grid(day, axis, y), *body])
-    return Picture(title, description, y, marks, WIDTH, "".join(labels), LABELS)
+    marks = stretched((WIDTH, y), [*bands, *grid(day, axis, y), *body])
+    return Picture(title, description, y, marks + "".join(words), WIDTH, "".join(labels), LABELS, True)
 
 
 def greatest(day: Day, number: int, route: Route) -> int:
@@ -85,11 +86,12 @@ def row_of(day: Day, number: int, axis: Axis, route: Route, where: Tuple[float, 
     points = [(axis.at(at), base - high * max(0, level) / most) for at, level in levels_of(day, number, route)]
     capacity = day.model.dimensions[number].capacity_of(route.vehicle)
     dimension = day.model.dimensions[number].name
+    colour = f"c{day.colour(route.vehicle)}"
     title = f"{day.names.vehicle(route.vehicle)}: {dimension} at most {most_text(day, number, route)}"
     marks = [
         line("base", (axis.left, base), (axis.left + axis.width, base)),
-        path("area", [(points[0][0], base), *points, (points[-1][0], base)], title),
-        path("level", points, title),
+        path(f"area {colour}", [(points[0][0], base), *points, (points[-1][0], base)], title),
+        path(f"level {colour}", points, title),
     ]
     if capacity <= most:
         y = base - high * capacity / most

@@ -7,9 +7,11 @@ from typing import Iterator, List, Sequence, Tuple
 from .axis import Axis
 from .compare import changes_table, costs_beside
 from .day import Day
+from .downloads import Download, download_links
 from .legend import marks_of
 from .loads import loads
 from .route_map import route_map
+from .sheets import POLICY, sheets
 from .style import PATTERNS, page_script, page_style
 from .svg import Picture, escaped, script_json
 from .tables import PARTS, cost_table, left_table, parts_table, stops_table, visits_table
@@ -17,21 +19,22 @@ from .timeline import axis_of, timeline
 
 __all__ = ["compare_page", "page"]
 
-POLICY = "default-src 'none'; style-src 'unsafe-inline'; script-src 'unsafe-inline'"
 
-
-def page(day: Day, title: str, found: str, in_degrees: bool = False) -> str:
-    """The page of a day. `found` says what was checked."""
+def page(
+    day: Day, title: str, found: str, in_degrees: bool = False, files: Sequence[Download] = ()
+) -> str:
+    """The page of a day. `found` says what was checked; `files` are carried along, to be saved from the page."""
     axis = axis_of([day])
     parts = [
         f"<h1>{escaped(title)}</h1><p>{escaped(found)}</p>",
         facts(day),
+        download_links(files),
         choice(day),
-        "<h2>The day</h2>" + charts(day, axis, in_degrees),
-        "<h2>What it costs</h2>" + bar(day) + parts_table(day.solution.parts) + details(
-            "What each vehicle costs", cost_table(day)
-        ),
+        "<h2>A sheet for each driver</h2>" + sheets(day),
         "<h2>What was left out</h2>" + left_table(day),
+        "<h2>The day</h2>" + charts(day, axis, in_degrees),
+        '<div class="beside"><section><h2>What it costs</h2>' + bar(day) + parts_table(day.solution.parts),
+        "</section><section><h2>What each vehicle costs</h2>" + cost_table(day) + "</section></div>",
         '<h2 id="tables">Visits</h2>' + search() + visits_table(day),
         "<h2>Stops</h2>" + details("Stops of each vehicle", stops_table(day)),
     ]
@@ -87,7 +90,8 @@ def facts(day: Day) -> str:
 def choice(day: Day) -> str:
     """The choice of a vehicle to bring out."""
     options = "".join(
-        f'<option value="{route.vehicle}">{escaped(day.names.vehicle(route.vehicle))}</option>'
+        f'<option value="{route.vehicle}">{day.letters(route.vehicle)}: '
+        f"{escaped(day.names.vehicle(route.vehicle))}</option>"
         for route in day.routes()
     )
     return (
@@ -123,30 +127,26 @@ def charts(day: Day, axis: Axis, in_degrees: bool) -> str:
         parts.append(f"<h3>{name}, beside the capacity</h3>{legend(picture)}{chart(picture)}")
     if day.places:
         picture = route_map(day, in_degrees)
-        image = svg(picture.width, picture, picture.body)
-        parts.append(
-            '<h3>Map</h3><figure class="map far scroll" tabindex="0" role="region" aria-label="Map">'
-            f"{image}</figure>"
-        )
+        parts.append(f'<h3>Map</h3><figure class="map far">{svg(picture, picture.body)}</figure>')
     return "".join(parts)
 
 
 def chart(picture: Picture) -> str:
-    """A drawing whose labels stay where they are while its body is scrolled."""
-    sizes = f"--labels:{picture.label_width:g};--body:{picture.width:g};--all:{picture.width + picture.label_width:g}"
-    labels = f'<svg viewBox="0 0 {picture.label_width:g} {picture.height:g}" aria-hidden="true">{picture.labels}</svg>'
-    body = svg(picture.width, picture, picture.body)
+    """A drawing beside its labels, as wide as the screen lets it be."""
+    size = f'width="{picture.label_width:g}" height="{picture.height:g}"'
     return (
-        f'<figure class="chart" style="{sizes}"><div class="labels">{labels}</div>'
-        f'<div class="scroll" tabindex="0" role="region" aria-label="{escaped(picture.title)}">'
-        f'<div class="body">{body}</div></div></figure>'
+        f'<figure class="chart"><svg class="labels" {size} aria-hidden="true">{picture.labels}</svg>'
+        f'<div class="body">{svg(picture, picture.body)}</div></figure>'
     )
 
 
-def svg(width: float, picture: Picture, marks: str) -> str:
+def svg(picture: Picture, marks: str) -> str:
     """A drawing as an image with a name and a description."""
     words = escaped(f"{picture.title}. {picture.description}")
-    return f'<svg viewBox="0 0 {width:g} {picture.height:g}" role="img" aria-label="{words}">{marks}</svg>'
+    size = f'width="100%" height="{picture.height:g}"' if picture.stretches else (
+        f'viewBox="0 0 {picture.width:g} {picture.height:g}"'
+    )
+    return f'<svg {size} role="img" aria-label="{words}">{marks}</svg>'
 
 
 def details(summary: str, content: str) -> str:

@@ -1,64 +1,57 @@
-"""The map of a day: each vehicle's route from place to place, as straight lines."""
+"""The map of a day: each vehicle's route from place to place, as straight lines, its stops with letters and numbers."""
 
 from __future__ import annotations
 
 import math
-from typing import Iterator, List, Sequence, Tuple
+from typing import Dict, Iterator, List, Sequence, Tuple
 
-from ..places import Place
 from ..solution import Route
 from .day import Day
+from .ground import WIDTH, Ground, ground_of, length_of_scale
 from .svg import Picture, Point, circle, group, line, path, rect, shortened, text
 
 __all__ = ["route_map"]
 
-WIDTH = 1000
-LEAST, MOST = 260, 900
-MARGIN = 26
-FEW = 80
-"""Up to so many nodes have their names beside them."""
+FEW = 150
+"""Up to so many nodes have their names beside them, as far as there is room."""
+LETTER = 6.3
+"""The width of a letter of a name."""
+Box = Tuple[float, float, float, float]
+NUMBERED = 250
+"""Up to so many stops have their letters and numbers on them."""
 LINES = ("", " dashed", " dotted")
 
 
 def route_map(day: Day, in_degrees: bool = False) -> Picture:
     """The map of a day whose places are known; in degrees, x is the longitude and y the latitude."""
-    points, height = projected(day.places, in_degrees)
+    ground = ground_of(day.places, in_degrees)
+    points = ground.points
     marks = [route_of(day, route, points) for route in day.routes()]
     marks += [group("places", [place_of(day, node, points) for node in range(len(points))])]
+    marks += spots_of(day, points)
     if len(points) <= FEW:
-        marks += [group("places", names_of(day, points))]
+        marks += [group("places names", names_of(day, ground))]
+    marks += [group("scale", scale_of(ground))]
+    far = f", {len(ground.far)} of them far out and brought to the edge" if ground.far else ""
     description = (
-        f"The routes of {len(day.routes())} vehicles between {len(points)} places as straight lines; starts and ends "
-        "are squares, visits are discs, visits that nobody makes are crosses. The table 'Stops of each vehicle' has "
-        "the order of the stops."
+        f"The routes of {len(day.routes())} vehicles between {len(points)} places{far}, as straight lines; starts and "
+        "ends are squares, visits have the letters of their vehicle and the number of the stop, visits that nobody "
+        "makes are crosses. The sheets of the vehicles have the order of the stops."
     )
-    return Picture("Map of the routes", description, height, "".join(marks), WIDTH)
-
-
-def projected(places: Sequence[Place], in_degrees: bool) -> Tuple[List[Point], float]:
-    """Where the places lie in the drawing, and how high it is; the north is above."""
-    middle = math.radians(sum(place.y for place in places) / len(places)) if in_degrees else 0.0
-    flat = [(place.x * math.cos(middle), place.y) for place in places]
-    left, low = min(x for x, _ in flat), min(y for _, y in flat)
-    across, up = max(x for x, _ in flat) - left, max(y for _, y in flat) - low
-    scales = [(room - 2 * MARGIN) / length for room, length in ((WIDTH, across), (MOST, up)) if length > 0]
-    scale = min(scales, default=1.0)
-    height = max(LEAST, up * scale + 2 * MARGIN)
-    right, below = (WIDTH - across * scale) / 2, (height + up * scale) / 2
-    return [(right + (x - left) * scale, below - (y - low) * scale) for x, y in flat], height
+    return Picture("Map of the routes", description, ground.height, "".join(marks), WIDTH)
 
 
 def route_of(day: Day, route: Route, points: Sequence[Point]) -> str:
     """The line of a route, with a head on each drive that is long enough."""
     stops = [points[node] for node in route.nodes]
-    kind = f"route r{route.vehicle % 12}{LINES[route.vehicle // 12 % 3]}"
-    title = f"{day.names.vehicle(route.vehicle)}: {len(route.visits)} visits"
-    marks = [path(kind, stops, title)]
-    marks += [mark for tail, head in zip(stops, stops[1:]) for mark in head_of(route.vehicle, tail, head)]
+    colour = f"c{day.colour(route.vehicle)}"
+    title = f"{day.names.vehicle(route.vehicle)} ({day.letters(route.vehicle)}): {len(route.visits)} visits"
+    marks = [path(f"route {colour}{LINES[route.vehicle // 12 % 3]}", stops, title)]
+    marks += [mark for tail, head in zip(stops, stops[1:]) for mark in head_of(colour, tail, head)]
     return group("way", marks, route.vehicle)
 
 
-def head_of(vehicle: int, tail: Point, head: Point) -> Iterator[str]:
+def head_of(colour: str, tail: Point, head: Point) -> Iterator[str]:
     """A small head in the middle of a drive, which says where it leads."""
     length = math.hypot(head[0] - tail[0], head[1] - tail[1])
     if length < 30:
@@ -66,7 +59,7 @@ def head_of(vehicle: int, tail: Point, head: Point) -> Iterator[str]:
     x, y = (head[0] - tail[0]) / length, (head[1] - tail[1]) / length
     tip = ((tail[0] + head[0]) / 2 + 4 * x, (tail[1] + head[1]) / 2 + 4 * y)
     wings = [(tip[0] - 7 * x - side * 4 * y, tip[1] - 7 * y + side * 4 * x) for side in (1, -1)]
-    yield path(f"head r{vehicle % 12}", [wings[0], tip, wings[1]])
+    yield path(f"head {colour}", [wings[0], tip, wings[1]])
 
 
 def place_of(day: Day, node: int, points: Sequence[Point]) -> str:
@@ -81,11 +74,70 @@ def place_of(day: Day, node: int, points: Sequence[Point]) -> str:
     return circle("place", (x, y), 4 if len(points) <= 300 else 2.5, name)
 
 
-def names_of(day: Day, points: Sequence[Point]) -> List[str]:
-    """The names of places, beside their marks."""
+def spots_of(day: Day, points: Sequence[Point]) -> List[str]:
+    """On each visit the letters of its vehicle and the number of the stop; at one point they are one below another."""
+    if len(day.made_by()) > NUMBERED:
+        return []
+    used: Dict[Tuple[int, int], int] = {}
     out = []
-    for node, (x, y) in enumerate(points):
-        is_right = x > WIDTH - 90
-        at = (x - 8 if is_right else x + 8, y - 5)
-        out.append(text("placename", at, shortened(day.names.short(node), 14), "end" if is_right else "start"))
+    for route in day.routes():
+        marks = []
+        for stop, node in enumerate(route.nodes[1:-1], 1):
+            x, y = points[node]
+            key = (round(x / 12), round(y / 12))
+            below = 15 * used.get(key, 0)
+            used[key] = used.get(key, 0) + 1
+            marks.append(spot(day, route, stop, (x, y + below)))
+        out.append(group("spots", marks, route.vehicle))
     return out
+
+
+def spot(day: Day, route: Route, stop: int, at: Point) -> str:
+    """The mark of a stop, which is as large on a small screen."""
+    words = f"{day.letters(route.vehicle)}{stop}"
+    wide = 8 + 6.6 * len(words)
+    title = f"{day.names.node(route.nodes[stop])}: stop {stop} of {day.names.vehicle(route.vehicle)}"
+    marks = rect(f"spot c{day.colour(route.vehicle)}", (-wide / 2, -7.5), (wide, 15), title)
+    return (
+        f'<g transform="translate({at[0]:.1f} {at[1]:.1f})"><g class="zoom">{marks}'
+        f'{text("letters", (0, 4), words, "middle")}</g></g>'
+    )
+
+
+def names_of(day: Day, ground: Ground) -> List[str]:
+    """The names of places, beside their marks where there is room, and how far away those at the edge are."""
+    taken = [(x - 14, y - 8, x + 14, y + 8) for x, y in ground.points]
+    out = []
+    for node, point in enumerate(ground.points):
+        name = shortened(day.names.short(node), 14)
+        if node in ground.far:
+            name = f"{name}, {ground.far[node]:.0f}{ground.unit} away"
+        for anchor, at, box in sides_of(point, LETTER * len(name)):
+            if not any(overlap(box, other) for other in taken) and 0 < box[0] and box[2] < WIDTH:
+                taken.append(box)
+                out.append(text("placename", at, name, anchor))
+                break
+    return out
+
+
+def sides_of(point: Point, wide: float) -> Iterator[Tuple[str, Point, Box]]:
+    """Where words of this width may stand beside a mark: above or below it, to its right or its left."""
+    x, y = point
+    for base in (y - 9, y + 18):
+        yield "start", (x + 10, base), (x + 10, base - 10, x + 10 + wide, base + 1)
+        yield "end", (x - 10, base), (x - 10 - wide, base - 10, x - 10, base + 1)
+
+
+def overlap(one: Box, other: Box) -> bool:
+    """Whether two boxes, each given by its left, upper, right and lower edge, have something in common."""
+    return one[0] < other[2] and other[0] < one[2] and one[1] < other[3] and other[1] < one[3]
+
+
+def scale_of(ground: Ground) -> List[str]:
+    """A length of the map, and how long it is."""
+    length, wide = length_of_scale(ground)
+    y = ground.height - 10
+    return [
+        path("ruler", [(12, y - 5), (12, y), (12 + wide, y), (12 + wide, y - 5)]),
+        text("note", (18 + wide, y), f"{length:g}{ground.unit}"),
+    ]

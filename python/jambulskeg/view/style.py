@@ -5,15 +5,11 @@ from __future__ import annotations
 import os
 from functools import lru_cache
 
+from .colours import COLOURS
+
 __all__ = ["PATTERNS", "page_script", "page_style", "picture_style"]
 
 FOLDER = os.path.dirname(os.path.abspath(__file__))
-ROUTES = (
-    ("#1f5fa8", "#7db4f0"), ("#b4451f", "#f0a07d"), ("#15803d", "#6fd08c"), ("#7c3aed", "#b79cf5"),
-    ("#8a6100", "#e0b84a"), ("#0e7490", "#5fc8dc"), ("#be185d", "#f08cb8"), ("#4d7c0f", "#a8d05a"),
-    ("#86198f", "#e29bf5"), ("#b91c1c", "#f58c8c"), ("#0f766e", "#5fd0c0"), ("#57534e", "#c8c2bc"),
-)
-"""The colours of routes, light and dark; each is escaped apart from the ground at a ratio of 3 at least."""
 PARTS = {"arcs": 0, "fixed": 1, "span": 2, "global_": 3, "soft": 4, "penalty": 9}
 """Which of these colours the parts of the cost have."""
 PATTERNS = (
@@ -22,7 +18,7 @@ PATTERNS = (
     '<pattern id="dots" width="4" height="4" patternUnits="userSpaceOnUse">'
     '<rect class="dotground" width="4" height="4"/><circle class="dot" cx="2" cy="2" r="1"/></pattern></defs>'
 )
-"""Hatched and dotted grounds, so that breaks and waiting are escaped apart without colours too."""
+"""Hatched and dotted grounds, so that breaks and waiting are told apart without colours too."""
 
 
 @lru_cache(maxsize=None)
@@ -32,20 +28,24 @@ def read(name: str) -> str:
         return file.read()
 
 
-def route_rules(shade: int) -> str:
-    """The colours of routes and of parts in one of the two shades."""
+def colour_rules(shade: int) -> str:
+    """The colours of vehicles and of parts in one of the two shades."""
     rules = [
-        f".route.r{at},.head.r{at}{{stroke:{colours[shade]}}}.swatch.r{at}{{fill:{colours[shade]}}}"
-        for at, colours in enumerate(ROUTES)
+        f".route.c{at},.head.c{at},.level.c{at}{{stroke:{colours[shade]}}}"
+        f".visit.c{at},.swatch.c{at},.spot.c{at},.area.c{at}{{fill:{colours[shade]}}}"
+        f".badge.c{at}{{background:{colours[shade]}}}"
+        for at, colours in enumerate(COLOURS)
     ]
-    rules += [f".part-{part}{{background:{ROUTES[at][shade]};fill:{ROUTES[at][shade]}}}" for part, at in PARTS.items()]
+    rules += [
+        f".part-{part}{{background:{COLOURS[at][shade]};fill:{COLOURS[at][shade]}}}" for part, at in PARTS.items()
+    ]
     return "".join(rules)
 
 
 def picture_style() -> str:
     """The style of drawings, light, and dark where a screen asks for it."""
-    dark = read("picture-dark.css") + route_rules(1)
-    return f"{read('picture.css')}{route_rules(0)}@media screen and (prefers-color-scheme:dark){{{dark}}}"
+    dark = read("picture-dark.css") + colour_rules(1)
+    return f"{read('picture.css')}{colour_rules(0)}@media screen and (prefers-color-scheme:dark){{{dark}}}"
 
 
 def page_style() -> str:
@@ -54,5 +54,5 @@ def page_style() -> str:
 
 
 def page_script() -> str:
-    """The script of a page: it looks for visits, brings out a vehicle, and opens tables for print."""
+    """The script of a page: it looks for visits, sorts tables, brings out a vehicle, and opens tables for print."""
     return read("page.js")

@@ -78,6 +78,21 @@ def circle(kind: str, centre: Point, radius: float, title: str = "") -> str:
     return titled("circle", f'class="{kind}" cx="{number(centre[0])}" cy="{number(centre[1])}" r="{radius:g}"', title)
 
 
+def stretched(size: Point, marks: Iterable[str]) -> str:
+    """Marks in a box of this size that is as wide as there is room, and as high as it says."""
+    width, height = size
+    return (
+        f'<svg viewBox="0 0 {width:g} {height:g}" preserveAspectRatio="none" width="100%" height="{height:g}">'
+        f'{"".join(marks)}</svg>'
+    )
+
+
+def along(kind: str, share: float, y: float, words: object, anchor: str = "start") -> str:
+    """Words at a share of the width from 0 to 1, whose letters do not grow with it."""
+    place = f'x="{100 * share:.2f}%" y="{number(y)}"'
+    return f'<text class="{kind}" {place} text-anchor="{anchor}">{escaped(words)}</text>'
+
+
 def text(kind: str, at: Point, words: object, anchor: str = "start") -> str:
     """Words at a point: `anchor` says whether they start there, end there, or have their middle there."""
     place = f'x="{number(at[0])}" y="{number(at[1])}"'
@@ -92,7 +107,10 @@ def group(kind: str, marks: Iterable[str], vehicle: int = -1) -> str:
 
 @dataclass(frozen=True)
 class Picture:
-    """A drawing: what it shows in words, its height, its labels and, beside them, its body, as wide as these say."""
+    """A drawing: what it shows in words, its height, its labels and, beside them, its body, as wide as these say.
+
+    A body that `stretches` is drawn as wide as there is room; then `width` is what it is drawn for at first.
+    """
 
     title: str
     description: str
@@ -101,3 +119,4 @@ class Picture:
     width: float
     labels: str = ""
     label_width: float = 0
+    stretches: bool = False

@@ -10,7 +10,10 @@ from ..solution import Parts, Route
 from .day import Day, Penalty
 from .svg import escaped
 
-__all__ = ["PARTS", "cost_table", "left_table", "parts_table", "stops_table", "visits_table"]
+__all__ = [
+    "Markup", "PARTS", "badge", "cost_table", "left_table", "parts_table", "stops_table", "table", "van_cell",
+    "visits_table",
+]
 
 PARTS: Sequence[Tuple[str, str, str]] = (
     ("arcs", "arcs", "the arc costs of all vehicles that leave"),
@@ -23,29 +26,53 @@ PARTS: Sequence[Tuple[str, str, str]] = (
 """The parts of a cost: the field, its name, and what it is."""
 
 
-def table(caption: str, heads: Sequence[str], bodies: Iterable[str], identity: str = "") -> str:
+class Markup(str):
+    """A cell that is HTML already: whatever it has of a model or a file was escaped."""
+
+
+def badge(day: Day, vehicle: int) -> Markup:
+    """The letters of a vehicle on its colour."""
+    return Markup(f'<b class="badge c{day.colour(vehicle)}">{escaped(day.letters(vehicle))}</b>')
+
+
+def van_cell(day: Day, vehicle: int) -> Markup:
+    """The name of a vehicle, with its badge."""
+    return Markup(f"{badge(day, vehicle)} {escaped(day.names.vehicle(vehicle))}")
+
+
+def table(
+    caption: str, heads: Sequence[str], bodies: Iterable[str], identity: str = "", shape: str = ""
+) -> str:
     """A table of bodies that are HTML already; the first column has the names of the rows. A head that begins with #
-    stands over numbers."""
+    stands over numbers. Shapes are `wide` (as wide as the page) and `sorts` (sorted by its heads, wide too)."""
     cells = "".join(
         f'<th scope="col" class="number">{escaped(head[1:])}</th>' if head.startswith("#") else
         f'<th scope="col">{escaped(head)}</th>' for head in heads
     )
-    name = f' id="{identity}"' if identity else ""
+    name = (f' id="{identity}"' if identity else "") + (f' class="{shape}"' if shape else "")
     return (
         f'<div class="scroll far" tabindex="0" role="region" aria-label="{escaped(caption)}">'
         f"<table{name}><caption>{escaped(caption)}</caption><thead><tr>{cells}</tr></thead>{''.join(bodies)}</table>"
-        "</div>"
+        '</div><p class="hint" aria-hidden="true">the table goes on to the right \u203a</p>'
     )
 
 
-def row(cells: Sequence[Any], marks: str = "", key: str = "") -> str:
-    """A row; numbers are set to the right, and a key of a colour stands before the first cell."""
+def row(cells: Sequence[Any], marks: str = "", key: str = "", heads: Sequence[str] = ()) -> str:
+    """A row; numbers are set to the right, and a key of a colour stands before the first cell. With `heads` each cell
+    knows its own, for screens on which the row is no row any more."""
     first, *rest = cells
     colour = f'<i class="key {key}"></i>' if key else ""
+    known = [f' data-head="{escaped(head.lstrip("# "))}"' for head in heads[1:]] or [""] * len(rest)
     words = "".join(
-        f'<td class="number">{cell}</td>' if isinstance(cell, int) else f"<td>{escaped(cell)}</td>" for cell in rest
+        f'<td class="number"{head}>{cell}</td>' if isinstance(cell, int) else f"<td{head}>{marked(cell)}</td>"
+        for cell, head in zip(rest, known)
     )
-    return f'<tr{marks}><th scope="row">{colour}{escaped(first)}</th>{words}</tr>'
+    return f'<tr{marks}><th scope="row">{colour}{marked(first)}</th>{words}</tr>'
+
+
+def marked(cell: object) -> str:
+    """A cell as HTML."""
+    return cell if isinstance(cell, Markup) else escaped(cell)
 
 
 def parts_table(parts: Parts) -> str:
@@ -63,10 +90,10 @@ def cost_table(day: Day) -> str:
         span = sum(span_of(day.model, number, route, plan) for number, plan in enumerate(route.dimensions))
         soft = sum(soft_of(day.model, number, route, plan) for number, plan in enumerate(route.dimensions))
         rows.append(row([
-            day.names.vehicle(route.vehicle), len(route.visits), arcs, fixed, span, soft, arcs + fixed + span + soft
+            van_cell(day, route.vehicle), len(route.visits), arcs, fixed, span, soft, arcs + fixed + span + soft
         ]))
     heads = ["vehicle", "#visits", "#arcs", "#fixed cost", "#spans", "#lateness", "#together"]
-    return table("What each vehicle costs", heads, ["<tbody>", *rows, "</tbody>"])
+    return table("What each vehicle costs", heads, ["<tbody>", *rows, "</tbody>"], shape="sorts")
 
 
 def left_table(day: Day) -> str:
@@ -75,9 +102,9 @@ def left_table(day: Day) -> str:
     if not penalties:
         return "<p>Every visit is made.</p>"
     rows = [left_row(day, penalty) for penalty in penalties]
-    rows.append(row(["all", "", day.solution.parts.penalty, ""], ' class="sum"'))
-    heads = ["group", "left out", "#cost", "why"]
-    return table("What was left out, and why it costs", heads, ["<tbody>", *rows, "</tbody>"])
+    rows.append(row(["all", day.solution.parts.penalty, "", ""], ' class="sum"'))
+    heads = ["left out", "#cost", "what it costs", "why, with the others as they are"]
+    return table("What was left out, and why", heads, ["<tbody>", *rows, "</tbody>"], shape="wide")
 
 
 def left_row(day: Day, penalty: Penalty) -> str:
@@ -86,13 +113,18 @@ def left_row(day: Day, penalty: Penalty) -> str:
     left = ", ".join(day.names.node(node) for node in penalty.left)
     made = len(group.nodes) - len(penalty.left)
     if group.penalty is None:
-        why = f"exactly {group.max} of {len(group.nodes)} are made; the others cost nothing"
+        costs = f"exactly {group.max} of {len(group.nodes)} are made; the others cost nothing"
     elif len(group.nodes) == 1:
-        why = f"it may be left out at a penalty of {group.penalty}"
+        reason = day.reasons.get(penalty.left[0])
+        is_duty = reason is not None and reason.is_required
+        costs = "it should be made" if is_duty else f"it may be left out at a penalty of {group.penalty}"
     else:
-        why = f"of {len(group.nodes)} visits {made} are made and {group.max} could be: "
-        why += f"{penalty.short} times the penalty {group.penalty}"
-    return row([f"group {penalty.number}", left, penalty.cost, why])
+        costs = f"of {len(group.nodes)} visits {made} are made and {group.max} could be: "
+        costs += f"{penalty.short} times the penalty {group.penalty}"
+    whys = {node: day.why_left(node) for node in penalty.left}
+    is_one = len(set(whys.values())) == 1
+    why = next(iter(whys.values())) if is_one else "; ".join(f"{day.names.node(n)}: {whys[n]}" for n in whys)
+    return row([left, penalty.cost, costs, why])
 
 
 def visits_table(day: Day, identity: str = "visits") -> str:
@@ -102,19 +134,21 @@ def visits_table(day: Day, identity: str = "visits") -> str:
     partners = partners_of(day)
     heads = ["visit", "vehicle", "#stop"]
     heads += ["pair"] if partners else []
-    heads += ["#begins", "window", "forbidden", "beyond the soft bound"] if day.is_timed else []
+    heads += [clock_head(day, "begins"), "window", "forbidden", "beyond the soft bound"] if day.is_timed else []
+    heads += [f" {heading}" for heading in day.cells(0)]
     rows: List[Tuple[List[Any], str]] = []
     for node in day.model.visits():
         vehicle, stop = made.get(node, (-1, -1))
-        cells: List[Any] = [day.names.node(node), day.names.vehicle(vehicle) if stop > 0 else "left out"]
+        cells: List[Any] = [day.names.node(node), van_cell(day, vehicle) if stop > 0 else "left out"]
         cells.append(stop if stop > 0 else "")
         cells += [partners.get(node, "")] if partners else []
         begins = day.stops(routes[vehicle])[stop] if stop > 0 else None
         cells += time_cells(day, asked.get(node), begins) if day.is_timed else []
+        cells += [day.cells(node).get(heading, "") for heading in day.cells(0)]
         rows.append((cells, "" if stop > 0 else ' class="left"'))
     shown = [at for at, head in enumerate(heads) if at < 3 or any(cells[at] != "" for cells, _ in rows)]
     lines = [row([cells[at] for at in shown], marks) for cells, marks in rows]
-    return table("Each visit", [heads[at] for at in shown], ["<tbody>", *lines, "</tbody>"], identity)
+    return table("Each visit", [heads[at] for at in shown], ["<tbody>", *lines, "</tbody>"], identity, "sorts")
 
 
 def partners_of(day: Day) -> Dict[int, str]:
@@ -144,6 +178,11 @@ def clock_cell(day: Day, value: int) -> Any:
     return value if day.names.clock is None else day.names.time(value)
 
 
+def clock_head(day: Day, words: str) -> str:
+    """The head of a column of times, which are numbers where the day has no clock."""
+    return words if day.names.clock is not None else f"#{words}"
+
+
 def range_text(day: Day, window: Sequence[int]) -> str:
     """An interval of times in words."""
     return f"{day.names.time(window[0])} to {day.names.time(window[1])}"
@@ -152,15 +191,15 @@ def range_text(day: Day, window: Sequence[int]) -> str:
 def stops_table(day: Day) -> str:
     """The stops of each vehicle in order, with all that the charts show."""
     loads = day.loads()
-    heads = ["stop", *([f"#{day.unit}", "until", "then"] if day.is_timed else [f"#{day.unit}"])]
+    heads = ["stop", *([clock_head(day, day.unit), "until", "then"] if day.is_timed else [f"#{day.unit}"])]
     heads += [f"#{day.model.dimensions[number].name}" for number in loads]
     bodies = []
     for route in day.routes():
-        name = f"{day.names.vehicle(route.vehicle)}: {len(route.visits)} visits"
-        head = f'<tr><th colspan="{len(heads)}" scope="rowgroup">{escaped(name)}</th></tr>'
+        name = f"{van_cell(day, route.vehicle)}: {len(route.visits)} visits"
+        head = f'<tr><th colspan="{len(heads)}" scope="rowgroup">{name}</th></tr>'
         rows = "".join(stop_rows(day, route, loads))
         bodies.append(f'<tbody data-vehicle="{route.vehicle}">{head}{rows}</tbody>')
-    return table("Stops of each vehicle", heads, bodies)
+    return table("Stops of each vehicle", heads, bodies, shape="wide")
 
 
 def stop_rows(day: Day, route: Route, loads: Sequence[int]) -> Iterator[str]:

@@ -12,9 +12,9 @@ from ..records import HORIZON, StopRow
 from ..solution import Route
 from .axis import Axis
 from .day import Day, Piece
-from .svg import Picture, Point, boxes, group, line, rect, segments, shortened, text
+from .svg import Picture, Point, along, boxes, group, line, rect, segments, shortened, stretched, text
 
-__all__ = ["axis_of", "band", "grid", "name_of", "timeline"]
+__all__ = ["axis_of", "band", "grid", "heading", "name_of", "timeline"]
 
 WIDTH = 1080
 LABELS = 130
@@ -34,6 +34,8 @@ EVERY = 12
 """After so many vehicles the axis is written again."""
 LETTER = 6.4
 """The width of a letter of a visit's name."""
+ROOMS = (("wl", 960), ("wm", 560), ("ws", 220))
+"""The classes of words, and how wide a chart is at least where words of that class are shown."""
 THICK = {"visit": BAR, "wait": 8, "break": 12}
 WORDS = {"travel": "drives", "wait": "waits", "break": "break of"}
 
@@ -61,18 +63,20 @@ def timeline(day: Day, axis: Axis) -> Picture:
     labels: List[str] = []
     body: List[str] = []
     bands: List[str] = []
+    words: List[str] = []
     for place, route in enumerate(day.solution.routes):
         if place % EVERY == 0:
             y += HEAD
-            body.append(heading(day, axis, y))
+            words.append(heading(day, axis, y))
         height = row_height(day, route)
         labels.append(name_of(day, route, y + (NAMES if route.nodes else 0) + BAR - 4))
         bands.append(band(place, y, height))
         body.append(row_of(day, axis, route, y))
+        words.append(names_of(day, axis, route, y))
         y += height
     title = f"Each vehicle's day along {day.unit}"
-    marks = "".join([*bands, *grid(day, axis, y), *body])
-    return Picture(title, described(day), y, marks, WIDTH, "".join(labels), LABELS)
+    marks = stretched((WIDTH, y), [*bands, *grid(day, axis, y), *body])
+    return Picture(title, described(day), y, marks + "".join(words), WIDTH, "".join(labels), LABELS, True)
 
 
 def band(place: int, y: float, height: float) -> str:
@@ -98,15 +102,38 @@ def grid(day: Day, axis: Axis, height: float) -> List[str]:
 def heading(day: Day, axis: Axis, y: float) -> str:
     """The numbers of the axis."""
     ticks = axis.ticks(12, day.names.clock is not None)
-    return group("axis", [text("number", (axis.at(tick), y - 8), day.names.time(tick), "middle") for tick in ticks])
+    words = [(axis.at(tick) / WIDTH, day.names.time(tick)) for tick in ticks]
+    marks = [
+        along(f"number fit {kinds}", share, y - 8, word, "middle")
+        for (share, word), kinds in zip(words, rooms(words, True)) if kinds
+    ]
+    return group("axis", marks)
+
+
+def rooms(words: Sequence[Tuple[float, str]], in_middle: bool) -> List[str]:
+    """For each of some words along a row, at their shares of the width, the classes of charts that have room for it."""
+    out = [""] * len(words)
+    for kind, width in ROOMS:
+        free: float = 0
+        for at, (share, word) in enumerate(words):
+            long = LETTER * len(word)
+            begin = share * width - (long / 2 if in_middle else 0)
+            if begin >= free and begin + long <= width and word:
+                out[at] += f"{' ' if out[at] else ''}{kind}"
+                free = begin + long + 3
+    return out
 
 
 def name_of(day: Day, route: Route, y: float) -> str:
-    """The name of a vehicle, with the colour that its route has on the map."""
-    kind = f"swatch r{route.vehicle % 12}" if route.nodes else "swatch idle"
-    name = shortened(day.names.vehicle(route.vehicle), 15)
-    marks = [rect(kind, (8, y - 10), (7, 12)), text("name", (21, y), name)]
-    return group("label" if route.nodes else "label idle", marks, route.vehicle)
+    """The name of a vehicle, with its letters on its colour."""
+    name = text("name", (32, y), shortened(day.names.vehicle(route.vehicle), 14))
+    if not route.nodes:
+        return group("label idle", [name], route.vehicle)
+    marks = [
+        rect(f"swatch c{day.colour(route.vehicle)}", (4, y - 12), (24, 15)),
+        text("letters", (16, y), day.letters(route.vehicle), "middle"),
+    ]
+    return group("label", [*marks, name], route.vehicle)
 
 
 def row_height(day: Day, route: Route) -> float:
@@ -122,7 +149,7 @@ def lanes_of(day: Day, route: Route) -> int:
 def row_of(day: Day, axis: Axis, route: Route, y: float) -> str:
     """The row of a vehicle."""
     if not route.nodes:
-        return group("row idle", [text("note", (axis.left, y + BAR - 4), "not used")], route.vehicle)
+        return ""
     top = y + NAMES
     marks = list(shift_of(day, axis, route, top))
     marks += bars_of(day, axis, route, top)
@@ -160,7 +187,8 @@ def bars_of(day: Day, axis: Axis, route: Route, top: float) -> List[str]:
         if piece.kind in ("visit", "break"):
             low, width = axis.at(piece.low), axis.at(piece.high) - axis.at(piece.low)
             corner, size = (low, middle - THICK[piece.kind] / 2), (max(LEAST, width), THICK[piece.kind])
-            marks.append(rect(piece.kind, corner, size, piece_title(day, route, piece, before.get(piece.stop, []))))
+            kind = f"visit c{day.colour(route.vehicle)}" if piece.kind == "visit" else piece.kind
+            marks.append(rect(kind, corner, size, piece_title(day, route, piece, before.get(piece.stop, []))))
     return marks
 
 
@@ -184,18 +212,22 @@ def piece_title(day: Day, route: Route, piece: Piece, before: Sequence[Piece]) -
 
 
 def visits_of(day: Day, axis: Axis, route: Route, top: float) -> List[str]:
-    """A mark where each stop begins, and its name where there is room for it."""
-    names: List[str] = []
-    free = axis.left - MARGIN
-    stops = day.stops(route)
-    ticks = [((axis.at(at), top), (axis.at(at), top + BAR)) for at in stops]
-    for (x, _), _ in ticks[1:-1]:
-        name = shortened(day.names.short(route.nodes[len(names) + 1]), 14)
-        width = LETTER * len(name)
-        has_room = x >= free and x + width <= WIDTH
-        names.append(text("stop", (x, top - 3), name) if has_room else "")
-        free = x + width + 3 if has_room else free
-    return [segments("begin", ticks[1:-1]), segments("end", [ticks[0], ticks[-1]]), *names]
+    """A mark where each stop begins."""
+    ticks = [((axis.at(at), top), (axis.at(at), top + BAR)) for at in day.stops(route)]
+    return [segments("begin", ticks[1:-1]), segments("end", [ticks[0], ticks[-1]])]
+
+
+def names_of(day: Day, axis: Axis, route: Route, y: float) -> str:
+    """The name of each visit above its mark, in the charts that have room for it."""
+    if not route.nodes:
+        return group("row idle", [along("note", axis.left / WIDTH, y + BAR - 4, "not used")], route.vehicle)
+    stops = list(zip(route.nodes, day.stops(route)))[1:-1]
+    words = [(axis.at(at) / WIDTH, shortened(day.names.short(node), 14)) for node, at in stops]
+    marks = [
+        along(f"stop fit {kinds}", share, y + NAMES - 3, word)
+        for (share, word), kinds in zip(words, rooms(words, False)) if kinds
+    ]
+    return group("row", marks, route.vehicle)
 
 
 def windows_of(day: Day, axis: Axis, route: Route, top: float) -> List[str]:

@@ -57,10 +57,10 @@ function pressed(label, words, isPressed, listener, disabled) {
 }
 
 function about(van, vehicle) {
-  const key = "swatch-key key-" + vehicle % 12;
   const times = van.begins.length ? van.begins[0] + " to " + van.begins[van.begins.length - 1] : "stays at home";
+  const badge = make("i", {class: "badge c" + van.colour, "aria-hidden": "true"}, van.letters);
   return make("div", {class: "about"},
-    make("b", {class: "route-name"}, make("i", {class: key, "aria-hidden": "true"}), van.name),
+    make("b", {class: "route-name"}, badge, " ", van.name),
     times, van.load ? make("span", {}, "; load " + van.load) : null, make("br"),
     pressed("Pin " + van.name, "Pin", van.pinned, () => change({kind: "pin", vehicle, pinned: !van.pinned}),
       desk.searching),
@@ -78,7 +78,7 @@ function row(van, vehicle) {
 function left() {
   const count = desk.day.left.length;
   return make("div", {class: "van", role: "group", "aria-label": "Left out: " + count + " visits"},
-    make("div", {class: "about"}, make("b", {}, "Left out"), count + " visits"), chips(null, desk.day.left));
+    make("div", {class: "about"}, make("b", {}, "Left out"), count === 1 ? "1 visit" : count + " visits"), chips(null, desk.day.left));
 }
 
 /** The visit that the keyboard comes to first. */

@@ -4,7 +4,10 @@ import {get} from "./ask.js";
 import {byId, piece} from "./make.js";
 import {desk, on} from "./store.js";
 
-const PLACES = {charts: "charts", costs: "parts", left: "left", visits: "visits-part", stops: "stops"};
+const PLACES = {
+  charts: "charts", costs: "parts", left: "left", visits: "visits-part", stops: "stops", sheets: "sheets",
+};
+const FOLDED = "#parts details, #stops details, #sheets details";
 const PAUSE = 150;
 let asked = -1, timer = null;
 
@@ -12,6 +15,11 @@ let asked = -1, timer = null;
 function later() {
   window.clearTimeout(timer);
   timer = window.setTimeout(show, PAUSE);
+}
+
+/** What tells a folded part from the others, also when it is drawn anew. */
+function keyOf(part) {
+  return part.dataset.vehicle || part.querySelector("summary").textContent;
 }
 
 async function show() {
@@ -23,45 +31,15 @@ async function show() {
   asked = mark;
   const found = await get("day/" + desk.day.id + "/charts").catch(() => null);
   if (asked !== mark || !found) { return; }
-  const open = Array.from(document.querySelectorAll("#parts details, #stops details")).filter((part) => part.open)
-    .map((part) => part.querySelector("summary").textContent);
+  const state = new Map(Array.from(document.querySelectorAll(FOLDED)).map((part) => [keyOf(part), part.open]));
   const words = byId("search") ? byId("search").value : "", vehicle = byId("vehicle") ? byId("vehicle").value : "";
   for (const [name, id] of Object.entries(PLACES)) { piece(byId(id), found[name]); }
-  for (const part of document.querySelectorAll("#parts details, #stops details")) {
-    part.open = open.includes(part.querySelector("summary").textContent);
+  for (const part of document.querySelectorAll(FOLDED)) {
+    if (state.has(keyOf(part))) { part.open = state.get(keyOf(part)); }
   }
-  again(words, vehicle);
-}
-
-/** The search in visits, and the vehicle that is brought out, as they were. */
-function again(words, vehicle) {
-  const search = byId("search"), choice = byId("vehicle");
-  search.addEventListener("input", filter);
-  choice.addEventListener("change", bringOut);
-  search.value = words;
-  if (Array.from(choice.options).some((option) => option.value === vehicle)) { choice.value = vehicle; }
-  filter();
-  bringOut();
-}
-
-function filter() {
-  const words = byId("search").value.toLowerCase().split(/\s+/).filter(Boolean);
-  const rows = Array.from(byId("visits").tBodies[0].rows);
-  let shown = 0;
-  for (const row of rows) {
-    const text = row.textContent.toLowerCase(), fits = words.every((word) => text.includes(word));
-    row.classList.toggle("hidden", !fits);
-    shown += fits ? 1 : 0;
-  }
-  byId("count").textContent = shown + " of " + rows.length + " visits";
-}
-
-function bringOut() {
-  const value = byId("vehicle").value;
-  for (const part of document.querySelectorAll("#charts [data-vehicle], #stops [data-vehicle]")) {
-    const other = value !== "" && part.getAttribute("data-vehicle") !== value;
-    part.classList.toggle(part.tagName === "TBODY" ? "hidden" : "faint", other);
-  }
+  byId("search").value = words;
+  if (Array.from(byId("vehicle").options).some((option) => option.value === vehicle)) { byId("vehicle").value = vehicle; }
+  window.beginPage();
 }
 
 export function begin() {

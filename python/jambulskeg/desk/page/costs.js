@@ -34,7 +34,7 @@ function stateWords() {
 function showState() {
   const day = desk.day;
   byId("state").replaceChildren(
-    make("span", {class: "badge " + day.status}, WORDS[day.status]),
+    make("span", {class: "verdict " + day.status}, WORDS[day.status]),
     day.status === "broken" ? "" : make("b", {id: "cost"}, String(day.cost)), stateWords());
 }
 

@@ -4,7 +4,10 @@ import {get, post} from "./ask.js";
 import {byId, make, piece, table} from "./make.js";
 import {ask, desk, on, open, tell} from "./store.js";
 
-const EXPORTS = [["csv", "stops as CSV"], ["json", "model and solution for the program (JSON)"]];
+const EXPORTS = [
+  ["csv", "Table of stops (CSV)"], ["sheets", "A sheet for each driver (page to print)"], ["page", "The whole day (page)"],
+  ["geojson", "Map (GeoJSON)"], ["json", "Model and solution for the program (JSON)"],
+];
 let known = {days: [], examples: []};
 
 export async function list() {
@@ -30,11 +33,26 @@ function opened() {
   history.replaceState(null, "", "#" + day.id);
   byId("doubts-part").hidden = !day.doubts.length;
   byId("doubts").replaceChildren(...day.doubts.map((words) => make("li", {}, words)));
-  byId("exports").replaceChildren(...EXPORTS.map(([kind, words]) =>
-    make("li", {}, make("a", {href: "api/day/" + day.id + "/export/" + kind, download: true}, words))));
+  exportsShown();
   byId("beside").hidden = true;
   shown();
   list();
+}
+
+function exportLine(kind, words) {
+  return make("p", {}, make("a", {href: "api/day/" + desk.day.id + "/export/" + kind, download: true}, words));
+}
+
+/** The files of a day; a calendar is of a date. */
+function exportsShown() {
+  const date = make("input", {type: "date", id: "export-date", value: new Date().toISOString().slice(0, 10)});
+  const calendar = exportLine("icalendar-" + date.value, "Calendar (iCalendar)");
+  date.addEventListener("change", () => {
+    if (date.value) { calendar.firstChild.href = "api/day/" + desk.day.id + "/export/icalendar-" + date.value; }
+  });
+  const kinds = EXPORTS.filter(([kind]) => kind !== "geojson" || desk.day.has_places);
+  const dated = desk.day.clock === null ? [] : [calendar, make("p", {}, make("label", {for: "export-date"}, "of "), date)];
+  byId("exports").replaceChildren(...kinds.map(([kind, words]) => exportLine(kind, words)), ...dated);
 }
 
 function stepLine(step, at) {
