@@ -111,7 +111,7 @@ class Planner:
         self.page.value(f"document.querySelector('#seconds').value = {seconds}")
         self.page.click("#plan")
         self.page.wait("!document.querySelector('#stop').hidden")
-        self.page.wait("document.querySelector('#stop').hidden", seconds + 20)
+        self.page.wait("document.querySelector('#stop').hidden", seconds + 60)
         time.sleep(0.3)
 
     def made_of_tables(self, places: str, vans: str, name: str) -> None:
@@ -352,8 +352,11 @@ def large_day(planner: Planner, desk: Desk, folder: str) -> None:
     planner.made_of_tables(files[0], files[1], "large")
     planner.page.wait("document.querySelectorAll('.chip').length == 999", 60)
     planner.planned(15)
+    print(planner.text("#progress-words"))
     for number in range(4):
-        name = planner.page.value("document.querySelector('.chips[data-row=\"0\"] .chip').firstChild.textContent")
+        name = planner.page.value(
+            "document.querySelector('.chips:not([data-row=left]) .chip').firstChild.textContent"
+        )
         planner.page.click(planner.chip(name))
         began = planner.page.value("performance.now()")
         planner.page.key("Delete")

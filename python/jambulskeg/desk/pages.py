@@ -28,6 +28,8 @@ __all__ = ["beside", "drawn_parts", "parts_tree", "problem_of", "told"]
 
 SECONDS = 0.4
 """How long it is measured why visits are left out."""
+MOST_REASONS = 20
+"""Of as many visits that is measured."""
 MOST_STEPS = 60
 """As many of the latest steps are told at a time."""
 
@@ -156,7 +158,8 @@ def drawn_parts(day: OpenDay) -> Dict[str, str]:
         drawn, missing = day.drawn(), day.verdict().missing
     alone = [Group([node], 0) for node in missing if is_alone(drawn, node)]
     shown = replace(drawn.model, groups=[*drawn.model.groups, *alone])
-    reasons = why_left_out(shown, drawn.solution, SECONDS, missing)
+    few = replace(drawn.solution, dropped=drawn.solution.dropped[:MOST_REASONS] if drawn.routes() else [])
+    reasons = why_left_out(shown, few, SECONDS, missing)
     drawn = replace(drawn, model=shown, reasons=reasons)
     axis = axis_of([drawn])
     return {

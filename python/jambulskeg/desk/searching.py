@@ -1,5 +1,7 @@
 """Better days: a search runs rounds of the program in a thread until its seconds are over or it is stopped.
 
+Where nothing is planned yet, the first round is run to its end, however long that takes.
+
 A round is a run of the program with a construction, a search and a number of tries, which grow from pass to pass. What
 a round finds is put to the program as a whole day and is kept if it leaves fewer required visits unmade, or as many and
 costs less. The day changes once, at the end, and never for the worse.
@@ -34,13 +36,13 @@ LEAST, MOST = 1, 3600
 PATIENCE = 0.05
 """So many seconds after it is stopped, a run of the program is ended at the latest."""
 KINDS: Sequence[Tuple[First, Improve, Tuple[int, int]]] = (
-    (First.PARALLEL_CHEAPEST_INSERTION, Improve.GUIDED_LOCAL_SEARCH, (1, 10)),
     (First.PATH_CHEAPEST_ARC, Improve.GUIDED_LOCAL_SEARCH, (1, 10)),
+    (First.PARALLEL_CHEAPEST_INSERTION, Improve.GUIDED_LOCAL_SEARCH, (1, 10)),
     (First.PARALLEL_CHEAPEST_INSERTION, Improve.PATH_LNS, (1, 10)),
     (First.SAVINGS, Improve.GUIDED_LOCAL_SEARCH, (1, 5)),
     (First.PARALLEL_CHEAPEST_INSERTION, Improve.GUIDED_LOCAL_SEARCH, (1, 3)),
 )
-"""What the rounds of a pass search with."""
+"""What the rounds of a pass search with; the first is the quickest."""
 
 
 @dataclass(frozen=True)
@@ -147,7 +149,11 @@ class Search(threading.Thread):
             self._turn.release()
 
     def left(self) -> float:
-        """The seconds that are left."""
+        """The seconds that are left. Where no van has a visit, the search goes on until some round has an answer."""
+        if self.stopped.is_set():
+            return 0.0
+        if not self.rounds and not any(self._state.lists):
+            return float(MOST)
         return self.seconds - (time.monotonic() - self._began)
 
     def search(self) -> None:
@@ -165,7 +171,7 @@ class Search(threading.Thread):
         """Runs rounds of a model until the time is over. Raises `NoFirstSolution` where a whole pass finds none."""
         failed, has_found = 0, False
         for asked in rounds_of(model):
-            if self.left() <= 0 or self.stopped.is_set():
+            if self.left() <= 0:
                 return
             try:
                 self.try_round(asked)

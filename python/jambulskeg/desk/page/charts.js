@@ -9,7 +9,7 @@ const PLACES = {
 };
 const FOLDED = "#parts details, #stops details, #sheets details";
 const PAUSE = 150;
-let asked = -1, timer = null;
+let drawing = false, again = false, timer = null;
 
 /** Draws a little after the last change, so that one change after another is answered first. */
 function later() {
@@ -22,15 +22,27 @@ function keyOf(part) {
   return part.dataset.vehicle || part.querySelector("summary").textContent;
 }
 
+/** Draws the day; one that changes meanwhile is drawn once more at the end. */
 async function show() {
-  if (desk.day.status === "broken") {
+  again = drawing;
+  if (drawing) { return; }
+  drawing = true;
+  const id = desk.day.id, step = desk.day.step, isBroken = desk.day.status === "broken";
+  const found = isBroken ? null : await get("day/" + id + "/charts").catch(() => null);
+  drawing = false;
+  if (again || id !== desk.day.id || step !== desk.day.step) {
+    again = false;
+    await show();
+  } else {
+    put(found);
+  }
+}
+
+function put(found) {
+  if (!found) {
     for (const id of Object.values(PLACES)) { byId(id).replaceChildren(); }
     return;
   }
-  const mark = desk.day.id + " " + desk.day.step;
-  asked = mark;
-  const found = await get("day/" + desk.day.id + "/charts").catch(() => null);
-  if (asked !== mark || !found) { return; }
   const state = new Map(Array.from(document.querySelectorAll(FOLDED)).map((part) => [keyOf(part), part.open]));
   const words = byId("search") ? byId("search").value : "", vehicle = byId("vehicle") ? byId("vehicle").value : "";
   for (const [name, id] of Object.entries(PLACES)) { piece(byId(id), found[name]); }
@@ -38,7 +50,8 @@ async function show() {
     if (state.has(keyOf(part))) { part.open = state.get(keyOf(part)); }
   }
   byId("search").value = words;
-  if (Array.from(byId("vehicle").options).some((option) => option.value === vehicle)) { byId("vehicle").value = vehicle; }
+  const options = Array.from(byId("vehicle").options);
+  if (options.some((option) => option.value === vehicle)) { byId("vehicle").value = vehicle; }
   window.beginPage();
 }
 
