@@ -100,7 +100,7 @@ class Planner:
         self.page.middle(self.chip(before))
         x, y = self.page.middle_seen(self.chip(before))
         box = self.page.value(f"document.querySelector({json.dumps(self.chip(before))}).getBoundingClientRect().width")
-        self.page.value("document.querySelector('#said').textContent = document.querySelector('#refusal').textContent = ''")
+        self.page.value("for (const id of ['said', 'refusal']) document.getElementById(id).textContent = ''")
         began = time.monotonic()
         self.page.drag(self.chip(name), (x - box / 2 + 2, y))
         self.page.wait("document.querySelector('#said').textContent + document.querySelector('#refusal').textContent")
@@ -143,7 +143,7 @@ def load_and_plan(planner: Planner, folder: str) -> None:
     planner.page.wait("document.querySelectorAll('.chip').length == 12")
     held("nothing is planned yet", planner.text(".verdict") == "nothing is planned yet")
     planner.planned(1)
-    held("the day is planned and keeps all rules", (planner.text(".verdict"), planner.cost()) == ("keeps all rules", 237))
+    held("the day is planned", (planner.text(".verdict"), planner.cost()) == ("keeps all rules", 237))
     held("progress has its table", planner.page.value("document.querySelectorAll('#progress-table tbody tr').length"))
     planner.picture("desk-planned")
 

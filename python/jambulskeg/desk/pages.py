@@ -6,12 +6,12 @@ Texts from files are handed over as they are; the page writes them as text alone
 from __future__ import annotations
 
 from dataclasses import replace
-from typing import Any, Dict, List, Optional, Sequence, Tuple
+from typing import Any, Dict, FrozenSet, List, Optional, Sequence, Tuple
 
 from ..complete import CannotBeDriven
 from ..errors import JambulskegError, NotMet
 from ..reasons import why_left_out
-from ..records import HORIZON, Group, Model
+from ..records import HORIZON, Allowed, Group, Model
 from ..solution import Parts, Route
 from ..view.compare import changes_table, costs_beside
 from ..view.day import Day
@@ -155,12 +155,8 @@ def inert(text: str) -> str:
 def drawn_parts(day: OpenDay) -> Dict[str, str]:
     """The charts and tables of the present step, as pieces of a page, and why visits are left out."""
     with day.lock:
-        drawn, missing = day.drawn(), day.verdict().missing
-    alone = [Group([node], 0) for node in missing if is_alone(drawn, node)]
-    shown = replace(drawn.model, groups=[*drawn.model.groups, *alone])
-    few = replace(drawn.solution, dropped=drawn.solution.dropped[:MOST_REASONS] if drawn.routes() else [])
-    reasons = why_left_out(shown, few, SECONDS, missing)
-    drawn = replace(drawn, model=shown, reasons=reasons)
+        drawn, missing, state = day.drawn(), day.verdict().missing, day.step.state
+    drawn = with_reasons(drawn, missing, state.off | state.pinned)
     axis = axis_of([drawn])
     return {
         "charts": inert(choice(drawn) + charts(drawn, axis, day.basis.in_degrees)),
@@ -173,9 +169,20 @@ def drawn_parts(day: OpenDay) -> Dict[str, str]:
     }
 
 
-def is_alone(day: Day, node: int) -> bool:
-    """Whether a visit stands in no group."""
-    return all(node not in group.nodes for group in day.model.groups)
+def with_reasons(day: Day, missing: Sequence[int], closed: FrozenSet[int]) -> Day:
+    """The day with the reasons why visits are left out, of which `missing` must be made; vans that are `closed` (off or
+    pinned) have no place for them."""
+    grouped = {node for group in day.model.groups for node in group.nodes}
+    alone = [Group([node], 0) for node in missing if node not in grouped]
+    shown = replace(day.model, groups=[*day.model.groups, *alone])
+    if len(closed) == len(shown.vehicles) or not day.routes():
+        return replace(day, model=shown)
+    open_to = {node: [vehicle for vehicle in shown.vehicles_of(node) if vehicle not in closed]
+               for node in day.solution.dropped[:MOST_REASONS]}
+    few = [node for node, vehicles in open_to.items() if vehicles]
+    rows = [row for row in shown.allowed if row.node not in open_to]
+    asked = replace(shown, allowed=[*rows, *(Allowed(node, open_to[node]) for node in few)])
+    return replace(day, model=shown, reasons=why_left_out(asked, replace(day.solution, dropped=few), SECONDS, missing))
 
 
 def beside(days: Tuple[OpenDay, OpenDay], steps: Tuple[Optional[int], Optional[int]]) -> Dict[str, str]:

@@ -263,9 +263,8 @@ def ways_of(tree: Mapping[str, Any]) -> Ways:
     word, unit = tree.get("measure", Measure.EUCLID.value), tree.get("unit", "km")
     if word not in (Measure.EUCLID.value, Measure.MANHATTAN.value) or unit not in UNITS:
         raise BadChange("the distances are none that the desk knows")
-    return Ways(
-        Measure(word), UNITS[unit], real_of(tree, "speed", 40), real_of(tree, "cost", 1), int(real_of(tree, "wait", 480))
-    )
+    wait = int(real_of(tree, "wait", 480))
+    return Ways(Measure(word), UNITS[unit], real_of(tree, "speed", 40), real_of(tree, "cost", 1), wait)
 
 
 def upload_of(tree: Mapping[str, Any], name: str) -> Upload:

@@ -58,7 +58,7 @@ function pressed(label, words, isPressed, listener, disabled) {
 
 function about(van, vehicle) {
   const times = van.begins.length ? van.begins[0] + " to " + van.begins[van.begins.length - 1] : "stays at home";
-  const badge = make("i", {class: "badge c" + van.colour, "aria-hidden": "true"}, van.letters);
+  const badge = make("span", {class: "badge c" + van.colour, "aria-hidden": "true"}, van.letters);
   return make("div", {class: "about"},
     make("b", {class: "route-name"}, badge, " ", van.name),
     times, van.load ? make("span", {}, "; load " + van.load) : null, make("br"),
@@ -76,9 +76,9 @@ function row(van, vehicle) {
 }
 
 function left() {
-  const count = desk.day.left.length;
-  return make("div", {class: "van", role: "group", "aria-label": "Left out: " + count + " visits"},
-    make("div", {class: "about"}, make("b", {}, "Left out"), count === 1 ? "1 visit" : count + " visits"), chips(null, desk.day.left));
+  const count = desk.day.left.length, words = count === 1 ? "1 visit" : count + " visits";
+  return make("div", {class: "van", role: "group", "aria-label": "Left out: " + words},
+    make("div", {class: "about"}, make("b", {}, "Left out"), words), chips(null, desk.day.left));
 }
 
 /** The visit that the keyboard comes to first. */

@@ -5,8 +5,8 @@ import {byId, make, piece, table} from "./make.js";
 import {ask, desk, on, open, tell} from "./store.js";
 
 const EXPORTS = [
-  ["csv", "Table of stops (CSV)"], ["sheets", "A sheet for each driver (page to print)"], ["page", "The whole day (page)"],
-  ["geojson", "Map (GeoJSON)"], ["json", "Model and solution for the program (JSON)"],
+  ["csv", "Table of stops (CSV)"], ["sheets", "A sheet for each driver (pages in a ZIP)"],
+  ["page", "The whole day (page)"], ["geojson", "Map (GeoJSON)"], ["json", "Model and solution for the program (JSON)"],
 ];
 let known = {days: [], examples: []};
 
@@ -51,7 +51,8 @@ function exportsShown() {
     if (date.value) { calendar.firstChild.href = "api/day/" + desk.day.id + "/export/icalendar-" + date.value; }
   });
   const kinds = EXPORTS.filter(([kind]) => kind !== "geojson" || desk.day.has_places);
-  const dated = desk.day.clock === null ? [] : [calendar, make("p", {}, make("label", {for: "export-date"}, "of "), date)];
+  const field = make("p", {}, make("label", {for: "export-date"}, "of "), date);
+  const dated = desk.day.clock === null ? [] : [calendar, field];
   byId("exports").replaceChildren(...kinds.map(([kind, words]) => exportLine(kind, words)), ...dated);
 }
 

@@ -92,7 +92,10 @@ async function plan() {
 export function begin() {
   byId("plan").addEventListener("click", plan);
   byId("stop").addEventListener("click", () => post("day/" + desk.day.id + "/stop", {}).then(look, look));
-  on("day", buttons);
+  on("day", () => {
+    buttons();
+    if (desk.answer) { byId("progress").hidden = true; }
+  });
   on("searching", buttons);
   on("opened", () => { desk.searching = false; look(); });
 }
