@@ -17,10 +17,10 @@ import unittest
 import urllib.request
 from typing import Any, Dict, List, Tuple
 
-from jambulskeg.desk import FolderInUse
-from jambulskeg.desk.folder import Folder
+from jambulskeg.desk import Folder, FolderInUse, OpenDay
 from jambulskeg.desk.guard import MOST_BYTES
 from jambulskeg.desk.journal import lines_read
+from jambulskeg.program import Program
 
 from .desk_support import THREE_VANS, DeskTests
 from .support import EXAMPLES
@@ -106,13 +106,16 @@ class PageTests(DeskTests):
         self.assertEqual((seen["clock"], seen["nodes"][1][:3]), (0, ["Ada", [480, 540], 2]))
         with open(os.path.join(self.folder, seen["id"], "places.csv"), encoding="utf-8") as file:
             self.assertEqual(file.read(), places)
+        odd = self.made(**{"from": "tables", "places": upload("p.csv", places + "Depot 2,5,6,,,\n"),
+                           "vans": upload("v.csv", vans)})
+        self.assertIn("The line is: Depot 2,5,6", self.get(odd)["doubts"][0])
         wrong = self.post("days", {"from": "tables", "places": upload("p.csv", places.replace("3,4", "3,north")),
                                    "vans": upload("v.csv", vans)}, 422)
         self.assertEqual((wrong["line"], wrong["column"]), (3, "y"))
         for tree in ({}, {"from": "tables"}, {"from": "example", "example": "../days"}, {"from": "model", "model": {}},
                      {"from": "model", "model": {"name": "a", "data": "§"}}, {"from": 3}):
             self.post("days", tree, 422)
-        self.assertEqual(len(os.listdir(self.folder)), 2)
+        self.assertEqual(len(os.listdir(self.folder)), 3)
 
     def test_no_text_is_markup(self) -> None:
         places = 'name,x,y,penalty\nyard,0,0,\n"' + MARKUP.replace('"', '""') + '",3,4,5\n'
@@ -140,6 +143,12 @@ class PageTests(DeskTests):
         self.planned(day)
         offers = self.get(f"{day}/why/12")["offers"]
         self.assertEqual((offers[0]["extra"] > 0, len(offers)), (True, 3))
+        best = self.post(f"{day}/change", {"step": 1, "change": {
+            "kind": "move", "nodes": [12], "vehicle": offers[0]["vehicle"], "best": True}})
+        self.assertEqual(best["day"]["cost"], 237 + offers[0]["extra"])
+        none = self.post(f"{day}/change", {"step": 2, "change": {
+            "kind": "move", "nodes": [1], "vehicle": 2, "best": True}})["answer"]
+        self.assertEqual((none["made"], none["vehicle"]), (False, 2))
         for node in ("0", "99", "x", "1e3"):
             self.assertEqual(self.asked("GET", f"api/{day}/why/{node}")[0], 404)
 
@@ -203,7 +212,7 @@ class GuardTests(DeskTests):
         token, host = self.server.guard.token, f"127.0.0.1:{self.port}"
         good = {"Host": host}
         out: List[Tuple[str, Dict[str, str]]] = []
-        for path in ("", "api/days", "desk.js", "api/day/monday", "favicon.ico"):
+        for path in ("", "api/days", "desk.js", "view.js", "api/day/monday", "api/day/monday/export/csv", "favicon.ico"):
             for word in ("", "x", token[:-1], token + "x", token.upper(), "%2e%2e", "..", token[::-1], "a/" + token):
                 out.append((f"/{word}/{path}", good))
             for name in ("evil.example", f"evil.example:{self.port}", "127.0.0.1", f"127.0.0.1:{self.port + 1}", "",
@@ -224,7 +233,7 @@ class GuardTests(DeskTests):
     def test_nobody_else_is_served(self) -> None:
         self.made()
         forms = self.forms()
-        self.assertGreater(len(forms), 130)
+        self.assertGreater(len(forms), 200)
         for target, headers in forms:
             for method in ("GET", "HEAD", "PUT") if headers.get("Sec-Fetch-Site") else ("GET",):
                 status, found, data = self.request(method, target, None, headers)
@@ -318,25 +327,27 @@ class GuardTests(DeskTests):
 
 class PowerTests(DeskTests):
     def test_cut_at_each_byte_of_the_journal(self) -> None:
-        day = self.made()
+        day_path = self.made()
         for node, vehicle in ((1, 0), (2, 1), (3, 2)):
             change = {"kind": "move", "nodes": [node], "vehicle": vehicle}
-            self.post(f"{day}/change", {"step": node - 1, "change": change})
-        self.post(f"{day}/undo", {})
+            self.post(f"{day_path}/change", {"step": node - 1, "change": change})
+        self.post(f"{day_path}/undo", {})
         self.end()
         path = os.path.join(self.folder, "monday", "journal")
         with open(path, "rb") as file:
             data = file.read()
         first = data.index(b"\n") + 1
-        for length in range(first, len(data) + 1, 7):
+        for length in range(first, len(data) + 1, 3):
             with open(path, "wb") as file:
                 file.write(data[:length])
             entries, _ = lines_read(data[:length])
             folder = Folder(self.folder)
             try:
-                basis, journal = folder.opened("monday")
-                journal.close()
-                self.assertEqual(journal.entries, entries)
+                day = OpenDay("monday", *folder.opened("monday"), Program.found())
+                day.close()
+                self.assertEqual(day.journal.entries, entries)
+                numbers = [entry["number"] for entry in entries if entry["do"] in ("step", "at")]
+                self.assertEqual(day.at, numbers[-1] if numbers else 0)
                 self.assertEqual(folder.told("monday")["steps"], sum(entry["do"] == "step" for entry in entries))
             finally:
                 folder.close()

@@ -5,6 +5,7 @@ from __future__ import annotations
 import argparse
 import signal
 import sys
+import threading
 import webbrowser
 from typing import Any
 
@@ -49,14 +50,21 @@ def run_desk(asked: argparse.Namespace) -> int:
     """Serves a folder of days until it is stopped from the keyboard."""
     folder = Folder(asked.folder)
     try:
-        service = Service(folder, Program.found(), Searches(asked.jobs))
-        server = DeskServer(service, asked.port)
+        server = DeskServer(Service(folder, Program.found(), Searches(asked.jobs)), asked.port)
+    except OSError as problem:
+        folder.close()
+        raise ValueError(f"the port {asked.port} of this machine cannot be had: {problem.strerror}") from None
     except BaseException:
         folder.close()
         raise
     signal.signal(signal.SIGTERM, stopped)
-    serve(server, tell, None if asked.no_browser else webbrowser.open)
+    serve(server, tell, None if asked.no_browser else browse)
     return 0
+
+
+def browse(address: str) -> None:
+    """Opens the page in the browser, whose call may last as long as the browser does."""
+    threading.Thread(target=webbrowser.open, args=(address,), daemon=True).start()
 
 
 def stopped(number: int, frame: Any) -> None:

@@ -12,6 +12,7 @@ from ..doubts import doubts
 from ..errors import NoFirstSolution, NotJson
 from ..model import first
 from ..places import Measure, Roads, model_of_day, read_day
+from ..plan import named
 from ..program import REPOSITORY, Program
 from ..records import Improve, Model, ScheduleRule, Search
 from .asking import merged
@@ -24,6 +25,7 @@ EXAMPLES = os.path.join(REPOSITORY, "examples")
 SHEETS = os.path.join(REPOSITORY, "python", "examples")
 OF_SHEETS = "three vans (two spreadsheets)"
 """The example that is made of spreadsheets."""
+MOST_OF_LINE = 160
 CLOCK = re.compile(rb"\b\d{1,2}:[0-5]\d\b")
 Upload = Tuple[str, bytes]
 """A file from the page: its name, which is only shown, and what it has."""
@@ -51,8 +53,19 @@ def basis_of_tables(places: Upload, vans: Upload, ways: Ways) -> Basis:
     tables = read_day(places, vans)
     model = merged(model_of_day(tables, ways.roads(tables.degrees), Search(improve=Improve.GUIDED_LOCAL_SEARCH)))
     has_clock = any(CLOCK.search(data) for _, data in (places, vans))
-    looks = [*tables.doubts, *doubted(model)]
+    looks = [at_row(doubt, (places, vans)) for doubt in tables.doubts]
+    looks += [named(tables, doubt) for doubt in doubted(model)]
     return Basis(timely(model), tables, 0 if has_clock else None, looks, f"{places[0]} and {vans[0]}")
+
+
+def at_row(doubt: str, uploads: Sequence[Upload]) -> str:
+    """A doubt about a table, with the line that it is about."""
+    for name, data in uploads:
+        found = re.match(re.escape(name) + r", line (\d+)", doubt)
+        lines = data.decode("utf-8", "replace").splitlines()
+        if found and 0 < int(found[1]) <= len(lines) and lines[int(found[1]) - 1].strip():
+            return f"{doubt}. The line is: {lines[int(found[1]) - 1].strip()[:MOST_OF_LINE]}"
+    return doubt
 
 
 def timely(model: Model) -> Model:

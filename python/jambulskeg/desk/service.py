@@ -8,19 +8,19 @@ import json
 import os
 import threading
 from collections import OrderedDict
-from dataclasses import dataclass, field
+from dataclasses import dataclass, field, replace
 from typing import Any, Callable, Dict, List, Mapping, Optional, Sequence, Tuple
 
 from ..errors import JambulskegError
 from ..places import Measure
 from ..program import Program
 from .assets import ASSETS, asset
-from .changes import change_of
-from .days import Answer, OpenDay
+from .changes import Move, change_of
+from .days import Answer, OpenDay, capital
 from .exporting import exported
 from .folder import Basis, Folder, NoSuchDay
 from .guard import Turned
-from .offers import offers
+from .offers import Offers, offers
 from .opening import Upload, Ways, basis_of_model, basis_of_tables, example_basis, examples
 from .pages import beside, drawn_parts, problem_of, told
 from .searching import Searches
@@ -200,7 +200,7 @@ class Service:
     def changed(self, day: OpenDay, word: str, tree: Mapping[str, Any]) -> Reply:
         """The answer to a change of a day, and the day after it."""
         works: Dict[str, Callable[[], Answer]] = {
-            "change": lambda: day.change(change_of(tree.get("change"), day.within), whole_of(tree, "step")),
+            "change": lambda: change(day, tree.get("change"), whole_of(tree, "step")),
             "undo": day.undo, "redo": day.redo, "goto": lambda: day.goto(whole_of(tree, "number")),
         }
         if word not in works:
@@ -221,6 +221,19 @@ class Service:
             raise BadChange("a day is made of tables, of a model, or of an example")
         places, vans = upload_of(tree, "places"), upload_of(tree, "vans")
         return basis_of_tables(places, vans, ways_of(tree)), [("places.csv", places[1]), ("vans.csv", vans[1])]
+
+
+def change(day: OpenDay, tree: Any, step: int) -> Answer:
+    """Makes a change that the page sent. A move to the `best` place of a van goes where it costs least."""
+    if isinstance(tree, dict) and tree.get("kind") == "move" and tree.get("best") is True:
+        move = change_of({**tree, "before": None}, day.within)
+        asker, state = day.asker(day.step.state.edits), day.step.state
+        if isinstance(move, Move) and len(move.nodes) == 1 and move.vehicle is not None:
+            offer = Offers(asker, state, move.nodes[0], day.within).of_vehicle(move.vehicle)
+            if offer["extra"] is None:
+                return Answer(False, day.at, capital(offer["sentence"]), "schedule", move.vehicle)
+            return day.change(replace(move, before=offer["before"]), step)
+    return day.change(change_of(tree, day.within), step)
 
 
 def name_of(tree: Mapping[str, Any], basis: Basis) -> str:

@@ -141,10 +141,13 @@ export function pick(node, event) {
 
 /** Moves visits in front of a visit of a row (null: to its end), in the order that they have. */
 export function put(nodes, vehicle, before) {
-  if (vehicle === null) {
-    return change({kind: "move", nodes, vehicle: null});
-  }
-  return change({kind: "move", nodes, vehicle, before});
+  return change(vehicle === null ? {kind: "move", nodes, vehicle} : {kind: "move", nodes, vehicle, before});
+}
+
+/** Moves a visit to where it costs least in the route of a van, several to its end. */
+export function putBest(nodes, vehicle) {
+  return nodes.length > 1 || vehicle === null ? put(nodes, vehicle, null)
+    : change({kind: "move", nodes, vehicle, best: true});
 }
 
 on("day", show);

@@ -1,6 +1,6 @@
 /* Visits are dragged by a pointer: mouse, pen or finger. */
 
-import {board, chipOf, listOf, ordered, pick, put} from "./board.js";
+import {board, chipOf, listOf, ordered, pick, put, putBest} from "./board.js";
 import {make} from "./make.js";
 import {desk, name} from "./store.js";
 
@@ -45,9 +45,10 @@ function placeAt(x, y) {
   const row = document.elementsFromPoint(x, y).map((part) => part.closest(".van")).find(Boolean);
   if (!row) { return null; }
   const list = row.querySelector(".chips"), mark = list.getAttribute("data-row");
+  const isBest = x < list.getBoundingClientRect().left || y < list.getBoundingClientRect().top;
   const chips = Array.from(list.querySelectorAll(".chip")).filter((chip) => !drag.nodes.includes(nodeOf(chip)));
   const next = chips.find((chip) => isBefore(x, y, chip.getBoundingClientRect()));
-  return {vehicle: mark === "left" ? null : Number(mark), before: next ? nodeOf(next) : null};
+  return {vehicle: mark === "left" ? null : Number(mark), before: next ? nodeOf(next) : null, isBest};
 }
 
 /** Whether a point lies before the middle of a box, in reading order. */
@@ -62,7 +63,7 @@ function show(place) {
   if (!place) { return; }
   const list = listOf(place.vehicle);
   list.classList.add("over");
-  if (place.vehicle !== null) {
+  if (place.vehicle !== null && !place.isBest) {
     list.insertBefore(drag.slot, place.before === null ? null : chipOf(place.before).closest("li"));
   }
 }
@@ -73,6 +74,8 @@ function ended(event) {
   cleared();
   if (!done.ghost) {
     pick(done.node, event);
+  } else if (done.place && done.place.isBest) {
+    putBest(done.nodes, done.place.vehicle);
   } else if (done.place) {
     put(done.nodes, done.place.vehicle, done.place.before);
   }

@@ -1,6 +1,6 @@
 /* Everything that a pointer does, by the keyboard. */
 
-import {board, chipOf, focusOn, listOf, ordered, put, rows, run, vanName} from "./board.js";
+import {board, chipOf, focusOn, listOf, ordered, put, putBest, rows, run, vanName} from "./board.js";
 import {isDown} from "./drag.js";
 import {byId, make} from "./make.js";
 import {ask, choose, desk, name, on} from "./store.js";
@@ -62,7 +62,7 @@ function lift(node) {
   const slot = make("li", {class: "slot", "aria-hidden": "true"});
   carried = {nodes, node, row, at: Math.min(at, others.length), slot};
   show();
-  said(words(nodes) + " taken up. Arrows choose a place, Enter puts down, Escape lets it be.");
+  said(words(nodes) + " taken up. Arrows choose a place, Enter puts down, B at the van's best place, Escape lets be.");
 }
 
 function words(nodes) {
@@ -127,6 +127,10 @@ function carriedKey(key) {
     shifted(key);
   } else if (key === "Enter" || key === " ") {
     dropped();
+  } else if (key === "b" || key === "B") {
+    const {nodes, row} = carried, vehicle = rows()[row].vehicle;
+    letBe();
+    putBest(nodes, vehicle);
   } else if (key === "Escape") {
     letBe();
     said("Let be.");
