@@ -7,6 +7,7 @@ import os
 import random
 import tempfile
 import unittest
+from dataclasses import replace
 from typing import Any, Callable, Dict, List, Optional, Tuple
 
 from jambulskeg.complete import complete
@@ -21,7 +22,7 @@ from jambulskeg.desk.states import Lists, edited
 from jambulskeg.errors import JambulskegError, NotJson, NotMet, Refused
 from jambulskeg.model import check, read_model, solve
 from jambulskeg.program import Program
-from jambulskeg.records import Model
+from jambulskeg.records import Allowed, Model
 from jambulskeg.view.day import Names
 
 from .desk_support import THREE_VANS
@@ -203,6 +204,24 @@ class DayTests(unittest.TestCase):
         self.assertEqual(self.asked(day, kind="move", nodes=[2, 1], vehicle=0).sentence,
                          "vehicle 0 may not make node 1 (stop 2); vehicle 1 may.")
 
+    def test_rules_in_words(self) -> None:
+        plain: Dict[str, Any] = {
+            "format": 1, "nodes": 5, "matrices": [[[0] * 5] * 5], "vehicles": [{"start": 0, "end": 0}]
+        }
+        pairs = [{"pickup": 1, "delivery": 2}, {"pickup": 3, "delivery": 4}]
+        stack = self.of_tree({**plain, "pairs": pairs, "vehicles": [{"start": 0, "end": 0, "policy": "lifo"}]})
+        answer = self.asked(stack, kind="move", nodes=[1, 3, 2, 4], vehicle=0)
+        self.assertEqual((answer.sentence, answer.rule), ("vehicle 0 delivers what it loaded last first.", "policy"))
+        load = {"name": "box", "evaluators": [{"values": [0, 1, 1, 1, 1]}], "slack_max": 0, "capacity": 9,
+                "nodes": [{"node": 2, "window": [3, 5]}], "fix_start": True}
+        answer = self.asked(self.of_tree({**plain, "dimensions": [load]}), kind="move", nodes=[1, 2], vehicle=0)
+        self.assertEqual(answer.sentence, "vehicle 0 would have 'box' 1 from node 1 to node 2 (stop 2), and may have "
+                                          "3 to 5 there.")
+
+    def of_tree(self, tree: Dict[str, Any]) -> OpenDay:
+        """The day of a model."""
+        return self.opened(basis_of_model(("day", json.dumps(tree).encode()), PROGRAM))
+
     def test_what_is_no_change(self) -> None:
         day = self.three_vans()
         wrong: List[Any] = [
@@ -332,6 +351,10 @@ class PartTests(unittest.TestCase):
         self.assertEqual((lists[0], lists[2]), ((), ()))
         self.assertTrue(lists[1] or lists[3])
         self.assertEqual(part_of(model, State(empty)).model, model)
+        barred = replace(model, allowed=[Allowed(3, [0]), Allowed(4, [1, 2])])
+        part = part_of(barred, state)
+        self.assertNotIn(3, part.nodes)
+        self.assertEqual(part.model.allowed, (Allowed(part.nodes.index(4), [0]),))
 
     def test_nothing_to_search(self) -> None:
         model = model_named("service-day")

@@ -67,11 +67,6 @@ class State:
     off: FrozenSet[int] = frozenset()
     pinned: FrozenSet[int] = frozenset()
 
-    @property
-    def made(self) -> FrozenSet[int]:
-        """The visits that some vehicle makes."""
-        return frozenset(node for visits in self.lists for node in visits)
-
     def vehicle_of(self, node: int) -> Optional[int]:
         """The vehicle that makes a visit, None where nobody does."""
         return next((vehicle for vehicle, visits in enumerate(self.lists) if node in visits), None)

@@ -2,7 +2,7 @@
 
 from __future__ import annotations
 
-from typing import Callable, Dict, Mapping, Sequence, Tuple
+from typing import Callable, Dict, Mapping, Sequence
 
 from ..complete import CannotBeDriven
 from ..errors import JambulskegError, NotMet
@@ -116,31 +116,17 @@ class Broken:
     def sentence(self) -> str:
         """What the rule says, with names."""
         tellers: Mapping[str, Callable[[], str]] = {
-            "allowed": self.allowed, "once": self.once, "pair": self.pair, "policy": self.policy, "group": self.group,
-            "required": self.required,
+            "allowed": self.allowed, "pair": self.pair, "policy": self.policy, "group": self.group,
         }
         teller = tellers.get(self.problem.rule)
         return teller() if teller is not None else self.otherwise()
 
-    def stop(self) -> Tuple[str, str]:
-        """The vehicle and the visit that the program named."""
-        vehicle, place = self.problem.vehicle, self.problem.place
-        visits = self.lists[vehicle] if 0 <= vehicle < len(self.lists) else ()
-        node = self.within.names.node(visits[place - 1]) if 0 < place <= len(visits) else f"its place {place}"
-        return self.within.names.vehicle(vehicle), node
-
     def allowed(self) -> str:
         """A visit by a vehicle that may not make it."""
-        van, node = self.stop()
-        nodes = self.lists[self.problem.vehicle]
-        row = self.within.model.vehicles_of(nodes[self.problem.place - 1])
-        others = [self.within.names.vehicle(vehicle) for vehicle in row]
-        return f"{van} may not make {node} (stop {self.problem.place}); {', '.join(others)} may."
-
-    def once(self) -> str:
-        """A visit that is made twice."""
-        van, node = self.stop()
-        return f"{node} would be made a second time by {van}, at stop {self.problem.place}."
+        names, node = self.within.names, self.lists[self.problem.vehicle][self.problem.place - 1]
+        others = ", ".join(names.vehicle(vehicle) for vehicle in self.within.model.vehicles_of(node))
+        van = names.vehicle(self.problem.vehicle)
+        return f"{van} may not make {names.node(node)} (stop {self.problem.place}); {others} may."
 
     def pair(self) -> str:
         """A pair that is parted."""
@@ -159,10 +145,6 @@ class Broken:
         group = self.within.model.groups[self.problem.place]
         most = "one" if group.max == 1 else str(group.max)
         return f"Of {self.within.visits(group.nodes)} at most {most} may be made."
-
-    def required(self) -> str:
-        """A visit that must be made."""
-        return f"{self.within.names.node(self.problem.place)} must be made, and nobody makes it."
 
     def otherwise(self) -> str:
         """A rule that is not broken by a change of lists alone, as the package tells it."""
