@@ -170,7 +170,8 @@ def run_view(asked: argparse.Namespace) -> int:
         solutions.append(shorten(model, solutions[0], checked=not asked.unchecked))
         note = why_not_shorter(model, solutions[0]) if solutions[1] == solutions[0] else ""
     tables = tables_of(asked)
-    with Outputs(paths) as outputs:
+    inputs = [path for path in (asked.model, *files, asked.places, asked.vehicles) if path]
+    with Outputs(paths, inputs) as outputs:
         for path, text in exported(asked, model, solutions[0], tables):
             outputs.write(path, text)
         if asked.output:

@@ -37,6 +37,7 @@ class DoubtKind(Enum):
     UNITS = "units"
     PAID_TWICE = "paid twice"
     PENALTY_BELOW_ARCS = "penalty below every arc"
+    ALL_ARCS_FREE = "no arc costs anything"
     LONG_RIDE = "long ride"
     BREAK_OUTSIDE = "break outside of the day"
 
@@ -56,7 +57,7 @@ Look = Callable[[Model, int], Iterator[Doubt]]
 def doubts(model: Model) -> List[Doubt]:
     """What looks wrong in a model, dimension by dimension, and then in its pairs and groups."""
     found = [doubt for number in range(len(model.dimensions)) for look in LOOKS for doubt in look(model, number)]
-    return [*found, *pair_doubts(model), *penalty_doubts(model)]
+    return [*found, *pair_doubts(model), *penalty_doubts(model), *arc_doubts(model)]
 
 
 def loads(model: Model, number: int) -> Iterator[Doubt]:
@@ -270,4 +271,18 @@ def penalty_doubts(model: Model) -> Iterator[Doubt]:
             DoubtKind.PENALTY_BELOW_ARCS, f"/groups/{number}/penalty",
             f"to leave a visit of group {number} out costs {penalty}, and each arc to it {arc} or more (so of "
             f"{len(cheap)} of {len(model.groups)} groups): are penalties and arcs in one unit?",
+        )
+
+
+def arc_doubts(model: Model) -> Iterator[Doubt]:
+    """Matrices of costs in which nothing costs anything, as those of places whose distances are rounded to 0."""
+    used = sorted({vehicle.costs for vehicle in model.vehicles})
+    costs = (
+        entry for number in used for tail, row in enumerate(model.matrices[number])
+        for head, entry in enumerate(row) if tail != head
+    )
+    if model.nodes > 1 and not any(costs):
+        yield Doubt(
+            DoubtKind.ALL_ARCS_FREE, f"/matrices/{used[0]}",
+            "no arc costs anything, so guided search has nothing to penalise: were distances rounded to 0?",
         )

@@ -1,7 +1,7 @@
 """A day for other programs: a table for spreadsheets, a map for geographic programs, a calendar.
 
-All three are texts made of a model and a solution that meets it, and of the two spreadsheets where the day came from
-these. Nothing is read or written here.
+All three are texts, made of a model, a solution that meets it, and the two spreadsheets that the day came from; or of a
+`view.Day`, by the names that end in `_of`. Nothing is read or written here.
 
     tables = read_day("places.csv", "vans.csv")
     text = plan_csv(model, solution, tables)
@@ -28,7 +28,8 @@ from .view.downloads import Download
 from .view.stops import Stop, stops_of
 
 __all__ = [
-    "CannotBeExported", "clock_text", "day_of_tables", "downloads", "geojson", "guarded", "icalendar", "plan_csv",
+    "CannotBeExported", "clock_text", "csv_of", "day_of_tables", "downloads", "geojson", "geojson_of", "guarded",
+    "icalendar", "icalendar_of", "plan_csv",
 ]
 
 MARK = "\ufeff"
@@ -64,25 +65,27 @@ def plan_csv(
     model: Model, solution: Solution, tables: Optional[DayTables] = None, *, time: Optional[str] = None,
     clock: Optional[int] = None,
 ) -> str:
-    """The plan as a table with a row for each stop, and at its end one without a van for each visit left out.
+    """The plan as a table, whose cells are parted as in the file of places; see `csv_of`."""
+    day = day_of_tables(model, solution, tables, time=time, clock=clock)
+    return csv_of(day, tables.delimiter if tables is not None else ",")
+
+
+def csv_of(day: Day, delimiter: str = ",") -> str:
+    """A day as a table with a row for each stop, and at its end one without a van for each visit left out.
 
     Its columns are van, stop (0 at the start), name, arrival, begins, departure, the loads after the stop, and the
-    further columns of the places. Cells are parted as in the file of places. A text that a spreadsheet would take for
-    a formula has an apostrophe before it.
+    further columns of the places. A text that a spreadsheet would take for a formula has an apostrophe before it.
     """
-    day = day_of_tables(model, solution, tables, time=time, clock=clock)
     heads = ["van", "stop", "name", "arrival", "begins", "departure", *load_names(day)]
-    own = len(heads)
-    further = list(tables.further[0]) if tables is not None and tables.further else []
+    own, further = len(heads), list(day.cells(0))
     for heading in further:
         heads.append(another(heading, heads))
     out = io.StringIO()
-    writer = csv.writer(out, delimiter=tables.delimiter if tables is not None else ",")
+    writer = csv.writer(out, delimiter=delimiter)
     writer.writerow([guarded(heading) for heading in heads])
     for cells, node in plan_rows(day):
-        filled = [*cells, *[""] * (own - len(cells))]
-        kept = tables.further[node] if tables is not None and tables.further else {}
-        writer.writerow([guarded(str(cell)) for cell in (*filled, *(kept[heading] for heading in further))])
+        filled = [*cells, *[""] * (own - len(cells)), *(day.cells(node).get(heading, "") for heading in further)]
+        writer.writerow([guarded(str(cell)) for cell in filled])
     return MARK + out.getvalue()
 
 
@@ -119,18 +122,22 @@ def geojson(
     model: Model, solution: Solution, tables: Optional[DayTables] = None, *, time: Optional[str] = None,
     clock: Optional[int] = None,
 ) -> str:
-    """The routes as lines and the stops as points (GeoJSON, RFC 7946).
+    """The plan as a map; see `geojson_of`."""
+    return geojson_of(day_of_tables(model, solution, tables, time=time, clock=clock))
 
-    The coordinates are those of the places: longitude and latitude where the tables say so, else x and y as they are.
+
+def geojson_of(day: Day) -> str:
+    """A day as a map: routes as lines and stops as points (GeoJSON, RFC 7946).
+
+    The coordinates are those of the places: longitude and latitude if x and y are these, else x and y as they are.
     Raises `CannotBeExported` where no places are known.
     """
-    if tables is None or not tables.places:
+    if not day.places:
         raise CannotBeExported("a map (GeoJSON) asks for the places of the nodes")
-    day = day_of_tables(model, solution, tables, time=time, clock=clock)
     features = [line_feature(day, route) for route in day.routes()]
     for route in day.routes():
-        features += [point_feature(day, tables, stop.node, stop) for stop in stops_of(day, route)]
-    features += [point_feature(day, tables, node, None) for node in day.solution.dropped]
+        features += [point_feature(day, stop.node, stop) for stop in stops_of(day, route)]
+    features += [point_feature(day, node, None) for node in day.solution.dropped]
     return json.dumps({"type": "FeatureCollection", "features": features}, ensure_ascii=False, indent=1) + "\n"
 
 
@@ -141,16 +148,15 @@ def line_feature(day: Day, route: Route) -> Dict[str, object]:
     return {"type": "Feature", "geometry": {"type": "LineString", "coordinates": points}, "properties": properties}
 
 
-def point_feature(day: Day, tables: DayTables, node: int, stop: Optional[Stop]) -> Dict[str, object]:
+def point_feature(day: Day, node: int, stop: Optional[Stop]) -> Dict[str, object]:
     """The point of a stop, or of a visit that is left out, which has no van."""
-    kept: Mapping[str, str] = tables.further[node] if tables.further else {}
     properties: Dict[str, object] = {"name": day.names.node(node), "van": None}
     if stop is not None:
         properties.update(van=day.names.vehicle(stop.vehicle), stop=stop.number)
         times = (("arrival", stop.arrival), ("begins", stop.begins), ("departure", stop.departure))
         properties.update({word: clock_text(day, value) for word, value in times if value is not None})
         properties.update(zip(load_names(day), stop.loads))
-    for heading, cell in kept.items():
+    for heading, cell in day.cells(node).items():
         properties[another(heading, list(properties))] = cell
     where = [day.places[node].x, day.places[node].y]
     return {"type": "Feature", "geometry": {"type": "Point", "coordinates": where}, "properties": properties}
@@ -160,36 +166,40 @@ def icalendar(
     model: Model, solution: Solution, date: datetime.date, tables: Optional[DayTables] = None, *,
     time: Optional[str] = None, clock: Optional[int] = None,
 ) -> str:
-    """The visits and breaks as a calendar of a date (iCalendar, RFC 5545), in the local time of whoever reads it.
-
-    Raises `CannotBeExported` where the day has no times of day.
-    """
+    """The plan as a calendar; see `icalendar_of`."""
     day = day_of_tables(model, solution, tables, time=time, clock=clock)
-    if not day.is_timed or day.names.clock is None:
+    return icalendar_of(day, date, tables is not None and tables.degrees)
+
+
+def icalendar_of(day: Day, date: datetime.date, in_degrees: bool = False) -> str:
+    """The visits and breaks of a day as a calendar of a date (iCalendar, RFC 5545), in the local time of whoever reads
+    it; in degrees, each visit says where it is. Raises `CannotBeExported` where the day has no times of day."""
+    if not has_clock(day):
         raise CannotBeExported("a calendar (iCalendar) asks for times of day: say at which one the time 0 lies")
     lines = ["BEGIN:VCALENDAR", "VERSION:2.0", "PRODID:-//jambulskeg//plan of a day//EN", "CALSCALE:GREGORIAN"]
     for route in day.routes():
         for stop in stops_of(day, route):
-            lines += stop_event(day, date, tables, stop)
+            lines += stop_event(day, date, stop, in_degrees)
         for piece in day.breaks(route):
             lines += event(day, date, route.vehicle, (piece.low, piece.high), "break")
     return "".join(folded(line) + "\r\n" for line in [*lines, "END:VCALENDAR"])
 
 
-def stop_event(
-    day: Day, date: datetime.date, tables: Optional[DayTables], stop: Stop
-) -> List[str]:
+def has_clock(day: Day) -> bool:
+    """Whether the times of a day are times of day."""
+    return day.is_timed and day.names.clock is not None
+
+
+def stop_event(day: Day, date: datetime.date, stop: Stop, in_degrees: bool) -> List[str]:
     """The event of a stop: a visit with all that is known of its place, or the start or the end of the route."""
     name, begins = day.names.node(stop.node), stop.begins
     if begins is None:
         words = f"{'leave' if not stop.number else 'back at'} {name}"
         at = (stop.arrival if stop.number else stop.departure) or 0
         return event(day, date, stop.vehicle, (at, at), words)
-    kept = tables.further[stop.node].items() if tables is not None and tables.further else ()
-    more = [f"LOCATION:{plain(name)}"]
-    notes = [f"stop {stop.number}", *(f"{heading}: {cell}" for heading, cell in kept if cell)]
-    more.append("DESCRIPTION:" + plain("\n".join(notes)))
-    if tables is not None and tables.degrees:
+    notes = [f"stop {stop.number}", *(f"{heading}: {cell}" for heading, cell in day.cells(stop.node).items() if cell)]
+    more = [f"LOCATION:{plain(name)}", "DESCRIPTION:" + plain("\n".join(notes))]
+    if in_degrees and day.places:
         more.append(f"GEO:{day.places[stop.node].y:.6f};{day.places[stop.node].x:.6f}")
     return event(day, date, stop.vehicle, (begins, stop.departure or begins), name, more)
 
@@ -235,13 +245,12 @@ def downloads(
     time: Optional[str] = None, clock: Optional[int] = None,
 ) -> List[Download]:
     """What a page of the day offers: the table, the map where places are known, the calendar where a date is."""
-    files = [Download("plan.csv", "text/csv", plan_csv(model, solution, tables, time=time, clock=clock),
-                      "Table (CSV)")]
-    if tables is not None and tables.places:
-        text = geojson(model, solution, tables, time=time, clock=clock)
-        files.append(Download("plan.geojson", "application/geo+json", text, "Map (GeoJSON)"))
     day = day_of_tables(model, solution, tables, time=time, clock=clock)
-    if date is not None and day.is_timed and day.names.clock is not None:
-        text = icalendar(model, solution, date, tables, time=time, clock=clock)
+    delimiter, in_degrees = (",", False) if tables is None else (tables.delimiter, tables.degrees)
+    files = [Download("plan.csv", "text/csv", csv_of(day, delimiter), "Table (CSV)")]
+    if day.places:
+        files.append(Download("plan.geojson", "application/geo+json", geojson_of(day), "Map (GeoJSON)"))
+    if date is not None and has_clock(day):
+        text = icalendar_of(day, date, in_degrees)
         files.append(Download("plan.ics", "text/calendar", text, "Calendar (iCalendar)"))
     return files

@@ -23,11 +23,17 @@ __all__ = ["Outputs", "names_of_sheets", "to_stdout", "write_whole"]
 class Outputs:
     """Some files to be written. A `with` opens them, and puts them in place if it ends without an exception.
 
-    What is no plain file (a device, a pipe) is written straight. `OSError` names the path that was asked for.
+    What is no plain file (a device, a pipe) is written straight. Raises `ValueError` where two paths, or a path and one
+    of `inputs`, are one file; `OSError` with the path that was asked for.
     """
 
-    def __init__(self, paths: Sequence[str]) -> None:
-        self._paths = list(dict.fromkeys(paths))
+    def __init__(self, paths: Sequence[str], inputs: Sequence[str] = ()) -> None:
+        used = [os.path.realpath(path) for path in inputs]
+        for path in paths:
+            if os.path.realpath(path) in used:
+                raise ValueError(f"{path} is read too, or is to be written twice")
+            used += [] if is_device(path) else [os.path.realpath(path)]
+        self._paths = list(paths)
         self._open: Dict[str, Tuple[IO[bytes], str]] = {}
         self._texts: Dict[str, bytes] = {}
 
@@ -81,6 +87,11 @@ class Outputs:
             if beside:
                 os.unlink(beside)
         self._open = {}
+
+
+def is_device(path: str) -> bool:
+    """Whether there is something at a path that is no plain file."""
+    return os.path.exists(path) and not os.path.isfile(path)
 
 
 def write_whole(path: str, text: str) -> None:

@@ -12,13 +12,13 @@ import re
 from collections import Counter
 from dataclasses import dataclass, replace
 from enum import Enum
-from typing import Callable, Dict, Iterator, List, Mapping, Optional, Sequence, Set, Tuple
+from typing import Callable, Dict, Iterator, List, Mapping, Optional, Sequence, Tuple
 
 from .records import (
     GREATEST_ENTRY, GREATEST_TRANSIT, HORIZON, MOST_NODES, MOST_VEHICLES, Dimension, Evaluator, Group, Model, NodeRow,
     Search, Vehicle, VehicleRow,
 )
-from .tables import BadTable, Table, TableLine, TableSource, read_table, whole
+from .tables import BadTable, Table, TableSource, read_table, shown, whole
 
 __all__ = [
     "BadTable", "DayTables", "METRES", "Measure", "Place", "Roads", "Rounding", "TableSource", "Van", "from_places",
@@ -233,7 +233,7 @@ def places_of(table: Table, degrees: bool) -> List[Place]:
     for line in table.lines:
         name = line.text("name")
         if name in names:
-            raise line.bad("name", f"'{name}' stands in an earlier line, line {names[name]}")
+            raise line.bad("name", f"'{shown(name)}' stands in an earlier line, line {names[name]}")
         names[name] = line.number
         places.append(Place(
             name, line.real(across, 180 if degrees else FARTHEST), line.real(up, 90 if degrees else FARTHEST),
@@ -262,8 +262,8 @@ def vans_of(table: Table, places: Sequence[Place]) -> List[Van]:
         for column, name in (("start", van.start), ("end", van.end)):
             if name not in names:
                 near = next((entry for entry in names if entry.casefold() == name.casefold()), None)
-                meant = f"; is '{near}' meant?" if near else ""
-                raise line.bad(column, f"no place has the name '{name}'{meant}")
+                meant = f"; is '{shown(near)}' meant?" if near else ""
+                raise line.bad(column, f"no place has the name '{shown(name)}'{meant}")
         vans.append(van)
     return vans
 
@@ -273,7 +273,7 @@ def doubled_names(table: Table, names: Sequence[str]) -> Iterator[BadTable]:
     count = Counter(names)
     for at, (line, name) in enumerate(zip(table.lines, names)):
         if count[name] > 1 and name in names[:at]:
-            yield line.bad("name", f"an earlier vehicle is called '{name}' too")
+            yield line.bad("name", f"an earlier vehicle is called '{shown(name)}' too")
 
 
 def doubts_of_places(
@@ -285,12 +285,13 @@ def doubts_of_places(
     plain = [place for _, place in visits if is_plain(place)]
     for line, place in visits:
         if YARD.search(place.name.casefold()) or (len(visits) > 2 and plain == [place]):
-            yield line.bad("name", f"no vehicle starts or ends at '{place.name}', so it is a visit like the others")
+            name = shown(place.name)
+            yield line.bad("name", f"no vehicle starts or ends at '{name}', so it is a visit like the others")
     for line, place in zip(table.lines, places):
         unused = [column for column in ("open", "penalty") if place.name in ends and line.has(column)]
         if unused:
             column, instead = unused[0], "; write 'from' and 'to' of the vehicles" if unused[0] == "open" else ""
-            yield line.bad(column, f"vehicles start or end at '{place.name}', so this is not used{instead}")
+            yield line.bad(column, f"vehicles start or end at '{shown(place.name)}', so this is not used{instead}")
     yield from coordinate_doubts(table, places, degrees)
 
 

@@ -19,22 +19,24 @@ import signal
 import sys
 import threading
 import time
+from concurrent.futures import ThreadPoolExecutor
 from contextlib import contextmanager
 from dataclasses import dataclass, field, replace
-from typing import Callable, Dict, Iterator, List, Mapping, Optional, Tuple
+from typing import Dict, Iterator, List, Mapping, Optional, Sequence, Tuple
 
 from .complete import complete, leave_later
 from .doubts import doubts
-from .engines import OwnProcesses
+from .engines import Answer
+from .errors import JambulskegError, ProgramSlow
 from .exports import day_of_tables, downloads, geojson, icalendar, plan_csv
+from .model import solve
 from .outputs import Outputs, names_of_sheets, to_stdout
 from .places import METRES, DayTables, Roads, model_of_day, read_day
-from .portfolio import portfolio, variants
+from .portfolio import portfolio
 from .program import ProgramLike, find
 from .reasons import Reason, why_left_out
 from .records import MOST_TRIES, Group, Improve, Model, Search
-from .rescue import Rescue, missing, rescue, timed_solver, with_search
-from .rounds import FIRST_TRIES, Round
+from .rescue import FIRST_TRIES, Progress, Rescue, Way, missing, rescue, timed_solver, with_search
 from .solution import Solution
 from .view import page, sheet_page
 
@@ -42,6 +44,8 @@ __all__ = ["LEFT_OUT", "Planned", "add_plan", "plan_day", "run_plan"]
 
 SECONDS = 10.0
 """How long is searched where nobody says."""
+GROWS = 4
+"""How many times the tries of a portfolio are those of the one before it."""
 LEFT_OUT = 3
 """The exit status of a plan that leaves out visits that must be made."""
 GUIDED = Search(improve=Improve.GUIDED_LOCAL_SEARCH)
@@ -53,7 +57,7 @@ NUMBERED = re.compile(r"\b(node|vehicle) (\d+)\b")
 class Planned:
     """A plan of a day. `solution` meets `model`; both are those of the spreadsheets, but that the visits `required`,
     which must be made and found no place, may be left out for nothing. `reasons` say why visits are left out; `how`
-    says how the plan was found, and `doubts` what looks wrong in the day."""
+    says how the plan was found, if not at once, and `doubts` what looks wrong in the day."""
 
     tables: DayTables
     model: Model
@@ -77,7 +81,7 @@ class Planned:
         return (
             f"cost {self.solution.cost}: {len(self.solution.used())} of {len(self.tables.vans)} vehicles leave, "
             f"{visits - left} of {visits} visits are made"
-        )
+        ) + (f", {self.how}" if self.how else "")
 
     def left_out(self) -> List[str]:
         """A sentence for each visit that is left out: why."""
@@ -90,44 +94,80 @@ class Planned:
 
 def plan_day(
     tables: DayTables, roads: Optional[Roads] = None, *, seconds: float = SECONDS, jobs: int = 1,
-    program: ProgramLike = None, progress: Optional[Callable[[Round], None]] = None,
+    program: ProgramLike = None, progress: Optional[Progress] = None,
 ) -> Planned:
     """The plan of a day, searched for about so many seconds, by `jobs` searches at a time.
 
-    Each driver leaves as late as the plan lets him, where that is no dearer. Raises `Refused` where the model has a
+    One of them is `rescue`, the others are those of portfolios; `progress` is told of the rounds of the former. Each
+    driver leaves as late as the plan lets him, where that is no dearer. Raises `Refused` where the model has a
     fault, `NoFirstSolution` where nothing is found, and what the program raises.
     """
-    began = time.monotonic()
     model = model_of_day(tables, roads, GUIDED)
     looks = (*tables.doubts, *(named(tables, doubt.sentence) for doubt in doubts(model)))
-    first = seconds if jobs == 1 else seconds / 2
-    found = rescue(model, program, solver=timed_solver(first, program, progress=progress))
-    asked, solution = found.solved.model, found.solved.solution
-    if found.solution is not None:
-        asked, solution = found.model, found.solution
-    if jobs > 1:
-        left = seconds - (time.monotonic() - began)
-        solution = by_portfolio(asked, solution, found, (jobs, left), program)
+    found, other = searched(model, seconds, jobs, program, progress)
+    solution = found.solution or found.solved.solution
+    if other is not None and (found.solution is None or other.cost < found.solution.cost):
+        found, solution = replace(found, solution=other, way=Way.AS_ASKED, left_out=()), other
     required = tuple(missing(model, solution)) if found.solution is None else ()
     shown = replace(model, groups=[*model.groups, *(Group([node], 0) for node in required)])
     final = leave_later(shown, complete(shown, solution.lists(), program), program)
     reasons = why_left_out(shown, final, required=required)
-    return Planned(tables, shown, final, found.sentence, required, reasons, looks)
+    how = "" if found.way is Way.AS_ASKED or required else found.sentence
+    return Planned(tables, shown, final, how, required, reasons, looks)
 
 
-def by_portfolio(
-    model: Model, solution: Solution, found: Rescue, share: Tuple[int, float], program: ProgramLike
-) -> Solution:
-    """The cheaper of a solution and the best of a portfolio; `share` is how many searches run at a time, and how many
-    seconds are left for all of them, by which their tries are chosen."""
-    jobs, left = share
-    rounds = found.solved.rounds
-    tried = sum(entry.tries for entry in rounds)
-    rate = tried / max(0.01, rounds[-1].seconds) if rounds else 0.0
-    tries = round(rate * max(0.0, left) * jobs / len(variants(model)))
-    asked = with_search(model, tries=min(MOST_TRIES, max(FIRST_TRIES, tries)))
-    other = portfolio(asked, OwnProcesses(jobs, program), program).solution
-    return other if other.cost < solution.cost else solution
+@dataclass(frozen=True)
+class UntilThen:
+    """An engine of `jobs` processes at a time, which ends all of them at a moment of `time.monotonic`."""
+
+    jobs: int
+    until: float
+    program: ProgramLike = None
+
+    @property
+    def left(self) -> float:
+        """How many seconds are left."""
+        return self.until - time.monotonic()
+
+    def run(self, models: Sequence[Model]) -> List[Answer]:
+        """For each model its solution, or what went wrong: `ProgramSlow` where the time was over."""
+        with ThreadPoolExecutor(max_workers=self.jobs) as pool:
+            return list(pool.map(self.answer, models))
+
+    def answer(self, model: Model) -> Answer:
+        """The solution of a model, or what went wrong."""
+        left = self.left
+        try:
+            return ProgramSlow(0) if left <= 0 else solve(model, self.program, checked=False, seconds=left)
+        except JambulskegError as problem:
+            return problem
+
+
+def searched(
+    model: Model, seconds: float, jobs: int, program: ProgramLike, progress: Optional[Progress]
+) -> Tuple[Rescue, Optional[Solution]]:
+    """What `rescue` finds in some seconds, and the cheapest answer of portfolios of the other jobs beside it."""
+    solver = timed_solver(seconds, program, progress=progress)
+    if jobs == 1:
+        return rescue(model, program, solver=solver), None
+    engine = UntilThen(jobs - 1, time.monotonic() + seconds, program)
+    with ThreadPoolExecutor(max_workers=1) as pool:
+        others = pool.submit(by_portfolios, model, engine)
+        return rescue(model, program, solver=solver), others.result()
+
+
+def by_portfolios(model: Model, engine: UntilThen) -> Optional[Solution]:
+    """The cheapest answer of portfolios whose tries grow, as far as their searches end in time; None without any."""
+    best: Optional[Solution] = None
+    tries = FIRST_TRIES
+    while engine.left > 0 and tries <= MOST_TRIES:
+        try:
+            found = portfolio(with_search(model, tries=tries), engine, engine.program, keep_going=True).solution
+        except JambulskegError:
+            return best
+        best = found if best is None or found.cost < best.cost else best
+        tries *= GROWS
+    return best
 
 
 def named(tables: DayTables, sentence: str) -> str:
@@ -201,7 +241,8 @@ def run_plan(asked: argparse.Namespace) -> int:
     files = [path for path in (
         asked.output, asked.page, asked.geojson, asked.ics, asked.model, asked.solution, *sheets
     ) if path]
-    with stopped_by_signals(), new_folder(asked.sheets), Outputs(files) as outputs:
+    inputs = [asked.places, asked.vans]
+    with stopped_by_signals(), new_folder(asked.sheets), Outputs(files, inputs) as outputs:
         planned = plan_day(tables, roads_of(asked, tables), seconds=asked.seconds, jobs=asked.jobs)
         for path, text in texts_of(asked, planned, title, date):
             outputs.write(path, text)
@@ -211,7 +252,7 @@ def run_plan(asked: argparse.Namespace) -> int:
         to_stdout(plan_csv(planned.model, planned.solution, tables))
     for doubt in planned.doubts[len(tables.doubts):]:
         tell(f"look at: {doubt}")
-    tell(f"{planned.summary()}, {planned.how}" if not planned.required else planned.summary())
+    tell(planned.summary())
     for line in planned.left_out():
         tell(line)
     return LEFT_OUT if planned.required else 0

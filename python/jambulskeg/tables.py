@@ -33,7 +33,14 @@ ALIKE = 0.75
 """From this likeness on, by `difflib`, a heading is taken for a misspelt one."""
 OWN_FILES = (b"PK\x03\x04", b"\xd0\xcf\x11\xe0")
 """How the files begin that spreadsheets save when nobody asks for CSV."""
+MOST_SHOWN = 60
+"""How much of a text stands in a sentence."""
 T = TypeVar("T")
+
+
+def shown(text: str) -> str:
+    """A text of a file as a sentence shows it: the beginning of a long one."""
+    return text if len(text) <= MOST_SHOWN else text[:MOST_SHOWN] + ".."
 
 
 class BadTable(JambulskegError, ValueError):
@@ -41,7 +48,7 @@ class BadTable(JambulskegError, ValueError):
 
     def __init__(self, file: str, line: int, column: str, why: str) -> None:
         self.file, self.line, self.column, self.why = file, line, column, why
-        place = f", column '{column}'" if column else ""
+        place = f", column '{shown(column)}'" if column else ""
         super().__init__(f"{file}, line {line}{place}: {why}")
 
 
@@ -88,7 +95,7 @@ class Heads:
         """Raises `BadTable` at the first of these columns that is not there."""
         for column in columns:
             if column not in self.known:
-                there = ", ".join([*self.known, *self.further])
+                there = ", ".join(map(shown, [*self.known, *self.further][:MOST_SHOWN]))
                 raise self.bad(column, f"there is no such column; there are {there}")
 
     def without(self, *columns: str) -> "Heads":
@@ -134,7 +141,7 @@ class TableLine:
         try:
             return read(text.replace(self.point, ".")) if text else default
         except ValueError:
-            raise self.bad(column, f"'{text}' is {kind}{hint(text, self.point)}") from None
+            raise self.bad(column, f"'{shown(text)}' is {kind}{hint(text, self.point)}") from None
 
     def whole(self, column: str, most: int, least: int = 0) -> int:
         """The whole number of a cell, from `least` to `most`; 0 where it is empty."""
@@ -145,8 +152,8 @@ class TableLine:
         kind = "neither a whole number nor a time like 8:30 or 9:00 AM"
         found = self.read(column, lambda text: (whole(text),), kind, None)
         if found is not None and not least <= found[0] <= most:
-            raise self.bad(column, f"{found[0]} is {'below' if found[0] < least else 'above'} "
-                                   f"{least if found[0] < least else most}")
+            bound = f"below {least}" if found[0] < least else f"above {most}"
+            raise self.bad(column, f"{shown(self.text(column))} is {bound}")
         return None if found is None else found[0]
 
     def real(self, column: str, most: float) -> float:
@@ -154,7 +161,7 @@ class TableLine:
         self.text(column)
         found = self.read(column, finite, "no number", 0.0)
         if abs(found) > most:
-            raise self.bad(column, f"'{self.text(column)}' is beyond {'-' if found < 0 else ''}{most:g}")
+            raise self.bad(column, f"'{shown(self.text(column))}' is beyond {'-' if found < 0 else ''}{most:g}")
         return found
 
     def window(self, low: str, high: str, most: int) -> Optional[Tuple[int, int]]:
@@ -166,7 +173,8 @@ class TableLine:
                 raise self.bad(column, f"the cell is empty, and that of '{other}' is not: give both or none")
         found = self.whole(low, most), self.whole(high, most)
         if found[0] > found[1]:
-            raise self.bad(high, f"{self.text(high)} is before {self.text(low)}; two at night is written 26:00")
+            turned = f"{shown(self.text(high))} is before {shown(self.text(low))}"
+            raise self.bad(high, f"{turned}; two at night is written 26:00")
         return found
 
 
@@ -247,8 +255,9 @@ def western(name: str, line: int, data: bytes) -> Tuple[str, List[BadTable]]:
         text = ""
     if not text:
         raise BadTable(name, line, "", why)
-    shown = text.split("\n")[line - 1].strip()[:40]
-    return text, [BadTable(name, line, "", f"{why} if '{shown}' has wrong letters (it was read as Windows-1252)")]
+    begin = text.split("\n")[line - 1].strip()
+    doubt = f"{why} if '{shown(begin)}' has wrong letters (it was read as Windows-1252)"
+    return text, [BadTable(name, line, "", doubt)]
 
 
 def parted(text: str) -> Tuple[str, int, str]:

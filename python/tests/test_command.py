@@ -17,7 +17,7 @@ from unittest import mock
 from jambulskeg.__main__ import main
 from jambulskeg.model import Model, check, read_model, read_solution
 
-from .support import EXAMPLES, THREE, environment
+from .support import EXAMPLES, THREE, Fake, environment
 
 TOP = os.path.dirname(os.path.dirname(os.path.abspath(__file__)))
 
@@ -129,6 +129,8 @@ class CommandTests(unittest.TestCase):
             status, out, told = called(*more)
             self.assertEqual((status, out), (1, ""), more)
             self.assertIn(said, told)
+        with Fake("os.kill(os.getpid(), 9)") as path, mock.patch.dict(os.environ, {"VR_CLI": path}):
+            self.assertIn("the program was ended by the signal SIGKILL", called(*words, "--csv", self.at("b"))[2])
         self.assertFalse(os.path.exists(self.at("b")))
 
     def test_doubts(self) -> None:

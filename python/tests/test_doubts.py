@@ -52,6 +52,12 @@ class DoubtTests(unittest.TestCase):
         one_way: Any = [[0, 5, 9], [5, 0, 4], [2, 4, 0]]
         self.assertEqual(kinds(Model.of({**THREE, "matrices": [one_way], "groups": groups[1:]})), [])
 
+    def test_arcs_that_are_free(self) -> None:
+        found = doubts(Model.of({**THREE, "matrices": [[[5, 0, 0], [0, 5, 0], [0, 0, 5]]]}))
+        self.assertEqual([(doubt.kind, doubt.path) for doubt in found], [(DoubtKind.ALL_ARCS_FREE, "/matrices/0")])
+        self.assertEqual(kinds(Model.of({**THREE, "matrices": [[[0, 0, 0], [0, 0, 0], [0, 1, 0]]]})), [])
+        self.assertEqual(kinds(Model.of({**THREE, "nodes": 1, "matrices": [[[0]]]})), [])
+
     def test_loads(self) -> None:
         load: Dict[str, Any] = {"name": "load", "evaluators": [{"values": [0, 7, -1]}], "slack_max": 0, "capacity": 5}
         self.assertEqual(kinds(Model.of({**THREE, "dimensions": [load]})),

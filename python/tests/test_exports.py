@@ -15,7 +15,8 @@ from typing import Dict, List, Tuple
 from jambulskeg.complete import complete
 from jambulskeg.errors import NoFirstSolution
 from jambulskeg.exports import (
-    CannotBeExported, clock_text, day_of_tables, downloads, geojson, guarded, icalendar, plan_csv,
+    CannotBeExported, clock_text, csv_of, day_of_tables, downloads, geojson, geojson_of, guarded, icalendar,
+    icalendar_of, plan_csv,
 )
 from jambulskeg.model import Model, Solution, read_model, read_solution, solve
 from jambulskeg.places import DayTables, Roads, model_of_day, read_day
@@ -94,6 +95,14 @@ class CsvTests(unittest.TestCase):
         days: List[Day] = [day_of_tables(model, solution), day_of_tables(model, solution, clock=60)]
         self.assertEqual([clock_text(day, 1500) for day in days], ["1500", "26:00"])
         self.assertEqual([clock_text(day, None) for day in days], ["", ""])
+
+
+    def test_days_and_tables_give_the_same(self) -> None:
+        tables, model, solution = tables_and_plan()
+        day = day_of_tables(model, solution, tables)
+        self.assertEqual(csv_of(day, ";"), plan_csv(model, solution, tables))
+        self.assertEqual(geojson_of(day), geojson(model, solution, tables))
+        self.assertEqual(icalendar_of(day, DATE), icalendar(model, solution, DATE, tables))
 
 
 class MapTests(unittest.TestCase):

@@ -8,6 +8,7 @@ import os
 import stat
 import tempfile
 import unittest
+from typing import List, Tuple
 
 from jambulskeg.outputs import Outputs, names_of_sheets, to_stdout, write_whole
 
@@ -52,7 +53,8 @@ class OutputTests(unittest.TestCase):
         with self.assertRaises(OSError) as caught, Outputs([self.at("a"), "/dev/full"]) as outputs:
             outputs.write(self.at("a"), "new")
             outputs.write("/dev/full", "new")
-        self.assertEqual((caught.exception.filename, caught.exception.strerror), ("/dev/full", "No space left on device"))
+        told = (caught.exception.filename, caught.exception.strerror)
+        self.assertEqual(told, ("/dev/full", "No space left on device"))
         self.assertEqual((self.read("a"), os.listdir(self.folder)), ("old", ["a"]))
         self.assertTrue(stat.S_ISCHR(os.stat("/dev/full").st_mode))
         write_whole(os.devnull, "gone")
@@ -63,6 +65,18 @@ class OutputTests(unittest.TestCase):
                 self.fail("the work has begun")
             self.assertEqual(caught.exception.filename, path)
         self.assertEqual(os.listdir(self.folder), [])
+
+    def test_one_file_is_not_written_twice_nor_over_what_is_read(self) -> None:
+        write_whole(self.at("a"), "kept")
+        os.symlink(self.at("a"), self.at("link"))
+        cases: List[Tuple[List[str], List[str]]] = [
+            ([self.at("b"), self.at("b")], []), ([self.at("link")], [self.at("a")]),
+        ]
+        for paths, inputs in cases:
+            with self.assertRaises(ValueError):
+                Outputs(paths, inputs)
+        Outputs([os.devnull, os.devnull])
+        self.assertEqual(self.read("a"), "kept")
 
     def test_standard_output(self) -> None:
         with contextlib.redirect_stdout(io.TextIOWrapper(io.BytesIO(), "ascii")) as out:

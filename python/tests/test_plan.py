@@ -19,7 +19,7 @@ from jambulskeg.model import check, read_model, read_solution
 from jambulskeg.places import Roads, read_day
 from jambulskeg.plan import LEFT_OUT, Planned, add_plan, plan_day, run_plan
 
-from .support import Fake, environment
+from .support import EXAMPLES, Fake, environment
 
 TOP = os.path.dirname(os.path.dirname(os.path.abspath(__file__)))
 FILES = os.path.join(TOP, "examples")
@@ -70,7 +70,7 @@ class PlanTests(PlanCase):
                  for word in (f"--{name}", self.at(name))]
         status, out, told = self.plan("-o", self.at("plan.csv"), "--date", "2026-12-01", *words)
         self.assertEqual((status, out), (0, ""))
-        self.assertRegex(told, r"cost \d+: 3 of 3 vehicles leave, 11 of 12 visits are made, by ")
+        self.assertRegex(told, r"cost \d+: 3 of 3 vehicles leave, 11 of 12 visits are made")
         self.assertRegex(told, r"left out: Lea: its cheapest place, on \w+ after yard, would cost 80, and leaving it")
         self.assertEqual(check(read_model(self.at("model")), read_solution(self.at("solution"))).cost, 237)
         self.assertIn("<h1>Plan of 2026-12-01</h1>", self.read("page"))
@@ -79,6 +79,20 @@ class PlanTests(PlanCase):
         self.assertEqual(sorted(os.listdir(self.at("sheets"))), ["01-red.html", "02-blue.html", "03-green.html"])
         self.assertEqual(self.read("plan.csv").split("\n")[0], "\ufeffvan,stop,name,arrival,begins,departure,load")
         self.assertIn("DTSTART:20261201T", self.read("ics"))
+
+    def test_the_first_day_of_the_tutorial(self) -> None:
+        folder = os.path.join(EXAMPLES, "first-day")
+        words = [os.path.join(folder, name) for name in ("places.csv", "vans.csv")]
+        status, out, told = called("plan", *words, "--seconds", "0")
+        with open(os.path.join(EXAMPLES, "..", "docs", "HOWTO.md"), encoding="utf-8") as file:
+            text = file.read()
+        self.assertEqual((status, len(told.splitlines())), (0, 2))
+        for line in told.splitlines():
+            self.assertIn(f"    {line}\n", text)
+        for name in words:
+            with open(name, encoding="utf-8") as file:
+                self.assertIn(file.readline(), text)
+        self.assertIn("sign for it, second floor", out)
 
     def test_to_standard_output(self) -> None:
         status, out, told = self.plan()
@@ -91,6 +105,14 @@ class PlanTests(PlanCase):
         self.assertEqual(status, 0)
         self.assertIn("line 5, column 'name': no vehicle starts or ends at 'Depot 2'", told)
         self.assertIn("look at: to leave a visit of group 0 out costs 5", told)
+
+    def test_doubts_of_the_model_have_names(self) -> None:
+        rows = "yard,0,0,,,\nAda,90,0,0:00,0:30,500\nBen,1,1,0:10,9:00,\n"
+        places = self.write("p.csv", f"name,x,y,open,close,penalty\n{rows}")
+        status, _, told = called("plan", places, self.write("v.csv", "start\nyard\n"), "--seconds", "0")
+        self.assertEqual(status, 0)
+        self.assertIn("look at: no vehicle that drives straight to 'Ada' and on to its end keeps 'time'", told)
+        self.assertIn("left out: Ada: 'time' forbids each of its 2 places", told)
 
     def test_a_day_that_cannot_make_all_visits(self) -> None:
         words = [self.write("p.csv", FULL), self.write("v.csv", ONE), "--seconds", "0", "-o", self.at("plan.csv")]
@@ -107,10 +129,10 @@ class PlanTests(PlanCase):
                  self.write("v.csv", "start,capacity\nyard,12\nyard,12\n"), "--seconds", "0"]
         status, _, told = called("plan", *words)
         self.assertEqual((status, "6 of 6 visits are made" in told), (0, True), told)
-        self.assertNotIn("by the construction that the model asks for", told)
+        self.assertRegex(told, r"visits are made, by (another construction|penalties for required visits)")
 
     def test_many_searches(self) -> None:
-        planned: Planned = plan_day(read_day(PLACES, VANS), Roads(pace=2), seconds=0, jobs=2)
+        planned: Planned = plan_day(read_day(PLACES, VANS), Roads(pace=2), seconds=0.5, jobs=3)
         self.assertIn("vehicles leave, 1", planned.summary())
         self.assertEqual((planned.required, planned.van(0), planned.place(1)), ((), "red", "Ada"))
         self.assertEqual(planned.left_out()[0][:14], "left out: Lea:")

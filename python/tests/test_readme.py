@@ -66,7 +66,7 @@ class ReadmeTests(unittest.TestCase):
 
     def test_each_piece_runs(self) -> None:
         pieces = [block for block in blocks() if block.startswith("from ")]
-        self.assertEqual(len(pieces), 8)
+        self.assertEqual(len(pieces), 9)
         model = read_model(os.path.join(EXAMPLES, "service-day.json"))
         solution = read_solution(os.path.join(EXAMPLES, "service-day.solved.json"))
         write("model.json", model.text())
@@ -79,7 +79,8 @@ class ReadmeTests(unittest.TestCase):
         said = out.getvalue()
         self.assertIn("by the construction that the model asks for (PATH_CHEAPEST_ARC)", said)
         self.assertIn("1338 [[1, 6, 11, 3, 16, 8], [2, 7, 12, 4, 9, 14], [], [13, 5, 10, 15]]", said)
-        self.assertEqual(said.splitlines()[-3:], ["321 GUIDED_LOCAL_SEARCH", "321 PATH_LNS", "321 TABU_SEARCH"])
+        self.assertEqual(said.splitlines()[-4:-1], ["321 GUIDED_LOCAL_SEARCH", "321 PATH_LNS", "321 TABU_SEARCH"])
+        self.assertEqual(said.splitlines()[-1], "cost 130: 1 of 2 vehicles leave, 2 of 2 visits are made")
         self.assertEqual([place.name for place in read_places("places.csv")], ["yard", "Ada", "Ben"])
 
 

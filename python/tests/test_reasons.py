@@ -80,8 +80,8 @@ class ReasonTests(unittest.TestCase):
     def test_groups_and_vehicles(self) -> None:
         model = replace(Model.of(THREE), groups=[Group([1, 2], 50)])
         self.assertEqual(why_left_out(model, complete(model, [[1]]))[2].places, 0)
-        two = replace(Model.of({**THREE, "vehicles": [{"start": 0, "end": 0}] * 2}), groups=[Group([1], 5), Group([2], 5)],
-                      allowed=[Allowed(1, [1])])
+        pair = Model.of({**THREE, "vehicles": [{"start": 0, "end": 0}] * 2})
+        two = replace(pair, groups=[Group([1], 5), Group([2], 5)], allowed=[Allowed(1, [1])])
         reason = why_left_out(two, complete(two, [[2], []]))[1]
         self.assertEqual((reason.best, reason.forbidden), (Site(1, 0, 10, 5), (("the vehicles that may go there", 2),)))
 

@@ -5,7 +5,7 @@ from __future__ import annotations
 import os
 import tempfile
 import unittest
-from typing import Tuple, Union
+from typing import Dict, Tuple, Union
 
 from jambulskeg.places import (
     METRES, BadTable, DayTables, Measure, Place, Roads, TableSource, Van, model_from_csv, model_of_day, read_day,
@@ -15,7 +15,7 @@ from jambulskeg.tables import Heads, Table, TableLine, finite, read_table, whole
 
 Text = Union[str, bytes]
 
-WRITERS = {
+WRITERS: Dict[str, Tuple[Text, Text]] = {
     # 'CSV UTF-8' with the regional settings of Germany: a mark, semicolons, decimal commas, CR LF, times as 08:30.
     "Excel in Europe, CSV UTF-8": (
         "\ufeffName;X;Y;Demand;Open;Close;Service;Phone\r\nYard;0;0;;;;;\r\nJörg;3,5;-4;2;08:30;10:00;10;0123\r\n"
@@ -28,7 +28,7 @@ WRITERS = {
         .encode("cp1252"),
         b"Name;Start;Capacity;From;To\r\nred;Yard;15;08:00;16:00\r\n",
     ),
-    # 'CSV UTF-8' with American settings: commas, 9:00 AM, cells with a comma in quotes, empty rows to the last used one.
+    # 'CSV UTF-8' with American settings: commas, 9:00 AM, empty rows down to the last one that was ever used.
     "Excel in America, CSV UTF-8": (
         "\ufeffName ,X,Y,Demand,Open,Close,Service, Phone\r\nYard,0,0,,,,,\r\n"
         "Jörg,3.5,-4,2,8:30 AM,10:00 AM,10,0123\r\n,,,,,,,\r\n,,,,,,,\r\n",
@@ -97,8 +97,8 @@ class WriterTests(unittest.TestCase):
             for path, text in zip(paths, WRITERS["LibreOffice"]):
                 with open(path, "wb") as file:
                     file.write(as_bytes(text))
-            self.assertEqual(read_day(*paths), day(*WRITERS["LibreOffice"]))
-            self.assertEqual(model_from_csv(*paths), model_of_day(read_day(*paths)))
+            self.assertEqual(read_day(paths[0], paths[1]), day(*WRITERS["LibreOffice"]))
+            self.assertEqual(model_from_csv(paths[0], paths[1]), model_of_day(read_day(paths[0], paths[1])))
             self.assertEqual(read_places(paths[0]), list(PLACES))
             with self.assertRaises(OSError):
                 read_day(os.path.join(folder, "none.csv"), paths[1])
@@ -170,7 +170,10 @@ class WriterTests(unittest.TestCase):
                 self.bad(sentence, places, vans)
 
     def test_no_text_makes_another_exception(self) -> None:
-        for text in ("\x00", '"', "sep=", "sep=;", ",", "name", "name,x,y\r", "name,x,y\n\"a\"b,1,2", "name;x;y\n1;2;3;4"):
+        texts = (
+            "\x00", '"', "sep=", "sep=;", ",", "name", "name,x,y\r", "name,x,y\n\"a\"b,1,2", "name;x;y\n1;2;3;4",
+        )
+        for text in texts:
             for data in (as_bytes(text), text.encode("utf-16"), b"\xff\xfe" + as_bytes(text)):
                 with self.assertRaises(BadTable):
                     read_day(("p", data), ("v", data))

@@ -19,7 +19,7 @@ from jambulskeg.places import Place
 from jambulskeg.reasons import why_left_out
 from jambulskeg.view import CannotBeDrawn, Day, Download, Names, compare_page, day_of, drawing, page, sheet_page
 from jambulskeg.view.axis import Axis
-from jambulskeg.view.colours import COLOURS, colours_of, letters
+from jambulskeg.view.colours import ROUTES, colours_of, letters
 from jambulskeg.view.compare import changes_table, signed
 from jambulskeg.view.loads import levels_of
 from jambulskeg.view.route_map import route_map
@@ -312,7 +312,8 @@ class PageTests(unittest.TestCase):
         self.assertAlmostEqual(ground.far[12], 58.0, 0)
         self.assertGreater(max(x for x, _ in ground.points[:12]) - min(x for x, _ in ground.points[:12]), 700)
         self.assertTrue(0 < ground.points[12][0] <= 970 and 0 < ground.points[12][1] < ground.height)
-        for others in ([Place("far", 60, 1)] * 5, []):
+        clusters: List[List[Place]] = [[Place("far", 60, 1)] * 5, []]
+        for others in clusters:
             self.assertEqual(ground_of([*near, *others], False).far, {})
         self.assertEqual(ground_of([near[0], Place("far", 60, 1)], False).far, {})
         degrees = ground_of([Place("a", 8, 47), Place("b", 8, 48)], True)
@@ -334,7 +335,7 @@ class PageTests(unittest.TestCase):
 class VanTests(unittest.TestCase):
     def test_colours_are_those_of_names(self) -> None:
         self.assertEqual(colours_of(("red", "Blue", "van", "red")), (9, 0, 1, 2))
-        self.assertEqual(sorted(colours_of(tuple("x" * at for at in range(12)))), list(range(len(COLOURS))))
+        self.assertEqual(sorted(colours_of(tuple("x" * at for at in range(12)))), list(range(len(ROUTES))))
         many = colours_of(("red",) * 30)
         self.assertLessEqual(max(map(many.count, many)), 3)
         self.assertEqual([letters(at) for at in (0, 25, 26, 99)], ["A", "Z", "AA", "CV"])
@@ -357,7 +358,7 @@ class VanTests(unittest.TestCase):
         self.assertEqual(text.count('class="pause"'), sum(len(drawn.breaks(route)) for route in drawn.routes()))
         self.assertIn("> Phone</th>", text)
         self.assertNotIn("empty", text)
-        self.assertIn("<td>03</td>", text)
+        self.assertIn('<td data-head="Phone">03</td>', text)
         self.assertIn("\u2013", text)
         single = sheet_page(drawn, drawn.routes()[0].vehicle, "Monday")
         self.assertEqual((read(single).seen["h1"], "Monday" in single), (1, True))

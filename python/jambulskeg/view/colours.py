@@ -8,9 +8,9 @@ from __future__ import annotations
 from functools import lru_cache
 from typing import Dict, List, Tuple
 
-__all__ = ["COLOURS", "colours_of", "letters"]
+__all__ = ["ROUTES", "colours_of", "letters"]
 
-COLOURS = (
+ROUTES = (
     ("#1f5fa8", "#7db4f0"), ("#b4451f", "#f0a07d"), ("#15803d", "#6fd08c"), ("#7c3aed", "#b79cf5"),
     ("#8a6100", "#e0b84a"), ("#0e7490", "#5fc8dc"), ("#be185d", "#f08cb8"), ("#4d7c0f", "#a8d05a"),
     ("#86198f", "#e29bf5"), ("#b91c1c", "#f58c8c"), ("#0f766e", "#5fd0c0"), ("#57534e", "#c8c2bc"),
@@ -27,7 +27,7 @@ WORDS: Dict[str, int] = {
 @lru_cache(maxsize=64)
 def colours_of(names: Tuple[str, ...]) -> Tuple[int, ...]:
     """The number of the colour of each vehicle: that of its name, else the first one that fewest others have."""
-    taken: Dict[int, int] = dict.fromkeys(range(len(COLOURS)), 0)
+    taken: Dict[int, int] = dict.fromkeys(range(len(ROUTES)), 0)
     found: List[int] = []
     for name in names:
         word = WORDS.get(name.strip().casefold(), -1)

@@ -9,6 +9,7 @@ from ..solution import Route
 from .day import Day
 from .ground import WIDTH, Ground, ground_of, length_of_scale
 from .svg import Picture, Point, circle, group, line, path, rect, shortened, text
+from .tables import visits_text
 
 __all__ = ["route_map"]
 
@@ -45,7 +46,7 @@ def route_of(day: Day, route: Route, points: Sequence[Point]) -> str:
     """The line of a route, with a head on each drive that is long enough."""
     stops = [points[node] for node in route.nodes]
     colour = f"c{day.colour(route.vehicle)}"
-    title = f"{day.names.vehicle(route.vehicle)} ({day.letters(route.vehicle)}): {len(route.visits)} visits"
+    title = f"{day.names.vehicle(route.vehicle)} ({day.letters(route.vehicle)}): {visits_text(len(route.visits))}"
     marks = [path(f"route {colour}{LINES[route.vehicle // 12 % 3]}", stops, title)]
     marks += [mark for tail, head in zip(stops, stops[1:]) for mark in head_of(colour, tail, head)]
     return group("way", marks, route.vehicle)

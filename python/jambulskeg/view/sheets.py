@@ -9,7 +9,7 @@ from .day import Day, Piece
 from .stops import Stop, stops_of
 from .style import page_style
 from .svg import escaped
-from .tables import badge, row, table
+from .tables import badge, row, table, visits_text
 
 __all__ = ["sheet", "sheet_page", "sheets"]
 
@@ -27,12 +27,13 @@ def sheets(day: Day) -> str:
         f"{sheet(day, route)}</details>"
         for route in day.routes()
     ]
-    return f'<div class="sheets">{"".join(parts)}</div>' if parts else "<p>No vehicle leaves.</p>"
+    shape = "sheets roomy" if day.cells(0) else "sheets"
+    return f'<div class="{shape}">{"".join(parts)}</div>' if parts else "<p>No vehicle leaves.</p>"
 
 
 def in_short(day: Day, route: Route) -> str:
     """A route in a line: how many visits, from when to when, and the loads that it takes."""
-    words = [f"{len(route.visits)} visits"]
+    words = [visits_text(len(route.visits))]
     if day.is_timed:
         first, last = day.stops(route)[0], day.stops(route)[-1]
         words.append(f"{day.names.time(first)} to {day.names.time(last)}")

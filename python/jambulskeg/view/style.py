@@ -5,9 +5,9 @@ from __future__ import annotations
 import os
 from functools import lru_cache
 
-from .colours import COLOURS
+from .colours import ROUTES
 
-__all__ = ["PATTERNS", "page_script", "page_style", "picture_style"]
+__all__ = ["PATTERNS", "ROUTES", "page_script", "page_style", "picture_style"]
 
 FOLDER = os.path.dirname(os.path.abspath(__file__))
 PARTS = {"arcs": 0, "fixed": 1, "span": 2, "global_": 3, "soft": 4, "penalty": 9}
@@ -34,10 +34,10 @@ def colour_rules(shade: int) -> str:
         f".route.c{at},.head.c{at},.level.c{at}{{stroke:{colours[shade]}}}"
         f".visit.c{at},.swatch.c{at},.spot.c{at},.area.c{at}{{fill:{colours[shade]}}}"
         f".badge.c{at}{{background:{colours[shade]}}}"
-        for at, colours in enumerate(COLOURS)
+        for at, colours in enumerate(ROUTES)
     ]
     rules += [
-        f".part-{part}{{background:{COLOURS[at][shade]};fill:{COLOURS[at][shade]}}}" for part, at in PARTS.items()
+        f".part-{part}{{background:{ROUTES[at][shade]};fill:{ROUTES[at][shade]}}}" for part, at in PARTS.items()
     ]
     return "".join(rules)
 

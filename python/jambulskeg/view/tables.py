@@ -12,7 +12,7 @@ from .svg import escaped
 
 __all__ = [
     "Markup", "PARTS", "badge", "cost_table", "left_table", "parts_table", "stops_table", "table", "van_cell",
-    "visits_table",
+    "visits_table", "visits_text",
 ]
 
 PARTS: Sequence[Tuple[str, str, str]] = (
@@ -38,6 +38,11 @@ def badge(day: Day, vehicle: int) -> Markup:
 def van_cell(day: Day, vehicle: int) -> Markup:
     """The name of a vehicle, with its badge."""
     return Markup(f"{badge(day, vehicle)} {escaped(day.names.vehicle(vehicle))}")
+
+
+def visits_text(count: int) -> str:
+    """How many visits, in words."""
+    return "1 visit" if count == 1 else f"{count} visits"
 
 
 def table(
@@ -195,7 +200,7 @@ def stops_table(day: Day) -> str:
     heads += [f"#{day.model.dimensions[number].name}" for number in loads]
     bodies = []
     for route in day.routes():
-        name = f"{van_cell(day, route.vehicle)}: {len(route.visits)} visits"
+        name = f"{van_cell(day, route.vehicle)}: {visits_text(len(route.visits))}"
         head = f'<tr><th colspan="{len(heads)}" scope="rowgroup">{name}</th></tr>'
         rows = "".join(stop_rows(day, route, loads))
         bodies.append(f'<tbody data-vehicle="{route.vehicle}">{head}{rows}</tbody>')

@@ -33,7 +33,9 @@ IDLE = 20
 EVERY = 12
 """After so many vehicles the axis is written again."""
 LETTER = 6.4
-"""The width of a letter of a visit's name."""
+"""The width of a letter of a visit's name, rather too much."""
+SPARE = 3
+"""By how much words may seem to stand out at either end of a row."""
 ROOMS = (("wl", 960), ("wm", 560), ("ws", 220))
 """The classes of words, and how wide a chart is at least where words of that class are shown."""
 THICK = {"visit": BAR, "wait": 8, "break": 12}
@@ -114,11 +116,11 @@ def rooms(words: Sequence[Tuple[float, str]], in_middle: bool) -> List[str]:
     """For each of some words along a row, at their shares of the width, the classes of charts that have room for it."""
     out = [""] * len(words)
     for kind, width in ROOMS:
-        free: float = 0
+        free: float = -SPARE
         for at, (share, word) in enumerate(words):
             long = LETTER * len(word)
             begin = share * width - (long / 2 if in_middle else 0)
-            if begin >= free and begin + long <= width and word:
+            if begin >= free and begin + long <= width + SPARE and word:
                 out[at] += f"{' ' if out[at] else ''}{kind}"
                 free = begin + long + 3
     return out
