@@ -9,7 +9,7 @@ import zipfile
 from dataclasses import dataclass
 from typing import Callable, Mapping, Optional, Tuple
 
-from ..exports import geojson, icalendar, plan_csv
+from ..exports import csv_of, geojson_of, icalendar_of
 from ..outputs import names_of_sheets
 from ..view.day import Day
 from ..view.page import page
@@ -46,14 +46,13 @@ def as_json(source: Source) -> bytes:
 
 def as_csv(source: Source) -> bytes:
     """A line for each stop."""
-    day = source.day
-    return encoded(plan_csv(day.model, day.solution, source.basis.tables, clock=day.names.clock))
+    tables = source.basis.tables
+    return encoded(csv_of(source.day, "," if tables is None else tables.delimiter))
 
 
 def as_geojson(source: Source) -> bytes:
     """Routes as lines, stops as points."""
-    day = source.day
-    return encoded(geojson(day.model, day.solution, source.basis.tables, clock=day.names.clock))
+    return encoded(geojson_of(source.day))
 
 
 def as_page(source: Source) -> bytes:
@@ -104,6 +103,5 @@ def exported(opened: OpenDay, word: str) -> Optional[Tuple[str, str, bytes]]:
         date = datetime.date.fromisoformat(calendar[1])
     except ValueError:
         return None
-    day = source.day
-    text = icalendar(day.model, day.solution, date, source.basis.tables, clock=day.names.clock)
+    text = icalendar_of(source.day, date, source.basis.in_degrees)
     return "text/calendar; charset=utf-8", "ics", encoded(text)

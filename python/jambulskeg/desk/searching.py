@@ -16,10 +16,10 @@ from dataclasses import dataclass, replace
 from typing import Any, Dict, Iterator, List, Optional, Sequence, Tuple
 
 from ..complete import CannotBeDriven
-from ..errors import JambulskegError, NoFirstSolution, NotMet, ProgramFailed, ProgramSlow, Refused
+from ..errors import JambulskegError, NoFirstSolution, NotMet, ProgramFailed, ProgramSlow
 from ..program import Program, answer, tree_of
 from ..records import First, Improve, Model, tries_for
-from ..rescue import ALIKE, relax
+from ..rescue import relax
 from ..rounds import with_search
 from ..solution import Solution
 from .asking import Verdict
@@ -39,7 +39,7 @@ KINDS: Sequence[Tuple[First, Improve, Tuple[int, int]]] = (
     (First.PATH_CHEAPEST_ARC, Improve.GUIDED_LOCAL_SEARCH, (1, 10)),
     (First.PARALLEL_CHEAPEST_INSERTION, Improve.GUIDED_LOCAL_SEARCH, (1, 10)),
     (First.PARALLEL_CHEAPEST_INSERTION, Improve.PATH_LNS, (1, 10)),
-    (First.SAVINGS, Improve.GUIDED_LOCAL_SEARCH, (1, 5)),
+    (First.PATH_CHEAPEST_ARC, Improve.GUIDED_LOCAL_SEARCH, (1, 5)),
     (First.PARALLEL_CHEAPEST_INSERTION, Improve.GUIDED_LOCAL_SEARCH, (1, 3)),
 )
 """What the rounds of a pass search with; the first is the quickest."""
@@ -179,10 +179,6 @@ class Search(threading.Thread):
             except ProgramSlow:
                 return
             except NoFirstSolution:
-                failed += 1
-            except Refused as refused:
-                if refused.code != ALIKE:
-                    raise
                 failed += 1
             if failed >= len(KINDS) and not has_found:
                 raise NoFirstSolution("no construction finds a first solution")
