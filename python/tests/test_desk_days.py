@@ -15,6 +15,7 @@ from jambulskeg.desk import Answer, Asker, BadChange, Edits, Folder, FolderInUse
 from jambulskeg.desk.asking import lenient, merged
 from jambulskeg.desk.changes import Move, Within
 from jambulskeg.desk.folder import Basis, NoSuchDay
+from jambulskeg.desk.nearby import LEAST_VANS, MOST_VANS, Nearby
 from jambulskeg.desk.offers import offers
 from jambulskeg.desk.opening import basis_of_model, example_basis
 from jambulskeg.desk.part import part_of
@@ -355,6 +356,19 @@ class PartTests(unittest.TestCase):
         part = part_of(barred, state)
         self.assertNotIn(3, part.nodes)
         self.assertEqual(part.model.allowed, (Allowed(part.nodes.index(4), [0]),))
+
+    def test_vans_that_are_planned_anew_together(self) -> None:
+        model = model_named("hundred-customers")
+        lists = tupled(solve(model).lists())
+        state = State(lists, off=frozenset(v for v, visits in enumerate(lists) if not visits), pinned=frozenset([0]))
+        nearby, seen = Nearby(model), set()
+        for _ in range(60):
+            vans = nearby.vans(state)
+            self.assertFalse(vans & (state.off | state.pinned))
+            self.assertTrue(LEAST_VANS <= len(vans) <= MOST_VANS + 1)
+            seen |= vans
+        self.assertEqual(seen, {v for v, visits in enumerate(lists) if visits} - {0})
+        self.assertEqual(nearby.vans(State(((1,), (2,), (), ()))), frozenset())
 
     def test_nothing_to_search(self) -> None:
         model = model_named("service-day")

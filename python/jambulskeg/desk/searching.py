@@ -2,9 +2,10 @@
 
 Where nothing is planned yet, the first round is run to its end, however long that takes.
 
-A round is a run of the program with a construction, a search and a number of tries, which grow from pass to pass. What
-a round finds is put to the program as a whole day and is kept if it leaves fewer required visits unmade, or as many and
-costs less. The day changes once, at the end, and never for the worse.
+A round is a run of the program with a construction, a search and a number of tries, which grow from pass to pass. It
+plans the whole day, or a few neighbouring vans while the others keep their routes. What a round
+finds is put to the program as a whole day and is kept if it leaves fewer required visits unmade, or as many and costs
+less. The day changes once, at the end, and never for the worse.
 """
 
 from __future__ import annotations
@@ -13,9 +14,9 @@ import subprocess
 import threading
 import time
 from dataclasses import dataclass, replace
-from typing import Any, Dict, Iterator, List, Optional, Sequence, Tuple
+from typing import Any, Callable, Dict, Iterator, List, Optional, Sequence, Tuple
 
-from ..complete import CannotBeDriven
+from ..complete import CannotBeDriven, complete
 from ..errors import JambulskegError, NoFirstSolution, NotMet, ProgramFailed, ProgramSlow
 from ..program import Program, answer, tree_of
 from ..records import First, Improve, Model, tries_for
@@ -24,6 +25,7 @@ from ..rounds import with_search
 from ..solution import Solution
 from .asking import Verdict
 from .days import Answer, OpenDay
+from .nearby import Nearby
 from .part import Part, part_of
 from .states import BadChange, Lists, State
 
@@ -33,6 +35,8 @@ FIRST_TRIES = 20000
 MOST_TRIES = 10**9
 LEAST, MOST = 1, 3600
 """The seconds that a search may be given."""
+SHARE = 2
+"""How many times as long a few vans are planned anew as the whole day is."""
 PATIENCE = 0.05
 """So many seconds after it is stopped, a run of the program is ended at the latest."""
 KINDS: Sequence[Tuple[First, Improve, Tuple[int, int]]] = (
@@ -110,6 +114,8 @@ class Search(threading.Thread):
         self._asker = day.asker(self._state.edits).apart()
         self._part: Part = part_of(self._asker.model, self._state)
         self._best: Optional[Tuple[Lists, Verdict]] = None
+        self._nearby = Nearby(self._asker.model)
+        self._spent = {True: 0.0, False: 0.0}
 
     @property
     def is_alive_still(self) -> bool:
@@ -174,7 +180,8 @@ class Search(threading.Thread):
             if self.left() <= 0:
                 return
             try:
-                self.try_round(asked)
+                self.in_part()
+                self.timed(lambda: self.try_round(asked), False)
                 has_found = True
             except ProgramSlow:
                 return
@@ -183,13 +190,62 @@ class Search(threading.Thread):
             if failed >= len(KINDS) and not has_found:
                 raise NoFirstSolution("no construction finds a first solution")
 
+    def timed(self, work: Callable[[], None], is_part: bool) -> None:
+        """Does some work, and counts how long that takes."""
+        began = time.monotonic()
+        try:
+            work()
+        finally:
+            self._spent[is_part] += time.monotonic() - began
+
+    def in_part(self) -> None:
+        """Plans a few vans anew, until that has had its share of the time."""
+        while self.rounds and self.left() > 0 and self._spent[True] < SHARE * self._spent[False]:
+            self.timed(self.try_part, True)
+
+    def try_part(self) -> None:
+        """Runs a round of a few vans, and keeps what it finds where that is better."""
+        assert self._best is not None
+        state = replace(self._state, lists=self._best[0])
+        vans = self._nearby.vans(state)
+        if not vans:
+            self._spent[True] = SHARE * self._spent[False]
+            return
+        others = frozenset(range(len(state.lists))) - vans
+        part = part_of(self._asker.model, replace(state, pinned=state.pinned | others))
+        model = relax(part.model)[0] if self._best[1].missing else part.model
+        first, improve, weight = KINDS[self.rounds % len(KINDS)]
+        asked = with_search(model, first=first, improve=improve, lambda_=weight, tries=tries_for(improve, FIRST_TRIES))
+        now = complete(model, [self.own(part, vehicle) for vehicle in part.vehicles], checked=False)
+        try:
+            found = self.solved(asked)
+        except NoFirstSolution:
+            return
+        if found.cost < now.cost:
+            self.consider_lists(part.lists(found.lists(), state))
+
+    def own(self, part: Part, vehicle: int) -> List[int]:
+        """The visits of a vehicle in the best day, by the numbers of a part."""
+        assert self._best is not None
+        places = {node: place for place, node in enumerate(part.nodes)}
+        return [places[node] for node in self._best[0][vehicle]]
+
     def try_round(self, asked: Model) -> None:
-        """Runs a round, and keeps what it finds where that is better."""
+        """Runs a round of the whole day, and keeps what it finds where that is better."""
+        self.consider_lists(self._part.lists(self.solved(asked).lists(), self._state))
+
+    def solved(self, asked: Model) -> Solution:
+        """What a round finds. Raises `NoFirstSolution`, `ProgramSlow`."""
         text = run_until(self._asker.program, ["solve"], asked.text(), self.left(), self.stopped)
-        found = Solution.of(tree_of(text.split("\n", 1)[0]))
         self.rounds += 1
-        lists = self._part.lists(found.lists(), self._state)
-        self.consider(lists, self._asker.judged(lists))
+        return Solution.of(tree_of(text.split("\n", 1)[0]))
+
+    def consider_lists(self, lists: Lists) -> None:
+        """Keeps a day where the program finds that it keeps its rules and is better than the best so far."""
+        try:
+            self.consider(lists, self._asker.judged(lists))
+        except (CannotBeDriven, NotMet):
+            pass
 
     def consider(self, lists: Lists, verdict: Verdict) -> None:
         """Keeps a day where it is better than the best so far."""
