@@ -8,7 +8,7 @@ import random
 import tempfile
 import unittest
 from dataclasses import replace
-from typing import Any, Callable, Dict, List, Optional, Tuple
+from typing import Any, Callable, Dict, List, Optional, Set, Tuple
 
 from jambulskeg.complete import complete
 from jambulskeg.desk import Answer, Asker, BadChange, Edits, Folder, FolderInUse, OpenDay, State, Verdict, change_of
@@ -361,7 +361,8 @@ class PartTests(unittest.TestCase):
         model = model_named("hundred-customers")
         lists = tupled(solve(model).lists())
         state = State(lists, off=frozenset(v for v, visits in enumerate(lists) if not visits), pinned=frozenset([0]))
-        nearby, seen = Nearby(model), set()
+        nearby = Nearby(model)
+        seen: Set[int] = set()
         for _ in range(60):
             vans = nearby.vans(state)
             self.assertFalse(vans & (state.off | state.pinned))

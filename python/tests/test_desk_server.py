@@ -117,6 +117,14 @@ class PageTests(DeskTests):
             self.post("days", tree, 422)
         self.assertEqual(len(os.listdir(self.folder)), 3)
 
+    def test_a_model_with_a_clock(self) -> None:
+        day = self.made(**{"from": "example", "example": "service-day", "clock": "8:00"})
+        self.assertEqual(self.get(day)["clock"], 480)
+        begins = [van["begins"][0] for van in self.planned(day)["vehicles"] if van["begins"]]
+        self.assertTrue(all(8 <= int(time.split(":")[0]) < 12 for time in begins), begins)
+        for clock in ("25:00", "x", "-1", 8):
+            self.post("days", {"from": "example", "example": "service-day", "clock": clock}, 422)
+
     def test_no_text_is_markup(self) -> None:
         places = 'name,x,y,penalty\nyard,0,0,\n"' + MARKUP.replace('"', '""') + '",3,4,5\n'
         vans = 'name,start\n"<b>red</b>",yard\n'

@@ -109,6 +109,7 @@ class Planner:
     def planned(self, seconds: float) -> None:
         """Lets the day be planned."""
         self.page.value(f"document.querySelector('#seconds').value = {seconds}")
+        time.sleep(0.5)  # until the charts are drawn, which may move the button
         self.page.click("#plan")
         self.page.wait("!document.querySelector('#stop').hidden")
         self.page.wait("document.querySelector('#stop').hidden", seconds + 60)

@@ -14,6 +14,7 @@ from typing import Any, Callable, Dict, List, Mapping, Optional, Sequence, Tuple
 from ..errors import JambulskegError
 from ..places import Measure
 from ..program import Program
+from ..tables import whole
 from .assets import ASSETS, asset
 from .changes import Move, change_of
 from .days import Answer, OpenDay, capital
@@ -30,6 +31,7 @@ __all__ = ["Reply", "Service"]
 
 MOST_OPEN = 6
 """As many days are kept open."""
+DAY = 1440
 FAR = 10**6
 """The greatest number of a form."""
 UNITS = {"km": 1.0, "m": 0.001}
@@ -214,9 +216,9 @@ class Service:
         """What a new day is made of, and the files that are kept with it."""
         kind = text_of(tree, "from")
         if kind == "example":
-            return example_basis(text_of(tree, "example"), self.program), []
+            return clocked(example_basis(text_of(tree, "example"), self.program), tree), []
         if kind == "model":
-            return basis_of_model(upload_of(tree, "model"), self.program), []
+            return clocked(basis_of_model(upload_of(tree, "model"), self.program), tree), []
         if kind != "tables":
             raise BadChange("a day is made of tables, of a model, or of an example")
         places, vans = upload_of(tree, "places"), upload_of(tree, "vans")
@@ -234,6 +236,20 @@ def change(day: OpenDay, tree: Any, step: int) -> Answer:
                 return Answer(False, day.at, capital(offer["sentence"]), "schedule", move.vehicle)
             return day.change(replace(move, before=offer["before"]), step)
     return day.change(change_of(tree, day.within), step)
+
+
+def clocked(basis: Basis, tree: Mapping[str, Any]) -> Basis:
+    """A day whose time 0 lies at a time of day, if the request says so. Raises `BadChange`."""
+    text = text_of(tree, "clock").strip() if "clock" in tree else ""
+    if not text:
+        return basis
+    try:
+        minute = whole(text)
+    except ValueError:
+        raise BadChange("the time 0 lies at a time of day such as 8:00") from None
+    if not 0 <= minute < DAY:
+        raise BadChange("the time 0 lies at a time of day such as 8:00")
+    return replace(basis, clock=minute)
 
 
 def name_of(tree: Mapping[str, Any], basis: Basis) -> str:

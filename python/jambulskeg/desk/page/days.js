@@ -83,6 +83,7 @@ function chosenFrom() {
 
 function chosenShown() {
   for (const kind of ["tables", "model", "example"]) { byId("of-" + kind).hidden = kind !== chosenFrom(); }
+  byId("of-clock").hidden = chosenFrom() === "tables";
 }
 
 async function asked() {
@@ -94,6 +95,7 @@ async function asked() {
   };
   if (kind === "model") { tree.model = await file("file-model", "the model"); }
   if (kind === "example") { tree.example = byId("example").value; }
+  if (kind !== "tables" && byId("clock").value.trim()) { tree.clock = byId("clock").value; }
   if (kind === "tables") {
     tree.places = await file("file-places", "places");
     tree.vans = await file("file-vans", "vans");
