@@ -3,6 +3,8 @@
 from __future__ import annotations
 
 import base64
+import contextlib
+import io
 import json
 import os
 import random
@@ -16,8 +18,11 @@ import time
 import unittest
 import urllib.request
 from typing import Any, Dict, List, Tuple
+from unittest import mock
 
+from jambulskeg.__main__ import main
 from jambulskeg.desk import Folder, FolderInUse, OpenDay
+from jambulskeg.desk.command import Opener
 from jambulskeg.desk.guard import MOST_BYTES
 from jambulskeg.desk.journal import lines_read
 from jambulskeg.program import Program
@@ -214,13 +219,43 @@ class ProcessTests(unittest.TestCase):
         self.assertEqual((process.communicate()[0], process.returncode), ("Control and C closes it.\n", 0))
 
 
+class OpenerTests(unittest.TestCase):
+    """How the browser is led to the page."""
+
+    def test_nobody_else_reads_the_token(self) -> None:
+        with tempfile.TemporaryDirectory() as folder:
+            opener = Opener(os.path.join(folder, "open.html"))
+            with mock.patch("jambulskeg.desk.command.webbrowser.open") as browser:
+                opener.browse("http://127.0.0.1:1/token/")
+                opener.browse("http://127.0.0.1:1/token/")
+                for thread in threading.enumerate():
+                    if thread is not threading.current_thread() and thread.daemon:
+                        thread.join(1)
+            self.assertTrue(all("token" not in str(call) for call in browser.call_args_list))
+            self.assertEqual(os.stat(opener.path).st_mode & 0o777, 0o600)
+            with open(opener.path, encoding="ascii") as file:
+                self.assertIn("url=http://127.0.0.1:1/token/", file.read())
+            opener.close()
+            self.assertEqual(os.listdir(folder), [])
+
+    def test_words_of_the_command(self) -> None:
+        for words in (["desk", "--port", "65536"], ["desk", "--jobs", "0"], ["desk", "--jobs", "65"]):
+            with contextlib.redirect_stderr(io.StringIO()), self.assertRaises(SystemExit):
+                main(words)
+        with tempfile.TemporaryDirectory() as folder, socket.create_server(("127.0.0.1", 0)) as other:
+            words = ["desk", folder, "--no-browser", "--port", str(other.getsockname()[1])]
+            with contextlib.redirect_stderr(io.StringIO()) as told:
+                self.assertEqual(main(words), 1)
+            self.assertIn("cannot be had", told.getvalue())
+
+
 class GuardTests(DeskTests):
     def forms(self) -> List[Tuple[str, Dict[str, str]]]:
         """Requests that must not be served, as paths and headers."""
         token, host = self.server.guard.token, f"127.0.0.1:{self.port}"
         good = {"Host": host}
         out: List[Tuple[str, Dict[str, str]]] = []
-        for path in ("", "api/days", "desk.js", "view.js", "api/day/monday", "api/day/monday/export/csv", "favicon.ico"):
+        for path in ("", "api/days", "desk.js", "view.js", "api/day/monday", "api/day/monday/export/csv", "favicon"):
             for word in ("", "x", token[:-1], token + "x", token.upper(), "%2e%2e", "..", token[::-1], "a/" + token):
                 out.append((f"/{word}/{path}", good))
             for name in ("evil.example", f"evil.example:{self.port}", "127.0.0.1", f"127.0.0.1:{self.port + 1}", "",
@@ -250,6 +285,12 @@ class GuardTests(DeskTests):
                 self.assertNotIn(b"root:", data)
                 self.assertNotIn("Access-Control-Allow-Origin", found)
         self.assertEqual(self.get("days")["days"][0]["name"], "Monday")
+
+    def test_the_page_is_opened_from_a_file(self) -> None:
+        opened = {"Host": f"127.0.0.1:{self.port}", "Sec-Fetch-Site": "cross-site", "Sec-Fetch-Mode": "navigate"}
+        for dest, path, status in (("document", "", 200), ("iframe", "", 403), ("document", "api/days", 403)):
+            headers = {**opened, "Sec-Fetch-Dest": dest}
+            self.assertEqual(self.request("GET", f"/{self.server.guard.token}/{path}", None, headers)[0], status)
 
     def test_nobody_else_changes_anything(self) -> None:
         day = self.made()

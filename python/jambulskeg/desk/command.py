@@ -3,6 +3,9 @@
 from __future__ import annotations
 
 import argparse
+import contextlib
+import os
+import pathlib
 import signal
 import sys
 import threading
@@ -18,6 +21,7 @@ from .service import Service
 __all__ = ["add_desk", "run_desk"]
 
 MOST_JOBS = 64
+OPENER = ".open-the-desk.html"
 
 
 def add_desk(command: argparse.ArgumentParser) -> None:
@@ -58,13 +62,35 @@ def run_desk(asked: argparse.Namespace) -> int:
         folder.close()
         raise
     signal.signal(signal.SIGTERM, stopped)
-    serve(server, tell, None if asked.no_browser else browse)
+    opener = Opener(os.path.join(folder.path, OPENER))
+    try:
+        serve(server, tell, None if asked.no_browser else opener.browse)
+    finally:
+        opener.close()
     return 0
 
 
-def browse(address: str) -> None:
-    """Opens the page in the browser, whose call may last as long as the browser does."""
-    threading.Thread(target=webbrowser.open, args=(address,), daemon=True).start()
+class Opener:
+    """A file that nobody else may read, and which leads the browser to the page. So the token is not among the words
+    that the browser is called with, which others on this machine may see."""
+
+    def __init__(self, path: str) -> None:
+        self.path = path
+
+    def browse(self, address: str) -> None:
+        """Opens the page in the browser, whose call may last as long as the browser does."""
+        self.close()
+        handle = os.open(self.path, os.O_WRONLY | os.O_CREAT | os.O_EXCL, 0o600)
+        with open(handle, "w", encoding="ascii") as file:
+            file.write(f'<!DOCTYPE html><meta http-equiv="refresh" content="0;url={address}"><title>The desk</title>'
+                       f'<a href="{address}">The planner\'s desk</a>\n')
+        address_of_file = pathlib.Path(self.path).as_uri()
+        threading.Thread(target=webbrowser.open, args=(address_of_file,), daemon=True).start()
+
+    def close(self) -> None:
+        """Takes the file away."""
+        with contextlib.suppress(FileNotFoundError):
+            os.unlink(self.path)
 
 
 def stopped(number: int, frame: Any) -> None:

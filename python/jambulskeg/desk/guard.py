@@ -73,7 +73,8 @@ class Guard:
             raise Turned(403, "what changes something comes from the desk's own page")
         if origin is not None and origin not in [f"http://{host}" for host in self.hosts]:
             raise Turned(403, "another page may not ask the desk")
-        if headers.get("Sec-Fetch-Site", "none") not in ("none", "same-origin"):
+        is_own = headers.get("Sec-Fetch-Site", "none") in ("none", "same-origin")
+        if not is_own and not is_opened(method, path, headers):
             raise Turned(403, "another page may not ask the desk")
         if PATH.fullmatch(path) is None or ".." in path.split("/") or "." in path.split("/"):
             raise Turned(404, "there is nothing here")
@@ -87,6 +88,12 @@ class Guard:
         if not path.startswith("/") or not is_own or not slash:
             raise Turned(403, "the address of the desk has a word that is told when it is started")
         return rest
+
+
+def is_opened(method: str, path: str, headers: Mapping[str, str]) -> bool:
+    """Whether the page itself is opened as a whole, as from the file that the desk hands to the browser."""
+    modes = headers.get("Sec-Fetch-Mode"), headers.get("Sec-Fetch-Dest")
+    return method == "GET" and path == "" and modes == ("navigate", "document")
 
 
 def length_of(headers: Mapping[str, str]) -> int:
