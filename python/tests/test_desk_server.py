@@ -403,11 +403,13 @@ class PowerTests(DeskTests):
 
     def test_half_a_new_day_is_none(self) -> None:
         self.end()
-        os.mkdir(os.path.join(self.folder, ".new-abc"))
-        os.mkdir(os.path.join(self.folder, "notes"))
+        for name, file in ((".desk-new-abc", "model.json.part"), (".desk-new-own", "letter"), ("notes", "journal.txt")):
+            os.mkdir(os.path.join(self.folder, name))
+            with open(os.path.join(self.folder, name, file), "w", encoding="ascii"):
+                pass
         self.begin()
         self.assertEqual(self.get("days")["days"], [])
-        self.assertEqual(sorted(os.listdir(self.folder)), [".desk.lock", "notes"])
+        self.assertEqual(sorted(os.listdir(self.folder)), [".desk-new-own", ".desk.lock", "notes"])
         self.assertTrue(os.path.isdir(EXAMPLES))
 
 

@@ -34,7 +34,11 @@ __all__ = ["Basis", "Folder", "FolderInUse", "NoSuchDay"]
 
 IDENTITY = re.compile("[a-z0-9][a-z0-9-]{0,63}")
 JOURNAL, MODEL, DAY = "journal", "model.json", "day.json"
+KEPT = ("places.csv", "vans.csv")
+"""The files that a day may be made of, which are kept with it."""
 LOCK = ".desk.lock"
+PART = ".desk-new-"
+"""How folders of days begin that are not whole yet."""
 
 
 class FolderInUse(JambulskegError):
@@ -118,8 +122,14 @@ class Folder:
         self.path = os.path.realpath(path)
         self._lock = locked(os.path.join(self.path, LOCK))
         for name in os.listdir(self.path):
-            if name.startswith(".new-"):
-                shutil.rmtree(os.path.join(self.path, name), ignore_errors=True)
+            if name.startswith(PART):
+                self.without_part(os.path.join(self.path, name))
+
+    def without_part(self, path: str) -> None:
+        """Takes away a day that was never whole; a folder with other files is none."""
+        files = {name[:-len(".part")] if name.endswith(".part") else name for name in os.listdir(path)}
+        if files <= {JOURNAL, MODEL, DAY, *KEPT}:
+            shutil.rmtree(path, ignore_errors=True)
 
     def close(self) -> None:
         """Leaves the folder to others."""
@@ -144,7 +154,7 @@ class Folder:
 
     def created(self, basis: Basis, name: str, keep: Sequence[Tuple[str, bytes]] = ()) -> str:
         """Makes a day, with copies of the files that it was read from; the word that it is found by."""
-        part = tempfile.mkdtemp(prefix=".new-", dir=self.path)
+        part = tempfile.mkdtemp(prefix=PART, dir=self.path)
         files = [(MODEL, basis.model.text().encode("utf-8", "surrogatepass")),
                  (DAY, json.dumps(basis.tree()).encode("ascii")),
                  (JOURNAL, line_of({"do": "open", "name": name, "format": 1})), *keep]

@@ -109,9 +109,9 @@ class Search(threading.Thread):
         self.sentence = "The search waits for another one to end."
         self.rounds = 0
         self._turn, self._began = turn, time.monotonic()
-        self._state = day.step.state
-        self._at = day.at
-        self._asker = day.asker(self._state.edits).apart()
+        with day.lock:
+            self._at, self._state = day.at, day.step.state
+            self._asker = day.asker(self._state.edits).apart()
         self._part: Part = part_of(self._asker.model, self._state)
         self._best: Optional[Tuple[Lists, Verdict]] = None
         self._nearby = Nearby(self._asker.model)

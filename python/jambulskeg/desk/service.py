@@ -19,7 +19,7 @@ from .assets import ASSETS, asset
 from .changes import Move, change_of
 from .days import Answer, OpenDay, capital
 from .exporting import exported
-from .folder import Basis, Folder, NoSuchDay
+from .folder import KEPT, Basis, Folder, NoSuchDay
 from .guard import Turned
 from .offers import Offers, offers
 from .opening import Upload, Ways, basis_of_model, basis_of_tables, example_basis, examples
@@ -222,7 +222,7 @@ class Service:
         if kind != "tables":
             raise BadChange("a day is made of tables, of a model, or of an example")
         places, vans = upload_of(tree, "places"), upload_of(tree, "vans")
-        return basis_of_tables(places, vans, ways_of(tree)), [("places.csv", places[1]), ("vans.csv", vans[1])]
+        return basis_of_tables(places, vans, ways_of(tree)), list(zip(KEPT, (places[1], vans[1])))
 
 
 def change(day: OpenDay, tree: Any, step: int) -> Answer:
