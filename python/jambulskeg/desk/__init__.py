@@ -3,9 +3,13 @@
     python -m jambulskeg desk FOLDER
 
 A day is planned, seen, and changed by hand. Each changed day is put to the program's proved check before it is shown,
-and each step is kept in the day's journal. In reading order: `journal` (what is kept), `states` and `changes` (what may
-be changed), `asking` (what a changed day costs), `words` (why it cannot be), `days` (a day that is open), `searching`
-(better days), `pages` (what is shown), `guard` and `server` (who may ask).
+and each step is kept in the day's journal. In reading order:
+
+- `journal`, `folder`: what is kept; `states`, `changes`: what may be changed
+- `asking`: what a changed day costs; `words`: why it cannot be; `offers`: where a visit could go; `days`: an open day
+- `part`, `nearby`, `improving`, `searching`: better routes
+- `opening`, `exporting`, `pages`: days from files, as files, and as the page shows them
+- `guard`, `service`, `server`, `assets`, `command`: who may ask, and how
 """
 
 from __future__ import annotations

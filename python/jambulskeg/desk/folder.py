@@ -123,13 +123,7 @@ class Folder:
         self._lock = locked(os.path.join(self.path, LOCK))
         for name in os.listdir(self.path):
             if name.startswith(PART):
-                self.without_part(os.path.join(self.path, name))
-
-    def without_part(self, path: str) -> None:
-        """Takes away a day that was never whole; a folder with other files is none."""
-        files = {name[:-len(".part")] if name.endswith(".part") else name for name in os.listdir(path)}
-        if files <= {JOURNAL, MODEL, DAY, *KEPT}:
-            shutil.rmtree(path, ignore_errors=True)
+                without_part(os.path.join(self.path, name))
 
     def close(self) -> None:
         """Leaves the folder to others."""
@@ -200,6 +194,13 @@ class Folder:
             if entry["do"] in ("step", "at"):
                 out["cost"] = known.get(entry["number"])
         return out
+
+
+def without_part(path: str) -> None:
+    """Takes away a day that was never whole; a folder with other files is none."""
+    files = {name[:-len(".part")] if name.endswith(".part") else name for name in os.listdir(path)}
+    if files <= {JOURNAL, MODEL, DAY, *KEPT}:
+        shutil.rmtree(path, ignore_errors=True)
 
 
 def locked(path: str) -> IO[str]:

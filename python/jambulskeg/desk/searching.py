@@ -1,97 +1,23 @@
-"""Better days: a search runs rounds of the program in a thread until its seconds are over or it is stopped.
+"""Searches that are at work: each in a thread of its own, as many at a time as the desk was told.
 
-Where nothing is planned yet, the first round is run to its end, however long that takes.
-
-A round is a run of the program with a construction, a search and a number of tries, which grow from pass to pass. It
-plans the whole day, or a few neighbouring vans while the others keep their routes. What a round
-finds is put to the program as a whole day and is kept if it leaves fewer required visits unmade, or as many and costs
-less. The day changes once, at the end, and never for the worse.
+A search changes its day once, at the end, and never for the worse.
 """
 
 from __future__ import annotations
 
-import subprocess
 import threading
 import time
-from dataclasses import dataclass, replace
-from typing import Any, Callable, Dict, Iterator, List, Optional, Sequence, Tuple
+from dataclasses import replace
+from typing import Any, Dict, Optional
 
-from ..complete import CannotBeDriven, complete
-from ..errors import JambulskegError, NoFirstSolution, NotMet, ProgramFailed, ProgramSlow
-from ..program import Program, answer, tree_of
-from ..records import First, Improve, Model, tries_for
-from ..rescue import relax
-from ..rounds import with_search
-from ..solution import Solution
-from .asking import Verdict
+from ..errors import JambulskegError
 from .days import Answer, OpenDay
-from .nearby import Nearby
-from .part import Part, part_of
-from .states import BadChange, Lists, State
+from .improving import MOST_SECONDS, PATIENCE, Improver
+from .states import BadChange
 
-__all__ = ["Point", "Search", "Searches", "run_until"]
+__all__ = ["Search", "Searches"]
 
-FIRST_TRIES = 20000
-MOST_TRIES = 10**9
-LEAST, MOST = 1, 3600
-"""The seconds that a search may be given."""
-SHARE = 2
-"""How many times as long a few vans are planned anew as the whole day is."""
-PATIENCE = 0.05
-"""So many seconds after it is stopped, a run of the program is ended at the latest."""
-KINDS: Sequence[Tuple[First, Improve, Tuple[int, int]]] = (
-    (First.PATH_CHEAPEST_ARC, Improve.GUIDED_LOCAL_SEARCH, (1, 10)),
-    (First.PARALLEL_CHEAPEST_INSERTION, Improve.GUIDED_LOCAL_SEARCH, (1, 10)),
-    (First.PARALLEL_CHEAPEST_INSERTION, Improve.PATH_LNS, (1, 10)),
-    (First.PATH_CHEAPEST_ARC, Improve.GUIDED_LOCAL_SEARCH, (1, 5)),
-    (First.PARALLEL_CHEAPEST_INSERTION, Improve.GUIDED_LOCAL_SEARCH, (1, 3)),
-)
-"""What the rounds of a pass search with; the first is the quickest."""
-
-
-@dataclass(frozen=True)
-class Point:
-    """The best day that a search knew after some seconds: its cost, and how many required visits it leaves unmade."""
-
-    seconds: float
-    cost: int
-    missing: int
-
-
-def run_until(program: Program, words: Sequence[str], text: str, seconds: float, stop: threading.Event) -> str:
-    """What the program writes, as `Program.run` has it. Raises `ProgramSlow` too when `stop` is set."""
-    try:
-        process = subprocess.Popen(
-            [program.path, *words], stdin=subprocess.PIPE, stdout=subprocess.PIPE, stderr=subprocess.PIPE
-        )
-    except OSError as problem:
-        raise ProgramFailed(f"the program {program.path} could not be started: {problem.strerror}") from problem
-    end = time.monotonic() + seconds
-    data: Optional[bytes] = text.encode("utf-8", "surrogatepass")
-    with process:
-        try:
-            while True:
-                try:
-                    out, errors = process.communicate(data, PATIENCE)
-                    return answer(process.returncode, out, errors)
-                except subprocess.TimeoutExpired:
-                    data = None  # what was handed over is kept by the process
-                    if stop.is_set() or time.monotonic() > end:
-                        raise ProgramSlow(seconds) from None
-        finally:
-            process.kill()
-
-
-def rounds_of(model: Model) -> Iterator[Model]:
-    """The models of the rounds: in each pass each of `KINDS`, then twice the tries."""
-    tries = FIRST_TRIES
-    while True:
-        for first, improve, weight in KINDS:
-            yield with_search(
-                model, first=first, improve=improve, lambda_=weight, tries=tries_for(improve, min(tries, MOST_TRIES)),
-                solutions=MOST_TRIES,
-            )
-        tries *= 2
+LEAST_SECONDS = 1
 
 
 class Search(threading.Thread):
@@ -99,23 +25,15 @@ class Search(threading.Thread):
 
     def __init__(self, day: OpenDay, seconds: float, turn: threading.Semaphore) -> None:
         """Raises `BadChange` where nothing may be changed, or the seconds are none that may be given."""
-        if not LEAST <= seconds <= MOST:
-            raise BadChange(f"a search takes {LEAST} to {MOST} seconds")
+        if not LEAST_SECONDS <= seconds <= MOST_SECONDS:
+            raise BadChange(f"a search takes {LEAST_SECONDS} to {MOST_SECONDS} seconds")
         super().__init__(daemon=True)
-        self.day, self.seconds = day, seconds
-        self.stopped = threading.Event()
-        self.points: List[Point] = []
+        self.day, self._turn = day, turn
         self.status = "waiting"
         self.sentence = "The search waits for another one to end."
-        self.rounds = 0
-        self._turn, self._began = turn, time.monotonic()
         with day.lock:
             self._at, self._state = day.at, day.step.state
-            self._asker = day.asker(self._state.edits).apart()
-        self._part: Part = part_of(self._asker.model, self._state)
-        self._best: Optional[Tuple[Lists, Verdict]] = None
-        self._nearby = Nearby(self._asker.model)
-        self._spent = {True: 0.0, False: 0.0}
+            self._improver = Improver(day.asker(self._state.edits).apart(), self._state, seconds)
 
     @property
     def is_alive_still(self) -> bool:
@@ -124,27 +42,28 @@ class Search(threading.Thread):
 
     def tree(self) -> Dict[str, Any]:
         """How the search goes, as JSON."""
-        spent = 0.0 if self.status == "waiting" else time.monotonic() - self._began
+        found = self._improver
+        spent = 0.0 if self.status == "waiting" else time.monotonic() - found.began
         return {
-            "status": self.status, "sentence": self.sentence, "rounds": self.rounds, "asked": self.seconds,
-            "spent": round(min(spent, self.seconds), 1),
-            "points": [[round(point.seconds, 2), point.cost, point.missing] for point in list(self.points)],
+            "status": self.status, "sentence": self.sentence, "rounds": found.rounds, "asked": found.seconds,
+            "spent": round(min(spent, found.seconds), 1),
+            "points": [[round(point.seconds, 2), point.cost, point.missing] for point in list(found.points)],
         }
 
     def stop(self) -> None:
         """Ends the search; the best day is kept."""
-        self.stopped.set()
+        self._improver.stopped.set()
 
     def run(self) -> None:
         """Searches, and changes the day once."""
         while not self._turn.acquire(timeout=PATIENCE):
-            if self.stopped.is_set():
+            if self._improver.stopped.is_set():
                 self.status, self.sentence = "ended", "The search was stopped before its turn."
                 return
         try:
-            self._began = time.monotonic()
+            self._improver.began = time.monotonic()
             self.status, self.sentence = "searching", "The search is at work."
-            self.search()
+            self._improver.search()
             sentence = self.adopted().sentence
             self.status, self.sentence = "ended", sentence
         except (JambulskegError, OSError) as problem:
@@ -154,123 +73,19 @@ class Search(threading.Thread):
                 self.status, self.sentence = "failed", "The search failed by a fault of the desk."
             self._turn.release()
 
-    def left(self) -> float:
-        """The seconds that are left. Where no van has a visit, the search goes on until some round has an answer."""
-        if self.stopped.is_set():
-            return 0.0
-        if not self.rounds and not any(self._state.lists):
-            return float(MOST)
-        return self.seconds - (time.monotonic() - self._began)
-
-    def search(self) -> None:
-        """Runs rounds until the time is over; where no construction finds a day, of the relaxed model."""
-        try:
-            self.consider(self._state.lists, self._asker.judged(self._state.lists))
-        except (CannotBeDriven, NotMet):
-            pass
-        try:
-            self.run_rounds(self._part.model)
-        except NoFirstSolution:
-            self.run_rounds(relax(self._part.model)[0])
-
-    def run_rounds(self, model: Model) -> None:
-        """Runs rounds of a model until the time is over. Raises `NoFirstSolution` where a whole pass finds none."""
-        failed, has_found = 0, False
-        for asked in rounds_of(model):
-            if self.left() <= 0:
-                return
-            try:
-                self.in_part()
-                self.timed(lambda: self.try_round(asked), False)
-                has_found = True
-            except ProgramSlow:
-                return
-            except NoFirstSolution:
-                failed += 1
-            if failed >= len(KINDS) and not has_found:
-                raise NoFirstSolution("no construction finds a first solution")
-
-    def timed(self, work: Callable[[], None], is_part: bool) -> None:
-        """Does some work, and counts how long that takes."""
-        began = time.monotonic()
-        try:
-            work()
-        finally:
-            self._spent[is_part] += time.monotonic() - began
-
-    def in_part(self) -> None:
-        """Plans a few vans anew, until that has had its share of the time."""
-        while self.rounds and self.left() > 0 and self._spent[True] < SHARE * self._spent[False]:
-            self.timed(self.try_part, True)
-
-    def try_part(self) -> None:
-        """Runs a round of a few vans, and keeps what it finds where that is better."""
-        assert self._best is not None
-        state = replace(self._state, lists=self._best[0])
-        vans = self._nearby.vans(state)
-        if not vans:
-            self._spent[True] = SHARE * self._spent[False]
-            return
-        others = frozenset(range(len(state.lists))) - vans
-        part = part_of(self._asker.model, replace(state, pinned=state.pinned | others))
-        model = relax(part.model)[0] if self._best[1].missing else part.model
-        first, improve, weight = KINDS[self.rounds % len(KINDS)]
-        asked = with_search(model, first=first, improve=improve, lambda_=weight, tries=tries_for(improve, FIRST_TRIES))
-        now = complete(model, [self.own(part, vehicle) for vehicle in part.vehicles], checked=False)
-        try:
-            found = self.solved(asked)
-        except NoFirstSolution:
-            return
-        if found.cost < now.cost:
-            self.consider_lists(part.lists(found.lists(), state))
-
-    def own(self, part: Part, vehicle: int) -> List[int]:
-        """The visits of a vehicle in the best day, by the numbers of a part."""
-        assert self._best is not None
-        places = {node: place for place, node in enumerate(part.nodes)}
-        return [places[node] for node in self._best[0][vehicle]]
-
-    def try_round(self, asked: Model) -> None:
-        """Runs a round of the whole day, and keeps what it finds where that is better."""
-        self.consider_lists(self._part.lists(self.solved(asked).lists(), self._state))
-
-    def solved(self, asked: Model) -> Solution:
-        """What a round finds. Raises `NoFirstSolution`, `ProgramSlow`."""
-        text = run_until(self._asker.program, ["solve"], asked.text(), self.left(), self.stopped)
-        self.rounds += 1
-        return Solution.of(tree_of(text.split("\n", 1)[0]))
-
-    def consider_lists(self, lists: Lists) -> None:
-        """Keeps a day where the program finds that it keeps its rules and is better than the best so far."""
-        try:
-            self.consider(lists, self._asker.judged(lists))
-        except (CannotBeDriven, NotMet):
-            pass
-
-    def consider(self, lists: Lists, verdict: Verdict) -> None:
-        """Keeps a day where it is better than the best so far."""
-        if self._best is None or worth(verdict) < worth(self._best[1]):
-            self._best = lists, verdict
-            spent = time.monotonic() - self._began
-            self.points.append(Point(spent, verdict.solution.cost, len(verdict.missing)))
-
     def adopted(self) -> Answer:
         """Makes a step of the best day, if it is better than the one that the search began with."""
-        if self._best is None:
+        found = self._improver
+        if found.best is None:
             return Answer(False, self._at, "The search found no day.")
-        state: State = replace(self._state, lists=self._best[0])
+        state = replace(self._state, lists=found.best[0])
         with self.day.lock:
             if self.day.at != self._at:
                 return Answer(False, self.day.at, "The day was changed meanwhile; what was found is not kept.")
             if state == self._state:
                 return Answer(True, self._at, "The search found nothing better, so the routes stay as they are.")
-            spent = round(min(self.seconds, time.monotonic() - self._began))
+            spent = round(min(found.seconds, time.monotonic() - found.began))
             return self.day.made(state, f"planned in {spent} s")
-
-
-def worth(verdict: Verdict) -> Tuple[int, int]:
-    """What days are compared by: the required visits that nobody makes, then the cost."""
-    return len(verdict.missing), verdict.solution.cost
 
 
 class Searches:
