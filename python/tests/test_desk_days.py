@@ -6,21 +6,27 @@ import json
 import os
 import random
 import tempfile
+import threading
+import time
 import unittest
 from dataclasses import replace
 from typing import Any, Callable, Dict, List, Optional, Set, Tuple
+from unittest import mock
 
 from jambulskeg.complete import complete
 from jambulskeg.desk import Answer, Asker, BadChange, Edits, Folder, FolderInUse, OpenDay, State, Verdict, change_of
 from jambulskeg.desk.asking import lenient, merged
 from jambulskeg.desk.changes import Move, Within
 from jambulskeg.desk.folder import Basis, NoSuchDay
+from jambulskeg.desk.improving import run_until
 from jambulskeg.desk.nearby import LEAST_VANS, MOST_VANS, Nearby
 from jambulskeg.desk.offers import offers
 from jambulskeg.desk.opening import basis_of_model, example_basis
 from jambulskeg.desk.part import part_of
 from jambulskeg.desk.states import Lists, edited
-from jambulskeg.errors import JambulskegError, NotJson, NotMet, Refused
+from jambulskeg.desk.pages import told
+from jambulskeg.desk.touched import check_touched, touched_by
+from jambulskeg.errors import JambulskegError, NotJson, NotMet, ProgramFailed, ProgramSlow, Refused
 from jambulskeg.model import check, read_model, solve
 from jambulskeg.program import Program
 from jambulskeg.records import Allowed, Model
@@ -284,6 +290,88 @@ class DayTests(unittest.TestCase):
         self.assertRaises(BadChange, example_basis, "../three-nodes", PROGRAM)
 
 
+class LargeDayTests(DayTests):
+    """All of the above, with the program asked about the vans that change first, and then about the whole day."""
+
+    def setUp(self) -> None:
+        super().setUp()
+        large = mock.patch("jambulskeg.desk.days.LARGE", 1)
+        large.start()
+        self.addCleanup(large.stop)
+
+    def awaited(self, day: OpenDay) -> None:
+        """Waits until the program was asked about all of a day."""
+        while day.is_draft:
+            time.sleep(0.005)
+
+    def test_the_whole_day_is_checked_soon(self) -> None:
+        day = self.three_vans()
+        day.verdict()
+        held = threading.Event()
+        check = Asker.check
+
+        def slow(asker: Asker, found: Verdict) -> None:
+            held.wait(10)
+            check(asker, found)
+
+        with mock.patch.object(Asker, "check", slow):
+            self.assertTrue(self.move(day, "Ada", 0).is_made)
+            self.assertTrue(self.move(day, "Ben", 1).is_made)
+            self.assertEqual((day.is_draft, day.step.is_fine, told(day)["status"]), (True, None, "checking"))
+            self.assertFalse(self.move(day, "Gus Cleo", 0).is_made)
+            held.set()
+            self.awaited(day)
+        self.assertEqual((told(day)["status"], day.step.is_fine), ("unfinished", False))
+        self.assertEqual(day.journal.entries[-1], {"do": "checked", "number": 2, "fine": False})
+        entries = len(day.journal.entries)
+        day.check_soon()
+        day.check_drafts()
+        self.assertEqual(len(day.journal.entries), entries)
+        day.undo()
+        self.awaited(day)
+        self.assertEqual(self.again(day.identity).step.is_fine, False)
+
+    def test_what_the_whole_day_breaks_is_undone(self) -> None:
+        day = self.three_vans()
+        day.verdict()
+        with mock.patch.object(Asker, "check", side_effect=NotMet("cost", -1, -1)):
+            self.assertTrue(self.move(day, "Ada", 0).is_made)
+            self.awaited(day)
+        self.assertEqual((day.at, self.lists(day)), (0, ["", "", ""]))
+        self.assertIn("Undone: The program found the rule 'cost' broken", told(day)["notice"])
+        self.assertEqual(self.again(day.identity).at, 0)
+
+    def test_touched_vans_are_judged_as_the_whole_day_is(self) -> None:
+        rng = random.Random(11)
+        for name in ("service-day", "pickups", "breaks-day", "shifts-tight", "windows-day"):
+            model = merged(model_named(name))
+            asker = Asker(model, PROGRAM)
+            state = State(tupled(solve(model).lists()))
+            for _ in range(40):
+                nodes = rng.sample(model.visits(), rng.randint(1, 2))
+                move = Move(tuple(nodes), rng.choice([None, *range(len(model.vehicles))]))
+                after = move.applied(state, Within(model, Names()))
+                whole = self.outcome(lambda: asker.judged(after.lists))
+                part = self.outcome(lambda: self.touched(asker, state, after))
+                self.assertEqual(whole, part, (name, nodes, after.lists))
+                state = after if isinstance(whole, int) else state
+
+    def touched(self, asker: Asker, state: State, after: State) -> Verdict:
+        """What is found by the vans that change alone."""
+        found = asker.reckoned(after.lists)
+        check_touched(asker.model, found.solution, touched_by(state, after), PROGRAM)
+        return found
+
+    def outcome(self, work: Callable[[], Verdict]) -> Any:
+        """A cost, or what is wrong."""
+        try:
+            return work().solution.cost
+        except NotMet as problem:
+            return problem.rule, problem.vehicle, problem.place
+        except JambulskegError as problem:
+            return str(problem)
+
+
 class AskingTests(unittest.TestCase):
     def test_the_program_is_asked_about_each_day(self) -> None:
         for name in ("service-day", "pickups", "windows-day", "shifts-tight"):
@@ -377,6 +465,22 @@ class PartTests(unittest.TestCase):
             part_of(model, State(((), (), (), ()), pinned=frozenset(range(4))))
         full = State((tuple(model.visits()), (), (), ()), pinned=frozenset([0]))
         self.assertRaises(BadChange, part_of, model, full)
+
+
+class ImproverTests(unittest.TestCase):
+    def test_a_program_that_reads_late_gets_all_of_its_input(self) -> None:
+        with tempfile.TemporaryDirectory() as folder:
+            path = os.path.join(folder, "late")
+            with open(path, "w", encoding="ascii") as file:
+                file.write("#!/bin/sh\nsleep 0.2\nwc -c\n")
+            os.chmod(path, 0o755)
+            text = "x" * 10**6
+            self.assertEqual(run_until(Program(path), ["solve"], text, 20, threading.Event()).strip(), "1000000")
+            self.assertRaises(ProgramSlow, run_until, Program(path), ["solve"], text, 0.05, threading.Event())
+            stopped = threading.Event()
+            stopped.set()
+            self.assertRaises(ProgramSlow, run_until, Program(path), ["solve"], text, 20, stopped)
+            self.assertRaises(ProgramFailed, run_until, Program(folder), ["solve"], text, 20, stopped)
 
 
 class OfferTests(unittest.TestCase):

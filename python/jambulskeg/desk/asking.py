@@ -155,10 +155,14 @@ class Asker:
         Raises `CannotBeDriven` where a list has no schedule, `NotMet` with the rule that is broken otherwise, and what
         `Program.run` raises.
         """
+        found = self.reckoned(lists)
+        self.check(found)
+        return found
+
+    def reckoned(self, lists: Lists) -> Verdict:
+        """The same, without asking the program. Raises `CannotBeDriven`."""
         solution = solution_of_routes(self.model, [self.route(number, visits) for number, visits in enumerate(lists)])
-        left = tuple(missing(self.model, solution))
-        self.check(solution, bool(left))
-        return Verdict(solution, left)
+        return Verdict(solution, tuple(missing(self.model, solution)))
 
     def route(self, vehicle: int, visits: Tuple[int, ...]) -> Route:
         """The route of a vehicle with its schedules. Raises `CannotBeDriven`."""
@@ -170,9 +174,10 @@ class Asker:
         self._routes.move_to_end(key)
         return self._routes[key]
 
-    def check(self, solution: Solution, is_lenient: bool) -> None:
-        """Asks whether a solution meets the model, or the lenient one. Raises `NotMet`, and as `Program.run` does."""
+    def check(self, found: Verdict) -> None:
+        """Asks whether what was reckoned is so; any thread may. Raises `NotMet`, and as `Program.run` does."""
+        is_lenient = bool(found.missing)
         with self._lock:
             if is_lenient not in self._held:
                 self._held[is_lenient] = Held(self._texts.of(lenient(self.model) if is_lenient else self.model))
-        self._held[is_lenient].check(self.program, solution)
+        self._held[is_lenient].check(self.program, found.solution)

@@ -6,15 +6,15 @@ move between steps, which are all kept; a change after an undo begins another br
 
 from __future__ import annotations
 
+import contextlib
 import threading
 from collections import OrderedDict
-from dataclasses import dataclass
-from typing import Any, Dict, List, Mapping, Optional
+from dataclasses import dataclass, replace
+from typing import Any, Dict, List, Mapping, Optional, Tuple
 
 from ..complete import CannotBeDriven
 from ..errors import JambulskegError, NotMet, Refused
 from ..program import Program
-from ..records import Model
 from ..solution import Parts
 from ..view.day import Day, time_dimension
 from .asking import Asker, Verdict
@@ -22,6 +22,7 @@ from .changes import Change, Within
 from .folder import Basis
 from .journal import Journal
 from .states import BadChange, Edits, Lists, State, edited, with_delta
+from .touched import check_touched, listed_rules, touched_by
 from .words import sentence_of
 
 __all__ = ["Answer", "OpenDay", "Step"]
@@ -29,20 +30,23 @@ __all__ = ["Answer", "OpenDay", "Step"]
 MOST_VERDICTS = 40
 """The verdicts of as many steps are kept; others are asked for again."""
 MOST_ASKERS = 4
+LARGE = 300
+"""With as many nodes a day is large: the program is asked about the vans that a change touches, and then about all."""
+MOST_TOUCHED = 8
 MOST_NAME = 80
 
 
 @dataclass(frozen=True)
 class Step:
     """A step of a day: its number, the step that it was made from, what was done, the state after it, what it costs,
-    and whether the program found that it keeps all rules."""
+    and whether the program found that it keeps all rules, None where it was not asked about the whole day yet."""
 
     number: int
     parent: int
     words: str
     state: State
     cost: int = 0
-    is_fine: bool = False
+    is_fine: Optional[bool] = False
 
 
 @dataclass(frozen=True)
@@ -84,6 +88,9 @@ class OpenDay:
         self.at = 0
         self._forward: Dict[int, int] = {}
         self._verdicts: "OrderedDict[int, Verdict]" = OrderedDict()
+        self._drafts: Dict[int, Verdict] = {}
+        self._is_checking = False
+        self.notice = ""
         self._first = Asker(self.basis.model, program)
         self._askers: "OrderedDict[str, Asker]" = OrderedDict()
         for entry in journal.entries:
@@ -97,6 +104,8 @@ class OpenDay:
             self.note(Step(entry["number"], parent.number, entry["words"], state, entry["cost"], entry["fine"]))
         elif entry["do"] == "at":
             self.go(entry["number"])
+        elif entry["do"] == "checked":
+            self.steps[entry["number"]] = replace(self.steps[entry["number"]], is_fine=entry["fine"])
         self.name = entry.get("name", self.name)
 
     def note(self, step: Step) -> None:
@@ -160,16 +169,28 @@ class OpenDay:
             self._verdicts.move_to_end(key)
             return self._verdicts[key]
 
+    def known(self, number: Optional[int] = None) -> Verdict:
+        """The same, where the program was perhaps asked about the vans alone that the step touches."""
+        with self.lock:
+            draft = self._drafts.get(self.at if number is None else number)
+            return self.verdict(number) if draft is None else draft
+
+    @property
+    def is_draft(self) -> bool:
+        """Whether the program was not asked about the whole of the present step yet."""
+        return self.at in self._drafts
+
     def keep(self, number: int, verdict: Verdict) -> None:
         """Keeps the verdict of a step."""
         self._verdicts[number] = verdict
+        self._drafts.pop(number, None)
         if len(self._verdicts) > MOST_VERDICTS:
             self._verdicts.popitem(last=False)
 
     def drawn(self, number: Optional[int] = None) -> Day:
         """A step as the view draws it."""
         with self.lock:
-            verdict = self.verdict(number)
+            verdict = self.known(number)
             model = self.asker(self.steps[self.at if number is None else number].state.edits).model
             basis = self.basis
             return Day(model, verdict.solution, self.names, time_dimension(model), basis.places, basis.further)
@@ -192,30 +213,88 @@ class OpenDay:
         if after == self.step.state:
             return Answer(True, self.at, "Nothing changes.")
         try:
-            verdict = self.judged(after)
+            verdict, is_whole = self.found(after)
         except (CannotBeDriven, NotMet) as problem:
             return self.refused(problem, after)
         before = self.parts()
         delta, number = after.delta(self.step.state), len(self.steps)
-        cost = verdict.solution.cost
+        cost, is_fine = verdict.solution.cost, verdict.is_fine if is_whole else None
         self.journal.append({
             "do": "step", "number": number, "parent": self.at, "words": words, "delta": delta, "cost": cost,
-            "fine": verdict.is_fine,
+            "fine": is_fine,
         })
-        self.note(Step(number, self.at, words, after, cost, verdict.is_fine))
-        self.keep(number, verdict)
+        self.note(Step(number, self.at, words, after, cost, is_fine))
+        if is_whole:
+            self.keep(number, verdict)
+        else:
+            self._drafts[number] = verdict
+            self.check_soon()
         return Answer(True, number, capital(words), before=before)
+
+    def found(self, after: State) -> Tuple[Verdict, bool]:
+        """What the program finds of a state, and whether it was asked about the whole day. Of a large day it is asked
+        about the vans that the state changes."""
+        state, asker = self.step.state, self.asker(after.edits)
+        if (after.lists, after.edits) == (state.lists, state.edits) and self.parts() is not None:
+            return self.known(), not self.is_draft
+        touched = touched_by(state, after)
+        if asker.model.nodes < LARGE or len(touched) > MOST_TOUCHED or self.parts() is None:
+            return self.judged(after), True
+        verdict = asker.reckoned(after.lists)
+        check_touched(asker.model, verdict.solution, touched, asker.program)
+        return verdict, False
+
+    def check_soon(self) -> None:
+        """Lets the program be asked about the whole of the present step, in another thread."""
+        with self.lock:
+            if self.is_draft and not self._is_checking:
+                self._is_checking = True
+                threading.Thread(target=self.check_drafts, daemon=True).start()
+
+    def check_drafts(self) -> None:
+        """Asks the program about the whole of the present step, until it was asked about the one that is present."""
+        while True:
+            with self.lock:
+                number, draft = self.at, self._drafts.get(self.at)
+                self._is_checking = draft is not None
+                if draft is None:
+                    return
+                asker = self.asker(self.step.state.edits)
+            problem: Optional[JambulskegError] = None
+            try:
+                asker.check(draft)
+            except JambulskegError as found:
+                problem = found
+            with self.lock, contextlib.suppress(OSError, ValueError):  # the journal may be closed meanwhile
+                self.checked(number, draft, problem)
+
+    def checked(self, number: int, draft: Verdict, problem: Optional[JambulskegError]) -> None:
+        """Notes what the program found of the whole of a step; one that breaks a rule is undone."""
+        self._drafts.pop(number, None)
+        if problem is None:
+            self.keep(number, draft)
+            self.steps[number] = replace(self.steps[number], is_fine=draft.is_fine)
+            self.journal.append({"do": "checked", "number": number, "fine": draft.is_fine})
+            return
+        state = self.steps[number].state
+        self.notice = f"Undone: {sentence_of(problem, state.lists, self.within_of(state))}"
+        if self.at == number:
+            self.journal.append({"do": "at", "number": self.step.parent})
+            self.go(self.step.parent)
 
     def parts(self) -> Optional[Parts]:
         """The parts of the cost of the present step; None where the program has something against it."""
         try:
-            return self.verdict().solution.parts
+            return self.known().solution.parts
         except JambulskegError:
             return None
 
     def refused(self, problem: JambulskegError, after: State) -> Answer:
         """The answer where a rule would be broken."""
-        problem = parted(after.lists, self.within_of(after).model) or problem
+        try:
+            listed_rules(self.within_of(after).model, after.lists)
+        except NotMet as broken:  # the schedule is broken too, but this is what to mend
+            problem = broken
         sentence = sentence_of(problem, after.lists, self.within_of(after))
         if isinstance(problem, CannotBeDriven):
             return Answer(False, self.at, sentence, "schedule", problem.vehicle, problem.stop, problem.dimension)
@@ -249,6 +328,7 @@ class OpenDay:
         before = self.parts()
         self.journal.append({"do": "at", "number": number})
         self.go(number)
+        self.check_soon()
         return Answer(True, number, capital(sentence), before=before)
 
     def close(self) -> None:
@@ -271,16 +351,6 @@ class OpenDay:
         while out[-1].number and len(out) < most:
             out.append(self.steps[out[-1].parent])
         return out
-
-
-def parted(lists: Lists, model: Model) -> Optional[NotMet]:
-    """The first pair that the lists part or turn around. Loads cannot be kept then either, but this is what to mend."""
-    places = {node: (vehicle, at) for vehicle, visits in enumerate(lists) for at, node in enumerate(visits)}
-    for number, pair in enumerate(model.pairs):
-        one, other = places.get(pair.pickup), places.get(pair.delivery)
-        if one != other and (one is None or other is None or one[0] != other[0] or one > other):
-            return NotMet("pair", -1, number)
-    return None
 
 
 def capital(sentence: str) -> str:

@@ -10,10 +10,11 @@ If nothing is planned yet, the first round is run to its end, however long that 
 from __future__ import annotations
 
 import subprocess
+import tempfile
 import threading
 import time
 from dataclasses import dataclass, replace
-from typing import Callable, Iterator, List, Optional, Sequence, Tuple
+from typing import IO, Callable, Iterator, List, Optional, Sequence, Tuple
 
 from ..complete import CannotBeDriven, complete
 from ..errors import NoFirstSolution, NotMet, ProgramFailed, ProgramSlow
@@ -58,26 +59,30 @@ class Point:
 
 def run_until(program: Program, words: Sequence[str], text: str, seconds: float, stop: threading.Event) -> str:
     """What the program writes, as `Program.run` has it. Raises `ProgramSlow` too when `stop` is set."""
+    end = time.monotonic() + seconds
+    # The input is a file: what is left of one that goes through a pipe is lost when `communicate` is asked once more.
+    with tempfile.TemporaryFile() as file:
+        file.write(text.encode("utf-8", "surrogatepass"))
+        file.seek(0)
+        with begun(program, words, file) as process:
+            try:
+                while True:
+                    try:
+                        out, errors = process.communicate(timeout=PATIENCE)
+                        return answer(process.returncode, out, errors)
+                    except subprocess.TimeoutExpired:
+                        if stop.is_set() or time.monotonic() > end:
+                            raise ProgramSlow(seconds) from None
+            finally:
+                process.kill()
+
+
+def begun(program: Program, words: Sequence[str], file: IO[bytes]) -> "subprocess.Popen[bytes]":
+    """The program at work on a file. Raises `ProgramFailed` where it cannot be started."""
     try:
-        process = subprocess.Popen(
-            [program.path, *words], stdin=subprocess.PIPE, stdout=subprocess.PIPE, stderr=subprocess.PIPE
-        )
+        return subprocess.Popen([program.path, *words], stdin=file, stdout=subprocess.PIPE, stderr=subprocess.PIPE)
     except OSError as problem:
         raise ProgramFailed(f"the program {program.path} could not be started: {problem.strerror}") from problem
-    end = time.monotonic() + seconds
-    data: Optional[bytes] = text.encode("utf-8", "surrogatepass")
-    with process:
-        try:
-            while True:
-                try:
-                    out, errors = process.communicate(data, PATIENCE)
-                    return answer(process.returncode, out, errors)
-                except subprocess.TimeoutExpired:
-                    data = None  # what was handed over is kept by the process
-                    if stop.is_set() or time.monotonic() > end:
-                        raise ProgramSlow(seconds) from None
-        finally:
-            process.kill()
 
 
 def rounds_of(model: Model) -> Iterator[Model]:

@@ -24,7 +24,7 @@ from .days import OpenDay
 from .states import State, load_dimension
 from .words import sentence_of
 
-__all__ = ["beside", "drawn_parts", "parts_tree", "problem_of", "told"]
+__all__ = ["beside", "checked", "drawn_parts", "parts_tree", "problem_of", "told"]
 
 SECONDS = 0.4
 """How long it is measured why visits are left out."""
@@ -43,27 +43,35 @@ def told(day: OpenDay) -> Dict[str, Any]:
             "can_undo": step.number > 0, "can_redo": day.can_redo, "doubts": list(day.basis.doubts),
             "steps": [{"number": entry.number, "words": entry.words, "cost": entry.cost, "fine": entry.is_fine}
                       for entry in day.path_to(step.number, MOST_STEPS)],
-            "clock": day.basis.clock, "has_places": bool(day.basis.places),
+            "notice": day.notice, "clock": day.basis.clock, "has_places": bool(day.basis.places),
         }
         try:
-            drawn, verdict = day.drawn(), day.verdict()
+            drawn, verdict = day.drawn(), day.known()
         except (CannotBeDriven, NotMet) as problem:
             sentence = sentence_of(problem, step.state.lists, day.within)
             return {**out, "status": "broken", "sentence": f"The program finds: {sentence}"}
         names = [drawn.names.node(node) for node in verdict.missing]
         return {
-            **out, "status": status_of(step.state, verdict.is_fine), "missing": names,
+            **out, "status": status_of(day, verdict.is_fine), "missing": names,
             "cost": verdict.solution.cost, "parts": parts_tree(verdict.solution.parts), "time": time_name(drawn),
             "load": load_name(drawn.model), "vehicles": vehicles_of(drawn, step.state), "nodes": nodes_of(drawn),
             "left": list(verdict.solution.dropped), "further": [dict(row) for row in day.basis.further],
         }
 
 
-def status_of(state: State, is_fine: bool) -> str:
-    """What a day is: `empty`, `fine` where the program found that it keeps all rules, else `unfinished`."""
-    if not any(state.lists):
+def status_of(day: OpenDay, is_fine: bool) -> str:
+    """What a day is: `empty`, `checking` where the program was not asked about all of it yet, `fine` where the program
+    found that it keeps all rules, else `unfinished`."""
+    if not any(day.step.state.lists):
         return "empty"
-    return "fine" if is_fine else "unfinished"
+    return "checking" if day.is_draft else "fine" if is_fine else "unfinished"
+
+
+def checked(day: OpenDay) -> Dict[str, Any]:
+    """What the program found of the present step meanwhile, and what was undone since."""
+    with day.lock:
+        is_fine = day.known().is_fine
+        return {"step": day.at, "status": status_of(day, is_fine), "notice": day.notice}
 
 
 def parts_tree(parts: Optional[Parts]) -> List[List[Any]]:
@@ -155,7 +163,7 @@ def inert(text: str) -> str:
 def drawn_parts(day: OpenDay) -> Dict[str, str]:
     """The charts and tables of the present step, as pieces of a page, and why visits are left out."""
     with day.lock:
-        drawn, missing, state = day.drawn(), day.verdict().missing, day.step.state
+        drawn, missing, state = day.drawn(), day.known().missing, day.step.state
     drawn = with_reasons(drawn, missing, state.off | state.pinned)
     axis = axis_of([drawn])
     return {

@@ -23,7 +23,7 @@ from .folder import KEPT, Basis, Folder, NoSuchDay
 from .guard import Turned
 from .offers import Offers, offers
 from .opening import Upload, Ways, basis_of_model, basis_of_tables, example_basis, examples
-from .pages import beside, drawn_parts, problem_of, told
+from .pages import beside, checked, drawn_parts, problem_of, told
 from .searching import Searches
 from .states import BadChange
 
@@ -121,7 +121,7 @@ class Service:
             return self.file(day, rest[1])
         plain: Dict[Tuple[str, ...], Callable[[], Any]] = {
             (): lambda: told(day), ("charts",): lambda: drawn_parts(day), ("search",): lambda: self.search_tree(day),
-            ("steps",): lambda: steps_tree(day),
+            ("steps",): lambda: steps_tree(day), ("checked",): lambda: checked(day),
         }
         if tuple(rest) not in plain:
             raise Turned(404, "there is nothing here")

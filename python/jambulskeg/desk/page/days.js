@@ -57,7 +57,8 @@ function exportsShown() {
 }
 
 function stepLine(step, at) {
-  const cost = step.number ? ", cost " + step.cost + (step.fine ? "" : ", unfinished") : "";
+  const word = step.fine ? "" : step.fine === null ? ", not checked as a whole" : ", unfinished";
+  const cost = step.number ? ", cost " + step.cost + word : "";
   const press = () => ask("goto", () => ({number: step.number}));
   const button = make("button", {type: "button", "aria-label": "Go to: " + step.words, onclick: press}, "Go to");
   return make("li", {}, step.words + cost + " ", at ? button : "(now)");
@@ -241,5 +242,6 @@ export function begin() {
   document.addEventListener("drop", dropped);
   on("opened", opened);
   on("day", steps);
+  on("checked", steps);
   shown();
 }

@@ -52,6 +52,32 @@ export async function open(id) {
   }
 }
 
+const PAUSE = 120;
+let timer = null;
+
+/** Of a large day the vans that changed are checked first; looks what the program finds of the whole day. */
+async function look() {
+  const {id, step} = desk.day;
+  const found = await get("day/" + id + "/checked").catch(() => null);
+  if (!found || desk.day.id !== id || desk.day.step !== step) { return; }
+  if (found.step !== step) {
+    await reload();
+    desk.refusal = {sentence: found.notice, made: false};
+    tell("said");
+  } else if (found.status === "checking") {
+    timer = window.setTimeout(look, PAUSE);
+  } else {
+    desk.day.status = found.status;
+    desk.day.steps[0].fine = found.status === "fine";
+    tell("checked");
+  }
+}
+
+on("day", () => {
+  window.clearTimeout(timer);
+  if (desk.day.status === "checking") { timer = window.setTimeout(look, PAUSE); }
+});
+
 export async function reload() {
   const day = await get("day/" + desk.day.id);
   desk.day = day;
