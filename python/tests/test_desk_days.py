@@ -54,6 +54,7 @@ class DayTests(unittest.TestCase):
         self.addCleanup(folder.cleanup)
         self.folder = Folder(os.path.join(folder.name, "days"))
         self.addCleanup(self.folder.close)
+        self.days: List[OpenDay] = []
 
     def opened(self, basis: Basis, name: str = "Monday") -> OpenDay:
         """A new day."""
@@ -61,9 +62,19 @@ class DayTests(unittest.TestCase):
 
     def again(self, identity: str) -> OpenDay:
         """A day as it is on the disk."""
+        for day in self.days:
+            self.awaited(day)
         day = OpenDay(identity, *self.folder.opened(identity), PROGRAM)
+        self.days.append(day)
         self.addCleanup(day.close)
         return day
+
+    def awaited(self, day: OpenDay) -> None:
+        """Waits until the program was asked about all of a day, and that is kept."""
+        while day.is_draft:
+            time.sleep(0.005)
+        with day.lock:
+            pass
 
     def three_vans(self) -> OpenDay:
         """The day of the two spreadsheets."""
@@ -298,11 +309,6 @@ class LargeDayTests(DayTests):
         large = mock.patch("jambulskeg.desk.days.LARGE", 1)
         large.start()
         self.addCleanup(large.stop)
-
-    def awaited(self, day: OpenDay) -> None:
-        """Waits until the program was asked about all of a day."""
-        while day.is_draft:
-            time.sleep(0.005)
 
     def test_the_whole_day_is_checked_soon(self) -> None:
         day = self.three_vans()
