@@ -1,6 +1,7 @@
 """python -m jambulskeg: plans from spreadsheets, pictures of a day, what looks wrong in a model, many searches.
 
 Ends with 0 where there is an answer, with 1 and a sentence where there is none, with 2 where the words are unknown.
+`plan` ends with 3 if visits that must be made are left out.
 """
 
 from __future__ import annotations
@@ -177,9 +178,10 @@ def run_view(asked: argparse.Namespace) -> int:
         if asked.output:
             days = days_of(asked, model, solutions, tables)
             titles = titles_of(asked, files)
-            outputs.write(asked.output, text_of(asked, days, titles, note))
-    if note:
-        sys.stderr.write(note + "\n")
+            outputs.write(asked.output, text_of(asked, tables, days, (titles, note)))
+    looks = [f"look at: {doubt}" for doubt in (tables.doubts if tables is not None else ())]
+    for line in [*looks, *([note] if note else [])]:
+        sys.stderr.write(line + "\n")
     return 0
 
 
@@ -214,14 +216,17 @@ def check_file(model: Model, file: str, solution: Solution) -> None:
         raise ValueError(f"{file}: {why}") from None
 
 
-def text_of(asked: argparse.Namespace, days: Sequence[Day], titles: Sequence[str], note: str) -> str:
-    """The text of a page or of an SVG, with a note on both days."""
+def text_of(
+    asked: argparse.Namespace, tables: Optional[DayTables], days: Sequence[Day], words: Tuple[Sequence[str], str]
+) -> str:
+    """The text of a page or of an SVG, with the titles of the days and a note on both."""
+    titles, note = words
     if asked.svg:
         return drawing(days, titles, asked.degrees, note)
     found = f"{found_of(asked, days)} {note}".strip()
     if len(days) == 2:
         return compare_page((days[0], days[1]), (titles[0], titles[1]), found, asked.degrees)
-    tables, day = tables_of(asked), days[0]
+    day = days[0]
     date = asked.date or (datetime.date.today() if asked.clock is not None else None)
     files = downloads(day.model, day.solution, tables, date=date, time=asked.time, clock=asked.clock)
     return page(day, titles[0], found, asked.degrees, files)

@@ -131,7 +131,10 @@ def leave_later(
     solution = meets(model, solution, program) if checked else solution
     for vehicle, route in enumerate(solution.routes):
         for number in range(len(route.dimensions)):
-            later = with_plan(model, solution, vehicle, number, later_plan(model, number, route))
+            plan = later_plan(model, number, route)
+            if plan == route.dimensions[number]:
+                continue
+            later = with_plan(model, solution, vehicle, number, plan)
             if later.cost <= solution.cost:
                 solution = later
     return meets(model, solution, program) if checked else solution

@@ -50,14 +50,15 @@ def day_of_tables(
 ) -> Day:
     """The day of a solution with the names of its spreadsheets, whose times are minutes after midnight.
 
-    `time` and `clock` are those of `view.day_of`; with the vehicles of a spreadsheet the time 0 is midnight where no
-    `clock` says else. Without `reasons` none are told. Raises `CannotBeDrawn` where the tables are not the model's.
+    `time` and `clock` are those of `view.day_of`; with the vehicles of a spreadsheet the time 0 is midnight if no
+    `clock` says else. Without `reasons` none are told. Raises `CannotBeDrawn` if the tables are not the model's.
     """
     if tables is None:
         return day_of(model, solution, time=time, clock=clock, reasons=reasons or {})
     return day_of(
         model, solution, places=tables.places, vehicles=[van.name for van in tables.vans], time=time,
-        clock=0 if clock is None and tables.vans else clock, further=tables.further, reasons=reasons or {},
+        clock=0 if clock is None and tables.vans else clock, further=tables.further, van_further=tables.van_further,
+        reasons=reasons or {},
     )
 
 
@@ -90,7 +91,7 @@ def csv_of(day: Day, delimiter: str = ",") -> str:
 
 
 def load_names(day: Day) -> List[str]:
-    """The names of the loads of a day; `load` where it has none."""
+    """The names of the loads of a day; `load` if it has none."""
     return [day.model.dimensions[number].name for number in day.loads()] or ["load"]
 
 
@@ -106,12 +107,12 @@ def plan_rows(day: Day) -> "Iterator[tuple[List[object], int]]":
 
 
 def guarded(cell: str) -> str:
-    """The text of a cell that no spreadsheet takes for a formula: an apostrophe stands before one that it would."""
+    """The text of a cell that no spreadsheet takes for a formula: an apostrophe comes before one that it would."""
     return f"'{cell}" if FORMULA.match(cell) else cell
 
 
 def clock_text(day: Day, value: Optional[int]) -> str:
-    """A time as spreadsheets read it, 26:00 being two at night; a number where the day has no clock."""
+    """A time as spreadsheets read it, 26:00 being two at night; a number if the day has no clock."""
     if value is None or day.names.clock is None:
         return "" if value is None else str(value)
     minutes = value + day.names.clock
@@ -130,7 +131,7 @@ def geojson_of(day: Day) -> str:
     """A day as a map: routes as lines and stops as points (GeoJSON, RFC 7946).
 
     The coordinates are those of the places: longitude and latitude if x and y are these, else x and y as they are.
-    Raises `CannotBeExported` where no places are known.
+    Raises `CannotBeExported` if no places are known.
     """
     if not day.places:
         raise CannotBeExported("a map (GeoJSON) asks for the places of the nodes")
@@ -144,7 +145,9 @@ def geojson_of(day: Day) -> str:
 def line_feature(day: Day, route: Route) -> Dict[str, object]:
     """The line of a route."""
     points = [[day.places[node].x, day.places[node].y] for node in route.nodes]
-    properties = {"van": day.names.vehicle(route.vehicle), "visits": len(route.visits)}
+    properties: Dict[str, object] = {"van": day.names.vehicle(route.vehicle), "visits": len(route.visits)}
+    for heading, cell in day.van_cells(route.vehicle).items():
+        properties[another(heading, list(properties))] = cell
     return {"type": "Feature", "geometry": {"type": "LineString", "coordinates": points}, "properties": properties}
 
 
@@ -173,7 +176,7 @@ def icalendar(
 
 def icalendar_of(day: Day, date: datetime.date, in_degrees: bool = False) -> str:
     """The visits and breaks of a day as a calendar of a date (iCalendar, RFC 5545), in the local time of whoever reads
-    it; in degrees, each visit says where it is. Raises `CannotBeExported` where the day has no times of day."""
+    it; in degrees, each visit says where it is. Raises `CannotBeExported` if the day has no times of day."""
     if not has_clock(day):
         raise CannotBeExported("a calendar (iCalendar) asks for times of day: say at which one the time 0 lies")
     lines = ["BEGIN:VCALENDAR", "VERSION:2.0", "PRODID:-//jambulskeg//plan of a day//EN", "CALSCALE:GREGORIAN"]
@@ -244,7 +247,7 @@ def downloads(
     model: Model, solution: Solution, tables: Optional[DayTables] = None, *, date: Optional[datetime.date] = None,
     time: Optional[str] = None, clock: Optional[int] = None,
 ) -> List[Download]:
-    """What a page of the day offers: the table, the map where places are known, the calendar where a date is."""
+    """What a page of the day offers: the table, the map if places are known, the calendar if a date is."""
     day = day_of_tables(model, solution, tables, time=time, clock=clock)
     delimiter, in_degrees = (",", False) if tables is None else (tables.delimiter, tables.degrees)
     files = [Download("plan.csv", "text/csv", csv_of(day, delimiter), "Table (CSV)")]

@@ -23,7 +23,7 @@ __all__ = ["Outputs", "names_of_sheets", "to_stdout", "write_whole"]
 class Outputs:
     """Some files to be written. A `with` opens them, and puts them in place if it ends without an exception.
 
-    What is no plain file (a device, a pipe) is written straight. Raises `ValueError` where two paths, or a path and one
+    What is no plain file (a device, a pipe) is written straight. Raises `ValueError` if two paths, or a path and one
     of `inputs`, are one file; `OSError` with the path that was asked for.
     """
 
@@ -101,7 +101,7 @@ def write_whole(path: str, text: str) -> None:
 
 
 def to_stdout(text: str) -> None:
-    """Writes a text in UTF-8 to standard output at once. Raises `OSError` where it does not go through."""
+    """Writes a text in UTF-8 to standard output at once. Raises `OSError` if it does not go through."""
     try:
         if hasattr(sys.stdout, "buffer"):
             sys.stdout.buffer.write(text.encode("utf-8", "replace"))

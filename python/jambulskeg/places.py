@@ -182,7 +182,7 @@ def read_day(places: TableSource, vans: TableSource) -> DayTables:
 
 
 def read_places(path: str) -> List[Place]:
-    """The places of a CSV file, as `read_day` reads them; where it doubts the form of the file, that is a fault here.
+    """The places of a CSV file, as `read_day` reads them; what it doubts in the form of the file is a fault here.
 
     Raises `BadTable`, `OSError`.
     """
@@ -190,7 +190,7 @@ def read_places(path: str) -> List[Place]:
 
 
 def strict_places(path: str) -> DayTables:
-    """The places of a CSV file, with no vehicles. Raises `BadTable` also where the form of the file is doubted."""
+    """The places of a CSV file, with no vehicles. Raises `BadTable` also if the form of the file is doubted."""
     table, degrees, doubts = table_of_places(path)
     if doubts:
         raise doubts[0]
@@ -199,7 +199,7 @@ def strict_places(path: str) -> DayTables:
 
 
 def read_vans(path: str, places: Sequence[Place]) -> List[Van]:
-    """The vehicles of a CSV file, as `read_day` reads them; where it doubts the form of the file, that is a fault here.
+    """The vehicles of a CSV file, as `read_day` reads them; what it doubts in the form of the file is a fault here.
 
     Raises `BadTable`, `OSError`.
     """
@@ -233,7 +233,7 @@ def places_of(table: Table, degrees: bool) -> List[Place]:
     for line in table.lines:
         name = line.text("name")
         if name in names:
-            raise line.bad("name", f"'{shown(name)}' stands in an earlier line, line {names[name]}")
+            raise line.bad("name", f"'{shown(name)}' is in an earlier line too, line {names[name]}")
         names[name] = line.number
         places.append(Place(
             name, line.real(across, 180 if degrees else FARTHEST), line.real(up, 90 if degrees else FARTHEST),

@@ -43,12 +43,16 @@ from .view import page, sheet_page
 __all__ = ["LEFT_OUT", "Planned", "add_plan", "plan_day", "run_plan"]
 
 SECONDS = 10.0
-"""How long is searched where nobody says."""
+"""How many seconds are searched if nobody says."""
+FEW = 20
+"""As many of the visits that are left out are told."""
 GROWS = 4
 """How many times the tries of a portfolio are those of the one before it."""
 LEFT_OUT = 3
 """The exit status of a plan that leaves out visits that must be made."""
 GUIDED = Search(improve=Improve.GUIDED_LOCAL_SEARCH)
+SHEET = re.compile(r"\d{2,3}(?:-.*)?\.html")
+"""How a sheet is called."""
 NUMBERED = re.compile(r"\b(node|vehicle) (\d+)\b")
 """How sentences about a model call nodes and vehicles."""
 
@@ -57,7 +61,7 @@ NUMBERED = re.compile(r"\b(node|vehicle) (\d+)\b")
 class Planned:
     """A plan of a day. `solution` meets `model`; both are those of the spreadsheets, but that the visits `required`,
     which must be made and found no place, may be left out for nothing. `reasons` say why visits are left out; `how`
-    says how the plan was found, if not at once, and `doubts` what looks wrong in the day."""
+    says how the plan was found, if no construction found it, and `doubts` what looks wrong in the day."""
 
     tables: DayTables
     model: Model
@@ -96,11 +100,11 @@ def plan_day(
     tables: DayTables, roads: Optional[Roads] = None, *, seconds: float = SECONDS, jobs: int = 1,
     program: ProgramLike = None, progress: Optional[Progress] = None,
 ) -> Planned:
-    """The plan of a day, searched for about so many seconds, by `jobs` searches at a time.
+    """The plan of a day, searched for about `seconds`, by `jobs` searches at a time.
 
     One of them is `rescue`, the others are those of portfolios; `progress` is told of the rounds of the former. Each
-    driver leaves as late as the plan lets him, where that is no dearer. Raises `Refused` where the model has a
-    fault, `NoFirstSolution` where nothing is found, and what the program raises.
+    driver leaves as late as the plan lets him, if that is no dearer. Raises `Refused` if the model has a
+    fault, `NoFirstSolution` if nothing is found, and what the program raises.
     """
     model = model_of_day(tables, roads, GUIDED)
     looks = (*tables.doubts, *(named(tables, doubt.sentence) for doubt in doubts(model)))
@@ -112,7 +116,7 @@ def plan_day(
     shown = replace(model, groups=[*model.groups, *(Group([node], 0) for node in required)])
     final = leave_later(shown, complete(shown, solution.lists(), program), program)
     reasons = why_left_out(shown, final, required=required)
-    how = "" if found.way is Way.AS_ASKED or required else found.sentence
+    how = found.sentence if found.way is Way.PENALTIES and not required else ""
     return Planned(tables, shown, final, how, required, reasons, looks)
 
 
@@ -130,7 +134,7 @@ class UntilThen:
         return self.until - time.monotonic()
 
     def run(self, models: Sequence[Model]) -> List[Answer]:
-        """For each model its solution, or what went wrong: `ProgramSlow` where the time was over."""
+        """For each model its solution, or what went wrong: `ProgramSlow` if the time was over."""
         with ThreadPoolExecutor(max_workers=self.jobs) as pool:
             return list(pool.map(self.answer, models))
 
@@ -253,7 +257,9 @@ def run_plan(asked: argparse.Namespace) -> int:
     for doubt in planned.doubts[len(tables.doubts):]:
         tell(f"look at: {doubt}")
     tell(planned.summary())
-    for line in planned.left_out():
+    left = planned.left_out()
+    more = [f".. and {len(left) - FEW} more are left out"] if len(left) > FEW else []
+    for line in [*left[:FEW], *more, *earlier_sheets(asked.sheets, sheets)]:
         tell(line)
     return LEFT_OUT if planned.required else 0
 
@@ -278,9 +284,18 @@ def sheet_paths(folder: Optional[str], tables: DayTables) -> List[str]:
     return [os.path.join(folder, name) for name in names_of_sheets([van.name for van in tables.vans], ".html")]
 
 
+def earlier_sheets(folder: Optional[str], sheets: Sequence[str]) -> List[str]:
+    """A sentence for each sheet in the folder that is none of this plan."""
+    if not folder:
+        return []
+    names = sorted(name for name in os.listdir(folder) if SHEET.fullmatch(name))
+    paths = [os.path.join(folder, name) for name in names]
+    return [f"look at: {path} is a sheet of an earlier plan" for path in paths if path not in sheets]
+
+
 @contextmanager
 def new_folder(folder: Optional[str]) -> Iterator[None]:
-    """Makes a folder where it is not there, and takes it away again if the work within ends by an exception."""
+    """Makes a folder if it is not there, and takes it away again if the work within ends by an exception."""
     is_new = bool(folder) and not os.path.isdir(folder or "")
     if folder:
         os.makedirs(folder, exist_ok=True)

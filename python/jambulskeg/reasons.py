@@ -32,7 +32,7 @@ Namer = Callable[[int], str]
 
 @dataclass(frozen=True)
 class Site:
-    """A place for a visit: behind the node `after` in the route of a vehicle, what it would cost there, and by how much
+    """A place for a visit: after the node `after` in the route of a vehicle, what it would cost there, and by how much
     the penalties would sink."""
 
     vehicle: int
@@ -56,14 +56,12 @@ class Reason:
 
     def sentence(self, node: Namer, vehicle: Namer) -> str:
         """The reason in words, with these names of nodes and vehicles."""
-        whole = "" if self.tried == self.places else f" (of {self.places} places {self.tried} were tried)"
         pair = "" if self.partner is None else f"together with {node(self.partner)} "
         if not self.places:
             return "as many visits of its group are made as may be"
-        if not self.tried:
-            return "its places were not tried, the time was over"
         if self.best is None:
-            return f"{pair}{self.forbids()}{whole}"
+            return f"{pair}{self.forbids()}"
+        whole = "" if self.tried == self.places else f" (of its {self.places} places {self.tried} were tried)"
         where = f"on {vehicle(self.best.vehicle)} after {node(self.best.after)}"
         return f"{pair}its cheapest place, {where}, would cost {self.best.cost}{self.beside(self.best)}{whole}"
 
@@ -75,22 +73,30 @@ class Reason:
         return f", and leaving it out costs {best.spared}{more}"
 
     def forbids(self) -> str:
-        """Which rules forbid all places."""
+        """Which rules forbid all places that were tried."""
+        each = ", ".join(f"'{rule}' {count}" for rule, count in self.forbidden)
+        if self.tried < self.places:
+            return f"of its {self.places} places {self.tried} were tried, and each is forbidden: {each}"
         if len(self.forbidden) == 1:
             return f"'{self.forbidden[0][0]}' forbids each of its {self.tried} places"
-        each = ", ".join(f"'{rule}' {count}" for rule, count in self.forbidden)
         return f"each of its {self.tried} places is forbidden: {each}"
 
 
 def why_left_out(
     model: Model, solution: Solution, seconds: float = SECONDS, required: Sequence[int] = ()
 ) -> Dict[int, Reason]:
-    """For each visit that a solution leaves out the reason, measured within so many seconds for all of them.
+    """For each visit that a solution leaves out the reason, measured within these seconds for all of them.
 
-    `required` are visits that the day was to make, whatever they cost.
+    `required` are visits that the day was to make, whatever they cost. Each visit has its share of the seconds, in
+    which those places are tried first whose arcs cost least, and one at least.
     """
     until = time.monotonic() + seconds
-    return {node: reason_of(model, solution, node, until, node in required) for node in solution.dropped}
+    found: Dict[int, Reason] = {}
+    for node in solution.dropped:
+        now = time.monotonic()
+        share = (until - now) / (len(solution.dropped) - len(found))
+        found[node] = reason_of(model, solution, node, now + share, node in required)
+    return found
 
 
 def reason_of(model: Model, solution: Solution, node: int, until: float, is_required: bool) -> Reason:
@@ -104,11 +110,11 @@ def reason_of(model: Model, solution: Solution, node: int, until: float, is_requ
     total = sum(places_in(len(route.visits), len(nodes)) for route in routes)
     best: Optional[Site] = None
     rules: "Counter[str]" = Counter()
-    tried = 0
+    tried = measured = 0
     for vehicle, visits, count in lists_with(model, routes, nodes):
-        if tried and time.monotonic() >= until:
+        if measured and time.monotonic() >= until:
             break
-        tried += count
+        tried, measured = tried + count, measured + int(not isinstance(visits, str))
         found = site_of(model, solution, vehicle, visits, nodes)
         if isinstance(found, str):
             rules[found] += count
@@ -133,26 +139,60 @@ def places_in(visits: int, nodes: int) -> int:
 
 def lists_with(
     model: Model, routes: Sequence[Route], nodes: Sequence[int]
-) -> Iterator[Tuple[int, Optional[List[int]], int]]:
-    """Each vehicle's list with the nodes put into each of its places, and 1; of a vehicle that may not make them no
-    list, and how many places it has."""
+) -> Iterator[Tuple[int, Union[str, List[int]], int]]:
+    """Of a vehicle that can make the nodes nowhere the rule, and how many places it has; then each other vehicle's list
+    with the nodes put into each of its places, and 1: the cheapest by arcs and fixed costs first."""
+    found: List[Tuple[int, int, List[int]]] = []
     for route in routes:
-        visits = list(route.visits)
-        if any(route.vehicle not in model.vehicles_of(node) for node in nodes):
-            yield route.vehicle, None, places_in(len(visits), len(nodes))
+        rule = forbidding(model, route, nodes)
+        if rule is not None:
+            yield route.vehicle, rule, places_in(len(route.visits), len(nodes))
             continue
-        for first in range(len(visits) + 1):
-            rest = visits[first:]
-            for last in range(len(rest) + 1) if len(nodes) == 2 else (0,):
-                yield route.vehicle, [*visits[:first], nodes[0], *rest[:last], *nodes[1:], *rest[last:]], 1
+        before = way_cost(model, route.vehicle, route.visits)
+        for visits in lists_of(route.visits, nodes):
+            found.append((way_cost(model, route.vehicle, visits) - before, route.vehicle, visits))
+    for _, vehicle, visits in sorted(found, key=lambda entry: entry[0]):
+        yield vehicle, visits, 1
+
+
+def forbidding(model: Model, route: Route, nodes: Sequence[int]) -> Optional[str]:
+    """The rule that forbids the nodes at all places of a route: the vehicles that may go there, or a load whose values
+    are above the capacity in any order; None without any."""
+    if any(route.vehicle not in model.vehicles_of(node) for node in nodes):
+        return NOT_ALLOWED
+    taken = [model.vehicles[route.vehicle].start, *route.visits, *nodes]
+    for dimension in model.dimensions:
+        evaluator = dimension.evaluator_of(route.vehicle)
+        values = [evaluator.values[node] for node in taken] if evaluator.values and evaluator.matrix is None else []
+        if sum(values) > dimension.capacity_of(route.vehicle):
+            return dimension.name
+    return None
+
+
+def lists_of(visits: Sequence[int], nodes: Sequence[int]) -> Iterator[List[int]]:
+    """A list with one node, or a pickup and its delivery, put into each place."""
+    for first in range(len(visits) + 1):
+        rest = visits[first:]
+        for last in range(len(rest) + 1) if len(nodes) == 2 else (0,):
+            yield [*visits[:first], nodes[0], *rest[:last], *nodes[1:], *rest[last:]]
+
+
+def way_cost(model: Model, vehicle: int, visits: Sequence[int]) -> int:
+    """What the arcs of a list cost, and that its vehicle leaves at all; nothing without visits."""
+    if not visits:
+        return 0
+    ends = model.vehicles[vehicle]
+    costs = model.matrices[ends.costs]
+    nodes = [ends.start, *visits, ends.end]
+    return ends.fixed + sum(costs[tail][head] for tail, head in zip(nodes, nodes[1:]))
 
 
 def site_of(
-    model: Model, solution: Solution, vehicle: int, visits: Optional[Sequence[int]], nodes: Sequence[int]
+    model: Model, solution: Solution, vehicle: int, visits: Union[str, Sequence[int]], nodes: Sequence[int]
 ) -> Union[Site, str]:
     """A list as a place for its new visits, or the rule that forbids it."""
-    if visits is None:
-        return NOT_ALLOWED
+    if isinstance(visits, str):
+        return visits
     if not keeps_order(model, vehicle, visits):
         return ORDER
     try:

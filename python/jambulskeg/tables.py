@@ -1,4 +1,4 @@
-"""CSV files as spreadsheets write them: a table of lines whose cells know where they stand.
+"""CSV files as spreadsheets write them: a table of lines whose cells know their line and column.
 
 Excel in Europe parts cells by semicolons and writes 2,5; Excel in America, LibreOffice and pandas part them by commas
 and write 2.5. What all of these write is read. The rest is refused by a `BadTable` with the line and the column.
@@ -26,6 +26,10 @@ TIME = re.compile(r"(?:(\d+) days? )?(\d+):([0-5]\d)(?::00(?:\.0+)?)?(?:\s*([ap]
 WHOLE = re.compile(r"([+-]?\d+)(?:\.0*)?", re.ASCII)
 """A whole number, also as pandas writes those of a column with gaps: 2.0."""
 REAL = re.compile(r"[+-]?(?:\d+\.?\d*|\.\d+)(?:e[+-]?\d+)?", re.ASCII | re.IGNORECASE)
+DOTTED = re.compile(r"\d{1,2}[.,]\d\d")
+"""What is a time in some countries and a number in others."""
+COMMA = re.compile(r"-?\d+,\d+")
+"""A number with a decimal comma."""
 DELIMITERS = ",;\t"
 SEPARATOR = re.compile(r'"?sep=([,;\t|])"?[,;\t|]*', re.IGNORECASE)
 """The first line of some files for Excel, which says what parts the cells."""
@@ -34,7 +38,7 @@ ALIKE = 0.75
 OWN_FILES = (b"PK\x03\x04", b"\xd0\xcf\x11\xe0")
 """How the files begin that spreadsheets save when nobody asks for CSV."""
 MOST_SHOWN = 60
-"""How much of a text stands in a sentence."""
+"""How many characters of a text a sentence shows."""
 T = TypeVar("T")
 
 
@@ -55,7 +59,7 @@ class BadTable(JambulskegError, ValueError):
 def whole(text: str) -> int:
     """A whole number, also as a time of day: 8:30, 08:30:00 and 8:30 AM are 510 minutes, 26:00 is two at night.
 
-    Raises `ValueError` where it is none.
+    Raises `ValueError` if it is none.
     """
     number, time = WHOLE.fullmatch(text), TIME.fullmatch(text)
     if number:
@@ -71,7 +75,7 @@ def whole(text: str) -> int:
 
 
 def finite(text: str) -> float:
-    """The number of a text. Raises `ValueError` where it is none, or not finite."""
+    """The number of a text. Raises `ValueError` if it is none, or not finite."""
     found = float(text) if REAL.fullmatch(text) else math.nan
     if not math.isfinite(found):
         raise ValueError(text)
@@ -107,7 +111,7 @@ class Heads:
 
 @dataclass(frozen=True)
 class TableLine:
-    """A line of a CSV file, which says where it stands when a cell is faulty; `point` is its decimal point."""
+    """A line of a CSV file, which says its number when a cell is faulty; `point` is its decimal point."""
 
     heads: Heads
     number: int
@@ -128,7 +132,7 @@ class TableLine:
         return any(self.text(column, "") for column in columns)
 
     def text(self, column: str, default: Optional[str] = None) -> str:
-        """The text of a cell that has one, else the default. Raises `BadTable` where there is neither."""
+        """The text of a cell that has one, else the default. Raises `BadTable` if there is neither."""
         at = self.heads.known.get(column)
         found = (self.cells[at] if at is not None else "") or default
         if found is None:
@@ -136,7 +140,7 @@ class TableLine:
         return found
 
     def read(self, column: str, read: Callable[[str], T], kind: str, default: T) -> T:
-        """The value of a cell, or the default where it is empty. Raises `BadTable` where it is no such value."""
+        """The value of a cell, or the default if it is empty. Raises `BadTable` if it is no such value."""
         text = self.text(column, "")
         try:
             return read(text.replace(self.point, ".")) if text else default
@@ -144,11 +148,11 @@ class TableLine:
             raise self.bad(column, f"'{shown(text)}' is {kind}{hint(text, self.point)}") from None
 
     def whole(self, column: str, most: int, least: int = 0) -> int:
-        """The whole number of a cell, from `least` to `most`; 0 where it is empty."""
+        """The whole number of a cell, from `least` to `most`; 0 if it is empty."""
         return self.maybe(column, most, least) or 0
 
     def maybe(self, column: str, most: int, least: int = 0) -> Optional[int]:
-        """The whole number of a cell, from `least` to `most`; None where it is empty."""
+        """The whole number of a cell, from `least` to `most`; None if it is empty."""
         kind = "neither a whole number nor a time like 8:30 or 9:00 AM"
         found = self.read(column, lambda text: (whole(text),), kind, None)
         if found is not None and not least <= found[0] <= most:
@@ -165,12 +169,15 @@ class TableLine:
         return found
 
     def window(self, low: str, high: str, most: int) -> Optional[Tuple[int, int]]:
-        """The interval of two cells, None where both are empty. Raises `BadTable` where one is, or they are turned."""
+        """The interval of two cells, None if both are empty. Raises `BadTable` if one is, or they are turned."""
         if not self.has(low, high):
             return None
         for column, other in ((low, high), (high, low)):
             if not self.has(column):
                 raise self.bad(column, f"the cell is empty, and that of '{other}' is not: give both or none")
+        for column in (low, high):
+            if DOTTED.fullmatch(self.text(column)):
+                raise self.bad(column, f"'{self.text(column)}' may be a time or a number: write 9:30, or 9")
         found = self.whole(low, most), self.whole(high, most)
         if found[0] > found[1]:
             turned = f"{shown(self.text(high))} is before {shown(self.text(low))}"
@@ -180,6 +187,8 @@ class TableLine:
 
 def hint(text: str, point: str) -> str:
     """What a text that is no number may be after all, in words."""
+    if point == "." and COMMA.fullmatch(text):
+        return "; where commas part the cells, a number has a point, as 3.5"
     try:
         found = finite(text.replace(point, "."))
     except ValueError:
@@ -287,7 +296,7 @@ def rows_of(name: str, text: str, delimiter: str, before: int) -> Iterator[Tuple
 
 
 def filled(heads: Heads, number: int, cells: Sequence[str], length: int) -> List[str]:
-    """The cells of a line, as many as there are headings. Raises `BadTable` where there are more."""
+    """The cells of a line, as many as there are headings. Raises `BadTable` if there are more."""
     if any(cells[length:]):
         last = max([*heads.known.items(), *heads.further.items()], key=lambda entry: entry[1])[0]
         raise BadTable(heads.file, number, last, "the line has more cells than there are columns")

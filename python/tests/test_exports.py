@@ -29,7 +29,7 @@ PLACES = (
     "name;x;y;demand;open;close;service;Phone;note;van\nyard;0;0;;;;;;;\n"
     "Ada;30;0;2;9:00;11:00;10;+49 30 1234;=1+1;x\nBen;60;0;3;23:30;26:00;15;;\"two\nlines; ä\";\n"
 )
-VANS = "name,start,capacity,from,to\n@red,yard,9,8:00,28:00\n"
+VANS = "name,start,capacity,from,to,visits\n@red,yard,9,8:00,28:00,few\n"
 DATE = datetime.date(2026, 12, 31)
 
 
@@ -111,6 +111,7 @@ class MapTests(unittest.TestCase):
         found = json.loads(geojson(model, solution, tables))["features"]
         self.assertEqual([entry["geometry"]["type"] for entry in found], ["LineString"] + ["Point"] * 4)
         self.assertEqual(found[0]["geometry"]["coordinates"], [[0, 0], [30, 0], [60, 0], [0, 0]])
+        self.assertEqual(found[0]["properties"], {"van": "@red", "visits": 2, "visits (2)": "few"})
         self.assertEqual(found[2]["properties"], {
             "name": "Ada", "van": "@red", "stop": 1, "arrival": "8:30", "begins": "9:00",
             "departure": "9:10", "load": 2, "Phone": "+49 30 1234", "note": "=1+1", "van (2)": "x",

@@ -129,7 +129,7 @@ class PlanTests(PlanCase):
                  self.write("v.csv", "start,capacity\nyard,12\nyard,12\n"), "--seconds", "0"]
         status, _, told = called("plan", *words)
         self.assertEqual((status, "6 of 6 visits are made" in told), (0, True), told)
-        self.assertRegex(told, r"visits are made, by (another construction|penalties for required visits)")
+        self.assertRegex(told, r"visits are made(, by penalties for required visits)?")
 
     def test_many_searches(self) -> None:
         planned: Planned = plan_day(read_day(PLACES, VANS), Roads(pace=2), seconds=0.5, jobs=3)
@@ -143,6 +143,9 @@ class PlanTests(PlanCase):
         self.assertEqual(status, 0)
         texts = [self.read(os.path.join("s", name)) for name in sorted(os.listdir(self.at("s")))]
         self.assertEqual(["is not used" in text for text in texts].count(True), 1)
+        vans = self.write("v.csv", "name,start\nred,yard\n")
+        told = called("plan", self.at("p.csv"), vans, "--seconds", "0", "--sheets", self.at("s"))[2]
+        self.assertIn(f"look at: {self.at('s/02-blue.html')} is a sheet of an earlier plan\n", told)
 
 
 class FaultTests(PlanCase):

@@ -62,13 +62,14 @@ class ReasonTests(unittest.TestCase):
              "its cheapest place, on B after n4, would cost 50, and leaving it out costs 60; a longer search may bring "
              "it in"),
             (Reason(7, site, (), 5, 9, True),
-             "its cheapest place, on B after n4, would cost 85; a longer search may bring it in (of 9 places 5 were "
-             "tried)"),
+             "its cheapest place, on B after n4, would cost 85; a longer search may bring it in (of its 9 places 5 "
+             "were tried)"),
             (Reason(7, None, (("load", 9),), 9, 9), "'load' forbids each of its 9 places"),
             (Reason(7, None, (("time", 5), ("load", 4)), 9, 9, partner=8),
              "together with n8 each of its 9 places is forbidden: 'time' 5, 'load' 4"),
             (Reason(7, None, (), 0, 0), "as many visits of its group are made as may be"),
-            (Reason(7, None, (), 0, 9), "its places were not tried, the time was over"),
+            (Reason(7, None, (("load", 2), ("time", 1)), 3, 9),
+             "of its 9 places 3 were tried, and each is forbidden: 'load' 2, 'time' 1"),
         ):
             self.assertEqual(reason.sentence("n{}".format, "AB".__getitem__), said)
 
@@ -76,6 +77,13 @@ class ReasonTests(unittest.TestCase):
         model = replace(Model.of(THREE), groups=[Group([1], 0), Group([2], 0)])
         reasons = why_left_out(model, complete(model, [[]]), 0)
         self.assertEqual([reason.tried for reason in reasons.values()], [1, 1])
+        line = Model.of({
+            "format": 1, "nodes": 5, "vehicles": [{"start": 0, "end": 0}] * 3,
+            "matrices": [[[abs(tail - head) for head in range(5)] for tail in range(5)]],
+            "groups": [{"nodes": [2], "penalty": 1}],
+        })
+        reason = why_left_out(line, complete(line, [[4], [1, 3], []]), 0)[2]
+        self.assertEqual((reason.best, reason.tried, reason.places), (Site(0, 0, 0, 1), 1, 6))
 
     def test_groups_and_vehicles(self) -> None:
         model = replace(Model.of(THREE), groups=[Group([1, 2], 50)])

@@ -106,7 +106,7 @@ class WriterTests(unittest.TestCase):
     def test_times_and_numbers(self) -> None:
         for text, number in (
             ("9:00 AM", 540), ("12:00 am", 0), ("12:30 PM", 750), ("1:05 p.m.", 785), ("09:00:00\u202fAM", 540),
-            ("26:00", 1560), ("1 days 02:00:00", 1560), ("2.0", 2), ("2.", 2), ("+3", 3), ("-3.0", -3),
+            ("26:00", 1560), ("60.00", 60), ("1 days 02:00:00", 1560), ("2.0", 2), ("2.", 2), ("+3", 3), ("-3.0", -3),
         ):
             self.assertEqual(whole(text), number, text)
         for text in ("13:00 PM", "0:30 AM", "9:00:30", "2.5", "1e3", "1_000", "", "٣", "9 AM", "8.30 AM"):
@@ -143,7 +143,7 @@ class WriterTests(unittest.TestCase):
             ("vans.csv, line 1, column 'start': there is no such column", YARD, "name\nred\n"),
             ("vans.csv, line 2, column 'start': no place has the name 'Yard'; is 'yard' meant?", YARD, "start\nYard\n"),
             ("vans.csv, line 3, column 'end': no place has the name 'b'", YARD, "start,end\nyard,\nyard,b\n"),
-            ("places.csv, line 3, column 'name': 'yard' stands in an earlier line, line 2", YARD + "yard,1,1\n", RED),
+            ("places.csv, line 3, column 'name': 'yard' is in an earlier line too, line 2", YARD + "yard,1,1\n", RED),
             ("places.csv, line 1: this is a spreadsheet's own file", b"PK\x03\x04..", RED),
             ("places.csv, line 2: this is no text in UTF-8", b"name,x,y\na\x00,1,1\n", RED),
             ("places.csv, line 2: this is no text in UTF-8", b"name,x,y\n\x81\xff,1,1\n", RED),
@@ -158,6 +158,10 @@ class WriterTests(unittest.TestCase):
              YARD, "start,from,to\nyard,8:00,\n"),
             ("vans.csv, line 2, column 'from': '0.354166667' is neither a whole number nor a time like 8:30 or 9:00 AM;"
              " a spreadsheet keeps times", YARD, "start,from,to\nyard,0.354166667,9:00\n"),
+            ("vans.csv, line 2, column 'to': '9.30' may be a time or a number: write 9:30, or 9",
+             YARD, "start,from,to\nyard,8:00,9.30\n"),
+            ("places.csv, line 2, column 'x': '3,5' is no number; where commas part the cells, a number has a point",
+             'name,x,y\na,"3,5",1\n', RED),
             ("vans.csv, line 2, column 'capacity': -1 is below 0", YARD, "start,capacity\nyard,-1\n"),
             ("places.csv, line 2, column 'x': '1e300' is beyond 1e+08", "name,x,y\nyard,1e300,0\n", RED),
             ("places.csv, line 2, column 'lat': '91' is beyond 90", "name,lat,lon\nyard,91,0\n", RED),

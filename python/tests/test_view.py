@@ -329,7 +329,7 @@ class PageTests(unittest.TestCase):
                 self.assertIn(f">{drawn.letters(route.vehicle)}{stop}</text>", marks)
         self.assertIn('class="ruler"', marks)
         at_one = day_of(drawn.model, drawn.solution, places=[places[0]] * 17)
-        self.assertEqual(route_map(at_one).body.count('class="zoom"'), 16)
+        self.assertEqual(route_map(at_one).body.count('class="spot'), 16 + 3)
 
 
 class VanTests(unittest.TestCase):
@@ -352,10 +352,13 @@ class VanTests(unittest.TestCase):
     def test_a_sheet_has_all_that_is_known(self) -> None:
         model = read_model(os.path.join(EXAMPLES, "breaks-day.json"))
         cells = [{"Phone": f"0{node}", "empty": ""} for node in range(model.nodes)]
-        drawn = day_of(model, solve(model), further=cells, clock=480)
+        drivers = [{"Driver": f"<{vehicle}>"} for vehicle in range(len(model.vehicles))]
+        drawn = day_of(model, solve(model), further=cells, van_further=drivers, clock=480)
+        self.assertEqual((drawn.van_cells(1), drawn.cells(2)["Phone"]), ({"Driver": "<1>"}, "02"))
         text = sheets(drawn)
         self.assertEqual(text.count("<details"), len(drawn.routes()))
         self.assertEqual(text.count('class="pause"'), sum(len(drawn.breaks(route)) for route in drawn.routes()))
+        self.assertIn("<p>Driver: &lt;0&gt;</p>", text)
         self.assertIn("> Phone</th>", text)
         self.assertNotIn("empty", text)
         self.assertIn('<td data-head="Phone">03</td>', text)

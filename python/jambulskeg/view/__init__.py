@@ -30,11 +30,12 @@ class CannotBeDrawn(JambulskegError, ValueError):
 def day_of(
     model: Model, solution: Solution, *, places: Sequence[Place] = (), vehicles: Sequence[str] = (),
     time: Optional[str] = None, clock: Optional[int] = None, further: Sequence[Mapping[str, str]] = (),
-    reasons: Optional[Mapping[int, Reason]] = None,
+    van_further: Sequence[Mapping[str, str]] = (), reasons: Optional[Mapping[int, Reason]] = None,
 ) -> Day:
     """A day to be drawn. The solution meets the model (see `model.meets`).
 
-    `places` has a place for each node, `further` more cells of each, `vehicles` a name for each vehicle. `time` names
+    `places` has a place for each node, `further` more cells of each; `vehicles` has a name for each vehicle, and
+    `van_further` more cells. `time` names
     the dimension that the day is drawn along; without it the one that looks most like times is taken. `clock` is the
     minute of the day at which the time 0 lies, where times are minutes. `reasons` say why visits are left out; without
     them they are measured, for two seconds at most. Raises `CannotBeDrawn` where these do not belong to the model.
@@ -42,6 +43,7 @@ def day_of(
     for what, entries, count, of in (
         ("places", places, model.nodes, "nodes"), ("rows of further cells", further, model.nodes, "nodes"),
         ("names", vehicles, len(model.vehicles), "vehicles"),
+        ("rows of further cells", van_further, len(model.vehicles), "vehicles"),
     ):
         if entries and len(entries) != count:
             raise CannotBeDrawn(f"there are {len(entries)} {what}, and the model has {count} {of}")
@@ -51,4 +53,4 @@ def day_of(
         raise CannotBeDrawn(str(fault)) from None
     measured = why_left_out(model, solution) if reasons is None else reasons
     names = Names([place.name for place in places], vehicles, clock)
-    return Day(model, solution, names, number, places, further, measured)
+    return Day(model, solution, names, number, places, further, measured, van_further)

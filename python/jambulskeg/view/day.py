@@ -84,7 +84,7 @@ class Penalty:
 class Day:
     """A solution of a model, to be drawn. `time` is the number of the dimension along which it is, None where none is
     one of drives; `places` are where the nodes lie, as far as that is known. `further` has more cells of each node by
-    their headings (a phone number, a note), `reasons` why visits are left out."""
+    their headings (a phone number, a note), `van_further` those of each vehicle, `reasons` why visits are left out."""
 
     model: Model
     solution: Solution
@@ -93,6 +93,7 @@ class Day:
     places: Sequence[Place] = ()
     further: Sequence[Mapping[str, str]] = ()
     reasons: Mapping[int, Reason] = field(default_factory=dict)
+    van_further: Sequence[Mapping[str, str]] = ()
 
     @property
     def is_timed(self) -> bool:
@@ -117,6 +118,10 @@ class Day:
     def cells(self, node: int) -> Mapping[str, str]:
         """The further cells of a node."""
         return self.further[node] if node < len(self.further) else {}
+
+    def van_cells(self, vehicle: int) -> Mapping[str, str]:
+        """The further cells of a vehicle."""
+        return self.van_further[vehicle] if vehicle < len(self.van_further) else {}
 
     def why_left(self, node: int) -> str:
         """Why a visit is left out, in words; nothing where that was not measured."""

@@ -16,7 +16,7 @@ WIDTH = 1000
 LEAST, MOST = 260, 900
 MARGIN = 30
 FAR = 3
-"""A place is far out if its distance from the middle is so many times that of three quarters of the places."""
+"""A place is far out if its distance from the middle is this many times that of three quarters of the places."""
 FEWEST = 6
 """With fewer places none is far out."""
 TENTH = 10
@@ -27,7 +27,7 @@ DEGREE = math.radians(1) * EARTH / 1000
 
 @dataclass(frozen=True)
 class Ground:
-    """The points of places, the height of the map, and the points for each unit of distance: a kilometre where places
+    """The points of places, the height of the map, and the points for each unit of distance: a kilometre if places
     are in degrees, else one of x and y. `far` has the distance from the middle of each place at the edge."""
 
     points: List[Point]
@@ -56,7 +56,7 @@ def ground_of(places: Sequence[Place], in_degrees: bool) -> Ground:
 
 
 def far_out(flat: Sequence[Point]) -> Dict[int, float]:
-    """The places that lie far from the others, with their distances from the middle; none where many do."""
+    """The places that lie far from the others, with their distances from the middle; none if many do."""
     if len(flat) < FEWEST:
         return {}
     x, y = statistics.median(x for x, _ in flat), statistics.median(y for _, y in flat)

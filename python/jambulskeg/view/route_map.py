@@ -14,12 +14,12 @@ from .tables import visits_text
 __all__ = ["route_map"]
 
 FEW = 150
-"""Up to so many nodes have their names beside them, as far as there is room."""
+"""Up to this many nodes have their names beside them, as far as there is room."""
 LETTER = 6.3
 """The width of a letter of a name."""
 Box = Tuple[float, float, float, float]
 NUMBERED = 250
-"""Up to so many stops have their letters and numbers on them."""
+"""Up to this many stops have their letters and numbers on them."""
 LINES = ("", " dashed", " dotted")
 
 
@@ -68,10 +68,10 @@ def place_of(day: Day, node: int, points: Sequence[Point]) -> str:
     x, y = points[node]
     name = day.names.node(node)
     if node in set(day.solution.dropped):
-        ends = ((x - 5, y - 5), (x + 5, y + 5)), ((x - 5, y + 5), (x + 5, y - 5))
-        return group("dropped", [line("cross", tail, head, f"{name}: left out") for tail, head in ends])
+        ends = ((-5, -5), (5, 5)), ((-5, 5), (5, -5))
+        return zoomed((x, y), "".join(line("cross", tail, head, f"{name}: left out") for tail, head in ends))
     if any(node in (vehicle.start, vehicle.end) for vehicle in day.model.vehicles):
-        return rect("depot", (x - 6, y - 6), (12, 12), f"{name}: start or end")
+        return zoomed((x, y), rect("depot", (-6, -6), (12, 12), f"{name}: start or end"))
     return circle("place", (x, y), 4 if len(points) <= 300 else 2.5, name)
 
 
@@ -94,15 +94,17 @@ def spots_of(day: Day, points: Sequence[Point]) -> List[str]:
 
 
 def spot(day: Day, route: Route, stop: int, at: Point) -> str:
-    """The mark of a stop, which is as large on a small screen."""
+    """The mark of a stop: the letters of its vehicle and its number."""
     words = f"{day.letters(route.vehicle)}{stop}"
     wide = 8 + 6.6 * len(words)
     title = f"{day.names.node(route.nodes[stop])}: stop {stop} of {day.names.vehicle(route.vehicle)}"
-    marks = rect(f"spot c{day.colour(route.vehicle)}", (-wide / 2, -7.5), (wide, 15), title)
-    return (
-        f'<g transform="translate({at[0]:.1f} {at[1]:.1f})"><g class="zoom">{marks}'
-        f'{text("letters", (0, 4), words, "middle")}</g></g>'
-    )
+    box = rect(f"spot c{day.colour(route.vehicle)}", (-wide / 2, -7.5), (wide, 15), title)
+    return zoomed(at, box + text("letters", (0, 4), words, "middle"))
+
+
+def zoomed(at: Point, marks: str) -> str:
+    """Marks around a point that are no smaller on a small screen."""
+    return f'<g transform="translate({at[0]:.1f} {at[1]:.1f})"><g class="zoom">{marks}</g></g>'
 
 
 def names_of(day: Day, ground: Ground) -> List[str]:

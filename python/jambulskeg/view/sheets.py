@@ -20,14 +20,15 @@ MANY = 8
 
 def sheets(day: Day) -> str:
     """The sheets of all vehicles that leave, as a part of a page."""
-    state = "" if len(day.routes()) > MANY else " open"
+    is_many = len(day.routes()) > MANY
+    state = "" if is_many else " open"
     parts = [
         f'<details class="sheet" data-vehicle="{route.vehicle}"{state}><summary>{badge(day, route.vehicle)} '
         f"{escaped(day.names.vehicle(route.vehicle))}<span>{escaped(in_short(day, route))}</span></summary>"
         f"{sheet(day, route)}</details>"
         for route in day.routes()
     ]
-    shape = "sheets roomy" if day.cells(0) else "sheets"
+    shape = "sheets many" if is_many else "sheets roomy" if day.cells(0) else "sheets"
     return f'<div class="{shape}">{"".join(parts)}</div>' if parts else "<p>No vehicle leaves.</p>"
 
 
@@ -59,11 +60,17 @@ def sheet(day: Day, route: Route) -> str:
         rows.append(row([cell for cell, head in zip(cells, heads) if head], heads=shown))
         rows += [break_row(day, piece, width) for piece in breaks if piece.stop == stop.number]
     title = f"{day.names.vehicle(route.vehicle)}: stops in their order"
-    return table(title, shown, ["<tbody>", *rows, "</tbody>"], shape="wide")
+    return who_drives(day, route.vehicle) + table(title, shown, ["<tbody>", *rows, "</tbody>"], shape="wide")
+
+
+def who_drives(day: Day, vehicle: int) -> str:
+    """The further cells of a vehicle in a line."""
+    words = ", ".join(f"{heading}: {cell}" for heading, cell in day.van_cells(vehicle).items() if cell)
+    return f"<p>{escaped(words)}</p>" if words else ""
 
 
 def columns_of(day: Day, route: Route, stops: Sequence[Stop]) -> Tuple[List[str], List[str]]:
-    """The heads of a sheet, empty where its column has nothing to say, and the further columns that some stop has."""
+    """The heads of a sheet, empty if the column has nothing to say, and the further columns that some stop has."""
     waits = any(stop.begins is not None and stop.arrival != stop.begins for stop in stops)
     has_window = any(entry is not None and entry.window for entry in day.rows(route))
     heads = ["stop", "place", *(["arrive", "begin" if waits else "", "leave"] if day.is_timed else ["", "", ""])]

@@ -15,7 +15,7 @@ __all__ = ["Stop", "stops_of"]
 class Stop:
     """A stop of a route; stop 0 is the start.
 
-    `arrival` is when the vehicle comes there, `begins` when the visit does, `departure` when it goes on; None where
+    `arrival` is when the vehicle comes there, `begins` when the visit does, `departure` when it goes on; None if
     the day has no times. At the start there is a departure alone, at the end an arrival. `loads` are the levels of the
     other dimensions after the stop.
     """
