@@ -193,7 +193,10 @@ class OpenDay:
             verdict = self.known(number)
             model = self.asker(self.steps[self.at if number is None else number].state.edits).model
             basis = self.basis
-            return Day(model, verdict.solution, self.names, time_dimension(model), basis.places, basis.further)
+            return Day(
+                model, verdict.solution, self.names, time_dimension(model), basis.places, basis.further,
+                van_further=basis.van_further,
+            )
 
     def change(self, change: Change, at: Optional[int] = None) -> Answer:
         """Makes a change where the program finds that the day then keeps its rules, but for visits that must be made

@@ -79,6 +79,11 @@ class Basis:
         return () if self.tables is None else self.tables.further
 
     @property
+    def van_further(self) -> Sequence[Mapping[str, str]]:
+        """What else the table says of each vehicle."""
+        return () if self.tables is None else self.tables.van_further
+
+    @property
     def in_degrees(self) -> bool:
         """Whether places lie by longitude and latitude."""
         return self.tables is not None and self.tables.degrees
@@ -103,6 +108,7 @@ def tables_tree(tables: DayTables) -> Dict[str, Any]:
         "places": [[place.name, place.x, place.y] for place in tables.places],
         "vans": [[van.name, van.start, van.end] for van in tables.vans],
         "further": [dict(row) for row in tables.further], "degrees": tables.degrees, "delimiter": tables.delimiter,
+        "van_further": [dict(row) for row in tables.van_further],
     }
 
 
@@ -110,7 +116,8 @@ def tables_of(tree: Mapping[str, Any]) -> DayTables:
     """The tables of what `tables_tree` wrote."""
     places = tuple(Place(name, x, y) for name, x, y in tree["places"])
     vans = tuple(Van(name, start, end) for name, start, end in tree["vans"])
-    return DayTables(places, vans, tuple(tree["further"]), (), tree["degrees"], (), tree["delimiter"])
+    further, van_further = tuple(tree["further"]), tuple(tree["van_further"])
+    return DayTables(places, vans, further, van_further, tree["degrees"], (), tree["delimiter"])
 
 
 class Folder:
