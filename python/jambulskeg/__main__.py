@@ -17,6 +17,7 @@ from .batch import Found, batch, read_folder
 from .commands.plan import add_plan
 from .commands.replan import add_replan
 from .complete import shape_faults, shorten
+from .desk.command import add_desk
 from .doubts import doubts
 from .engines import Engine, GnuParallel, OwnProcesses, Slurm
 from .errors import JambulskegError, NotMet, Stopped
@@ -71,7 +72,7 @@ def failed(sentence: str) -> int:
 def parser() -> argparse.ArgumentParser:
     """The words that are taken."""
     out = argparse.ArgumentParser(prog="python -m jambulskeg", description="Vehicle routing by the program vr_cli.")
-    commands = out.add_subparsers(required=True, metavar="plan|view|doubts|portfolio|batch|convert|replan")
+    commands = out.add_subparsers(required=True, metavar="plan|view|doubts|portfolio|batch|convert|replan|desk")
     add_plan(commands.add_parser("plan", help="from two spreadsheets to a plan, a page, and a sheet a driver"))
     add_view(commands.add_parser("view", help="a page (or an SVG) of a day, or of two side by side"))
     look = commands.add_parser("doubts", help="what a model may say and looks wrong, a line each")
@@ -94,6 +95,7 @@ def parser() -> argparse.ArgumentParser:
         add_search(command)
     add_convert(commands.add_parser("convert", help="a file of Solomon, Li and Lim, VRPLIB or VROOM as a model"))
     add_replan(commands.add_parser("replan", help="the rest of a day that has begun, planned anew at a moment"))
+    add_desk(commands.add_parser("desk", help="a folder of days in a browser: planned, seen, and changed by hand"))
     return out
 
 

@@ -17,9 +17,9 @@ import os
 import stat
 import sys
 from types import TracebackType
-from typing import IO, Dict, Optional, Sequence, Type
+from typing import IO, Dict, List, Optional, Sequence, Type
 
-__all__ = ["Output", "Outputs"]
+__all__ = ["Output", "Outputs", "names_of_sheets"]
 
 
 class Output:
@@ -173,3 +173,10 @@ def quiet() -> None:
         os.dup2(os.open(os.devnull, os.O_WRONLY), sys.stdout.fileno())
     except (OSError, ValueError):
         pass
+
+
+def names_of_sheets(names: Sequence[str], end: str) -> List[str]:
+    """A file name for each of some names, in their order: its number, and its letters and digits."""
+    width = max(2, len(str(len(names))))
+    plain = ["-".join("".join(c if c.isalnum() else " " for c in name).split())[:40] for name in names]
+    return [f"{number:0{width}}{'-' if word else ''}{word}{end}" for number, word in enumerate(plain, 1)]

@@ -35,6 +35,7 @@ class InstallTests(unittest.TestCase):
         self.assertIn("jambulskeg/routing/pywrapcp.py", names)
         self.assertIn("jambulskeg/py.typed", names)
         self.assertIn("jambulskeg/view/page.css", names)
+        self.assertIn("jambulskeg/desk/page/desk.js", names)
         self.assertFalse([name for name in names if "__pycache__" in name])
         self.assertEqual(backend.field("version"), jambulskeg.__version__)
         self.assertTrue(backend.build_editable(self.folder).endswith("none-any.whl"))

@@ -8,8 +8,7 @@ import tempfile
 import unittest
 from typing import List, Tuple
 
-from jambulskeg.commands.plan import names_of_sheets
-from jambulskeg.output import Output, Outputs
+from jambulskeg.output import Output, Outputs, names_of_sheets
 
 
 def write_whole(path: str, text: str) -> None:

@@ -14,8 +14,8 @@ from types import ModuleType
 from typing import Iterator, List, Tuple, Union
 
 from jambulskeg import (
-    batch, complete, doubts, engines, errors, exports, formats, model, output, places, plan, portfolio, program, reasons,
-    replan, rescue, rounds, schedules, tables, view,
+    batch, complete, desk, doubts, engines, errors, exports, formats, model, output, places, plan, portfolio, program,
+    reasons, replan, rescue, rounds, schedules, tables, view,
 )
 from jambulskeg.routing import pywrapcp
 
@@ -91,11 +91,11 @@ class PublicTests(unittest.TestCase):
         self.assertEqual(wide, [])
 
 
-INHERITED = ("faults", "taken", "tree", "own_faults", "kind_of")
-"""What a kind and a record say once, where they are defined first."""
+INHERITED = ("faults", "taken", "tree", "own_faults", "kind_of", "applied", "words")
+"""What a kind, a record and a change of a day say once, where they are defined first."""
 MODULES = (
-    batch, complete, doubts, engines, errors, exports, formats, model, output, places, plan, portfolio, program, reasons,
-    replan, rescue, rounds, schedules, tables, view, pywrapcp,
+    batch, complete, desk, doubts, engines, errors, exports, formats, model, output, places, plan, portfolio, program,
+    reasons, replan, rescue, rounds, schedules, tables, view, pywrapcp,
 )
 """The modules whose calls are for users."""
 

@@ -12,7 +12,7 @@ import unittest
 from typing import Any, Dict, List
 from unittest import mock
 
-from jambulskeg import complete, engines, errors, exports, places, portfolio, replan, view
+from jambulskeg import complete, desk, engines, errors, exports, places, portfolio, replan, view
 from jambulskeg.errors import JambulskegError
 from jambulskeg.model import read_model, read_solution
 from jambulskeg.places import read_places
@@ -21,7 +21,7 @@ from jambulskeg.program import find
 from .support import EXAMPLES
 
 README = os.path.join(os.path.dirname(os.path.dirname(os.path.abspath(__file__))), "README.md")
-MODULES = (complete, engines, errors, exports, places, portfolio, replan, view)
+MODULES = (complete, desk, engines, errors, exports, places, portfolio, replan, view)
 """The modules that hand out exceptions."""
 BLOCK = re.compile(r"(?:^    .*\n(?:\n(?=    ))*)+", re.MULTILINE)
 
@@ -61,7 +61,7 @@ class ReadmeTests(unittest.TestCase):
     def test_each_exception_is_told(self) -> None:
         with open(README, encoding="utf-8") as file:
             text = file.read()
-        self.assertEqual(len(raised()), 22)
+        self.assertEqual(len(raised()), 26)
         self.assertEqual([name for name in raised() if f"`{name}`" not in text], [])
 
     def test_each_piece_runs(self) -> None:

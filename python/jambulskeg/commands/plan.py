@@ -12,14 +12,14 @@ from dataclasses import replace
 from typing import Iterator, List, Optional, Sequence, Tuple
 
 from ..exports import day_of_tables, downloads, geojson, icalendar, plan_csv
-from ..output import Output, Outputs
+from ..output import Output, Outputs, names_of_sheets
 from ..places import METRES, DayTables, Roads, read_day
 from ..plan import SECONDS, Planned, plan_day
 from ..program import find
 from ..stopping import stopping
 from ..view import page, sheet_page
 
-__all__ = ["LEFT_OUT", "add_plan", "names_of_sheets", "run_plan"]
+__all__ = ["LEFT_OUT", "add_plan", "run_plan"]
 
 FEW = 20
 """As many of the visits that are left out are told."""
@@ -184,10 +184,3 @@ def sheet_text(planned: Planned, vehicle: int, title: str) -> str:
     """The sheet of a vehicle."""
     day = day_of_tables(planned.model, planned.solution, planned.tables)
     return sheet_page(day, vehicle, title)
-
-
-def names_of_sheets(names: Sequence[str], end: str) -> List[str]:
-    """A file name for each of some names, in their order: its number, and its letters and digits."""
-    width = max(2, len(str(len(names))))
-    plain = ["-".join("".join(c if c.isalnum() else " " for c in name).split())[:40] for name in names]
-    return [f"{number:0{width}}{'-' if word else ''}{word}{end}" for number, word in enumerate(plain, 1)]

@@ -1,7 +1,6 @@
 "use strict";
 (function () {
-  var search = document.getElementById("search"), table = document.getElementById("visits");
-  var count = document.getElementById("count"), choice = document.getElementById("vehicle");
+  var search, table, count, choice;
   function each(list, work) { Array.prototype.forEach.call(list, work); }
   function filter() {
     var words = search.value.toLowerCase().split(/\s+/).filter(Boolean), shown = 0;
@@ -51,7 +50,7 @@
       part.classList.toggle("more", part.scrollLeft + part.clientWidth < part.scrollWidth - 2);
     });
   }
-  each(document.querySelectorAll(".sorts thead th"), function (head) {
+  function sortable(head) {
     var button = document.createElement("button");
     button.type = "button";
     button.textContent = head.textContent;
@@ -59,19 +58,27 @@
     head.textContent = "";
     head.appendChild(button);
     button.addEventListener("click", function () { sort(head); });
-  });
-  each(document.querySelectorAll(".scroll"), function (part) { part.addEventListener("scroll", mark); });
+  }
+  /* Begins with what the page has now; a page whose parts are drawn anew begins again. */
+  function begin() {
+    search = document.getElementById("search"); table = document.getElementById("visits");
+    count = document.getElementById("count"); choice = document.getElementById("vehicle");
+    each(document.querySelectorAll(".sorts thead th"), sortable);
+    each(document.querySelectorAll(".scroll"), function (part) { part.addEventListener("scroll", mark); });
+    mark();
+    if (search && table) {
+      search.addEventListener("input", filter);
+      if (search.value) { filter(); } else { tell(table.tBodies[0].rows.length); }
+    }
+    if (choice) {
+      choice.addEventListener("change", choose);
+      if (choice.value !== "") { choose(); }
+    }
+  }
   window.addEventListener("resize", mark);
   document.addEventListener("toggle", mark, true);
-  mark();
-  if (search && table) {
-    search.addEventListener("input", filter);
-    if (search.value) { filter(); } else { tell(table.tBodies[0].rows.length); }
-  }
-  if (choice) {
-    choice.addEventListener("change", choose);
-    if (choice.value !== "") { choose(); }
-  }
+  window.beginPage = begin;
+  begin();
   window.addEventListener("beforeprint", function () {
     each(document.querySelectorAll("details"), function (part) { part.open = true; });
   });

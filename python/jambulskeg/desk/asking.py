@@ -1,0 +1,183 @@
+"""What lists of visits cost, asked of the program: `Asker.judged` is the one place that a changed day goes through.
+
+The schedules of routes are completed here and kept while the model stays as it is, so a change completes the routes
+that it changes alone. Then the program checks the whole day. A later program may serve in place of `check` here.
+"""
+
+from __future__ import annotations
+
+import json
+import os
+import subprocess
+import tempfile
+import threading
+import weakref
+from collections import OrderedDict
+from dataclasses import dataclass, replace
+from typing import Dict, List, Optional, Sequence, Tuple
+
+from ..complete import route_of, solution_of_routes
+from ..errors import ProgramFailed
+from ..kinds import Matrix
+from ..program import Program, answer, tree_of
+from ..records import Group, Model
+from ..rescue import missing, required_visits
+from ..solution import Route, Solution
+from .states import Lists
+
+__all__ = ["Asker", "Verdict", "lenient", "merged"]
+
+MOST_ROUTES = 5000
+"""As many completed routes are kept."""
+
+
+@dataclass(frozen=True)
+class Verdict:
+    """What the program found of a day: its schedules and costs, and the visits that must be made and are not.
+
+    Where `missing` is empty, the solution meets the model. Else it meets the model in which these may be left out for
+    nothing, so that the day can be told apart from one that breaks another rule; it is unfinished.
+    """
+
+    solution: Solution
+    missing: Tuple[int, ...] = ()
+
+    @property
+    def is_fine(self) -> bool:
+        """Whether the program found that the day keeps all rules of its model."""
+        return not self.missing
+
+
+def merged(model: Model) -> Model:
+    """The same model with each matrix once, which is shorter to hand over."""
+    first: Dict[Matrix, int] = {}
+    numbers: List[int] = []
+    for matrix in model.matrices:
+        numbers.append(first.setdefault(matrix, len(first)))  # type: ignore[arg-type]
+    if len(first) == len(numbers):
+        return model
+    dimensions = [
+        replace(dimension, evaluators=[
+            entry if entry.matrix is None else replace(entry, matrix=numbers[entry.matrix])
+            for entry in dimension.evaluators
+        ]) for dimension in model.dimensions
+    ]
+    vehicles = [replace(vehicle, costs=numbers[vehicle.costs]) for vehicle in model.vehicles]
+    return replace(model, matrices=list(first), dimensions=dimensions, vehicles=vehicles)
+
+
+def lenient(model: Model) -> Model:
+    """The model in which a visit that must be made may be left out for nothing."""
+    groups = [replace(group, penalty=0) if group.penalty is None else group for group in model.groups]
+    return replace(model, groups=[*groups, *(Group([node], 0) for node in required_visits(model))])
+
+
+def same(some: Sequence[object], others: Sequence[object]) -> bool:
+    """Whether two lists have the same objects."""
+    return len(some) == len(others) and all(one is other for one, other in zip(some, others))
+
+
+class Texts:
+    """Models as texts. Matrices are most of a model, and are written once."""
+
+    def __init__(self) -> None:
+        self._known: Optional[Tuple[Sequence[object], str]] = None
+
+    def of(self, model: Model) -> str:
+        """The model file."""
+        if self._known is None or not same(self._known[0], model.matrices):
+            self._known = model.matrices, json.dumps(model.matrices, separators=(",", ":"))
+        tree = model.tree()
+        del tree["matrices"]
+        return json.dumps(tree, separators=(",", ":"))[:-1] + f',"matrices":{self._known[1]}}}'
+
+
+class Held:
+    """A model in a file without a name, which the program reads together with the solution that is checked; so what
+    never changes is handed over once."""
+
+    def __init__(self, text: str) -> None:
+        self._file, path = tempfile.mkstemp()
+        os.unlink(path)
+        weakref.finalize(self, os.close, self._file)
+        self._length = self._written(f'{{"model":{text},"solution":', 0)
+        self._lock = threading.Lock()
+
+    def _written(self, text: str, place: int) -> int:
+        """Writes from a place on, where the file then ends; that end."""
+        data = memoryview(text.encode("utf-8", "surrogatepass"))
+        os.ftruncate(self._file, place)
+        while data:
+            count = os.pwrite(self._file, data, place)
+            data, place = data[count:], place + count
+        return place
+
+    def check(self, program: Program, solution: Solution) -> None:
+        """Asks whether a solution meets the model. Raises `NotMet`, and as `Program.run` does."""
+        with self._lock:
+            self._written(f"{solution.text()}}}", self._length)
+            os.lseek(self._file, 0, os.SEEK_SET)
+            tree_of(run_on(program, ["check"], self._file))
+
+
+def run_on(program: Program, words: Sequence[str], file: int) -> str:
+    """What the program writes when it reads a file, as `Program.run` has it."""
+    try:
+        ran = subprocess.run(
+            [program.path, *words], stdin=file, stdout=subprocess.PIPE, stderr=subprocess.PIPE, check=False
+        )
+    except OSError as problem:
+        raise ProgramFailed(f"the program {program.path} could not be started: {problem.strerror}") from problem
+    return answer(ran.returncode, ran.stdout, ran.stderr)
+
+
+class Asker:
+    """Asks the program about days of one model, for one thread at a time."""
+
+    def __init__(self, model: Model, program: Program, texts: Optional[Texts] = None) -> None:
+        self.model, self.program = model, program
+        self._texts = texts or Texts()
+        self._lock = threading.Lock()
+        self._routes: "OrderedDict[Tuple[int, Tuple[int, ...]], Route]" = OrderedDict()
+        self._held: Dict[bool, Held] = {}
+
+    def of_model(self, model: Model) -> "Asker":
+        """An asker about another model, mostly of the same matrices."""
+        return self if model is self.model else Asker(model, self.program, self._texts)
+
+    def apart(self) -> "Asker":
+        """An asker about the same model for another thread."""
+        return Asker(self.model, self.program, self._texts)
+
+    def judged(self, lists: Lists) -> Verdict:
+        """What the program finds of these lists, with the schedules that it would choose.
+
+        Raises `CannotBeDriven` where a list has no schedule, `NotMet` with the rule that is broken otherwise, and what
+        `Program.run` raises.
+        """
+        found = self.reckoned(lists)
+        self.check(found)
+        return found
+
+    def reckoned(self, lists: Lists) -> Verdict:
+        """The same, without asking the program. Raises `CannotBeDriven`."""
+        solution = solution_of_routes(self.model, [self.route(number, visits) for number, visits in enumerate(lists)])
+        return Verdict(solution, tuple(missing(self.model, solution)))
+
+    def route(self, vehicle: int, visits: Tuple[int, ...]) -> Route:
+        """The route of a vehicle with its schedules. Raises `CannotBeDriven`."""
+        key = vehicle, visits
+        if key not in self._routes:
+            self._routes[key] = route_of(self.model, vehicle, visits)
+            if len(self._routes) > MOST_ROUTES:
+                self._routes.popitem(last=False)
+        self._routes.move_to_end(key)
+        return self._routes[key]
+
+    def check(self, found: Verdict) -> None:
+        """Asks whether what was reckoned is so; any thread may. Raises `NotMet`, and as `Program.run` does."""
+        is_lenient = bool(found.missing)
+        with self._lock:
+            if is_lenient not in self._held:
+                self._held[is_lenient] = Held(self._texts.of(lenient(self.model) if is_lenient else self.model))
+        self._held[is_lenient].check(self.program, found.solution)
