@@ -28,6 +28,7 @@ from .program import find
 from .reasons import why_left_out, why_not_shorter
 from .records import Model
 from .solution import Solution
+from .region.command import add_region
 from .view import Day, compare_page, drawing, page
 from .view.day import time_dimension
 
@@ -65,7 +66,7 @@ def failed(sentence: str) -> int:
 def parser() -> argparse.ArgumentParser:
     """The words that are taken."""
     out = argparse.ArgumentParser(prog="python -m jambulskeg", description="Vehicle routing by the program vr_cli.")
-    commands = out.add_subparsers(required=True, metavar="plan|view|doubts|portfolio|batch|convert")
+    commands = out.add_subparsers(required=True, metavar="plan|view|doubts|portfolio|batch|convert|region")
     add_plan(commands.add_parser("plan", help="from two spreadsheets to a plan, a page, and a sheet a driver"))
     add_view(commands.add_parser("view", help="a page (or an SVG) of a day, or of two side by side"))
     look = commands.add_parser("doubts", help="what a model may say and looks wrong, a line each")
@@ -87,6 +88,7 @@ def parser() -> argparse.ArgumentParser:
     for command in (one, many):
         add_search(command)
     add_convert(commands.add_parser("convert", help="a file of Solomon, Li and Lim, VRPLIB or VROOM as a model"))
+    add_region(commands.add_parser("region", help="a plan of thousands of visits from two spreadsheets, in parts"))
     return out
 
 

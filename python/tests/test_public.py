@@ -15,7 +15,7 @@ from typing import Iterator, List, Tuple, Union
 
 from jambulskeg import (
     batch, complete, doubts, engines, errors, exports, formats, model, outputs, places, plan, portfolio, program, reasons,
-    rescue, rounds, schedules, tables, view,
+    region, rescue, rounds, schedules, tables, view,
 )
 from jambulskeg.routing import pywrapcp
 
@@ -95,7 +95,7 @@ INHERITED = ("faults", "taken", "tree", "own_faults", "kind_of")
 """What a kind and a record say once, where they are defined first."""
 MODULES = (
     batch, complete, doubts, engines, errors, exports, formats, model, outputs, places, plan, portfolio, program, reasons,
-    rescue, rounds, schedules, tables, view, pywrapcp,
+    region, rescue, rounds, schedules, tables, view, pywrapcp,
 )
 """The modules whose calls are for users."""
 

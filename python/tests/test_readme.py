@@ -12,7 +12,7 @@ import unittest
 from typing import Any, Dict, List
 from unittest import mock
 
-from jambulskeg import complete, engines, errors, exports, places, portfolio, view
+from jambulskeg import complete, engines, errors, exports, places, portfolio, region, view
 from jambulskeg.errors import JambulskegError
 from jambulskeg.model import read_model, read_solution
 from jambulskeg.places import read_places
@@ -21,7 +21,7 @@ from jambulskeg.program import find
 from .support import EXAMPLES
 
 README = os.path.join(os.path.dirname(os.path.dirname(os.path.abspath(__file__))), "README.md")
-MODULES = (complete, engines, errors, exports, places, portfolio, view)
+MODULES = (complete, engines, errors, exports, places, portfolio, region, view)
 """The modules that hand out exceptions."""
 BLOCK = re.compile(r"(?:^    .*\n(?:\n(?=    ))*)+", re.MULTILINE)
 
@@ -61,12 +61,12 @@ class ReadmeTests(unittest.TestCase):
     def test_each_exception_is_told(self) -> None:
         with open(README, encoding="utf-8") as file:
             text = file.read()
-        self.assertEqual(len(raised()), 19)
+        self.assertEqual(len(raised()), 24)
         self.assertEqual([name for name in raised() if f"`{name}`" not in text], [])
 
     def test_each_piece_runs(self) -> None:
         pieces = [block for block in blocks() if block.startswith("from ")]
-        self.assertEqual(len(pieces), 9)
+        self.assertEqual(len(pieces), 10)
         model = read_model(os.path.join(EXAMPLES, "service-day.json"))
         solution = read_solution(os.path.join(EXAMPLES, "service-day.solved.json"))
         write("model.json", model.text())
@@ -79,8 +79,9 @@ class ReadmeTests(unittest.TestCase):
         said = out.getvalue()
         self.assertIn("by the construction that the model asks for (PATH_CHEAPEST_ARC)", said)
         self.assertIn("1338 [[1, 6, 11, 3, 16, 8], [2, 7, 12, 4, 9, 14], [], [13, 5, 10, 15]]", said)
-        self.assertEqual(said.splitlines()[-4:-1], ["321 GUIDED_LOCAL_SEARCH", "321 PATH_LNS", "321 TABU_SEARCH"])
-        self.assertEqual(said.splitlines()[-1], "cost 130: 1 of 2 vehicles leave, 2 of 2 visits are made")
+        self.assertIn("321 GUIDED_LOCAL_SEARCH\n321 PATH_LNS\n321 TABU_SEARCH\n", said)
+        self.assertIn("cost 130: 1 of 2 vehicles leave, 2 of 2 visits are made\n", said)
+        self.assertIn("blue,2,Ben,12:37,13:00,13:15,6\n", said.replace("\r", ""))
         self.assertEqual([place.name for place in read_places("places.csv")], ["yard", "Ada", "Ben"])
 
 
