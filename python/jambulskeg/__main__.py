@@ -33,6 +33,7 @@ from .reasons import why_left_out, why_not_shorter
 from .records import Model
 from .solution import Solution
 from .stopping import stopping
+from .region.command import add_region
 from .view import Day, compare_page, drawing, page
 from .view.day import time_dimension
 
@@ -72,7 +73,7 @@ def failed(sentence: str) -> int:
 def parser() -> argparse.ArgumentParser:
     """The words that are taken."""
     out = argparse.ArgumentParser(prog="python -m jambulskeg", description="Vehicle routing by the program vr_cli.")
-    commands = out.add_subparsers(required=True, metavar="plan|view|doubts|portfolio|batch|convert|replan|desk")
+    commands = out.add_subparsers(required=True, metavar="plan|view|doubts|portfolio|batch|convert|replan|desk|region")
     add_plan(commands.add_parser("plan", help="from two spreadsheets to a plan, a page, and a sheet a driver"))
     add_view(commands.add_parser("view", help="a page (or an SVG) of a day, or of two side by side"))
     look = commands.add_parser("doubts", help="what a model may say and looks wrong, a line each")
@@ -96,6 +97,7 @@ def parser() -> argparse.ArgumentParser:
     add_convert(commands.add_parser("convert", help="a file of Solomon, Li and Lim, VRPLIB or VROOM as a model"))
     add_replan(commands.add_parser("replan", help="the rest of a day that has begun, planned anew at a moment"))
     add_desk(commands.add_parser("desk", help="a folder of days in a browser: planned, seen, and changed by hand"))
+    add_region(commands.add_parser("region", help="a plan of thousands of visits from two spreadsheets, in parts"))
     return out
 
 

@@ -124,9 +124,7 @@ class GnuParallel:
             try:
                 return outputs_of(process, stop=stop)
             except BaseException as problem:
-                for _ in range(2):  # At the first signal it starts nothing more, at the second it ends what runs.
-                    process.terminate()
-                    time.sleep(0.5)
+                stop_twice(process)
                 if not isinstance(problem, Stopped):
                     raise
                 return process.communicate()
@@ -226,15 +224,25 @@ def working_folder(asked: Optional[str]) -> Iterator[str]:
     yield os.path.abspath(asked)
 
 
-def started(command: Sequence[str], folder: str, text: Optional[IO[str]] = None) -> "subprocess.Popen[str]":
-    """A process in a folder, that reads a file. Raises `EngineFailed` where there is no such program."""
+def started(
+    command: Sequence[str], folder: str, text: Optional[IO[str]] = None, errors: Optional[IO[str]] = None
+) -> "subprocess.Popen[str]":
+    """A process in a folder, that reads a file, and writes what it says of itself to one or to a pipe. Raises
+    `EngineFailed` where there is no such program."""
     try:
         return subprocess.Popen(
-            command, cwd=folder, stdin=text or subprocess.DEVNULL, stdout=subprocess.PIPE, stderr=subprocess.PIPE,
-            text=True, encoding="utf-8", errors="replace",
+            command, cwd=folder, stdin=text or subprocess.DEVNULL, stdout=subprocess.PIPE,
+            stderr=errors or subprocess.PIPE, text=True, encoding="utf-8", errors="replace",
         )
     except OSError as problem:
         raise EngineFailed(f"'{command[0]}' could not be started: {problem.strerror}") from problem
+
+
+def stop_twice(process: "subprocess.Popen[str]") -> None:
+    """Ends GNU parallel: at the first signal it starts nothing more, at the second it ends what runs."""
+    for _ in range(2):
+        process.terminate()
+        time.sleep(0.5)
 
 
 def last_of(errors: str) -> str:

@@ -219,15 +219,15 @@ def table_of_places(source: TableSource) -> Tuple[Table, bool, List[BadTable]]:
     return table.without(*(("x", "y") if degrees else ("lat", "lon"))), degrees, doubts
 
 
-def places_of(table: Table, degrees: bool) -> List[Place]:
-    """The places of a table."""
+def places_of(table: Table, degrees: bool, most: int = MOST_NODES) -> List[Place]:
+    """The places of a table, which are as many as one model takes, or `most`."""
     heads = table.heads
     across, up = ("lon", "lat") if degrees else ("x", "y")
     heads.need("name", across, up)
     if not table.lines:
         raise BadTable(heads.file, heads.number, "", "there are no places below the headings")
-    if len(table.lines) > MOST_NODES:
-        raise table.lines[MOST_NODES].bad("", f"there may be {MOST_NODES} places at most")
+    if len(table.lines) > most:
+        raise table.lines[most].bad("", f"there may be {most} places at most")
     names: Dict[str, int] = {}
     places: List[Place] = []
     for line in table.lines:
@@ -243,13 +243,13 @@ def places_of(table: Table, degrees: bool) -> List[Place]:
     return places
 
 
-def vans_of(table: Table, places: Sequence[Place]) -> List[Van]:
-    """The vehicles of a table; their starts and ends are among the places."""
+def vans_of(table: Table, places: Sequence[Place], most: int = MOST_VEHICLES) -> List[Van]:
+    """The vehicles of a table, as many as one model takes, or `most`; their starts and ends are among the places."""
     table.heads.need("start")
     if not table.lines:
         raise BadTable(table.heads.file, table.heads.number, "", "there are no vehicles below the headings")
-    if len(table.lines) > MOST_VEHICLES:
-        raise table.lines[MOST_VEHICLES].bad("", f"there may be {MOST_VEHICLES} vehicles at most")
+    if len(table.lines) > most:
+        raise table.lines[most].bad("", f"there may be {most} vehicles at most")
     names = {place.name for place in places}
     vans: List[Van] = []
     for line in table.lines:

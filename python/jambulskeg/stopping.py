@@ -10,7 +10,7 @@ from typing import Iterator, Optional
 
 from .errors import Stopped
 
-__all__ = ["Stop", "stopping"]
+__all__ = ["Stop", "ending", "stopping"]
 
 SIGNALS = (signal.SIGINT, signal.SIGTERM)
 
@@ -57,3 +57,20 @@ def stopping() -> Iterator[Stop]:
         raise
     finally:
         put_back()
+
+
+@contextmanager
+def ending() -> Iterator[None]:
+    """Within it SIGTERM raises `SystemExit`, so that searches are ended and half-written files taken away."""
+    if threading.current_thread() is not threading.main_thread():
+        yield
+        return
+
+    def end(number: int, _: Optional[FrameType]) -> None:
+        raise SystemExit(128 + number)
+
+    before = signal.signal(signal.SIGTERM, end)
+    try:
+        yield
+    finally:
+        signal.signal(signal.SIGTERM, before)

@@ -12,7 +12,7 @@ import unittest
 from typing import Any, Dict, List
 from unittest import mock
 
-from jambulskeg import complete, desk, engines, errors, exports, places, portfolio, replan, view
+from jambulskeg import complete, desk, engines, errors, exports, places, portfolio, region, replan, view
 from jambulskeg.errors import JambulskegError
 from jambulskeg.model import read_model, read_solution
 from jambulskeg.places import read_places
@@ -21,7 +21,7 @@ from jambulskeg.program import find
 from .support import EXAMPLES
 
 README = os.path.join(os.path.dirname(os.path.dirname(os.path.abspath(__file__))), "README.md")
-MODULES = (complete, desk, engines, errors, exports, places, portfolio, replan, view)
+MODULES = (complete, desk, engines, errors, exports, places, portfolio, region, replan, view)
 """The modules that hand out exceptions."""
 BLOCK = re.compile(r"(?:^    .*\n(?:\n(?=    ))*)+", re.MULTILINE)
 
@@ -61,12 +61,12 @@ class ReadmeTests(unittest.TestCase):
     def test_each_exception_is_told(self) -> None:
         with open(README, encoding="utf-8") as file:
             text = file.read()
-        self.assertEqual(len(raised()), 26)
+        self.assertEqual(len(raised()), 31)
         self.assertEqual([name for name in raised() if f"`{name}`" not in text], [])
 
     def test_each_piece_runs(self) -> None:
         pieces = [block for block in blocks() if block.startswith("from ")]
-        self.assertEqual(len(pieces), 11)
+        self.assertEqual(len(pieces), 12)
         model = read_model(os.path.join(EXAMPLES, "service-day.json"))
         solution = read_solution(os.path.join(EXAMPLES, "service-day.solved.json"))
         write("model.json", model.text())
@@ -82,6 +82,7 @@ class ReadmeTests(unittest.TestCase):
         self.assertIn("321 GUIDED_LOCAL_SEARCH\n321 PATH_LNS\n321 TABU_SEARCH\n", said)
         self.assertIn("cost 130: 1 of 2 vehicles leave, 2 of 2 visits are made\n", said)
         self.assertRegex(said, r"\n1\d+ \(9,\)\nMoved\(moved=\[\(5, 3, 2\)")
+        self.assertIn("blue,2,Ben,12:37,13:00,13:15,6\n", said.replace("\r", ""))
         self.assertEqual([place.name for place in read_places("places.csv")], ["yard", "Ada", "Ben"])
 
 

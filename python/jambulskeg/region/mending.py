@@ -1,0 +1,179 @@
+"""Seams mended: a route and its nearest neighbours, whoever solved them, are solved anew as a part of their own.
+
+This is POPMUSIC (Taillard and Voss, 2002): parts that share no route are solved side by side; what is cheaper is kept,
+and its routes are tried again with their new neighbours; what is not rests until the search is longer. Which parts are
+solved depends on the plan and on the number of the round alone, not on the order in which answers come.
+"""
+
+from __future__ import annotations
+
+import math
+import random
+from collections import Counter
+from dataclasses import dataclass, replace
+from typing import Dict, FrozenSet, List, Mapping, Optional, Sequence, Set, Tuple
+
+from ..records import First, Improve, Model, Search
+from .day import Lists, Part, PartModel, Region
+from .near import Links, links_of
+
+__all__ = ["Shape", "Standing", "applied", "begun", "first_search", "groups_of", "search_of"]
+
+LAMBDAS = ((1, 5), (1, 20), (1, 10), (1, 3))
+"""The weights of penalties, which change from round to round."""
+
+
+MANY = 50_000
+"""So many tries for each visit are many."""
+OF_ONE_PART = 0.3
+"""How near routes count that were solved together before, beside others."""
+MOST_LEFT = 20
+"""So many visits that nobody makes go with a route at most."""
+
+
+@dataclass(frozen=True)
+class Shape:
+    """How large a part of routes is: the most routes, and the most visits."""
+
+    routes: int = 3
+    visits: int = 75
+
+
+@dataclass(frozen=True)
+class Standing:
+    """A plan as it is: the visits of each van (none: it stays at home), the vans whose routes are `awake`, since no
+    search of the present length has failed to mend them, and for each van the part that its route comes from
+    (`origins`)."""
+
+    routes: Tuple[Tuple[int, ...], ...]
+    awake: FrozenSet[int] = frozenset()
+    origins: Tuple[int, ...] = ()
+
+    def van_of(self) -> Dict[int, int]:
+        """The van of each visit that is made."""
+        return {visit: van for van, visits in enumerate(self.routes) for visit in visits}
+
+    def used(self) -> List[int]:
+        """The vans that leave."""
+        return [van for van, visits in enumerate(self.routes) if visits]
+
+
+def first_search(tries: int, visits: int) -> Search:
+    """The search of the first parts, which have at most so many visits: with few tries it begins by insertion, which
+    leaves fewest out."""
+    if tries >= MANY * visits:
+        return search_of(0, tries)
+    return replace(search_of(2, tries), first=First.PARALLEL_CHEAPEST_INSERTION)
+
+
+def search_of(number: int, tries: int) -> Search:
+    """The search of a round: another weight of penalties from round to round."""
+    return Search(
+        first=First.PATH_CHEAPEST_ARC, improve=Improve.GUIDED_LOCAL_SEARCH, tries=tries,
+        lambda_=LAMBDAS[number % len(LAMBDAS)],
+    )
+
+
+def begun(model: PartModel, lists: Optional[Lists]) -> Model:
+    """The model that a part is solved by, and the routes that its vans have so far; None for the first parts.
+
+    The program begins with its own construction, so the routes are not handed over. A program that can begin from
+    routes gets them here.
+    """
+    return model.asked
+
+
+def groups_of(
+    region: Region, standing: Standing, near: Mapping[int, Sequence[int]], number: int, shape: Shape, *,
+    seams_alone: bool = False
+) -> List[Part]:
+    """The parts of a round, none of which share a van or a visit; each begins from a route that is awake.
+
+    Visits that no van makes go with the route that is nearest. `seams_alone` leaves out routes that come from one part.
+    """
+    van_of = standing.van_of()
+    links = links_of(near, van_of)
+    left = left_of(region, van_of, near)
+    free = set(standing.used())
+    idle = [van for van, visits in enumerate(standing.routes) if not visits]
+    parts = []
+    for seed in seeds_of(standing, left, number):
+        vans = grown(standing, links, free, seed, shape) if seed in free else []
+        extra = [visit for van in vans for visit in left.get(van, ())]
+        origins = {standing.origins[van] for van in vans} if seams_alone else set()
+        if extra or (len(vans) > 1 and len(origins) != 1) or (vans and len(free) == 1):
+            free -= set(vans)
+            visits = [*extra, *(visit for van in vans for visit in standing.routes[van])]
+            spare = spared(region, idle, extra)
+            idle = [van for van in idle if van not in spare]
+            parts.append(Part(tuple(sorted(visits)), tuple(sorted([*vans, *spare]))))
+    return parts
+
+
+def seeds_of(standing: Standing, left: Mapping[int, Sequence[int]], number: int) -> List[int]:
+    """The vans that parts begin from: those that are awake, mixed anew each round, first those near visits that nobody
+    makes."""
+    awake = sorted(standing.awake.intersection(standing.used()))
+    random.Random(number).shuffle(awake)
+    return sorted(awake, key=lambda van: van not in left)
+
+
+def grown(standing: Standing, links: Links, free: Set[int], seed: int, shape: Shape) -> List[int]:
+    """A route and its nearest neighbours among those that are free, rather those from other parts."""
+    vans, size = [seed], len(standing.routes[seed])
+    ties: "Counter[int]" = Counter(links[seed])
+    while len(vans) < shape.routes:
+        known = {standing.origins[van] for van in vans} if standing.origins else set()
+        able = [
+            (count if not known or standing.origins[van] not in known else count * OF_ONE_PART, -van)
+            for van, count in ties.items()
+            if van in free and van not in vans and size + len(standing.routes[van]) <= shape.visits
+        ]
+        if not able:
+            break
+        best = -max(able)[1]
+        vans.append(best)
+        size += len(standing.routes[best])
+        ties.update(links[best])
+    return vans
+
+
+def left_of(
+    region: Region, van_of: Mapping[int, int], near: Mapping[int, Sequence[int]]
+) -> Dict[int, List[int]]:
+    """The visits that nobody makes, by the vans whose routes are nearest, some for each; pairs go together."""
+    out: Dict[int, List[int]] = {}
+    for visit in region.visits:
+        both = region.together(visit)
+        if visit in van_of or visit != both[0]:
+            continue
+        vans = Counter(van_of[other] for one in both for other in near[one] if other in van_of)
+        able = [van for van in vans if len(out.get(van, ())) < MOST_LEFT]
+        if able:
+            out.setdefault(min(able, key=lambda van: (-vans[van], van)), []).extend(both)
+    return out
+
+
+def spared(region: Region, idle: Sequence[int], left: Sequence[int]) -> List[int]:
+    """A van that stays at home, for visits that nobody makes: one that can make most of them, the nearest of these."""
+    if not idle or not left:
+        return []
+    return [min(idle, key=lambda van: (
+        -sum(region.can_make(van, visit) for visit in left), way_to(region, van, left[0]), van
+    ))]
+
+
+def way_to(region: Region, van: int, visit: int) -> float:
+    """How far a van's start is from a visit."""
+    return math.dist(region.points[region.starts[van]], region.points[visit])
+
+
+def applied(standing: Standing, part: Part, lists: Optional[Sequence[Sequence[int]]], origin: int) -> Standing:
+    """The plan after a part was solved: with its lists where they are cheaper, and its routes are awake then; else
+    (None) they rest. `origin` is the part's own number."""
+    if lists is None:
+        return replace(standing, awake=standing.awake - frozenset(part.vans))
+    routes, origins = list(standing.routes), list(standing.origins or (-1,) * len(standing.routes))
+    for van, visits in zip(part.vans, lists):
+        routes[van], origins[van] = tuple(visits), origin
+    return Standing(tuple(routes), standing.awake | frozenset(part.vans), tuple(origins))

@@ -1,0 +1,323 @@
+"""The plan of a region: its parts solved side by side, then its seams mended in rounds, each round kept on disk."""
+
+from __future__ import annotations
+
+import hashlib
+import json
+import time
+from dataclasses import asdict, dataclass, replace
+from typing import Any, Callable, Dict, List, Optional, Sequence, Tuple
+
+from ..errors import JambulskegError
+from ..program import ProgramLike
+from ..records import MOST_TRIES
+from ..solution import Solution
+from .crew import Crew
+from .cutting import MOST_VISITS, cut
+from .day import Part, PartModel, Region
+from .mending import Shape, Standing, applied, first_search, groups_of, search_of
+from .near import nearest
+from .store import Store
+from .tasks import Round, solve_parts
+
+__all__ = ["Asked", "Entry", "Planned", "Progress", "RunDiffers", "plan"]
+
+TRIES_A_SECOND = 33_000_000
+"""About as many moves a processor tries in a second, in parts of about 100 visits."""
+SEARCHING = 0.6
+"""The share of the seconds that is meant for searches; the rest is for models, checks, and waiting for each other."""
+ROUNDS_END = 0.9
+"""After this share of the seconds no round is begun; the rest is for the check of the whole, and for writing."""
+CUTTING_SHARE = 0.4
+"""The share of the tries that the first parts get."""
+LEVELS = (1, 3, 10, 30)
+"""How many times the first tries a seam gets, the next when few routes can be mended by the present ones."""
+ALL_FROM = 2
+"""From this place in `LEVELS` on routes that come from one part are solved anew too, since the tries are more then."""
+OF_A_ROUND = 10**6
+"""The numbers that the parts of a round have for themselves."""
+FEWEST_TRIES, FIRST_TRIES = 30_000, 1_000_000
+"""The first tries of a seam, at least and at most."""
+PASSES = 12
+"""The tries are enough for as many rounds over all routes with the first tries of a seam."""
+RESTED = 0.15
+"""The next tries are begun when no larger share of the routes is awake."""
+ROUNDS = 16
+"""A round has about this part of the tries at most, so that the seconds end a run soon after they are over."""
+LEAST_PARTS = 16
+"""A round has as many parts at least, so that few processors wait for the last one."""
+NEAR = 10
+"""How many near visits of each visit say which routes are neighbours."""
+
+
+class RunDiffers(JambulskegError, ValueError):
+    """A folder holds a run of other tables or other words, or one that was not to go on."""
+
+
+@dataclass(frozen=True)
+class Asked:
+    """What is asked of a plan: the seconds for all of it and the processes at a time, from which follow the moves that
+    are tried in all, or these moves (`tries`; no clock ends the plan then); how large parts and seams are at most.
+    """
+
+    seconds: float = 60
+    jobs: int = 1
+    tries: Optional[int] = None
+    most: int = MOST_VISITS
+    shape: Shape = Shape()
+    seams: bool = True
+
+    def budget(self) -> int:
+        """The moves that are tried in all."""
+        return self.tries or max(1, int(self.seconds * self.jobs * SEARCHING * TRIES_A_SECOND))
+
+
+@dataclass(frozen=True)
+class Entry:
+    """A round in the journal: its number (0: the first parts), how many parts it had and how many became cheaper, the
+    tries of each, the cost after it, how many visits that must be made have no van, how many vans leave, and the
+    seconds since the beginning."""
+
+    number: int
+    parts: int
+    better: int
+    tries: int
+    cost: int
+    missing: int
+    vans: int
+    seconds: float
+
+    def line(self) -> str:
+        """The round in words."""
+        what = "parts" if self.number == 0 else f"seams, round {self.number}"
+        missing = f"; {self.missing} visits have no van yet" if self.missing else ""
+        better = "" if self.number == 0 else f", {self.better} cheaper"
+        return (
+            f"{self.seconds:7.1f} s  {what}: {self.parts} of {self.tries:,} tries{better}; cost {self.cost:,}, "
+            f"{self.vans} vans{missing}"
+        )
+
+
+Progress = Callable[[Entry], None]
+
+
+@dataclass(frozen=True)
+class Planned:
+    """How far a run is: the plan, the place in `LEVELS`, the tries so far, the first parts, the vans whose routes a
+    seam has changed, the journal, and why the run has ended (empty while it goes on)."""
+
+    standing: Standing
+    level: int
+    tried: int
+    parts: Tuple[Part, ...]
+    mended: Tuple[int, ...]
+    journal: Tuple[Entry, ...]
+    ended: str = ""
+
+    def text(self) -> str:
+        """The file of a run's state."""
+        return json.dumps({
+            **{key: getattr(self, key) for key in ("level", "tried", "mended", "ended")},
+            "routes": self.standing.routes, "awake": sorted(self.standing.awake), "origins": self.standing.origins,
+            "parts": [asdict(part) for part in self.parts], "journal": [asdict(entry) for entry in self.journal],
+        }, separators=(",", ":"))
+
+    @classmethod
+    def of(cls, tree: Dict[str, Any]) -> "Planned":
+        """The state that a file has."""
+        routes = tuple(tuple(visits) for visits in tree["routes"])
+        return cls(
+            Standing(routes, frozenset(tree["awake"]), tuple(tree["origins"])), tree["level"], tree["tried"],
+            tuple(Part(tuple(part["visits"]), tuple(part["vans"])) for part in tree["parts"]),
+            tuple(tree["mended"]), tuple(Entry(**entry) for entry in tree["journal"]), tree["ended"],
+        )
+
+
+@dataclass(frozen=True)
+class Outcome:
+    """What a part came to: the lists of its vans where they are kept, by how much they are dearer than before (or what
+    the routes cost, if there was nothing before), and how many more visits that must be made have no van."""
+
+    lists: Optional[List[List[int]]] = None
+    cost: int = 0
+    missing: int = 0
+
+
+def plan(
+    region: Region, asked: Asked, crew: Crew, store: Store, program: ProgramLike = None,
+    progress: Optional[Progress] = None, *, resume: bool = False,
+) -> Planned:
+    """The plan of a region, by as many rounds as the tries or the seconds allow.
+
+    Its rounds depend on the region and on what is asked alone, not on the crew: only the clock may end them earlier.
+    Raises `RunDiffers`, `NotSolved`, `EngineFailed`, `Refused`, `OSError`; what was solved is kept then.
+    """
+    run = Run(region, asked, crew, store, program, progress or (lambda entry: None))
+    state = run.found(resume) or run.first_parts()
+    while not state.ended:
+        why = run.why_ended(state)
+        state = run.keep(replace(state, ended=why)) if why else run.next_round(state)
+    return state
+
+
+class Run:
+    """A run in a folder."""
+
+    def __init__(
+        self, region: Region, asked: Asked, crew: Crew, store: Store, program: ProgramLike, progress: Progress
+    ) -> None:
+        self._region, self._asked, self._crew, self._store = region, asked, crew, store
+        self._program, self._progress = program, progress
+        self._began, self._before = time.monotonic(), 0.0
+        self._near: Dict[int, List[int]] = {}
+
+    def found(self, resume: bool) -> Optional[Planned]:
+        """The state that the folder has, None where it has none. Raises `RunDiffers`."""
+        head = {"digest": digest_of(self._region, self._asked)}
+        old, state = self._store.read("asked.json"), self._store.read("state.json")
+        if old is not None and not resume and not (state or {}).get("ended"):
+            raise RunDiffers(
+                f"the folder {self._store.folder} has a run that is not at its end; --resume goes on with it, and "
+                "another --folder begins anew"
+            )
+        if old is not None and resume and old != head:
+            raise RunDiffers(f"the run in the folder {self._store.folder} has other tables, or was asked otherwise")
+        if resume and state is not None:
+            found = Planned.of(state)
+            self._before = found.journal[-1].seconds
+            return found
+        if not resume:
+            for folder in ("answers", "checked"):
+                self._store.forget(folder)
+            self._store.take_away("state.json")
+        self._store.write("asked.json", json.dumps(head), lasting=True)
+        return None
+
+    def seconds(self) -> float:
+        """The seconds since the beginning, those of a run that was ended earlier included."""
+        return round(self._before + time.monotonic() - self._began, 1)
+
+    def first_parts(self) -> Planned:
+        """The parts that the region is cut into, solved; visits of a part without vans wait for a seam."""
+        parts = [part for part in cut(self._region, self._asked.most) if part.vans]
+        share = CUTTING_SHARE if self._asked.seams else 1.0
+        tries = max(1, min(MOST_TRIES, int(self._asked.budget() * share) // max(1, len(parts))))
+        search = first_search(tries, max((len(part.visits) for part in parts), default=0))
+
+        def judge(at: int, model: PartModel, solution: Optional[Solution]) -> Outcome:
+            if solution is None:
+                return Outcome()
+            return Outcome(model.lists(solution), solution.cost - solution.parts.penalty)
+
+        outcomes = solve_parts(
+            Round(self._region, 0, parts, search), self._crew, self._store, judge, self._program
+        )
+        standing = Standing(((),) * len(self._region.vans))
+        for at, (part, outcome) in enumerate(zip(parts, outcomes)):
+            standing = applied(standing, part, outcome.lists or [[] for _ in part.vans], at)
+        entry = self._entry(0, standing, outcomes, tries, (self._penalties(standing), 0))
+        entry = replace(entry, missing=self._missing(standing))
+        return self.keep(Planned(standing, 0, tries * len(parts), tuple(parts), (), (entry,)))
+
+    def _penalties(self, standing: Standing) -> int:
+        """The penalties of visits that have no van."""
+        made = standing.van_of()
+        return sum(self._region.places[visit].penalty or 0 for visit in self._region.visits if visit not in made)
+
+    def _missing(self, standing: Standing) -> int:
+        """How many visits that must be made have no van."""
+        made = standing.van_of()
+        return sum(
+            1 for visit in self._region.visits if visit not in made and self._region.places[visit].penalty is None
+        )
+
+    def why_ended(self, state: Planned) -> str:
+        """Why no further round is begun, empty where one is."""
+        if not self._asked.seams:
+            return "seams were not asked for"
+        if state.level >= len(LEVELS):
+            return "no part gains"
+        if self._budget_left(state) < self._tries(state):
+            return "the tries are used up"
+        if self._asked.tries is None and self.seconds() >= ROUNDS_END * self._asked.seconds:
+            return "the seconds are over"
+        return ""
+
+    def _budget_left(self, state: Planned) -> int:
+        return self._asked.budget() - state.tried
+
+    def _tries(self, state: Planned) -> int:
+        """The tries of a seam."""
+        seams = max(1, len(state.standing.used()) // self._asked.shape.routes)
+        first = int(self._asked.budget() * (1 - CUTTING_SHARE)) // (PASSES * seams)
+        return min(MOST_TRIES, max(FEWEST_TRIES, min(FIRST_TRIES, first)) * LEVELS[min(state.level, len(LEVELS) - 1)])
+
+    def next_round(self, state: Planned) -> Planned:
+        """The state after a round of seams, or after all routes were woken for more tries."""
+        region, standing, used = self._region, state.standing, state.standing.used()
+        self._near = self._near or nearest(region.points, region.visits, NEAR)
+        number, tries = len(state.journal), self._tries(state)
+        room = max(LEAST_PARTS, self._asked.budget() // ROUNDS // tries)
+        parts = []
+        if len(standing.awake.intersection(used)) > RESTED * len(used):
+            parts = groups_of(
+                region, standing, self._near, number, self._asked.shape, seams_alone=state.level < ALL_FROM
+            )
+        if not parts:
+            return replace(state, level=state.level + 1, standing=replace(standing, awake=frozenset(used)))
+        parts = parts[:min(room, self._budget_left(state) // tries)]
+        lists = [[standing.routes[van] for van in part.vans] for part in parts]
+
+        def judge(at: int, model: PartModel, solution: Optional[Solution]) -> Outcome:
+            return gain(model, solution, lists[at])
+
+        outcomes = solve_parts(
+            Round(region, number, parts, search_of(number, tries), lists), self._crew, self._store, judge, self._program
+        )
+        mended = set(state.mended)
+        for at, (part, outcome) in enumerate(zip(parts, outcomes)):
+            standing = applied(standing, part, outcome.lists, OF_A_ROUND * number + at)
+            mended.update(part.vans if outcome.lists is not None else ())
+        last = state.journal[-1]
+        entry = self._entry(number, standing, outcomes, tries, (last.cost, last.missing))
+        return self.keep(replace(
+            state, standing=standing, tried=state.tried + tries * len(parts), mended=tuple(sorted(mended)),
+            journal=(*state.journal, entry),
+        ))
+
+    def _entry(
+        self, number: int, standing: Standing, outcomes: Sequence[Outcome], tries: int, before: Tuple[int, int]
+    ) -> Entry:
+        """The journal's entry of a round, after the cost and the missing visits before it."""
+        return Entry(
+            number, len(outcomes), sum(outcome.lists is not None for outcome in outcomes), tries,
+            before[0] + sum(outcome.cost for outcome in outcomes),
+            before[1] + sum(outcome.missing for outcome in outcomes), len(standing.used()), self.seconds(),
+        )
+
+    def keep(self, state: Planned) -> Planned:
+        """Keeps the state on disk, after which the answers of its round are not needed."""
+        self._store.write("state.json", state.text(), lasting=True)
+        lines = [entry.line() for entry in state.journal] + ([f"ended: {state.ended}"] if state.ended else [])
+        self._store.write("journal.txt", "\n".join(lines) + "\n")
+        self._store.forget("answers")
+        if not state.ended:
+            self._progress(state.journal[-1])
+        return state
+
+
+def gain(model: PartModel, solution: Optional[Solution], lists: Sequence[Sequence[int]]) -> Outcome:
+    """What a seam came to beside the routes as they were."""
+    if solution is None:
+        return Outcome()
+    before = model.solution(lists)
+    if solution.cost >= before.cost:
+        return Outcome()
+    missing = model.missing(solution) - model.missing(before)
+    return Outcome(model.lists(solution), solution.cost - before.cost - missing * model.duty, missing)
+
+
+def digest_of(region: Region, asked: Asked) -> str:
+    """A digest of the tables and of all that a plan depends on."""
+    what = region, asked.budget(), asked.most, asked.shape, asked.seams
+    return hashlib.sha256(repr(what).encode("utf-8", "surrogatepass")).hexdigest()

@@ -1,0 +1,156 @@
+"""python3 tests/try_region.py [VISITS [TRIES]], by hand and as root: one plan by own processes, GNU parallel and Slurm.
+
+It needs what try_engines.py needs but for ssh; Slurm is started for this machine alone, in a folder that goes at the
+end. Then the run is killed at ten moments (the parent, a worker, a worker's job, a full disk), and goes on each time.
+README.md has what it printed.
+"""
+
+from __future__ import annotations
+
+import hashlib
+import os
+import random
+import resource
+import shutil
+import signal
+import subprocess
+import sys
+import tempfile
+import time
+from typing import List, Optional, Sequence
+
+TOP = os.path.dirname(os.path.dirname(os.path.abspath(__file__)))
+sys.path.insert(0, TOP)
+
+from jambulskeg.program import find
+from tests.region_support import ROAD_WORDS, made_region, write_tables
+from tests.try_engines import STOPS, run, start_slurm, write
+
+JOBS = "4"
+ENGINES = (["--with", "own"], ["--with", "parallel"], ["--with", "slurm", "--option=--partition=all"])
+
+
+def words_of(folder: str, name: str, tries: int, *more: str) -> List[str]:
+    """The command that plans the region of the folder."""
+    return [
+        sys.executable, "-m", "jambulskeg", "region", os.path.join(folder, "places.csv"),
+        os.path.join(folder, "vans.csv"), *ROAD_WORDS, "--jobs", JOBS, "--tries", str(tries), "-o",
+        os.path.join(folder, f"{name}.csv"), "--page", os.path.join(folder, f"{name}.html"), *more,
+    ]
+
+
+def mark(path: str) -> str:
+    """A short mark of a file's bytes."""
+    with open(path, "rb") as file:
+        return hashlib.sha256(file.read()).hexdigest()[:12]
+
+
+def compare_engines(folder: str, tries: int) -> str:
+    """The plan by each engine; all are the same bytes, whose mark is given back."""
+    marks = []
+    for number, engine in enumerate(ENGINES):
+        before, began = resource.getrusage(resource.RUSAGE_CHILDREN), time.monotonic()
+        ran = subprocess.run(words_of(folder, f"plan{number}", tries, *engine), stdout=subprocess.PIPE,
+                             stderr=subprocess.PIPE, text=True, check=False)
+        after = resource.getrusage(resource.RUSAGE_CHILDREN)
+        marks.append(mark(os.path.join(folder, f"plan{number}.csv")) if not ran.returncode else ran.stderr[-300:])
+        used = after.ru_utime + after.ru_stime - before.ru_utime - before.ru_stime
+        print(
+            f"{' '.join(engine)}: status {ran.returncode}, {time.monotonic() - began:.1f} s, {used:.1f} s of "
+            f"processors (without those of Slurm's workers), {after.ru_maxrss // 1024} MB at most, others at work: "
+            f"{os.getloadavg()[0]:.0f}; {marks[-1]}; {ran.stdout.strip()}", flush=True
+        )
+    print(f"plans that differ: {len(set(marks)) - 1}")
+    return marks[0]
+
+
+def killed(folder: str, tries: int, known: str) -> None:
+    """Runs that are ended at moments taken at random go on to the same plan."""
+    rng = random.Random(8)
+    kinds = ["parent", "worker", "job", "disk", "parent", "worker", "job", "parent", "disk", "worker"]
+    for number, kind in enumerate(kinds):
+        name = f"killed{number}"
+        engine = ENGINES[2] if kind == "job" else ENGINES[0]
+        place = os.path.join(folder, f"{name}.region")
+        if kind == "disk":
+            os.makedirs(place)
+            run("mount", "-t", "tmpfs", "-o", f"size={rng.randrange(60, 260)}k", "none", place)
+        more = [*engine, "--quiet", "--folder", place]
+        began = time.monotonic()
+        process = subprocess.Popen(words_of(folder, name, tries, *more), stdout=subprocess.PIPE,
+                                   stderr=subprocess.PIPE, text=True)
+        moment = rng.uniform(1, 6)
+        struck = strike(kind, process, moment)
+        said = process.communicate()[1].strip().splitlines()[-1:]
+        status = process.returncode
+        if kind == "disk":
+            said = [line.replace(folder, "FOLDER") for line in said]
+            run("mount", "-o", "remount,size=64m", place)
+        more = [*ENGINES[0], "--quiet", "--folder", place, "--resume"]
+        if status:
+            run(*words_of(folder, name, tries, *more))
+        path = os.path.join(folder, f"{name}.csv")
+        same = os.path.exists(path) and mark(path) == known
+        if kind == "disk":
+            run("umount", place)
+        print(
+            f"{kind} {struck}: status {status} {' '.join(said)[:150]}; {'went on' if status else 'ended by itself'}, "
+            f"{'the same plan' if same else 'ANOTHER PLAN'}, {time.monotonic() - began:.1f} s", flush=True
+        )
+
+
+def strike(kind: str, process: "subprocess.Popen[str]", moment: float) -> str:
+    """Kills what is to be killed after some seconds; what was struck."""
+    time.sleep(moment)
+    if kind == "parent":
+        process.send_signal(signal.SIGKILL)
+    elif kind == "worker":
+        found: Optional[int] = None
+        for _ in range(200):
+            found = child_of(process.pid)
+            if found:
+                os.kill(found, signal.SIGKILL)
+                break
+            time.sleep(0.02)
+    elif kind == "job":
+        for _ in range(300):
+            jobs = run("squeue", "--noheader", "--states=running", "--array", "--format=%i").stdout.split()
+            if jobs:
+                run("scancel", jobs[0])
+                break
+            time.sleep(0.1)
+    else:
+        return "full"
+    return f"killed after {moment:.1f} s"
+
+
+def child_of(parent: int) -> Optional[int]:
+    """A program vr_cli that a process has started."""
+    lines = run("ps", "-eo", "pid,ppid,comm").stdout.splitlines()[1:]
+    rows = [line.split() for line in lines]
+    return next((int(pid) for pid, owner, name, *_ in rows if int(owner) == parent and name == "vr_cli"), None)
+
+
+def main(words: Sequence[str]) -> None:
+    """Tries all, and ends what it started."""
+    visits = int(words[0]) if words else 600
+    tries = int(float(words[1])) if len(words) > 1 else 300_000_000
+    os.environ["PYTHONPATH"] = TOP
+    os.environ["VR_CLI"] = os.path.abspath(find())
+    with tempfile.TemporaryDirectory() as folder:
+        write_tables(made_region(visits), os.path.join(folder, "places.csv"), os.path.join(folder, "vans.csv"))
+        try:
+            start_slurm(folder)
+            known = compare_engines(folder, tries)
+            if visits <= 1000:
+                killed(folder, tries, known)
+            write(os.path.join(folder, "end"), "")
+        finally:
+            for end in reversed(STOPS):
+                end()
+            time.sleep(2)
+            shutil.rmtree(os.path.join(folder, "spool"), ignore_errors=True)
+
+
+if __name__ == "__main__":
+    main(sys.argv[1:])
