@@ -7,7 +7,7 @@ import random
 import tempfile
 import unittest
 from dataclasses import replace
-from typing import Any, Dict, List, Optional, Tuple
+from typing import Any, Dict, List, Tuple
 
 from jambulskeg.complete import complete
 from jambulskeg.errors import NoFirstSolution, NotMet
@@ -19,7 +19,7 @@ from jambulskeg.replan import (
     replan, searched, solve_rest, with_places, with_tours,
 )
 from jambulskeg.replan.alike import renumbered
-from jambulskeg.replan.moment import Clock, clock_of
+from jambulskeg.replan.moment import clock_of
 from jambulskeg.rescue import Solved, rescue, timed_solver, with_search
 
 from .support import EXAMPLES, THREE, in_format_2, random_tree
