@@ -15,7 +15,7 @@ from jambulskeg.model import Break, Model, Solution, Stop, VehicleBreaks, check,
 from jambulskeg.places import Place, Roads, model_from_csv, read_places
 from jambulskeg.records import Evaluator, Group, Pair, Policy
 from jambulskeg.replan import (
-    CannotBeReplanned, Layout, Moved, Replanned, Rest, RestSolver, Unavailable, Van, Where, continued, glue, going_on, moved,
+    CannotBeReplanned, Clock, Layout, Moved, Replanned, Rest, RestSolver, Unavailable, Van, Where, continued, glue, going_on, moved,
     replan, searched, solve_rest, with_places, with_tours,
 )
 from jambulskeg.replan.alike import renumbered
@@ -41,7 +41,7 @@ def day(name: str) -> Tuple[Model, Solution]:
 
 def moment_of(rng: random.Random, model: Model, plan: Solution) -> int:
     """A moment of a day, often one at which something begins."""
-    clock = clock_of(model, 0)
+    clock: Clock = clock_of(model, 0)
     stops = [stop for route in plan.routes if route.nodes for stop in clock.stops(model, route)] or [0]
     return rng.choice([rng.randint(0, max(stops) + 1), rng.choice(stops), rng.choice(stops) + rng.randint(0, 5)])
 
