@@ -15,8 +15,8 @@ from jambulskeg.model import Break, Model, Solution, Stop, VehicleBreaks, check,
 from jambulskeg.places import Place, Roads, model_from_csv, read_places
 from jambulskeg.records import Evaluator, Group, Pair, Policy
 from jambulskeg.replan import (
-    CannotBeReplanned, Clock, Layout, Moved, Replanned, Rest, RestSolver, Unavailable, Van, Where, continued, glue, going_on, moved,
-    replan, searched, solve_rest, with_places, with_tours,
+    CannotBeReplanned, Clock, Layout, Moved, Replanned, Rest, RestSolver, Unavailable, Van, Where, continued, glue,
+    going_on, moved, replan, searched, solve_rest, with_places, with_tours,
 )
 from jambulskeg.replan.alike import renumbered
 from jambulskeg.replan.moment import clock_of
