@@ -19,7 +19,7 @@ from dataclasses import dataclass
 from threading import Event
 from typing import IO, Dict, Iterator, List, Optional, Protocol, Sequence, Tuple, Union
 
-from .arguments import A_COUNT
+from .arguments import A_COUNT, DAYS, asks
 from .errors import JambulskegError, ProgramFailed, Stopped, WrongArgument
 from .model import Model, Solution, solution_of, solve
 from .program import Program, ProgramLike, answer, outputs_of, program_of, tree_of
@@ -58,6 +58,7 @@ class OwnProcesses:
     def __post_init__(self) -> None:
         look_at_jobs(self)
 
+    @asks(models=DAYS)
     def run(self, models: Sequence[Model], stop: Optional[Event] = None) -> List[Answer]:
         """For each model its solution, or the exception that `solve` would raise. No process is left, however it ends.
         """
@@ -104,6 +105,7 @@ class GnuParallel:
     def __post_init__(self) -> None:
         look_at_jobs(self)
 
+    @asks(models=DAYS)
     def run(self, models: Sequence[Model], stop: Optional[Event] = None) -> List[Answer]:
         """For each model its solution, or the exception that `solve` would raise."""
         with tempfile.TemporaryFile("w+", encoding="utf-8") as texts:
@@ -155,6 +157,7 @@ class Slurm:
     def __post_init__(self) -> None:
         look_at_jobs(self)
 
+    @asks(models=DAYS)
     def run(self, models: Sequence[Model], stop: Optional[Event] = None) -> List[Answer]:
         """For each model its solution, or the exception that `solve` would raise."""
         with working_folder(self.folder) as folder:

@@ -5,6 +5,7 @@ from __future__ import annotations
 from dataclasses import dataclass
 from typing import Optional
 
+from .arguments import A_SOLUTION, a, asks
 from .solution import Solution
 
 SENTENCES = {
@@ -51,6 +52,7 @@ class Finding:
         return self.rule is None
 
 
+@asks(finding=a(Finding), solution=A_SOLUTION)
 def explain(finding: Finding, solution: Solution) -> str:
     """The finding in a sentence."""
     if finding.rule is None:

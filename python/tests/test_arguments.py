@@ -59,7 +59,9 @@ OTHERS: Dict[str, Call] = {
     "new": lambda bad: replan.replan(DAY, PLAN, 3, new=bad),
     "unavailable": lambda bad: replan.replan(DAY, PLAN, 3, unavailable=bad),
     "engine": lambda bad: portfolio.portfolio(DAY, bad), "models": batch.batch,
-    "import": lambda bad: model.import_tsplib(bad, 3),
+    "import": lambda bad: model.import_tsplib(bad, 3), "run": lambda bad: engines.OwnProcesses().run(bad),
+    "run by parallel": lambda bad: engines.GnuParallel().run(bad), "run by slurm": lambda bad: engines.Slurm().run(bad),
+    "explain": lambda bad: model.explain(bad, PLAN), "explained": lambda bad: model.explain(model.Finding(1), bad),
 }
 
 
@@ -102,7 +104,7 @@ class ArgumentTests(unittest.TestCase):
         self.assertEqual((rule(None), rule(DAY), rule(7)), ("", "", "a Model"))
         self.assertEqual(arguments.number(1, 3)(4), "a whole number from 1 to 3")
         for given, value in ((arguments.A_COUNT, 0), (arguments.A_LIMIT, -1), (arguments.A_PATH, 7), (arguments.A_FILE, 7),
-                             (arguments.NUMBERS, [1.5]), (arguments.PAIRS, [(1,)]), (arguments.MODELS, {"a": 1}),
+                             (arguments.NUMBERS, [1.5]), (arguments.PAIRS, [(1,)]), (arguments.MODELS, {"a": 1}), (arguments.DAYS, [7]),
                              (arguments.A_MODEL, 7), (arguments.A_SOLUTION, 7)):
             self.assertNotEqual(given(value), "")
         same: Call = lambda x: x

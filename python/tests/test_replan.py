@@ -18,8 +18,9 @@ from jambulskeg.replan import (
     CannotBeReplanned, Layout, Moved, Replanned, Rest, RestSolver, Unavailable, Van, Where, continued, glue, going_on, moved,
     replan, searched, solve_rest, with_places, with_tours,
 )
+from jambulskeg.replan.alike import renumbered
 from jambulskeg.replan.moment import Clock, clock_of
-from jambulskeg.rescue import Solved
+from jambulskeg.rescue import Solved, rescue, timed_solver, with_search
 
 from .support import EXAMPLES, THREE, in_format_2, random_tree
 
@@ -137,7 +138,7 @@ class ReplanCase(unittest.TestCase):
         rest = replan(model, plan, now, checked=False, **words)
         answers = [continued(rest)]
         try:
-            answers.append(solve(rest.model))
+            answers.append(renumbered(rest, solve(rest.model)))
         except NoFirstSolution:
             pass
         return rest, [self.whole(rest, answer) for answer in answers if answer is not None]
@@ -164,6 +165,15 @@ class ExampleTests(ReplanCase):
         self.assertEqual([route.nodes[-1] for route in found[1].routes if route.nodes], [0, 0, 0])
         self.assertEqual([answer.cost for answer in found], [1338, 1338])
         self.assertRaises(NotMet, lambda: glue(model, rest, complete(rest.model, [[], [], [], []], checked=False)))
+
+    def test_more_tries_than_the_model_has(self) -> None:
+        model, plan = day("service-day")
+        rest = replan(with_search(model, tries=10), plan, 60)
+        found = rescue(rest.model, solver=timed_solver(0))
+        assert found.solution is not None
+        self.assertGreater(found.solution.tries, 10)
+        self.whole(rest, found.solution)
+        self.assertFalse(solve_rest(rest, searched(timed_solver(0))).whole.tries)
 
     def test_a_day_that_was_planned_anew_is_planned_anew(self) -> None:
         model, plan = day("service-day")
@@ -273,6 +283,16 @@ class ChangeTests(ReplanCase):
         begun = [node for node in plan.lists()[0][:1]]
         late = replan(model, plan, 65, done=begun)
         self.assertIsInstance(solve_rest(late, searched(lambda model: Solved(model, solve(model)))), Replanned)
+
+    def test_alike_vehicles_at_home_are_renumbered(self) -> None:
+        model, plan = day("service-day")
+        rest = replan(model, plan, 0)
+        turned = complete(rest.model, [*rest.lists[1:], rest.lists[0]])
+        self.assertEqual(renumbered(rest, turned), complete(rest.model, rest.lists))
+        unlike = replace(model, vehicles=[replace(vehicle, fixed=at) for at, vehicle in enumerate(model.vehicles)])
+        other = replan(unlike, complete(unlike, plan.lists()), 0)
+        self.assertEqual(renumbered(other, turned), turned)
+        self.assertEqual(renumbered(replan(model, plan, 100), turned).routes[0], turned.routes[0])
 
     def test_places(self) -> None:
         with tempfile.TemporaryDirectory() as folder:
@@ -461,7 +481,7 @@ class RandomTests(ReplanCase):
                 whole = self.whole(rest, kept)
                 self.assertLessEqual(whole.cost, made.plan.cost)
                 try:
-                    found = solve(rest.model)
+                    found = renumbered(rest, solve(rest.model))
                 except NoFirstSolution:
                     continue
                 if not any(dimension.global_span_cost for dimension in made.model.dimensions):

@@ -10,6 +10,7 @@ from ..errors import NoFirstSolution, Stopped
 from ..program import ProgramLike
 from ..rescue import Solver, rescue
 from ..solution import Solution
+from .alike import renumbered
 from .continuing import continued
 from .gluing import Moved, glue, moved
 from .rest import Rest
@@ -50,12 +51,13 @@ def searched(solver: Optional[Solver] = None, program: ProgramLike = None) -> Re
 @asks(rest=a(Rest))
 def solve_rest(rest: Rest, solver: Optional[RestSolver] = None, program: ProgramLike = None) -> Replanned:
     """The cheaper one of what a search finds and of the plan of the morning continued, put together with the morning.
+    Vehicles that are alike and have not left are renumbered, so that fewer visits change vehicle.
 
     Raises `NoFirstSolution` or `Stopped` if the search does and the plan cannot go on.
     """
     kept = continued(rest, program)
     try:
-        found = (solver or searched(program=program))(rest)
+        found = renumbered(rest, (solver or searched(program=program))(rest))
     except (NoFirstSolution, Stopped):
         if kept is None:
             raise

@@ -10,6 +10,7 @@ from ..complete import solution_of_routes
 from ..model import meets
 from ..program import ProgramLike
 from ..records import Model
+from ..rescue import as_own
 from ..solution import Plan, Route, Solution
 from .moment import CannotBeReplanned, Van, Where
 from .rest import Rest
@@ -23,14 +24,14 @@ def glue(
 ) -> Solution:
     """The solution of the whole day: what was made until the moment, and then what a solution of the rest makes.
 
-    `model` is the model of the day, with the new orders if there are any: `rest.day`. Raises `CannotBeReplanned`
-    if it is another one, `NotMet` if the solution is none of the rest, or if the model with the new orders
-    does not allow what was made.
+    `model` is the model of the day, with the new orders if there are any: `rest.day`. How the solution was found is not
+    looked at: it may have more tries than `rest.model` asks for. Raises `CannotBeReplanned` if it is another one,
+    `NotMet` if the solution is none of the rest, or if the model with the new orders does not allow what was made.
     """
     if model != rest.day:
         raise CannotBeReplanned("the rest is not one of this model: glue takes `rest.day`, which has the new orders")
     if checked:
-        meets(rest.model, solution, program)
+        meets(rest.model, as_own(solution), program)
     routes = [glued(rest, van, solution.routes[van.vehicle]) for van in rest.vans]
     whole = solution_of_routes(model, routes)
     return meets(model, whole, program) if checked else whole
