@@ -10,7 +10,7 @@ import functools
 import inspect
 import math
 import operator
-from typing import Any, Callable, Mapping, Sequence, Type, TypeVar, Union, cast
+from typing import Any, Callable, Mapping, Type, TypeVar, Union, cast
 
 from .errors import WrongArgument
 from .kinds import is_list

@@ -7,7 +7,7 @@ import random
 import tempfile
 import unittest
 from dataclasses import replace
-from typing import Any, Dict, List, Optional, Tuple
+from typing import Any, Dict, List, Tuple
 
 from jambulskeg.complete import complete
 from jambulskeg.errors import NoFirstSolution, NotMet
@@ -15,11 +15,11 @@ from jambulskeg.model import Break, Model, Solution, Stop, VehicleBreaks, check,
 from jambulskeg.places import Place, Roads, model_from_csv, read_places
 from jambulskeg.records import Evaluator, Group, Pair, Policy
 from jambulskeg.replan import (
-    CannotBeReplanned, Layout, Moved, Replanned, Rest, RestSolver, Unavailable, Van, Where, continued, glue, going_on, moved,
-    replan, searched, solve_rest, with_places, with_tours,
+    CannotBeReplanned, Clock, Layout, Moved, Replanned, Rest, RestSolver, Unavailable, Van, Where, continued, glue,
+    going_on, moved, replan, searched, solve_rest, with_places, with_tours,
 )
 from jambulskeg.replan.alike import renumbered
-from jambulskeg.replan.moment import Clock, clock_of
+from jambulskeg.replan.moment import clock_of
 from jambulskeg.rescue import Solved, rescue, timed_solver, with_search
 
 from .support import EXAMPLES, THREE, in_format_2, random_tree
@@ -41,7 +41,7 @@ def day(name: str) -> Tuple[Model, Solution]:
 
 def moment_of(rng: random.Random, model: Model, plan: Solution) -> int:
     """A moment of a day, often one at which something begins."""
-    clock = clock_of(model, 0)
+    clock: Clock = clock_of(model, 0)
     stops = [stop for route in plan.routes if route.nodes for stop in clock.stops(model, route)] or [0]
     return rng.choice([rng.randint(0, max(stops) + 1), rng.choice(stops), rng.choice(stops) + rng.randint(0, 5)])
 
@@ -120,7 +120,8 @@ class ReplanCase(unittest.TestCase):
                     self.assertEqual(before.cumuls[:van.stop], after.cumuls[:van.stop])
                 self.assertEqual(tuple(plan.cumuls[van.stop] for plan in new.dimensions), van.cumuls)
             if van.where is Where.HOME and rest.clock.time is not None and new.nodes:
-                self.assertGreaterEqual(new.dimensions[rest.clock.time].cumuls[0], rest.clock.now)
+                time = new.dimensions[rest.clock.time]
+                self.assertGreaterEqual(time.cumuls[0] + time.slacks[0], rest.clock.now)
         self.nothing_begins_earlier(rest, found)
         return found
 
@@ -318,6 +319,31 @@ class ChangeTests(ReplanCase):
             other = [replace(place, service=1) for place in read_places(new)]
             self.assertRaisesRegex(CannotBeReplanned, "service times", lambda: with_places(model, other, roads))
             self.replanned(model, solve(model), 40, new=longer)
+
+
+class HeldTests(ReplanCase):
+    def day(self, slack_max: int) -> Tuple[Model, Solution]:
+        """Two vehicles that start at 0, of which one stays at home, and a visit that comes in later."""
+        way = [[0 if i == j else 10 for j in range(4)] for i in range(4)]
+        time = {"name": "time", "evaluators": [{"matrix": 0}], "slack_max": slack_max, "capacity": 100,
+                "fix_start": True, "span_cost": 2, "nodes": [{"node": 3, "window": [70, 75]}]}
+        load = {"name": "load", "evaluators": [{"values": [0, 1, 1, 2]}], "slack_max": 0, "capacity": 2}
+        model = Model.of({"nodes": 4, "matrices": [way], "vehicles": [{"start": 0, "end": 0}] * 2,
+                          "dimensions": [time, load], "groups": [{"nodes": [3], "penalty": 999}]})
+        return model, complete(model, [[1, 2], []])
+
+    def test_a_vehicle_that_starts_at_0_has_waited(self) -> None:
+        model, plan = self.day(100)
+        rest, found = self.replanned(model, plan, 15)
+        for answer in found:
+            self.assertEqual(answer.lists(), [[1, 2], [3]])
+            self.assertEqual(answer.routes[1].dimensions[0].cumuls, (0, 70, 80))
+        self.assertEqual((rest.model.vehicles[1].fixed, rest.model.dimensions[0].starts[1].window), (30, (15, 15)))
+
+    def test_a_vehicle_that_may_not_wait_so_long_stays_at_home(self) -> None:
+        model, plan = self.day(70)
+        _, found = self.replanned(model, plan, 15)
+        self.assertEqual([answer.lists() for answer in found], [[[1, 2], []]] * len(found))
 
 
 class TourTests(ReplanCase):

@@ -8,7 +8,7 @@ from typing import List
 from unittest import mock
 
 from jambulskeg.complete import complete
-from jambulskeg.model import Model, check, read_model, read_solution
+from jambulskeg.model import check, read_model, read_solution
 from jambulskeg.output import Output
 from jambulskeg.places import Roads, model_from_csv
 from jambulskeg.replan import replan

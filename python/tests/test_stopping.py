@@ -11,11 +11,13 @@ import time
 import unittest
 from threading import Event
 from typing import Dict, List, Tuple
+from unittest import mock
 
 from jambulskeg.batch import batch
 from jambulskeg.engines import Answer, Engine, GnuParallel, OwnProcesses, Slurm
 from jambulskeg.errors import Stopped
 from jambulskeg.model import Model, check, read_model, read_solution, solve
+from jambulskeg.output import Output
 from jambulskeg.portfolio import Portfolio, collected, portfolio, variants
 from jambulskeg.program import find, outputs_of
 from jambulskeg.stopping import Stop, stopping
@@ -112,6 +114,12 @@ class StoppedCommandTests(CommandCase):
             )
         self.assertEqual((ran.returncode, ran.stderr), (1, "jambulskeg: standard output: No space left on device\n"))
         self.assertEqual(called("portfolio", model, "-o", "/dev/full")[2], "jambulskeg: /dev/full: No space left on device\n")
+
+    def test_a_standard_output_that_takes_nothing(self) -> None:
+        full = mock.Mock(write=mock.Mock(side_effect=OSError(28, "No space left on device")))
+        full.fileno.side_effect = OSError
+        with mock.patch("sys.stdout", new=full), self.assertRaisesRegex(OSError, "No space left.*standard output"):
+            Output(None).write("a")
 
     def test_the_output_is_opened_before_the_search(self) -> None:
         model = self.write("day.json", small("service-day", tries=10**9).text())

@@ -3,18 +3,18 @@
 from __future__ import annotations
 
 from dataclasses import dataclass, replace
-from typing import Dict, FrozenSet, Iterator, List, Optional, Sequence, Set, Tuple
+from typing import Dict, FrozenSet, Iterator, List, Optional, Sequence, Set
 
 from ..intervals import Numbers, common
 from ..records import (
-    GREATEST_TRANSIT, HORIZON, MOST_DIMENSIONS, MOST_MATRICES, Allowed, Dimension, Evaluator, First, Group, Model,
-    NodeRow, Pair, Search, Vehicle, VehicleBreaks, VehicleRow,
+    GREATEST_ENTRY, GREATEST_TRANSIT, HORIZON, MOST_DIMENSIONS, MOST_MATRICES, Allowed, Dimension, Evaluator, First,
+    Group, Model, NodeRow, Pair, Vehicle, VehicleBreaks, VehicleRow,
 )
 from ..schedules import numbers_of
 from .layout import Layout
 from .moment import CannotBeReplanned, Clock, Van, Where
 
-__all__ = ["Building", "can_go_on"]
+__all__ = ["Building", "can_go_on", "held_start"]
 
 BARRED = GREATEST_TRANSIT
 """The transit of an arc that no route may have: above every cumul."""
@@ -31,8 +31,20 @@ def can_go_on(day: Model, van: Van, clock: Clock) -> bool:
         return van.where is Where.ROAD
     return all(
         common(starts_of(dimension, van.vehicle), [(clock.now if at == clock.time else 0, HORIZON)])
+        or (at == clock.time and held_start(day, van, clock) is not None)
         for at, dimension in enumerate(day.dimensions)
     )
+
+
+def held_start(day: Model, van: Van, clock: Clock) -> Optional[int]:
+    """The cumul at which a vehicle at home starts that leaves now, though all its starts are earlier: it may wait on
+    its first arc for as long as it likes. None for other vehicles."""
+    if van.where is not Where.HOME or clock.time is None:
+        return None
+    dimension = day.dimensions[clock.time]
+    starts, capacity = starts_of(dimension, van.vehicle), dimension.capacity_of(van.vehicle)
+    may_wait = dimension.slack_max >= capacity and not dimension.breaks_of(van.vehicle)
+    return starts[-1][1] if starts and starts[-1][1] < clock.now and may_wait else None
 
 
 def starts_of(dimension: Dimension, vehicle: int) -> Numbers:
@@ -52,6 +64,10 @@ class Building:
     vans: Sequence[Van]
     fixed: FrozenSet[int]
     goes_on: FrozenSet[int]
+
+    def held(self, vehicle: int) -> Optional[int]:
+        """The cumul at which a vehicle starts that has waited until now; None for other vehicles."""
+        return held_start(self.day, self.vans[vehicle], self.clock) if vehicle in self.goes_on else None
 
     def road(self) -> List[Van]:
         """The vehicles on the road."""
@@ -87,7 +103,18 @@ class Building:
         asked = self.day.vehicles[vehicle]
         if vehicle in self.layout.starts:
             return replace(asked, start=self.layout.starts[vehicle], end=number[asked.end], fixed=0)
-        return replace(asked, start=number[asked.start], end=number[asked.end])
+        fixed = min(asked.fixed + self.waited(vehicle), GREATEST_ENTRY)
+        return replace(asked, start=number[asked.start], end=number[asked.end], fixed=fixed)
+
+    def waited(self, vehicle: int) -> int:
+        """What it costs that a vehicle has waited until now, if it is used."""
+        start = self.held(vehicle)
+        if start is None or self.clock.time is None:
+            return 0
+        dimension = self.day.dimensions[self.clock.time]
+        row = start_row(dimension, vehicle)
+        late = row.soft.coefficient * max(0, start - row.soft.bound) if row is not None and row.soft is not None else 0
+        return dimension.span_cost_of(vehicle) * (self.clock.now - start) + late
 
     def bars_in_time(self) -> bool:
         """Whether the dimension of times can bar arcs: no cumul of it is as great as `BARRED`."""
@@ -153,7 +180,7 @@ class Building:
                         matrix=gate if evaluator.matrix is None else evaluator.matrix)
                 for evaluator in dimension.evaluators
             ],
-            fix_start=dimension.fix_start and not self.layout.starts,
+            fix_start=dimension.fix_start and not self.layout.starts and at != self.clock.time,
             visit=kept(dimension.visit),
             nodes=list(self.node_rows(at, number)),
             starts=list(self.start_rows(at)),
@@ -190,7 +217,9 @@ class Building:
             if van.where is Where.ROAD:
                 yield VehicleRow(van.vehicle, (van.cumuls[at], van.cumuls[at]))
                 continue
-            if dimension.fix_start:
+            if at == self.clock.time and self.held(van.vehicle) is not None:
+                row = VehicleRow(van.vehicle, (self.clock.now, self.clock.now))
+            elif dimension.fix_start:
                 row = replace(row or VehicleRow(van.vehicle), window=(0, 0))
             elif at == self.clock.time and van.vehicle in self.goes_on:
                 low, high = row.window if row is not None and row.window else (0, HORIZON)

@@ -2,7 +2,7 @@
 
 from __future__ import annotations
 
-from dataclasses import dataclass
+from dataclasses import dataclass, replace
 from typing import Dict, List, Sequence, Tuple
 
 from ..arguments import A_MODEL, A_SOLUTION, a, asks
@@ -12,6 +12,7 @@ from ..program import ProgramLike
 from ..records import Model
 from ..rescue import as_own
 from ..solution import Plan, Route, Solution
+from .building import held_start
 from .moment import CannotBeReplanned, Van, Where
 from .rest import Rest
 
@@ -44,7 +45,7 @@ def glued(rest: Rest, van: Van, later: Route) -> Route:
         return earlier
     nodes = [rest.layout.nodes[node] for node in later.nodes]
     if van.where is Where.HOME:
-        return Route(van.vehicle, nodes, later.dimensions[:len(rest.day.dimensions)])
+        return Route(van.vehicle, nodes, from_home(rest, van, nodes, later.dimensions[:len(rest.day.dimensions)]))
     chain = len(rest.layout.chains[van.vehicle])
     whole = [*earlier.nodes[:van.stop], *nodes[chain:]]
     plans: List[Plan] = []
@@ -53,6 +54,16 @@ def glued(rest: Rest, van: Van, later: Route) -> Route:
         breaks = [*plan.breaks[:van.taken[at]], *later.dimensions[at].breaks]
         plans.append(Plan(plan.name, cumuls, slacks_of(rest.day, at, van.vehicle, whole, cumuls), breaks))
     return Route(van.vehicle, whole, plans)
+
+
+def from_home(rest: Rest, van: Van, nodes: Sequence[int], plans: Sequence[Plan]) -> Sequence[Plan]:
+    """The schedules of a vehicle that was at home; one that had to start earlier has waited until the moment."""
+    at, start = rest.clock.time, held_start(rest.day, van, rest.clock)
+    if at is None or start is None or not nodes:
+        return plans
+    cumuls = [start, *plans[at].cumuls[1:]]
+    held = replace(plans[at], cumuls=cumuls, slacks=slacks_of(rest.day, at, van.vehicle, nodes, cumuls))
+    return [*plans[:at], held, *plans[at + 1:]]
 
 
 def slacks_of(model: Model, at: int, vehicle: int, nodes: Sequence[int], cumuls: Sequence[int]) -> List[int]:
