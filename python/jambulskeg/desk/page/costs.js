@@ -94,5 +94,8 @@ function ways(refusal) {
 export function begin() {
   on("day", () => { showState(); showCosts(); showSaid(); });
   on("said", showSaid);
-  on("checked", showState);
+  on("checked", () => {
+    showState();
+    byId("said").textContent += " The whole day was checked: " + WORDS[desk.day.status] + ".";
+  });
 }
