@@ -347,6 +347,14 @@ class LargeDayTests(DayTests):
         self.assertIn("Undone: The program found the rule 'cost' broken", told(day)["notice"])
         self.assertEqual(self.again(day.identity).at, 0)
 
+    def test_after_an_accident_the_program_is_asked_again(self) -> None:
+        day = self.three_vans()
+        day.verdict()
+        with mock.patch.object(Asker, "check", side_effect=ProgramFailed("it was killed")):
+            self.assertTrue(self.move(day, "Ada", 0).is_made)
+            self.awaited(day)
+        self.assertEqual((day.at, day.step.is_fine, told(day)["status"]), (1, None, "unfinished"))
+
     def test_touched_vans_are_judged_as_the_whole_day_is(self) -> None:
         rng = random.Random(11)
         for name in ("service-day", "pickups", "breaks-day", "shifts-tight", "windows-day"):

@@ -122,6 +122,17 @@ class PageTests(DeskTests):
             self.post("days", tree, 422)
         self.assertEqual(len(os.listdir(self.folder)), 3)
 
+    def test_a_large_day_is_checked_as_a_whole_soon(self) -> None:
+        day = self.made()
+        planned = self.planned(day)
+        with mock.patch("jambulskeg.desk.days.LARGE", 1):
+            change = {"kind": "move", "nodes": [planned["vehicles"][0]["visits"][0]], "vehicle": None}
+            self.assertIn(self.post(f"{day}/change", {"step": 1, "change": change})["day"]["status"],
+                          ("checking", "unfinished"))
+            while self.get(f"{day}/checked")["status"] == "checking":
+                time.sleep(0.01)
+        self.assertEqual(self.get(f"{day}/checked"), {"step": 2, "status": "unfinished", "notice": ""})
+
     def test_a_model_with_a_clock(self) -> None:
         day = self.made(**{"from": "example", "example": "service-day", "clock": "8:00"})
         self.assertEqual(self.get(day)["clock"], 480)

@@ -371,7 +371,9 @@ def large_day(planner: Planner, desk: Desk, folder: str) -> None:
         spent = planner.page.value("performance.getEntriesByType('resource').filter(e => e.name.endsWith('/change')"
                                    f" && e.startTime >= {began}).pop().duration")
         print(f"a change of 1000 places and 50 vans: {spent:.0f} ms at the page (load {os.getloadavg()[0]:.1f})")
-        time.sleep(2)
+        planner.page.wait("document.querySelector('.verdict').textContent != 'being checked'")
+        time.sleep(1)
+    held("the whole of a large day is checked soon", planner.text(".verdict") == "keeps all rules")
     began = time.monotonic()
     planner.open(f"{desk.address}#large")
     planner.page.wait("document.querySelectorAll('.chip').length == 999", 60)

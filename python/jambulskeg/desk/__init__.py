@@ -7,7 +7,7 @@ and each step is kept in the day's journal. In reading order:
 
 - `journal`, `folder`: what is kept; `states`, `changes`: what may be changed
 - `asking`, `touched`: what a changed day costs; `words`: why it cannot be; `offers`: where a visit could go
-- `days`: an open day
+- `days`: a day that is open
 - `part`, `nearby`, `improving`, `searching`: better routes
 - `opening`, `exporting`, `pages`: days from files, as files, and as the page shows them
 - `guard`, `service`, `server`, `assets`, `command`: who may ask, and how

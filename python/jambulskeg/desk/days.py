@@ -231,6 +231,7 @@ class OpenDay:
             self.keep(number, verdict)
         else:
             self._drafts[number] = verdict
+            self._drafts = dict(list(self._drafts.items())[-MOST_VERDICTS:])
             self.check_soon()
         return Answer(True, number, capital(words), before=before)
 
@@ -278,7 +279,8 @@ class OpenDay:
             self.keep(number, draft)
             self.steps[number] = replace(self.steps[number], is_fine=draft.is_fine)
             self.journal.append({"do": "checked", "number": number, "fine": draft.is_fine})
-            return
+        if not isinstance(problem, NotMet):
+            return  # after an accident the program is asked once more when the step is told
         state = self.steps[number].state
         self.notice = f"Undone: {sentence_of(problem, state.lists, self.within_of(state))}"
         if self.at == number:

@@ -70,8 +70,11 @@ def status_of(day: OpenDay, is_fine: bool) -> str:
 def checked(day: OpenDay) -> Dict[str, Any]:
     """What the program found of the present step meanwhile, and what was undone since."""
     with day.lock:
-        is_fine = day.known().is_fine
-        return {"step": day.at, "status": status_of(day, is_fine), "notice": day.notice}
+        try:
+            status = status_of(day, day.known().is_fine)
+        except (CannotBeDriven, NotMet):
+            status = "broken"
+        return {"step": day.at, "status": status, "notice": day.notice}
 
 
 def parts_tree(parts: Optional[Parts]) -> List[List[Any]]:

@@ -4,7 +4,8 @@ import {byId, make, table} from "./make.js";
 import {change, desk, name, on} from "./store.js";
 
 const WORDS = {
-  fine: "keeps all rules", checking: "being checked", unfinished: "unfinished", empty: "nothing is planned yet", broken: "breaks a rule",
+  fine: "keeps all rules", checking: "being checked", unfinished: "unfinished", empty: "nothing is planned yet",
+  broken: "breaks a rule",
 };
 const PARTS = [
   ["arcs", "arcs"], ["fixed costs", "fixed"], ["spans", "span"], ["global spans", "global"], ["lateness", "soft"],
@@ -93,5 +94,8 @@ function ways(refusal) {
 export function begin() {
   on("day", () => { showState(); showCosts(); showSaid(); });
   on("said", showSaid);
-  on("checked", showState);
+  on("checked", () => {
+    showState();
+    byId("said").textContent += " The whole day was checked: " + WORDS[desk.day.status] + ".";
+  });
 }

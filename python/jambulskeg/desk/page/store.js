@@ -60,9 +60,9 @@ async function look() {
   const {id, step} = desk.day;
   const found = await get("day/" + id + "/checked").catch(() => null);
   if (!found || desk.day.id !== id || desk.day.step !== step) { return; }
-  if (found.step !== step) {
+  if (found.step !== step || found.status === "broken") {
     await reload();
-    desk.refusal = {sentence: found.notice, made: false};
+    desk.refusal = found.notice ? {sentence: found.notice, made: false} : null;
     tell("said");
   } else if (found.status === "checking") {
     timer = window.setTimeout(look, PAUSE);
