@@ -7,10 +7,11 @@ import os
 import subprocess
 import sys
 import tempfile
+import threading
 import time
 import unittest
 from dataclasses import replace
-from typing import Any
+from typing import Any, Callable, List
 from unittest import mock
 
 from jambulskeg.errors import (
@@ -119,6 +120,15 @@ class StatusTests(unittest.TestCase):
         self.assertEqual(killed.exception.signal, 9)
         self.assertIn("SIGKILL", str(killed.exception))
 
+    def test_a_program_that_reads_late_gets_the_whole_input(self) -> None:
+        late = "os.execv('/bin/sh', ['/bin/sh', '-c', 'sleep 0.5; wc -c'])"
+        with Fake(late) as path, open(path, encoding="utf-8") as file:
+            body = file.read().replace("text = sys.stdin.read()\n", "")
+            with open(path, "w", encoding="utf-8") as other:
+                other.write(body)
+            said = Program(path).run(["solve"], "x" * 10**6, 20, threading.Event())
+        self.assertEqual(int(said), 10**6)
+
     def test_a_slow_program(self) -> None:
         began = time.monotonic()
         with Fake("time.sleep(60)") as path:
@@ -177,7 +187,8 @@ class AnswerTests(unittest.TestCase):
             "sys.stdout.write(out); sys.exit(ran.returncode)"
         )
         with Fake(body) as path:
-            for call in (solve, first, solve_with_log):
+            calls: List[Callable[..., Any]] = [solve, first, solve_with_log]
+            for call in calls:
                 with self.assertRaises(NotMet) as broken:
                     call(MODEL, path)
                 self.assertEqual(broken.exception.rule, "cost")

@@ -201,8 +201,9 @@ class StopTests(unittest.TestCase):
             self.assertEqual([pid for pid in pids if is_alive(pid)], [])
 
     def test_outputs(self) -> None:
-        with subprocess.Popen(["cat"], stdin=subprocess.PIPE, stdout=subprocess.PIPE, stderr=subprocess.PIPE) as process:
-            self.assertEqual(outputs_of(process, b"a" * 10**6, 60, Event())[0], b"a" * 10**6)
+        command = ["head", "-c", "1000000", "/dev/zero"]
+        with subprocess.Popen(command, stdout=subprocess.PIPE, stderr=subprocess.PIPE) as process:
+            self.assertEqual(outputs_of(process, 60, Event())[0], bytes(10**6))
 
 
 if __name__ == "__main__":
