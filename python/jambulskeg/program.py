@@ -8,7 +8,7 @@ import shutil
 import subprocess
 import time
 from dataclasses import dataclass
-from threading import Event
+from threading import Event, Thread
 from typing import Any, Dict, List, Optional, Sequence, Tuple, Type, Union
 
 from .errors import (
@@ -131,18 +131,36 @@ def outputs_of(
     """What a process writes to its two outputs, its input being `data`. Raises `ProgramSlow` after some seconds, and
     `Stopped` soon after `stop` is set; the process runs on then."""
     end = None if seconds is None else time.monotonic() + seconds
+    if data is not None:
+        feed(process, data)
     while True:
         left = LONGEST_WAIT if end is None else min(max(0.0, end - time.monotonic()), LONGEST_WAIT)
         if stop is not None:
             left = min(left, TICK)
         try:
-            return process.communicate(data, left)
+            return process.communicate(timeout=left)
         except subprocess.TimeoutExpired:
-            data = None
+            pass
         if stop is not None and stop.is_set():
             raise Stopped()
         if end is not None and time.monotonic() >= end:
             raise ProgramSlow(seconds or 0)
+
+
+def feed(process: "subprocess.Popen[Any]", data: Any) -> None:
+    """Writes the input of a process by a thread of its own: `communicate` would lose what is left of it, were it asked
+    a second time."""
+    stdin, process.stdin = process.stdin, None
+
+    def write() -> None:
+        try:
+            if stdin is not None:
+                with stdin:
+                    stdin.write(data)
+        except OSError:
+            pass  # The process has ended, and did not read all of it.
+
+    Thread(target=write, daemon=True).start()
 
 
 ProgramLike = Union[Program, str, None]
