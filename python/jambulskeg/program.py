@@ -6,10 +6,9 @@ import json
 import os
 import shutil
 import subprocess
-import tempfile
 import time
 from dataclasses import dataclass
-from threading import Event
+from threading import Event, Thread
 from typing import Any, Dict, List, Optional, Sequence, Tuple, Type, Union
 
 from .errors import (
@@ -103,20 +102,19 @@ class Program:
         if not is_path(self.path):
             raise WrongArgument("Program", "path", self.path, "a path")
         command = [self.path, *words]
-        # The input is a file: of one that goes through a pipe, what is left after a wait is lost at the next wait.
-        with tempfile.TemporaryFile() as file:
-            file.write(text if isinstance(text, bytes) else text.encode("utf-8", "surrogatepass"))
-            file.seek(0)
+        data = text if isinstance(text, bytes) else text.encode("utf-8", "surrogatepass")
+        try:
+            process = subprocess.Popen(
+                command, stdin=subprocess.PIPE, stdout=subprocess.PIPE, stderr=subprocess.PIPE
+            )
+        except OSError as problem:
+            raise ProgramFailed(f"the program {self.path} could not be started: {problem.strerror}") from problem
+        with process:
             try:
-                process = subprocess.Popen(command, stdin=file, stdout=subprocess.PIPE, stderr=subprocess.PIPE)
-            except OSError as problem:
-                raise ProgramFailed(f"the program {self.path} could not be started: {problem.strerror}") from problem
-            with process:
-                try:
-                    out, errors = outputs_of(process, seconds, stop)
-                except BaseException:
-                    process.kill()
-                    raise
+                out, errors = outputs_of(process, data, seconds, stop)
+            except BaseException:
+                process.kill()
+                raise
         return answer(process.returncode, out, errors)
 
     def ask(
@@ -128,11 +126,13 @@ class Program:
 
 
 def outputs_of(
-    process: "subprocess.Popen[Any]", seconds: Optional[float] = None, stop: Optional[Event] = None
+    process: "subprocess.Popen[Any]", data: Any = None, seconds: Optional[float] = None, stop: Optional[Event] = None
 ) -> Tuple[Any, Any]:
-    """What a process writes to its two outputs. Raises `ProgramSlow` after some seconds, and `Stopped` soon after
-    `stop` is set; the process runs on then."""
+    """What a process writes to its two outputs, its input being `data`. Raises `ProgramSlow` after some seconds, and
+    `Stopped` soon after `stop` is set; the process runs on then."""
     end = None if seconds is None else time.monotonic() + seconds
+    if data is not None:
+        feed(process, data)
     while True:
         left = LONGEST_WAIT if end is None else min(max(0.0, end - time.monotonic()), LONGEST_WAIT)
         if stop is not None:
@@ -145,6 +145,22 @@ def outputs_of(
             raise Stopped()
         if end is not None and time.monotonic() >= end:
             raise ProgramSlow(seconds or 0)
+
+
+def feed(process: "subprocess.Popen[Any]", data: Any) -> None:
+    """Writes the input of a process by a thread of its own: `communicate` would lose what is left of it, were it asked
+    a second time."""
+    stdin, process.stdin = process.stdin, None
+
+    def write() -> None:
+        try:
+            if stdin is not None:
+                with stdin:
+                    stdin.write(data)
+        except OSError:
+            pass  # The process has ended, and did not read all of it.
+
+    Thread(target=write, daemon=True).start()
 
 
 ProgramLike = Union[Program, str, None]

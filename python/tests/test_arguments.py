@@ -90,7 +90,8 @@ class ArgumentTests(unittest.TestCase):
         self.assertEqual((problem.call, problem.argument), ("solve", "model"))
         self.assertRegex(str(problem), "^solve: model is {.* of the kind dict, and not a Model; Model.of")
         self.assertIsInstance(problem, TypeError)
-        self.assertRaisesRegex(WrongArgument, "generate: number is -1 .* from 0 to 18446744073709551615", lambda: generate(-1))
+        said = "generate: number is -1 .* from 0 to 18446744073709551615"
+        self.assertRaisesRegex(WrongArgument, said, lambda: generate(-1))
 
     def test_what_may_be_given(self) -> None:
         path = pathlib.Path(EXAMPLES) / "three-nodes.json"
@@ -103,10 +104,13 @@ class ArgumentTests(unittest.TestCase):
         rule: arguments.Rule = arguments.either(arguments.a(Model))
         self.assertEqual((rule(None), rule(DAY), rule(7)), ("", "", "a Model"))
         self.assertEqual(arguments.number(1, 3)(4), "a whole number from 1 to 3")
-        for given, value in ((arguments.A_COUNT, 0), (arguments.A_LIMIT, -1), (arguments.A_PATH, 7), (arguments.A_FILE, 7),
-                             (arguments.NUMBERS, [1.5]), (arguments.PAIRS, [(1,)]), (arguments.MODELS, {"a": 1}), (arguments.DAYS, [7]),
-                             (arguments.A_MODEL, 7), (arguments.A_SOLUTION, 7)):
-            self.assertNotEqual(given(value), "")
+        given = {
+            arguments.A_COUNT: 0, arguments.A_LIMIT: -1, arguments.A_PATH: 7, arguments.A_FILE: 7,
+            arguments.NUMBERS: [1.5], arguments.PAIRS: [(1,)], arguments.MODELS: {"a": 1}, arguments.DAYS: [7],
+            arguments.A_MODEL: 7, arguments.A_SOLUTION: 7,
+        }
+        for wanted, value in given.items():
+            self.assertNotEqual(wanted(value), "")
         same: Call = lambda x: x
         self.assertEqual(arguments.asks(x=rule)(same)(None), None)
 

@@ -59,7 +59,9 @@ def shrunk(tree: Dict[str, Any], nodes: int) -> Dict[str, Any]:
     ]
     out["pairs"] = [pair for pair in tree.get("pairs", []) if max(pair.values()) < nodes]
     groups = [{**group, "nodes": [node for node in group["nodes"] if node < nodes]} for group in tree.get("groups", [])]
-    out["groups"] = [{**group, "max": min(group.get("max", 1), len(group["nodes"]))} for group in groups if group["nodes"]]
+    out["groups"] = [
+        {**group, "max": min(group.get("max", 1), len(group["nodes"]))} for group in groups if group["nodes"]
+    ]
     out["allowed"] = [row for row in tree.get("allowed", []) if row["node"] < nodes]
     return out
 
@@ -186,7 +188,8 @@ class ExampleTests(ReplanCase):
 
     def test_vehicles_at_a_visit_on_the_way_and_home(self) -> None:
         model, plan = day("service-day")
-        wheres = {now: [(van.where, van.stop) for van in replan(model, plan, now).vans] for now in (60, 69, 70, 71, 189)}
+        moments = (60, 69, 70, 71, 189)
+        wheres = {now: [(van.where, van.stop) for van in replan(model, plan, now).vans] for now in moments}
         self.assertEqual([wheres[now][0] for now in wheres], [
             (Where.ROAD, 1), (Where.ROAD, 1), (Where.ROAD, 1), (Where.ROAD, 2), (Where.BACK, 0)
         ])
@@ -200,7 +203,8 @@ class ExampleTests(ReplanCase):
         self.assertEqual((start, layout.nodes[start], layout.places[stop]), (5, layout.nodes[stop], layout.nodes[stop]))
         self.assertEqual(list(layout.free_arcs()), [(start, stop)])
         barred = set(layout.barred_arcs(rest.day))
-        self.assertEqual({arc for arc in barred if arc[0] == start}, {(start, node) for node in range(1, 5)} - {(start, stop)})
+        others = {(start, node) for node in range(1, 5)} - {(start, stop)}
+        self.assertEqual({arc for arc in barred if arc[0] == start}, others)
         self.assertIn((1 if stop != 1 else 2, stop), barred)
 
     def test_breaks_that_were_taken_are_gone(self) -> None:
@@ -244,7 +248,8 @@ class ChangeTests(ReplanCase):
             self.assertLessEqual({9, 16}, set(answer.dropped))
             self.assertEqual(answer.parts.penalty, 0)
         required = replace(model, groups=[])
-        rest, found = self.replanned(required, complete(required, plan.lists()), 100, unavailable=Unavailable(visits=[9]))
+        plan = complete(required, plan.lists())
+        rest, found = self.replanned(required, plan, 100, unavailable=Unavailable(visits=[9]))
         self.assertEqual(found[0].dropped, (9,))
         self.assertEqual(rest.day.groups, (Group([9], 0),))
 
@@ -258,7 +263,8 @@ class ChangeTests(ReplanCase):
         rest, found = self.replanned(model, plan, 85, done=[1, 2, 7])
         self.assertEqual(rest.vans[0].cumuls[0], 85)
         self.assertEqual(found[0].routes[0].dimensions[0].cumuls[:3], (0, 60, 85))
-        done = [node for van, route in zip(replan(model, plan, 100).vans, plan.routes) for node in route.nodes[1:van.stop]]
+        vans = replan(model, plan, 100).vans
+        done = [node for van, route in zip(vans, plan.routes) for node in route.nodes[1:van.stop]]
         self.assertEqual(replan(model, plan, 100, done=done).model, replan(model, plan, 100).model)
         late = replace(plan.routes[0].dimensions[0])
         self.assertEqual(late.cumuls[2], 80)
@@ -297,7 +303,8 @@ class ChangeTests(ReplanCase):
 
     def test_places(self) -> None:
         with tempfile.TemporaryDirectory() as folder:
-            text = "name,x,y,demand,open,close,service,penalty\nyard,0,0,,,,,\nAda,30,40,2,0,500,10,500\nBen,-20,10,4,0,500,15,\n"
+            text = ("name,x,y,demand,open,close,service,penalty\nyard,0,0,,,,,\n"
+                    "Ada,30,40,2,0,500,10,500\nBen,-20,10,4,0,500,15,\n")
             for name, more in (("old.csv", ""), ("new.csv", "Eve,30,30,3,200,400,5,90\nFay,5,5,1,,,2,\n")):
                 with open(os.path.join(folder, name), "w", encoding="utf-8") as file:
                     file.write(text + more)
@@ -308,8 +315,8 @@ class ChangeTests(ReplanCase):
             model = model_from_csv(old, vans, roads)
             longer = with_places(model, read_places(new), roads)
             self.assertEqual(longer, model_from_csv(new, vans, roads))
-            self.assertRaisesRegex(CannotBeReplanned, "measure, the scale", lambda: with_places(model, read_places(new)))
-            self.assertRaisesRegex(CannotBeReplanned, "2 places for 3", lambda: with_places(model, read_places(new)[:2]))
+            for places, said in ((read_places(new), "measure, the scale"), (read_places(new)[:2], "2 places for 3")):
+                self.assertRaisesRegex(CannotBeReplanned, said, lambda: with_places(model, places))
             counted = replace(model, dimensions=[model.dimensions[0]])
             heavy = [*read_places(old), Place("Gus", 1, 1, demand=3)]
             self.assertRaisesRegex(CannotBeReplanned, "'Gus' has a demand", lambda: with_places(counted, heavy, roads))
@@ -381,7 +388,8 @@ class TourTests(ReplanCase):
         self.assertEqual(longer.vehicles[3].policy, Policy.LIFO)
         time = longer.dimensions[0]
         self.assertEqual(time.capacity_of(3), time.capacity_of(0))
-        self.assertEqual([row.window for row in time.starts if row.vehicle == 3], [(first.dimensions[0].cumuls[-1], 2**36)])
+        end = first.dimensions[0].cumuls[-1]
+        self.assertEqual([row.window for row in time.starts if row.vehicle == 3], [(end, 2**36)])
         for row in model.allowed:
             self.assertEqual(3 in longer.vehicles_of(row.node), 0 in row.vehicles)
         breaks, plan_of_breaks = day("breaks-day")
@@ -494,7 +502,8 @@ class RefusedTests(unittest.TestCase):
             "nodes": size, "matrices": [[[0 if i == j else 1 for j in range(size)] for i in range(size)]],
             "vehicles": [{"start": 0, "end": 0}],
         })
-        self.refused("the rest has 1001 nodes", model, complete(model, [list(range(1, size))], checked=False), 1, checked=False)
+        plan = complete(model, [list(range(1, size))], checked=False)
+        self.refused("the rest has 1001 nodes", model, plan, 1, checked=False)
 
 
 class RandomTests(ReplanCase):

@@ -98,7 +98,8 @@ class ReplanCommandTests(CommandCase):
     def test_what_is_wrong_is_said(self) -> None:
         words = ["replan", *DAY, "-o", self.at("whole.json"), "--seconds", "0"]
         cases: List[List[str]] = [
-            [*words, "--now", "eleven"], [*words, "--now", "7:00", "--clock", "8:00"], [*words, "--now", "100", "--done", "6"],
+            [*words, "--now", "eleven"], [*words, "--now", "7:00", "--clock", "8:00"],
+            [*words, "--now", "100", "--done", "6"],
             ["replan", DAY[0], DAY[0], "--now", "100", "-o", self.at("whole.json")],
             [*words, "--now", "100", "--new", self.at("none.csv")],
             [*words[:-4], "-o", self.at("no/such/folder.json"), "--now", "100"],

@@ -15,11 +15,11 @@ from unittest import mock
 
 from jambulskeg.batch import batch
 from jambulskeg.engines import Answer, Engine, GnuParallel, OwnProcesses, Slurm
-from jambulskeg.errors import Stopped
+from jambulskeg.errors import ProgramSlow, Stopped
 from jambulskeg.model import Model, check, read_model, read_solution, solve
 from jambulskeg.output import Output
 from jambulskeg.portfolio import Portfolio, collected, portfolio, variants
-from jambulskeg.program import find, outputs_of
+from jambulskeg.program import Program, find, outputs_of
 from jambulskeg.stopping import Stop, stopping
 
 from .support import EXAMPLES, THREE, Fake, environment
@@ -113,7 +113,8 @@ class StoppedCommandTests(CommandCase):
                 stderr=subprocess.PIPE, env=environment(VR_CLI=find()), check=False, text=True,
             )
         self.assertEqual((ran.returncode, ran.stderr), (1, "jambulskeg: standard output: No space left on device\n"))
-        self.assertEqual(called("portfolio", model, "-o", "/dev/full")[2], "jambulskeg: /dev/full: No space left on device\n")
+        told = called("portfolio", model, "-o", "/dev/full")[2]
+        self.assertEqual(told, "jambulskeg: /dev/full: No space left on device\n")
 
     def test_a_standard_output_that_takes_nothing(self) -> None:
         full = mock.Mock(write=mock.Mock(side_effect=OSError(28, "No space left on device")))
@@ -191,7 +192,8 @@ class StopTests(unittest.TestCase):
         self.assertEqual((kept.stopped, kept.number), (1, 1))
 
     def test_an_interrupt_ends_the_searches(self) -> None:
-        with Fake("open(os.path.join(os.path.dirname(sys.argv[0]), str(os.getpid())), 'w').close(); time.sleep(60)") as path:
+        body = "open(os.path.join(os.path.dirname(sys.argv[0]), str(os.getpid())), 'w').close(); time.sleep(60)"
+        with Fake(body) as path:
             begin = time.monotonic()
             timer = threading.Timer(1, lambda: os.kill(os.getpid(), signal.SIGINT))
             timer.start()
@@ -201,9 +203,17 @@ class StopTests(unittest.TestCase):
             self.assertEqual([pid for pid in pids if is_alive(pid)], [])
 
     def test_outputs(self) -> None:
-        command = ["head", "-c", "1000000", "/dev/zero"]
-        with subprocess.Popen(command, stdout=subprocess.PIPE, stderr=subprocess.PIPE) as process:
-            self.assertEqual(outputs_of(process, 60, Event())[0], bytes(10**6))
+        pipe = subprocess.PIPE
+        with subprocess.Popen(["cat"], stdin=pipe, stdout=pipe, stderr=pipe) as process:
+            self.assertEqual(outputs_of(process, b"a" * 10**6, 60, Event())[0], b"a" * 10**6)
+
+    def test_an_input_that_is_read_late_is_read_whole(self) -> None:
+        pipe = subprocess.PIPE
+        late = "import sys, time; time.sleep(1); sys.stdout.write(str(len(sys.stdin.read())))"
+        with subprocess.Popen([sys.executable, "-c", late], stdin=pipe, stdout=pipe, stderr=pipe) as process:
+            self.assertEqual(outputs_of(process, b"a" * 10**6, 60, Event())[0], b"1000000")
+        with Fake("time.sleep(60)") as path:
+            self.assertRaises(ProgramSlow, lambda: Program(path).run(["solve"], b"a" * 10**6, 0.5))
 
 
 if __name__ == "__main__":
