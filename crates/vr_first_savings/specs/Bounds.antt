@@ -1,5 +1,6 @@
 -- Bounds on what routes in front save.
-use Rattle.std.specs.Prelude.{◌≡◌, ℕ, ◌<◌, ◌^◌, Bool, true, List, length, ℤ, pos, ◌≤ℤ◌, int_le, IsTrue, Option, Some, None}
+use Rattle.std.specs.Prelude.{◌≡◌, ℕ, ◌<◌, ◌^◌, Bool, true, List, length, ℤ, pos, ◌≤ℤ◌, int_le, IsTrue}
+use Rattle.std.specs.Prelude.{Option, Some, None}
 use Rattle.vr_model.specs.tables.Numbers.{number_at}
 use Rattle.vr_model.specs.routes.Routes.{route}
 use Rattle.vr_model.specs.first.Items.{first_node}

@@ -4,8 +4,8 @@
 //! join only the bounds of routes that would save more with the joined route are raised. Invariant: no join that may be
 //! made saves more than the bound of its route in front.
 
-ghost use Rattle.std.specs.Prelude.{◌≡◌, ◌<◌, ◌++◌, ◌^◌, ℕ, All, IfOk, IfSome, OnOk, List, None, option_map, length, map};
-ghost use Rattle.std.specs.Prelude.{neg_ℤ, pos, ◌≤ℤ◌, ◌+ℤ◌, ◌-ℤ◌, set};
+ghost use Rattle.std.specs.Prelude.{◌≡◌, ◌<◌, ◌++◌, ◌^◌, ℕ, All, IfOk, IfSome, OnOk, List, None, option_map, length};
+ghost use Rattle.std.specs.Prelude.{map, neg_ℤ, pos, ◌≤ℤ◌, ◌+ℤ◌, ◌-ℤ◌, set};
 ghost use Rattle.std.specs.Int.{int_max};
 ghost use Rattle.vr_model.specs.tables.Numbers.{number_at};
 ghost use Rattle.vr_model.specs.first.Choosing.{least_by};
@@ -185,8 +185,8 @@ fn weigh_row(
     }
 }
 
-/// The best join of two routes, whatever it saves, if any may be joined. The bounds, of each route in front by its first
-/// node, are told anew of the routes whose joins are gone over.
+/// The best join of two routes, whatever it saves, if any may be joined. The bounds, of each route in front by its
+/// first node, are told anew of the routes whose joins are gone over.
 pub(crate) fn best_join(
     alloc: Global,
     lookups: &Lookups<'_>,

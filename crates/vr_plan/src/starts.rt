@@ -1,7 +1,7 @@
 //! The break starts of the chosen schedule, break by break.
 
-ghost use Rattle.std.specs.Prelude.{◌≡◌, ◌<◌, ◌^◌, ◌↔◌, ◌+◌, suc, pos, false, [], ◌+ℤ◌, ◌≤ℤ◌, All, IsTrue, IfOk, IfSome};
-ghost use Rattle.std.specs.Prelude.{IsNone, OnOk, length, slice_index_or, int_le, ◌&&◌, ◌-ℤ◌};
+ghost use Rattle.std.specs.Prelude.{◌≡◌, ◌<◌, ◌^◌, ◌↔◌, ◌+◌, suc, pos, false, [], ◌+ℤ◌, ◌≤ℤ◌, All, IsTrue, IfOk};
+ghost use Rattle.std.specs.Prelude.{IfSome, IsNone, OnOk, length, slice_index_or, int_le, ◌&&◌, ◌-ℤ◌};
 ghost use Rattle.vr_model.specs.tables.Numbers.{horizon};
 ghost use Rattle.vr_model.specs.tables.WellFormed.{IsIn};
 ghost use Rattle.vr_steps.specs.Arcs.{IsSoundHop};
