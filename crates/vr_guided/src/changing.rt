@@ -226,8 +226,8 @@ impl<'m, 'p, 's, 'r> WeighedRoutes<'m, 'p, 's, 'r> {
         self.saved_at_place(touched.first, a) + self.most_of(touched.second).most_at_gap
     }
 
-    // What is taken at most where the node at place `a` of the first list is exchanged with one of the second; within one
-    // list, all that its arcs add.
+    // What is taken at most where the node at place `a` of the first list is exchanged with one of the second; within
+    // one list, all that its arcs add.
     #[inline]
     fn saved_by_exchanging(&self, touched: Touched, a: u32) -> i128
         requires first { touched.first < length self.now.routes.now.lists }
@@ -296,8 +296,8 @@ impl<'m, 'p, 's, 'r> WeighedRoutes<'m, 'p, 's, 'r> {
         stretches.old_stretch(t, t)
     }
 
-    // What is taken at most where others stand in the place of the node at place `a` of the list of a vehicle: what both
-    // its arcs add now. Nothing where there is no such place.
+    // What is taken at most where others stand in the place of the node at place `a` of the list of a vehicle: what
+    // both its arcs add now. Nothing where there is no such place.
     #[inline]
     fn saved_at_place(&self, v: u32, a: u32) -> i128
         requires { v < length self.now.routes.now.lists }

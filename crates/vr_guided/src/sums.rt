@@ -1,6 +1,7 @@
 //! Sums of what arcs add along the list of a vehicle.
 
-ghost use Rattle.std.specs.Prelude.{◌≡◌, ◌<◌, ◌≤◌, ◌++◌, ◌∷◌, [], ◌-◌, ◌*◌, ◌^◌, ◌+ℤ◌, ◌-ℤ◌, ◌≤ℤ◌, List, ℕ, ℤ, length, neg_ℤ, pos};
+ghost use Rattle.std.specs.Prelude.{◌≡◌, ◌<◌, ◌≤◌, ◌++◌, ◌∷◌, [], ◌-◌, ◌*◌, ◌^◌, ◌+ℤ◌, ◌-ℤ◌, ◌≤ℤ◌, List, ℕ, ℤ};
+ghost use Rattle.std.specs.Prelude.{length, neg_ℤ, pos};
 ghost use Rattle.std.specs.Prelude.{slice_range, take};
 ghost use Rattle.std.specs.Int.{int_max};
 ghost use Rattle.vr_guided.specs.Counts.{counted};
