@@ -1,4 +1,4 @@
-# What the programs are built from, for vr, release/build and .ci/checks, which read this file. The functions speak of the
+# What the programs are built from, for vr, release/build and .ci, which read this file. The functions speak of the
 # sources in the current folder.
 
 # The programs that are released.
@@ -23,16 +23,23 @@ program_crates() {
     ' crates.txt
 }
 
-# The sha256 of the names and bytes of crates.txt and of each file in src/ of these crates.
-sources_sum() {
+# The sha256 of a file, or of standard input.
+sum_of() {
     local sum
-    sum=$(find crates.txt $(printf 'crates/%s/src ' $(program_crates)) -type f -exec sha256sum {} + |
-        LC_ALL=C sort -k 2 | sha256sum)
-    echo "${sum%% *}"
+    sum=$(sha256sum "$@") && echo "${sum%% *}"
 }
 
-# The file built-from of programs that are built here now.
+# The sha256 of the names and bytes of crates.txt and of each file in src/ of these crates.
+sources_sum() {
+    find crates.txt $(printf 'crates/%s/src ' $(program_crates)) -type f -exec sha256sum {} + | LC_ALL=C sort -k 2 | sum_of
+}
+
+# The file built-from of programs that are to be built here now. Once they are built, a line for each has the sum of
+# its bytes.
 built_from() {
     echo "kit: $(rt version)"
     echo "sources: $(sources_sum)"
 }
+
+# A field of such a file: kit, sources, or the name of a program.
+released_field() { sed -n "s/^$1: //p" "$2"; }

@@ -7,4 +7,4 @@ wrong, `jambulskeg.view` draws a day, `jambulskeg.portfolio` and `jambulskeg.bat
 processors.
 """
 
-__version__ = "0.1.0"
+__version__ = "0.18.0"

@@ -15,6 +15,8 @@ from .complete import shape_faults, shorten
 from .doubts import doubts
 from .engines import Engine, GnuParallel, OwnProcesses, Slurm
 from .errors import JambulskegError, NotMet
+from .formats.command import add_convert
+from .measures import answer_doubts
 from .model import meets, read_model, read_solution
 from .places import Place, read_places, read_vans, whole
 from .portfolio import LAMBDAS, Outcome, Portfolio, portfolio
@@ -22,6 +24,7 @@ from .program import find
 from .records import Model
 from .solution import Solution
 from .view import Day, compare_page, day_of, drawing, page
+from .view.day import time_dimension
 
 __all__ = ["main"]
 
@@ -57,10 +60,13 @@ def failed(sentence: str) -> int:
 def parser() -> argparse.ArgumentParser:
     """The words that are taken."""
     out = argparse.ArgumentParser(prog="python -m jambulskeg", description="Vehicle routing by the program vr_cli.")
-    commands = out.add_subparsers(required=True, metavar="view|doubts|portfolio|batch")
+    commands = out.add_subparsers(required=True, metavar="view|doubts|portfolio|batch|convert")
     add_view(commands.add_parser("view", help="a page (or an SVG) of a day, or of two side by side"))
     look = commands.add_parser("doubts", help="what a model may say and looks wrong, a line each")
     look.add_argument("model", metavar="MODEL", help="the model file")
+    look.add_argument("solution", metavar="SOLUTION", nargs="?", help="an answer to it, which is looked at too")
+    look.add_argument("--longest-ride", type=int, metavar="N", help="how long a pair may be on board")
+    look.add_argument("--time", metavar="NAME", help="the dimension in which rides are measured")
     look.set_defaults(run=run_doubts)
     one = commands.add_parser("portfolio", help="many searches of a model, the cheapest checked answer kept")
     one.add_argument("model", metavar="MODEL", help="the model file")
@@ -74,6 +80,7 @@ def parser() -> argparse.ArgumentParser:
     many.set_defaults(run=run_batch)
     for command in (one, many):
         add_search(command)
+    add_convert(commands.add_parser("convert", help="a file of Solomon, Li and Lim, VRPLIB or VROOM as a model"))
     return out
 
 
@@ -204,7 +211,13 @@ def write(path: str, text: str) -> None:
 
 def run_doubts(asked: argparse.Namespace) -> int:
     """Writes the path and the sentence of each doubt."""
-    for doubt in doubts(read_model(asked.model)):
+    model = read_model(asked.model)
+    found = doubts(model)
+    if asked.solution is not None:
+        solution = read_solution(asked.solution)
+        check_file(model, asked.solution, solution)
+        found += answer_doubts(model, solution, asked.longest_ride, time_dimension(model, asked.time) or 0)
+    for doubt in found:
         print(f"{doubt.path}: {doubt.sentence}")
     return 0
 

@@ -8,6 +8,7 @@ routes as short as they can be; faults of a solution's form.
 
 from __future__ import annotations
 
+import operator
 from dataclasses import replace
 from typing import Any, Iterator, List, Mapping, Sequence
 
@@ -46,7 +47,7 @@ def complete(
     faults += list(unknown_nodes(model, lists)) if not faults else []
     if faults:
         raise Refused(faults[0], "the lists")
-    routes = [route_of(model, vehicle, visits) for vehicle, visits in enumerate(lists)]
+    routes = [route_of(model, vehicle, [*map(operator.index, visits)]) for vehicle, visits in enumerate(lists)]
     solution = solution_of_routes(model, routes)
     return meets(model, solution, program) if checked else solution
 

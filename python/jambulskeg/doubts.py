@@ -37,6 +37,8 @@ class DoubtKind(Enum):
     UNITS = "units"
     PAID_TWICE = "paid twice"
     PENALTY_BELOW_ARCS = "penalty below every arc"
+    LONG_RIDE = "long ride"
+    BREAK_OUTSIDE = "break outside of the day"
 
 
 @dataclass(frozen=True)

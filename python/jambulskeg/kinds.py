@@ -40,8 +40,12 @@ def between(least: int, most: int) -> str:
 
 
 def is_list(value: Any) -> bool:
-    """Whether a value is a sequence and not a text."""
-    return isinstance(value, Sequence) and not isinstance(value, (str, bytes))
+    """Whether a value is a sequence and not a text. An array of another library, as numpy's, is one too."""
+    if isinstance(value, (str, bytes)):
+        return False
+    return isinstance(value, Sequence) or (
+        hasattr(value, "tolist") and hasattr(value, "__len__") and getattr(value, "ndim", 1) > 0
+    )
 
 
 def whole_fault(value: Any) -> int:

@@ -16,7 +16,7 @@ from .support import example
 TOTALS = {
     "salesman": [7293], "longest_route": [1552], "capacities": [6208], "time_windows": [71],
     "pickups": [226116, 226116, 226116], "dropped_visits": [7936], "breaks": [71], "spreadsheet": [237],
-    "late_starts": [153, 150, 148],
+    "late_starts": [153, 150, 148], "several_trips": [6208], "from_others": [1051, 383, 110, 6, 405],
 }
 
 
@@ -30,8 +30,8 @@ class ExampleTests(unittest.TestCase):
         for name, totals in TOTALS.items():
             text = self.printed(name)
             found = [int(total) for total in re.findall(
-                r"^(?:total|longest|arcs|objective|any order|last in, first out|first in, first out|earliest|shortened|tight)"
-                r": (\d+)", text, re.M
+                r"^(?:total|longest|arcs|objective|any order|last in, first out|first in, first out|earliest|shortened"
+                r"|tight|solomon|li and lim|vrplib|osrm|vroom): (\d+)", text, re.M
             )]
             self.assertEqual(len(found), len(totals), name)
             for total, most in zip(found, totals):

@@ -14,7 +14,8 @@ from types import ModuleType
 from typing import Iterator, List, Tuple, Union
 
 from jambulskeg import (
-    batch, complete, doubts, engines, errors, model, places, portfolio, program, rescue, rounds, schedules, view,
+    batch, complete, doubts, engines, errors, formats, model, places, portfolio, program, rescue, rounds, schedules,
+    view,
 )
 from jambulskeg.routing import pywrapcp
 
@@ -93,7 +94,8 @@ class PublicTests(unittest.TestCase):
 INHERITED = ("faults", "taken", "tree", "own_faults", "kind_of")
 """What a kind and a record say once, where they are defined first."""
 MODULES = (
-    batch, complete, doubts, engines, errors, model, places, portfolio, program, rescue, rounds, schedules, view, pywrapcp,
+    batch, complete, doubts, engines, errors, formats, model, places, portfolio, program, rescue, rounds, schedules,
+    view, pywrapcp,
 )
 """The modules whose calls are for users."""
 

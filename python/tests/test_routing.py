@@ -2,14 +2,18 @@
 
 from __future__ import annotations
 
+import io
 import unittest
+from dataclasses import replace
 from typing import Any, Callable, List, Tuple
 from unittest import mock
 
+from jambulskeg.complete import complete
 from jambulskeg.errors import Unsupported
-from jambulskeg.model import Policy, solve
+from jambulskeg.model import Policy, ScheduleRule, solve
 from jambulskeg.routing import pywrapcp
 from jambulskeg.routing.dimension import MatrixPool
+from jambulskeg.routing.refused import HINTED
 
 from .routing_support import MATRIX, RoutingTest, guided, made
 
@@ -227,7 +231,9 @@ class DimensionTests(RoutingTest):
         self.refused(19, lambda: time.CumulVar(1).SetMax(-1))
         self.refused(14, lambda: time.SetCumulVarSoftUpperBound(1, 5, 10001))
         self.unsupported("SlackVar", lambda: time.SlackVar(1) + 1)
-        self.unsupported("IntVar.SetMax", lambda: time.SlackVar(1).SetMax(3))
+        self.unsupported("SlackVar(1).SetValue(3)", lambda: time.SlackVar(1).SetMax(3))
+        self.unsupported("SlackVar(1).SetRange(1, 3)", lambda: time.SlackVar(1).SetRange(1, 3))
+        self.unsupported("SlackVar.SetMin", lambda: time.SlackVar(1).SetMin(3))
         self.unsupported("SetCumulVarSoftLowerBound", lambda: time.SetCumulVarSoftLowerBound(1, 2, 3))
         pause = routing.solver().FixedDurationIntervalVar(5, 15, 2, False, "pause")
         times = [0] * routing.Size()
@@ -292,9 +298,12 @@ class ConstraintTests(RoutingTest):
         way, other, solver = routing.GetDimensionOrDie("way"), routing.GetDimensionOrDie("other"), routing.solver()
         one, two = way.CumulVar(1), way.CumulVar(2)
         for relation in (one < two, one > two, one != two, one == two, one <= other.CumulVar(2), one < 5, one > 5,
-                         routing.NextVar(1) == 2, routing.NextVar(1) == routing.NextVar(2), routing.ActiveVar(1) == 1,
-                         routing.VehicleVar(1) <= 1, routing.VehicleVar(1) != routing.VehicleVar(2)):
+                         routing.NextVar(1) == 2, routing.NextVar(1) == routing.NextVar(2), routing.ActiveVar(1) <= 0,
+                         routing.VehicleVar(1) <= 1, routing.NextVar(1).Member([2, 3])):
             self.unsupported("Solver.Add", lambda: solver.Add(relation))
+        self.unsupported("ActiveVar(1).SetValue(0)", lambda: solver.Add(routing.ActiveVar(1) == 0))
+        for name in ("SetValue", "SetValues", "RemoveValue"):
+            self.unsupported(f"NextVar.{name}", lambda: getattr(routing.NextVar(1), name))
         self.unsupported("Solver.Add", lambda: solver.Add(True))
         self.unsupported("Solver.Add", lambda: solver.Add(one <= 2.5))
         for call in (lambda: one + two, lambda: 1 + one, lambda: one - two, lambda: 1 - one, lambda: one * 2,
@@ -334,7 +343,7 @@ class VisitTests(RoutingTest):
         self.refused(18, lambda: routing.AddPickupAndDelivery(0, 1))
 
     def test_vehicles_of_a_visit(self) -> None:
-        _, routing, _ = made(4)
+        _, routing, _ = made(4, matrix=[*([*row, 1] for row in MATRIX), [1, 1, 1, 1, 0]])
         routing.SetAllowedVehiclesForIndex([0, 1, 2], 1)
         routing.SetAllowedVehiclesForIndex([3], 2)
         routing.SetAllowedVehiclesForIndex([], 2)
@@ -349,7 +358,11 @@ class VisitTests(RoutingTest):
         routing.AddDisjunction([2], 9)
         routing.CloseModel()
         routing.AddDisjunction([3], 9)
-        self.unsupported("VehicleVar without -1 for node 3", routing.CloseModel)
+        self.assertEqual([group.nodes for group in routing.to_model().groups], [(2,)])
+        routing.AddDisjunction([1, 4], 9)
+        routing.CloseModel()
+        routing.ActiveVar(4).SetMin(1)
+        self.unsupported("for node 4", routing.CloseModel)
         self.refused(15, lambda: routing.VehicleVar(3).SetValue(0))
         _, other, _ = made()
         other.VehicleVar(1).RemoveValue(0)
@@ -368,9 +381,144 @@ class VisitTests(RoutingTest):
         way = routing.GetDimensionOrDie("way")
         routing.AddVariableMinimizedByFinalizer(way.CumulVar(routing.End(0)))
         routing.AddToAssignment(way.SlackVar(1))
-        self.unsupported("MinimizedByFinalizer", lambda: routing.AddVariableMinimizedByFinalizer(way.SlackVar(1)))
+        self.unsupported("MinimizedByFinalizer", lambda: routing.AddVariableMinimizedByFinalizer(7))
         self.unsupported("AddToAssignment", lambda: routing.AddToAssignment(7))
         self.unsupported("MaximizedByFinalizer", lambda: routing.AddVariableMaximizedByFinalizer(way.CumulVar(1)))
+        self.assertEqual(routing.to_model().format, 1)
+        routing.AddVariableMaximizedByFinalizer(way.CumulVar(routing.Start(0)))
+        self.assertEqual({vehicle.schedule for vehicle in routing.to_model().vehicles}, {ScheduleRule.TIGHT})
+
+    def test_hints_are_told_once(self) -> None:
+        _, routing, number = made()
+        routing.AddDimension(number, 9, 100, False, "way")
+        parameters = pywrapcp.DefaultRoutingSearchParameters()
+        HINTED.clear()
+        with mock.patch("sys.stderr", new_callable=io.StringIO) as said:
+            for _ in range(2):
+                routing.SetPrimaryConstrainedDimension("way")
+                routing.AddVariableMinimizedByFinalizer(routing.GetDimensionOrDie("way").SlackVar(1))
+                parameters.use_full_propagation = True
+        told = said.getvalue().splitlines()
+        self.assertEqual([line.split(" changes nothing: ")[0] for line in told], [
+            "jambulskeg: RoutingModel.SetPrimaryConstrainedDimension",
+            "jambulskeg: RoutingModel.AddVariableMinimizedByFinalizer",
+            "jambulskeg: RoutingSearchParameters.use_full_propagation",
+        ])
+        self.assertRaises(KeyError, lambda: routing.SetPrimaryConstrainedDimension("none"))
+
+    def test_disjunctions_are_told(self) -> None:
+        _, routing, _ = made()
+        number = routing.AddDisjunction([1, 3], 7, 2)
+        self.assertEqual(routing.GetNumberOfDisjunctions(), 1)
+        self.assertEqual((routing.GetDisjunctionPenalty(number), routing.GetDisjunctionMaxCardinality(number)), (7, 2))
+        self.assertEqual(routing.GetDisjunctionNodeIndices(number), [1, 3])
+        self.assertRaises(IndexError, lambda: routing.GetDisjunctionPenalty(1))
+        self.assertEqual([routing.VehicleIndex(index) for index in (0, 1, 4, 5, 6)], [0, -1, 1, 0, 1])
+
+    def test_a_misspelt_attribute(self) -> None:
+        _, routing, number = made()
+        routing.AddDimension(number, 9, 100, False, "way")
+        way = routing.GetDimensionOrDie("way")
+        self.unsupported("RoutingModel.schedul", lambda: setattr(routing, "schedul", 1))
+        self.unsupported("RoutingDimension.slack", lambda: setattr(way, "slack", 1))
+        self.unsupported("CumulVar.low", lambda: setattr(way.CumulVar(1), "low", 1))
+
+
+class SameVehicleTests(RoutingTest):
+    def test_by_the_vehicles_that_are_allowed(self) -> None:
+        _, routing, _ = made()
+        solver = routing.solver()
+        solver.Add(routing.VehicleVar(1) == routing.VehicleVar(2))
+        self.unsupported("VehicleVar(1) == VehicleVar(2)", routing.CloseModel)
+        solver.Add(solver.MemberCt(routing.VehicleVar(1), [1]))
+        solver.Add(routing.VehicleVar(2).Member([1]))
+        solver.Add(routing.VehicleVar(3) != routing.VehicleVar(1))
+        self.unsupported("VehicleVar(3) != VehicleVar(1)", routing.CloseModel)
+        routing.SetAllowedVehiclesForIndex([0], 3)
+        self.assertEqual([row.vehicles for row in routing.to_model().allowed], [(1,), (1,), (0,)])
+
+    def test_visits_that_may_be_left_out(self) -> None:
+        _, routing, _ = made()
+        for index in (1, 2):
+            routing.AddDisjunction([index], 5)
+        routing.SetAllowedVehiclesForIndex([0], 1)
+        routing.SetAllowedVehiclesForIndex([1], 2)
+        routing.solver().Add(routing.VehicleVar(1) != routing.VehicleVar(2))
+        self.unsupported("VehicleVar(1) != VehicleVar(2)", routing.CloseModel)
+        routing.solver().Add(routing.ActiveVar(2) == 1)
+        self.assertEqual([group.nodes for group in routing.to_model().groups], [(1,)])
+
+
+class SlackTests(RoutingTest):
+    def test_stops_that_ask_for_no_slack(self) -> None:
+        _, routing, _ = made(1)
+        demands = routing.RegisterUnaryTransitVector([0, 4, -6, 3])
+        routing.AddDimension(demands, 6, 6, True, "load")
+        load = routing.GetDimensionOrDie("load")
+        self.assertFalse(load.pays_for_waiting())
+        for index in (1, 3):
+            load.SlackVar(index).SetValue(0)
+        routing.solver().Add(load.SlackVar(1) == 0)
+        routing.AddDisjunction([2], 0)
+        found = routing.Solve()
+        self.assertEqual([found.Value(load.SlackVar(index)) for index in (1, 3)], [0, 0])
+        self.assertEqual(found.Value(routing.ActiveVar(2)), 1)
+
+    def test_stops_that_may_ask_for_it(self) -> None:
+        def closing(index: int, fixed: bool, *calls: Callable[[Any], Any]) -> Callable[[], Any]:
+            _, routing, _ = made(1)
+            number = routing.RegisterUnaryTransitVector([0, 4, -6, 3])
+            routing.AddDimension(number, 6, 20, fixed, "load")
+            load = routing.GetDimensionOrDie("load")
+            load.SlackVar(index).SetMax(0)
+            for call in calls:
+                call(load)
+            return lambda: load.check_slacks(routing._said.transits)
+
+        closing(1, True)()
+        for refused in (
+            closing(2, True), closing(1, False), closing(1, True, lambda load: load.CumulVar(3).SetMin(2)),
+            closing(1, True, lambda load: load.SetGlobalSpanCostCoefficient(1)),
+        ):
+            self.unsupported("SlackVar(", refused)
+
+
+class ArrayTests(RoutingTest):
+    def test_arrays_are_taken_as_lists(self) -> None:
+        manager = pywrapcp.RoutingIndexManager(3, 2, array([0, 1]), array([0, 1]))
+        routing = pywrapcp.RoutingModel(manager)
+        number = routing.RegisterTransitMatrix(array([array([0, 2, 3]), array([2, 0, 4]), array([3, 4, 0])]))
+        routing.SetArcCostEvaluatorOfAllVehicles(number)
+        routing.AddVectorDimension(array([0, 1, 1]), 9, True, "load")
+        model = routing.to_model()
+        self.assertEqual(model.matrices[0], ((0, 2, 3), (2, 0, 4), (3, 4, 0)))
+        matrices = array([array([array(row) for row in matrix]) for matrix in model.matrices])
+        self.assertEqual(replace(model, matrices=matrices), model)
+        self.assertEqual(complete(model, array([array([2]), array([])])).cost, 6)
+
+
+def array(values: Any) -> Any:
+    """An array of another library, which no type of Python's own says."""
+    return Array(values)
+
+
+class Array:
+    """What a list looks like in another library: it has a length, entries and `tolist`, and is no sequence."""
+
+    def __init__(self, values: Any) -> None:
+        self._values = list(values)
+
+    def __len__(self) -> int:
+        return len(self._values)
+
+    def __getitem__(self, place: Any) -> Any:
+        return self._values[place]
+
+    def __bool__(self) -> bool:
+        raise ValueError("the truth value of an array is ambiguous")
+
+    def tolist(self) -> Any:
+        return [value.tolist() if isinstance(value, Array) else value for value in self._values]
 
 
 if __name__ == "__main__":

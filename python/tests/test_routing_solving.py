@@ -41,6 +41,10 @@ class ParameterTests(RoutingTest):
         self.assertEqual(parameters.time_limit.total(), 3.5)
         parameters.time_limit.FromMilliseconds(1250)
         self.assertEqual(parameters.time_limit.total(), 1.25)
+        other = pywrapcp.DefaultRoutingSearchParameters()
+        other.CopyFrom(parameters)
+        self.assertEqual((other.time_limit.total(), other.local_search_metaheuristic.name), (1.25, "TABU_SEARCH"))
+        parameters.lns_time_limit.seconds = 2
         parameters.time_limit.FromSeconds(0)
         self.assertIsNone(parameters.time_limit.total())
         self.assertEqual((strategies.Value("SAVINGS"), strategies.Name(10)), (10, "SAVINGS"))
@@ -60,13 +64,15 @@ class ParameterTests(RoutingTest):
         self.unsupported("GENERIC_TABU", setting("local_search_metaheuristic", heuristics.GENERIC_TABU_SEARCH))
         self.unsupported("lns_time_limit", setting("lns_time_limit", 1))
         self.unsupported("local_search_operators", lambda: parameters.local_search_operators)
-        self.unsupported("use_cp_sat", setting("use_cp_sat", True))
         self.unsupported("time_limit", setting("time_limit", 3))
-        self.unsupported("solution_limit", setting("solution_limit", 1.5))
+        for limit in (1.5, 0, -1):
+            self.unsupported("solution_limit", setting("solution_limit", limit))
+        self.unsupported("tries", setting("tries", -1))
         self.unsupported("lambda", setting("guided_local_search_lambda_coefficient", 0.1234567))
         self.unsupported("lambda", setting("guided_local_search_lambda_coefficient", 0))
         self.unsupported("Duration", lambda: setattr(parameters.time_limit, "minutes", 3))
         self.unsupported("Duration", lambda: setattr(parameters.time_limit, "seconds", 0.5))
+        self.unsupported("Duration.seconds = -1", lambda: parameters.time_limit.FromSeconds(-1))
         parameters.tries = 10
         parameters.time_limit.seconds = 1
         self.unsupported("tries", parameters.search)
@@ -80,9 +86,10 @@ class SolvingTests(RoutingTest):
         time.SetSpanCostCoefficientForAllVehicles(1)
         time.CumulVar(manager.NodeToIndex(2)).SetRange(50, 60)
         start, end = (time.CumulVar(index) for index in (routing.Start(0), routing.End(0)))
+        late = routing.Solve()
+        routing.schedule = ScheduleRule.EARLIEST
         early = routing.Solve()
         routing.schedule = ScheduleRule.TIGHT
-        late = routing.Solve()
         self.assertEqual((early.model.format, late.model.format), (1, 2))
         self.assertEqual([vehicle.schedule for vehicle in late.model.vehicles], [ScheduleRule.TIGHT])
         for found in (early, late):
@@ -90,7 +97,7 @@ class SolvingTests(RoutingTest):
         self.assertEqual(late.Value(end) - late.Value(start), late.solution.parts.arcs)
         self.assertLess(late.ObjectiveValue(), early.ObjectiveValue())
         self.assertEqual((late.Min(start), late.Max(start)), (late.Value(start),) * 2)
-        again = routing.ReadAssignmentFromRoutes([[manager.NodeToIndex(node) for node in late.solution.lists()[0]]], True)
+        again = routing.ReadAssignmentFromRoutes([manager.NodesToIndices(late.solution.lists()[0])], True)
         self.assertEqual(again.ObjectiveValue(), late.ObjectiveValue())
 
     def test_what_is_read_of_a_solution(self) -> None:
@@ -234,9 +241,11 @@ class RefusalTests(RoutingTest):
     def test_names_are_refused_one_by_one(self) -> None:
         manager, routing, number = made()
         routing.AddDimension(number, 0, 100, True, "way")
+        way = routing.GetDimensionOrDie("way")
         owners = {
-            "Assignment": routing.Solve(), "IntVar": routing.NextVar(1), "RoutingModel": routing,
-            "RoutingDimension": routing.GetDimensionOrDie("way"), "pywrapcp": pywrapcp, "Solver": routing.solver(),
+            "Assignment": routing.Solve(), "NextVar": routing.NextVar(1), "ActiveVar": routing.ActiveVar(1),
+            "CumulVar": way.CumulVar(1), "SlackVar": way.SlackVar(1), "RoutingModel": routing,
+            "RoutingDimension": way, "pywrapcp": pywrapcp, "Solver": routing.solver(),
             "RoutingSearchParameters": pywrapcp.DefaultRoutingSearchParameters(),
         }
         for full in WHY:

@@ -31,11 +31,11 @@ routes-at : (routes : List (List ℕ)) → map (route routes) (below (length rou
 routes-at routes = routes-taken routes (length routes) (omega arith) ∙ take_all (length routes) routes (omega arith)
 
 -- the joins of a route with each
-abbrev row : List (List ℕ) → List ℕ → List Join
+abbrev pub row : List (List ℕ) → List ℕ → List Join
 row routes front = map (λ back. record { front = front; back = back }) routes
 
 module _ (model : Model) (routes : List (List ℕ)) where
-  abbrev IsBestJoin : Option JoinChoice → List Join → Type 0
+  abbrev pub IsBestJoin : Option JoinChoice → List Join → Type 0
   IsBestJoin = IsBest (join_of routes) (join_key model) saving_key (may_join model) (MayBeJoined model routes)
 
   abbrev Known : JoinChoice → Type 0
@@ -60,7 +60,7 @@ module _ (model : Model) (routes : List (List ℕ)) where
       ∙ sym (map-map (λ back. record { front = route routes i; back = back }) (route routes) (below (length routes)))
       ∙ ap (map (λ back. record { front = route routes i; back = back })) (routes-at routes)
 
-  best-row : (i : ℕ) → i < length routes → (best : Option JoinChoice) (xs : List Join) → IsBestJoin best xs → IsBestJoin (best_behind model routes i (length routes) best) (xs ++ row routes (route routes i))
+  pub best-row : (i : ℕ) → i < length routes → (best : Option JoinChoice) (xs : List Join) → IsBestJoin best xs → IsBestJoin (best_behind model routes i (length routes) best) (xs ++ row routes (route routes i))
   best-row i low best xs before =
       subst (λ ys. IsBestJoin (best_behind model routes i (length routes) best) (xs ++ ys)) (same-row i)
       (IsBest-fold (join_of routes) (join_key model) saving_key (may_join model) (MayBeJoined model routes) (λ choice. may_join model (join_of routes choice))

@@ -33,8 +33,8 @@ fn ends_between(closed: Closed<'_>, last: u32, first: u32) -> EndsOfRoute
     }
 }
 
-// The ends of route `i`.
-fn ends_at(closed: Closed<'_>, routes: &[Seq<u32>], i: usize) -> EndsOfRoute
+/// The ends of route `i`.
+pub(crate) fn ends_at(closed: Closed<'_>, routes: &[Seq<u32>], i: usize) -> EndsOfRoute
     requires apart { AreApart closed.model.now routes.now }
     requires within { i < length routes.now }
     ensures { result ≡ ends_of closed.entry.model.now (route routes.now i) }

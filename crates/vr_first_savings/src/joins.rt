@@ -1,17 +1,24 @@
 //! The best join of two routes.
+//!
+//! Of each route, in front, a bound is kept on what its joins save. Most rows of joins are passed over by it: after a
+//! join only the bounds of routes that would save more with the joined route are raised. Invariant: no join that may be
+//! made saves more than the bound of its route in front.
 
-ghost use Rattle.std.specs.Prelude.{◌≡◌, ◌<◌, ◌++◌, ◌^◌, ℕ, All, IfOk, IfSome, List, option_map, length, map};
-ghost use Rattle.std.specs.Prelude.{neg_ℤ, pos, ◌≤ℤ◌, ◌+ℤ◌, ◌-ℤ◌};
+ghost use Rattle.std.specs.Prelude.{◌≡◌, ◌<◌, ◌++◌, ◌^◌, ℕ, All, IfOk, IfSome, OnOk, List, None, option_map, length};
+ghost use Rattle.std.specs.Prelude.{map, neg_ℤ, pos, ◌≤ℤ◌, ◌+ℤ◌, ◌-ℤ◌, set};
+ghost use Rattle.std.specs.Int.{int_max};
+ghost use Rattle.vr_model.specs.tables.Numbers.{number_at};
 ghost use Rattle.vr_model.specs.first.Choosing.{least_by};
 ghost use Rattle.vr_model.specs.routes.Routes.{route};
 ghost use Rattle.vr_model.specs.first.SavingsJoins.{join_key, joins};
 ghost use Rattle.vr_model.specs.tables.Tables.{arc_cost};
 ghost use Rattle.vr_first_savings.specs.Joins.{best_behind as best_behind_of, choice_at as choice_at_of, join_of};
 ghost use Rattle.vr_first_savings.specs.Joins.{weigh_join, AreApart, MayBeJoined};
+ghost use Rattle.vr_first_savings.specs.Bounds.{may_improve, AreBounds, AreRaised, IsBound};
 ghost use Rattle.vr_first_savings.specs.RouteEnds.{ends_of, AreRouteEnds};
 
 use crate::choice::{JoinChoice, improves};
-use crate::ends::{EndsOfRoute, ends_of_each};
+use crate::ends::{EndsOfRoute, ends_at, ends_of_each};
 use std::alloc::Global;
 use vr_model::{Closed, NoMemory, Seq};
 use vr_plan::Lookups;
@@ -96,23 +103,36 @@ fn consider(
     }
 }
 
-// The better of the best so far and the joins of route `i`, in front, with each route behind it.
+// The routes of a step, and the ends of each.
+#[derive(Clone, Copy)]
+struct Step<'r, 'e> {
+    routes: &'r [Seq<u32>],
+    ends: &'e [EndsOfRoute],
+}
+
+// The best beside the joins of a route, in front, and a bound on what these save.
+#[derive(Clone, Copy)]
+struct Weighed {
+    best: Option<JoinChoice>,
+    bound: i64,
+}
+
+// The best of the joins of route `i`, in front, with each route behind it.
 fn best_behind(
     alloc: Global,
     lookups: &Lookups<'_>,
-    routes: &[Seq<u32>],
-    ends: &[EndsOfRoute],
+    step: Step<'_, '_>,
     i: usize,
-    best: Option<JoinChoice>,
     driving: &mut Driving,
 ) -> Result<Option<JoinChoice>, NoMemory>
-    requires apart { AreApart lookups.now.closed.model.now routes.now }
-    requires ends { ends.now ≡ map (ends_of lookups.now.closed.model.now) routes.now }
-    requires front { i < length routes.now }
-    ensures { IfOk result
-        (λ chosen. chosen ≡ best_behind_of lookups.now.closed.model.now routes.now i (length routes.now) best) }
+    requires apart { AreApart lookups.now.closed.model.now step.routes.now }
+    requires ends { step.ends.now ≡ map (ends_of lookups.now.closed.model.now) step.routes.now }
+    requires front { i < length step.routes.now }
+    ensures { IfOk result (λ best. best ≡ best_behind_of lookups.now.closed.model.now step.entry.routes.now i
+        (length step.entry.routes.now) None) }
 {
-    let mut best = best;
+    let (routes, ends) = (step.routes, step.ends);
+    let mut best = None;
     for j in 0..routes.len() {
         let next = choice_at(lookups.closed, ends, i, j);
         best = consider(alloc, lookups, routes, next, best, driving)?;
@@ -120,22 +140,107 @@ fn best_behind(
     Ok(best)
 }
 
-/// The best join of two routes, whatever it saves, if any may be joined.
+// Whether joins that save no more than the bound may be better than the best so far.
+fn may_improve(best: Option<JoinChoice>, bound: i64) -> bool
+    ensures { result ≡ may_improve best bound }
+{
+    match best {
+        Some(best) => best.saving <= bound,
+        None => true,
+    }
+}
+
+// The better of the best so far and the joins of route `i`, in front, with a bound on what these save. They are gone
+// over only where the bound so far lets one of them be better; then the bound is what the best of them saves.
+fn weigh_row(
+    alloc: Global,
+    lookups: &Lookups<'_>,
+    step: Step<'_, '_>,
+    i: usize,
+    best: Option<JoinChoice>,
+    bound: i64,
+    driving: &mut Driving,
+) -> Result<Weighed, NoMemory>
+    requires apart { AreApart lookups.now.closed.model.now step.routes.now }
+    requires ends { step.ends.now ≡ map (ends_of lookups.now.closed.model.now) step.routes.now }
+    requires front { i < length step.routes.now }
+    requires bound { IsBound lookups.now.closed.model.now step.routes.now (route step.routes.now i) bound }
+    ensures best { IfOk result (λ row. row.best ≡ best_behind_of lookups.now.closed.model.now step.entry.routes.now i
+        (length step.entry.routes.now) best) }
+    ensures bound { IfOk result (λ row. IsBound lookups.now.closed.model.now step.entry.routes.now
+        (route step.entry.routes.now i) row.bound) }
+{
+    if !may_improve(best, bound) {
+        return Ok(Weighed { best, bound });
+    }
+    let found = best_behind(alloc, lookups, step, i, driving)?;
+    let Some(next) = found else {
+        return Ok(Weighed { best, bound: 0 });
+    };
+    let bound = next.saving;
+    if improves(best, next) {
+        Ok(Weighed { best: found, bound })
+    } else {
+        Ok(Weighed { best, bound })
+    }
+}
+
+/// The best join of two routes, whatever it saves, if any may be joined. The bounds, of each route in front by its
+/// first node, are told anew of the routes whose joins are gone over.
 pub(crate) fn best_join(
     alloc: Global,
     lookups: &Lookups<'_>,
     routes: &[Seq<u32>],
+    bounds: &mut [i64],
     driving: &mut Driving,
 ) -> Result<Option<JoinChoice>, NoMemory>
     requires apart { AreApart lookups.now.closed.model.now routes.now }
+    requires number { length bounds.old ≡ lookups.now.closed.model.now.nodes }
+    requires bounds { AreBounds lookups.now.closed.model.now routes.now bounds.old }
     ensures best { IfOk result (λ best. option_map (join_of routes.now) best
         ≡ least_by (join_key lookups.now.closed.model.now) (joins lookups.now.closed.model.now routes.now)) }
     ensures may { IfOk result (λ best. IfSome best (MayBeJoined lookups.now.closed.model.now routes.now)) }
+    ensures number { OnOk result (length bounds.new ≡ length bounds.old) }
+    ensures bounds { OnOk result (AreBounds lookups.now.closed.model.now routes.now bounds.new) }
 {
     let ends = ends_of_each(alloc, lookups.closed, routes)?;
     let mut best: Option<JoinChoice> = None;
     for i in 0..routes.len() {
-        best = best_behind(alloc, lookups, routes, &ends, i, best, driving)?;
+        let first = ends[i].first as usize;
+        let step = Step {
+            routes,
+            ends: &ends,
+        };
+        let row = weigh_row(alloc, lookups, step, i, best, bounds[first], driving)?;
+        bounds[first] = row.bound;
+        best = row.best;
     }
     Ok(best)
+}
+
+/// A bound on what any join saves, as long as nothing more is known.
+pub(crate) const UNKNOWN: i64 = 2_199_023_255_552;
+
+/// Raises bounds, so that they hold of the first route too, which was joined: of each route in front of it by what that
+/// join saves. Of the first route in front nothing is known.
+pub(crate) fn raise(closed: Closed<'_>, routes: &[Seq<u32>], bounds: &mut [i64])
+    requires apart { AreApart closed.model.now routes.now }
+    requires some { 0 < length routes.now }
+    requires number { length bounds.old ≡ closed.model.now.nodes }
+    ensures { AreRaised closed.entry.model.now routes.now bounds.old bounds.new }
+{
+    let joined = ends_at(closed, routes, 0);
+    for i in 0..routes.len() {
+        let front = ends_at(closed, routes, i);
+        raise_to(bounds, front.first as usize, saved(closed, front, joined));
+    }
+    raise_to(bounds, joined.first as usize, UNKNOWN);
+}
+
+// Raises a bound to a number where it is less.
+fn raise_to(bounds: &mut [i64], k: usize, least: i64)
+    requires { k < length bounds.old }
+    ensures { bounds.new ≡ set bounds.old k (int_max (number_at bounds.old k) least) }
+{
+    bounds[k] = bounds[k].max(least);
 }

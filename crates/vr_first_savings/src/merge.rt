@@ -6,9 +6,10 @@ ghost use Rattle.vr_model.specs.first.Items.{first_node};
 ghost use Rattle.vr_model.specs.routes.Routes.{route};
 ghost use Rattle.vr_model.specs.first.SavingsJoins.{after_join as joined_by, merged as merged_of};
 ghost use Rattle.vr_first_savings.specs.Joins.{join_of, AreApart};
+ghost use Rattle.vr_first_savings.specs.Bounds.{AreBounds};
 
 use crate::choice::JoinChoice;
-use crate::joins::{best_join, joined};
+use crate::joins::{UNKNOWN, best_join, joined, raise};
 use std::alloc::Global;
 use vr_model::{Model, NoMemory, Seq};
 use vr_plan::Lookups;
@@ -68,8 +69,40 @@ fn is_wanted(model: &Model, routes: usize, choice: JoinChoice) -> bool
     0 < choice.saving || model.vehicles.len() < routes
 }
 
-/// Joins routes as long as the best join saves, or there are more routes than vehicles. Each join leaves one route
-/// less, so as many steps as there are routes are enough.
+// Joins routes as long as the best join saves, or there are more routes than vehicles. Each join leaves one route less,
+// so as many steps as there are routes are enough.
+fn merge_all(
+    alloc: Global,
+    lookups: &Lookups<'_>,
+    routes: Vec<Seq<u32>>,
+    bounds: &mut [i64],
+    driving: &mut Driving,
+) -> Result<Vec<Seq<u32>>, NoMemory>
+    requires apart { AreApart lookups.now.closed.model.now routes.items }
+    requires number { length bounds.old ≡ lookups.now.closed.model.now.nodes }
+    requires bounds { AreBounds lookups.now.closed.model.now routes.items bounds.old }
+    ensures merged { IfOk result
+        (λ after. after.items ≡ merged_of lookups.now.closed.model.now (length routes.items) routes.items) }
+    ensures apart { IfOk result (λ after. AreApart lookups.now.closed.model.now after.items) }
+{
+    let mut routes = routes;
+    for _step in 0..routes.len() {
+        match best_join(alloc, lookups, &routes, bounds, driving)? {
+            Some(choice) => {
+                if !is_wanted(lookups.closed.model, routes.len(), choice) {
+                    return Ok(routes);
+                }
+                routes = join(alloc, &routes, choice)?;
+                raise(lookups.closed, &routes, bounds);
+            }
+            None => return Ok(routes),
+        }
+    }
+    Ok(routes)
+}
+
+/// The routes that are left where all joins are made that are wanted. The room for bounds is lent, so that there is
+/// less to let go where memory is wanting.
 pub(crate) fn merged(
     alloc: Global,
     lookups: &Lookups<'_>,
@@ -81,17 +114,6 @@ pub(crate) fn merged(
         (λ after. after.items ≡ merged_of lookups.now.closed.model.now (length routes.items) routes.items) }
     ensures apart { IfOk result (λ after. AreApart lookups.now.closed.model.now after.items) }
 {
-    let mut routes = routes;
-    for _step in 0..routes.len() {
-        match best_join(alloc, lookups, &routes, driving)? {
-            Some(choice) => {
-                if !is_wanted(lookups.closed.model, routes.len(), choice) {
-                    return Ok(routes);
-                }
-                routes = join(alloc, &routes, choice)?;
-            }
-            None => return Ok(routes),
-        }
-    }
-    Ok(routes)
+    let mut bounds = vec![in alloc; UNKNOWN; lookups.closed.model.nodes as usize]?;
+    merge_all(alloc, lookups, routes, &mut bounds, driving)
 }

@@ -10,5 +10,5 @@ mod draws;
 pub mod laws;
 mod trees;
 
-pub use draws::{Customer, Site};
+pub use draws::{Customer, Site, draw, words_of};
 pub use trees::generate;

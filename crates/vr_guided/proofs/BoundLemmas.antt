@@ -1,5 +1,5 @@
 -- Augmented costs are bounded.
-use Rattle.std.proofs.Common.{◌≡◌, ℕ, zero, suc, ◌+◌, ◌*◌, ◌^◌, ◌-◌, ◌<◌, List, [], ◌∷◌, ◌++◌, length, take, drop, inr, refl, sym, ap, subst, arith}
+use Rattle.std.proofs.Common.{◌≡◌, ℕ, zero, suc, ◌+◌, ◌*◌, ◌^◌, ◌-◌, ◌<◌, ◌≤◌, List, [], ◌∷◌, ◌++◌, length, take, drop, inr, refl, sym, ap, subst, arith}
 use Rattle.std.specs.Prelude.{ℤ, pos, ◌+ℤ◌, ◌-ℤ◌, ◌*ℤ◌, ◌≤ℤ◌, IsTrue, All, slice_range}
 use Rattle.std.proofs.lemmas.Int.{ints}
 use Rattle.std.proofs.lemmas.List.{length-append}
@@ -21,7 +21,7 @@ use Rattle.vr_guided.specs.Bounding.{AugmentedCostsAreBounded}
 use Rattle.vr_guided.specs.Counts.{AtMost}
 use Rattle.vr_guided.specs.Walks.{route_weight, stretch_weight, unused_weight, arc_weight}
 use Rattle.vr_balance.specs.Sums.{last_of}
-use Rattle.vr_guided.proofs.PartLemmas.{bare, part_value, sums, used}
+use Rattle.vr_guided.proofs.PartLemmas.{bare, middle_value, sums, used}
 use Rattle.vr_routes.proofs.JoinedPieces.{all_left, all_right}
 use Rattle.vr_guided.proofs.WalkLemmas.{all_push}
 
@@ -108,7 +108,7 @@ module _ (model : Model) (well : IsWellFormed model) (p : Penalties) (few : AtMo
       (path-up_to model well p few v (last_of start front) (middle ++ next ∷ []) known from (all_push (λ node. node < model.nodes) middle next (all_left (λ node. node < model.nodes) middle rest behind) to)).at_least
 
   -- nor does it without the arc that a vehicle without visits does not take
-  whole_low : (front middle rest others : List ℕ) (next : ℕ) → rest ++ end ∷ [] ≡ next ∷ others → Below (front ++ (middle ++ rest))
+  pub whole_low : (front middle rest others : List ℕ) (next : ℕ) → rest ++ end ∷ [] ≡ next ∷ others → Below (front ++ (middle ++ rest))
       → pos 0 ≤ℤ (stretch_weight model p v (last_of start front) middle next -ℤ unused_weight model p v (length (front ++ (middle ++ rest))))
   whole_low [] [] [] others next e each =
       less_itself _ _ (arc_weight model p (record { vehicle = v; origin = start; target = end }))
@@ -117,7 +117,7 @@ module _ (model : Model) (well : IsWellFormed model) (p : Penalties) (few : AtMo
   whole_low [] (x ∷ xs) rest others next e each = less_nothing _ _ (stretch_low [] (x ∷ xs) rest others next e each) (used model p v (length ((x ∷ xs) ++ rest)) (omega arith))
   whole_low [] [] (x ∷ xs) others next e each = less_nothing _ _ (stretch_low [] [] (x ∷ xs) others next e each) (used model p v (length (x ∷ xs)) (omega arith))
 
-  unused_low : (len : ℕ) → pos 0 ≤ℤ unused_weight model p v len
+  pub unused_low : (len : ℕ) → pos 0 ≤ℤ unused_weight model p v len
   unused_low zero = let vehicle = well.each_vehicle v no_vehicle known in (weight-up_to model well p few v start end known vehicle.start_in_range vehicle.end_in_range).at_least
   unused_low (suc n) = subst (λ z. pos 0 ≤ℤ z) (sym (used model p v (suc n) (omega arith))) (omega (arith, ints))
 
@@ -125,19 +125,23 @@ module _ (model : Model) (well : IsWellFormed model) (p : Penalties) (few : AtMo
   pub whole_most : (list : List ℕ) → route_weight model p v list ≤ℤ stretch_weight model p v start list end
   whole_most list = let is = bare model p v list in let none = unused_low (length list) in omega (arith, ints, is, none)
 
-  -- other pieces take no more than what the arcs of the changed stretch add
+  -- what stands in the place of a stretch takes no more than what its arcs add
+  pub middle_saved : (list middle : List ℕ) (front behind next : ℕ) (others : List ℕ) → front ≤ behind → drop behind list ++ end ∷ [] ≡ next ∷ others → Below (take front list ++ (middle ++ drop behind list))
+      → (route_weight model p v list -ℤ route_weight model p v (take front list ++ (middle ++ drop behind list))) ≤ℤ stretch_weight model p v (last_of start (take front list)) (slice_range list front behind) next
+  middle_saved list middle front behind next others order e each =
+      let value = middle_value model p v list middle front behind next others order e in
+      let low = whole_low (take front list) middle (drop behind list) others next e each in
+      let none = unused_low (length list) in
+      omega (arith, ints, value, low, none)
+
+  -- so do other pieces
   pub part_saved : (lists : List (List ℕ)) (pieces middle : List Piece) (front behind next : ℕ) (others : List ℕ) → IsSplice lists v pieces front behind middle → drop behind (route lists v) ++ end ∷ [] ≡ next ∷ others
       → Below (joined lists pieces)
       → (route_weight model p v (route lists v) -ℤ route_weight model p v (joined lists pieces))
       ≤ℤ stretch_weight model p v (last_of start (take front (route lists v))) (slice_range (route lists v) front behind) next
   part_saved lists pieces middle front behind next others ends e each =
-      let list : List ℕ = route lists v in
-      let value = part_value model p v lists pieces middle front behind next others ends e in
-      let all = subst Below ends.joins each in
-      let low = whole_low (take front list) (joined lists middle) (drop behind list) others next e all in
-      let same = ap (λ xs. unused_weight model p v (length xs)) ends.joins in
-      let none = unused_low (length list) in
-      omega (arith, ints, value, low, same, none)
+      subst (λ xs. (route_weight model p v (route lists v) -ℤ route_weight model p v xs) ≤ℤ stretch_weight model p v (last_of start (take front (route lists v))) (slice_range (route lists v) front behind) next)
+      (sym ends.joins) (middle_saved (route lists v) (joined lists middle) front behind next others ends.order e (subst Below ends.joins each))
 
 -- a sum of the two parts
 sum-up_to : (x y : ℤ) → IsUpTo (1000 * (2 ^ 63 - 1)) x → IsUpTo (1000 * (1100 * most)) y → IsUpTo (2 ^ 100) (x +ℤ y)

@@ -21,3 +21,5 @@ pub mod SavingLemmas
 pub mod SpareLemmas
 pub mod GuidedStay
 pub mod StandLemmas
+pub mod RunLemmas
+pub mod CrossLemmas

@@ -57,20 +57,30 @@ module _ (model : Model) (p : Penalties) (v : ℕ) where
   joins_end front middle rest others next e = append_assoc front (middle ++ rest) (end ∷ []) ∙ ap (λ xs. front ++ xs) (append_assoc middle rest (end ∷ []) ∙ ap (λ xs. middle ++ xs) e)
 
   -- only the changed stretch counts
+  pub middle_value : (list middle : List ℕ) (front behind next : ℕ) (others : List ℕ) → front ≤ behind → drop behind list ++ end ∷ [] ≡ next ∷ others
+      → route_weight model p v (take front list ++ (middle ++ drop behind list)) -ℤ route_weight model p v list
+      ≡ (stretch_weight model p v (last_of start (take front list)) middle next -ℤ unused_weight model p v (length (take front list ++ (middle ++ drop behind list))))
+      -ℤ (stretch_weight model p v (last_of start (take front list)) (slice_range list front behind) next -ℤ unused_weight model p v (length list))
+  middle_value list middle front behind next others order e =
+      let new : List ℕ = take front list ++ (middle ++ drop behind list) in
+      let w = arc_weight model p in
+      let after : along (arc_weight model p) v start (new ++ end ∷ []) ≡ along (arc_weight model p) v start (take front list ++ (middle ++ next ∷ others))
+      = ap (along (arc_weight model p) v start) (joins_end (take front list) middle (drop behind list) others next e) in
+      let before : along (arc_weight model p) v start (list ++ end ∷ []) ≡ along (arc_weight model p) v start (take front list ++ (slice_range list front behind ++ next ∷ others))
+      = ap (along (arc_weight model p) v start) (ap (λ xs. xs ++ end ∷ []) (three list front behind order) ∙ joins_end (take front list) (slice_range list front behind) (drop behind list) others next e) in
+      let local = local_change (arc_weight model p) v start next (take front list) (slice_range list front behind) middle others in
+      omega (arith, ints, bare new, bare list, after, before, local)
+
+  -- of pieces too
   pub part_value : (lists : List (List ℕ)) (pieces middle : List Piece) (front behind next : ℕ) (others : List ℕ) → IsSplice lists v pieces front behind middle → drop behind (route lists v) ++ end ∷ [] ≡ next ∷ others
       → route_weight model p v (joined lists pieces) -ℤ route_weight model p v (route lists v)
       ≡ (stretch_weight model p v (last_of start (take front (route lists v))) (joined lists middle) next -ℤ unused_weight model p v (length (joined lists pieces)))
       -ℤ (stretch_weight model p v (last_of start (take front (route lists v))) (slice_range (route lists v) front behind) next -ℤ unused_weight model p v (length (route lists v)))
   part_value lists pieces middle front behind next others ends e =
-      let list : List ℕ = route lists v in
-      let new : List ℕ = joined lists pieces in
-      let w = arc_weight model p in
-      let after : along (arc_weight model p) v start (new ++ end ∷ []) ≡ along (arc_weight model p) v start (take front list ++ (joined lists middle ++ next ∷ others))
-      = ap (along (arc_weight model p) v start) (ap (λ xs. xs ++ end ∷ []) ends.joins ∙ joins_end (take front list) (joined lists middle) (drop behind list) others next e) in
-      let before : along (arc_weight model p) v start (list ++ end ∷ []) ≡ along (arc_weight model p) v start (take front list ++ (slice_range list front behind ++ next ∷ others))
-      = ap (along (arc_weight model p) v start) (ap (λ xs. xs ++ end ∷ []) (three list front behind ends.order) ∙ joins_end (take front list) (slice_range list front behind) (drop behind list) others next e) in
-      let local = local_change (arc_weight model p) v start next (take front list) (slice_range list front behind) (joined lists middle) others in
-      omega (arith, ints, bare new, bare list, after, before, local)
+      subst (λ xs. route_weight model p v xs -ℤ route_weight model p v (route lists v)
+      ≡ (stretch_weight model p v (last_of start (take front (route lists v))) (joined lists middle) next -ℤ unused_weight model p v (length xs))
+      -ℤ (stretch_weight model p v (last_of start (take front (route lists v))) (slice_range (route lists v) front behind) next -ℤ unused_weight model p v (length (route lists v))))
+      (sym ends.joins) (middle_value (route lists v) (joined lists middle) front behind next others ends.order e)
 
 -- the lengths of the three parts of the new list
 pub new_length : (lists : List (List ℕ)) (v : ℕ) (pieces middle : List Piece) (front behind : ℕ) → IsSplice lists v pieces front behind middle → length (joined lists pieces) ≡ front + length (joined lists middle) + (length (route lists v) - behind)

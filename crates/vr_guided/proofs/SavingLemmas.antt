@@ -23,7 +23,7 @@ use Rattle.vr_known.proofs.TouchedLemmas.{SameBut, changed_have_lists, unchanged
 use Rattle.vr_descent.specs.Scanned.{IsEnough, IsPassedOver}
 use Rattle.vr_guided.specs.Counts.{AtMost}
 use Rattle.vr_guided.specs.Guides.{is_gain, makes_less, penalised_change}
-use Rattle.vr_guided.specs.Savings.{touched_weight}
+use Rattle.vr_guided.specs.Savings.{touched_weight, SavesAtMost}
 use Rattle.vr_guided.specs.Walks.{route_weight}
 use Rattle.vr_guided.proofs.BoundLemmas.{route-up_to}
 use Rattle.vr_guided.proofs.GuideLemmas.{none_saved, passed_over}
@@ -111,18 +111,16 @@ module _ (model : Model) (well : IsWellFormed model) (p : Penalties) (few : AtMo
       let low = changed_have_lists model lists mv h both told in
       touched_most lists (apply model lists mv) are (moves_keep_lists model well lists mv are h) both low.0 low.1 (unchanged_kept model lists (all_once model lists are) mv h both told)
 
-  -- so it is not taken where so much is no gain with the least difference that it may make
-  never_a_gain : (lambda : Lambda) → pos 1 ≤ℤ lambda.p → pos 1 ≤ℤ lambda.q → (lists : List (List ℕ)) → IsTrue (is_valid model lists) → (mv : Move) → IsTrue (is_move model lists mv)
-      → (both : Touched) → AreFound model lists mv (Some both) → (saved : ℤ) → touched_weight model p lists both ≤ℤ saved
-      → (least : ℤ) → is_gain lambda least (pos 0 -ℤ saved) ≡ false → IsPassedOver model (makes_less model lambda p) lists mv least
-  never_a_gain lambda p_some q_some lists valid mv h both told saved most least none after low =
-      let change = penalised_change model p lists mv in
-      let within = saved_most lists valid mv h both told in
-      let no_more = no_less (penalised model p lists) (penalised model p (apply model lists mv)) (touched_weight model p lists both) saved within most in
-      passed_over model lambda p lists mv least q_some (none_saved lambda least change saved p_some none no_more) low
-    where
-      no_less : (before after weight saved : ℤ) → (before -ℤ after) ≤ℤ weight → weight ≤ℤ saved → pos 0 ≤ℤ ((after -ℤ before) +ℤ saved)
-      no_less before after weight saved within most = omega (arith, ints, within, most)
+-- a move is not taken where so much is no gain with the least difference that it may make
+never_a_gain : (model : Model) (p : Penalties) (lambda : Lambda) → pos 1 ≤ℤ lambda.p → pos 1 ≤ℤ lambda.q → (lists : List (List ℕ)) (mv : Move) (saved : ℤ) → (penalised model p lists -ℤ penalised model p (apply model lists mv)) ≤ℤ saved
+    → (least : ℤ) → is_gain lambda least (pos 0 -ℤ saved) ≡ false → IsPassedOver model (makes_less model lambda p) lists mv least
+never_a_gain model p lambda p_some q_some lists mv saved most least none after low =
+    let change = penalised_change model p lists mv in
+    let no_more = no_less (penalised model p lists) (penalised model p (apply model lists mv)) saved most in
+    passed_over model lambda p lists mv least q_some (none_saved lambda least change saved p_some none no_more) low
+  where
+    no_less : (before after saved : ℤ) → (before -ℤ after) ≤ℤ saved → pos 0 ≤ℤ ((after -ℤ before) +ℤ saved)
+    no_less before after saved most = omega (arith, ints, most)
 
 -- moves that differ in their last number change the lists of the same vehicles
 same_changed : (model : Model) (lists : List (List ℕ)) (mv : Move) (k : ℕ) (both : Touched) → AreFound model lists mv (Some both) → AreFound model lists (with_last mv k) (Some both)
@@ -138,10 +136,16 @@ same_changed model lists (MakeActive u w t) k both told = told
 same_changed model lists (MakeInactive v a) k both told = told
 same_changed model lists (SwapActive v a u) k both told = told
 
--- what is no gain with all that the arcs of two vehicles add is enough for the moves that change their lists
-pub enough_for_run : (model : Model) → IsWellFormed model → (p : Penalties) → AtMost 1000000000 p → (lambda : Lambda) → pos 1 ≤ℤ lambda.p → pos 1 ≤ℤ lambda.q
-    → (lists : List (List ℕ)) → IsTrue (is_valid model lists) → (mv : Move) (both : Touched) → AreFound model lists mv (Some both) → (saved : ℤ) → touched_weight model p lists both ≤ℤ saved
+-- what the arcs of two vehicles add is enough for all moves of a run that changes their lists
+pub run_saved : (model : Model) → IsWellFormed model → (p : Penalties) → AtMost 1000000000 p → (lists : List (List ℕ)) → IsTrue (is_valid model lists) → (mv : Move) (both : Touched) → AreFound model lists mv (Some both)
+    → (saved : ℤ) → touched_weight model p lists both ≤ℤ saved → SavesAtMost model p lists mv saved
+run_saved model well p few lists valid mv both told saved most k one =
+    let within = saved_most model well p few lists valid (with_last mv k) one both (same_changed model lists mv k both told) in
+    omega (arith, ints, within, most)
+
+-- what is no gain with the most that a run saves is enough for its moves
+pub enough_for_run : (model : Model) (p : Penalties) (lambda : Lambda) → pos 1 ≤ℤ lambda.p → pos 1 ≤ℤ lambda.q → (lists : List (List ℕ)) (mv : Move) (saved : ℤ) → SavesAtMost model p lists mv saved
     → (enough : Option ℤ) → IfSome enough (λ e. is_gain lambda e (pos 0 -ℤ saved) ≡ false) → IfSome enough (IsEnough model (makes_less model lambda p) lists mv)
-enough_for_run model well p few lambda p_some q_some lists valid mv both told saved most None none = cc
-enough_for_run model well p few lambda p_some q_some lists valid mv both told saved most (Some enough) none = λ k one.
-    never_a_gain model well p few lambda p_some q_some lists valid (with_last mv k) one both (same_changed model lists mv k both told) saved most enough none
+enough_for_run model p lambda p_some q_some lists mv saved most None none = cc
+enough_for_run model p lambda p_some q_some lists mv saved most (Some enough) none = λ k one.
+    never_a_gain model p lambda p_some q_some lists (with_last mv k) saved (most k one) enough none

@@ -1,9 +1,10 @@
 -- Sums along the lists of vehicles.
 use Rattle.std.proofs.Common.{◌≡◌, ◌∙◌, ◌⊎◌, inl, inr, ℕ, zero, suc, ◌+◌, ◌-◌, ◌*◌, ◌^◌, ◌<◌, ◌≤◌, List, [], ◌∷◌, ◌++◌, length, take, drop, refl, sym, ap, subst, arith, length-append, append_assoc, to_z, of_z}
-use Rattle.std.specs.Int.{w128}
-use Rattle.std.specs.Prelude.{ℤ, pos, ◌+ℤ◌, ◌-ℤ◌, ◌≤ℤ◌, slice_range}
-use Rattle.std.proofs.lemmas.Int.{ints}
+use Rattle.std.specs.Int.{w128, int_max}
+use Rattle.std.specs.Prelude.{ℤ, pos, ◌+ℤ◌, ◌-ℤ◌, ◌≤ℤ◌, neg_ℤ, slice_range}
+use Rattle.std.proofs.lemmas.Int.{ints, clamps}
 use Rattle.std.proofs.lemmas.Bool.{cases_lt}
+use Rattle.std.proofs.lemmas.Bool.Decides.{eqb_tells}
 use Rattle.std.proofs.lemmas.List.{drop-append-le, drop-drop, get_or_append_left, get_or_push, length-drop, length-take-le, take-append-drop, take-append-le, take_all}
 use Rattle.std.proofs.Math.Seq.{take-append-add}
 use Rattle.vr_model.specs.tables.Numbers.{number_at, total_by}
@@ -160,3 +161,40 @@ stretch-line_nodes front behind end next list others order high first =
     parts =
         let sum : front + (behind - front) ≡ behind = omega (arith, order) in
         sym (take-append-drop (behind - front) (drop front list)) ∙ ap (λ xs. middle ++ xs) (drop-drop (behind - front) front list ∙ ap (λ n. drop n list) sum)
+
+-- one sum is above another by no more than all arcs add
+pub apart-high : (z x y : ℤ) (a b : ℕ) → z ≡ x -ℤ y → IsIn (pos 0) (pos (a * 2 ^ 70)) x → IsIn (pos 0) (pos (b * 2 ^ 70)) y → a ≤ 1001 → z ≤ℤ pos (1001 * 2 ^ 70)
+apart-high z x y a b is hx hy few =
+    let x_high = hx.at_most in
+    let y_low = hy.at_least in
+    let x_top : x ≤ℤ pos (1001 * 2 ^ 70) = omega (arith, ints, x_high, few) in
+    omega (arith, ints, is, x_top, y_low)
+
+pub apart-low : (z x y : ℤ) (a b : ℕ) → z ≡ x -ℤ y → IsIn (pos 0) (pos (a * 2 ^ 70)) x → IsIn (pos 0) (pos (b * 2 ^ 70)) y → b ≤ 1001 → neg_ℤ (pos (1001 * 2 ^ 70)) ≤ℤ z
+apart-low z x y a b is hx hy few =
+    let x_low = hx.at_least in
+    let y_high = hy.at_most in
+    let y_top : y ≤ℤ pos (1001 * 2 ^ 70) = omega (arith, ints, y_high, few) in
+    omega (arith, ints, is, x_low, y_top)
+
+-- the most that arcs add so far
+pub record IsMostSoFar (sums : List ℤ) (arcs n : ℕ) (most : ℤ) : Type 0 where
+  pub low : pos 0 ≤ℤ most
+  pub high : most ≤ℤ pos (1001 * 2 ^ 70)
+  pub all : (k : ℕ) → k < n → (number_at sums (k + arcs) -ℤ number_at sums k) ≤ℤ most
+
+pub most-begun : (sums : List ℤ) (arcs : ℕ) → IsMostSoFar sums arcs 0 (pos 0)
+most-begun sums arcs = record { low = omega (arith, ints); high = omega (arith, ints); all = λ k low. absurd (omega (arith, low)) }
+
+pub most-more : (sums : List ℤ) (arcs n : ℕ) (most next greater : ℤ) → IsMostSoFar sums arcs n most → next ≡ number_at sums (n + arcs) -ℤ number_at sums n → next ≤ℤ pos (1001 * 2 ^ 70) → greater ≡ int_max most next → IsMostSoFar sums arcs (n + 1) greater
+most-more sums arcs n most next greater so_far is high e =
+    let was = so_far.low in
+    let top = so_far.high in
+    record {
+      low = omega (arith, ints, clamps, was, e);
+      high = omega (arith, ints, clamps, top, high, e);
+      all = λ k under. elim (eqb_tells k n) [
+        | inl at ↦ subst (λ j. (number_at sums (j + arcs) -ℤ number_at sums j) ≤ℤ greater) (sym at.1) (omega (arith, ints, clamps, is, e))
+        | inr other ↦ (let before = so_far.all k (let apart = other.1 in Prim.grind (arith, apart, under)) in omega (arith, ints, clamps, before, e))
+      ];
+    }

@@ -1,6 +1,6 @@
 -- Sums of what arcs add along the lists of vehicles.
-use Rattle.std.specs.Prelude.{◌≡◌, ℕ, suc, ◌<◌, ◌≤◌, ◌*◌, ◌^◌, Bool, cond, List, length, take}
-use Rattle.std.specs.Prelude.{ℤ, pos}
+use Rattle.std.specs.Prelude.{◌≡◌, ℕ, suc, ◌+◌, ◌<◌, ◌≤◌, ◌*◌, ◌^◌, Bool, cond, List, length, take}
+use Rattle.std.specs.Prelude.{ℤ, pos, ◌-ℤ◌, ◌≤ℤ◌}
 use Rattle.vr_model.specs.tables.Numbers.{number_at, total_by}
 use Rattle.vr_model.specs.tables.WellFormed.{IsIn}
 use Rattle.vr_model.specs.routes.Routes.{UsedArc, arcs_from}
@@ -28,3 +28,7 @@ HaveWideRange sums = (k : ℕ) → k < length sums → IsIn (pos 0) (pos (k * 2 
 pub record AreArcSums (f : UsedArc → ℤ) (v node : ℕ) (nodes : List ℕ) (sums : List ℤ) : Type 0 where
   pub many : length sums ≡ suc (length nodes)
   pub each : (k : ℕ) → k ≤ length nodes → number_at sums k ≡ total_by f (arcs_from v node (take k nodes))
+
+-- so many arcs that follow one another add at most so much
+abbrev pub AddAtMost : List ℤ → ℕ → ℤ → Type 0
+AddAtMost sums arcs most = (k : ℕ) → k + arcs < length sums → (number_at sums (k + arcs) -ℤ number_at sums k) ≤ℤ most

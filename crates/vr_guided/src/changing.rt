@@ -1,15 +1,17 @@
 //! What a change makes of the penalised arc costs, by the stretches that it changes.
 
 ghost use Rattle.std.proofs.Props.{props};
-ghost use Rattle.std.specs.Prelude.{◌≡◌, ◌<◌, ◌≤◌, ◌-ℤ◌, ◌+ℤ◌, ◌≤ℤ◌, ◌^◌, negsuc, ◌∷◌, ◌++◌, [], IsTrue, ◌*◌};
-ghost use Rattle.std.specs.Prelude.{All, ℕ, drop, length, pos, take, unsigned_abs};
+ghost use Rattle.std.specs.Prelude.{◌≡◌, ◌<◌, ◌≤◌, ◌+◌, ◌-ℤ◌, ◌+ℤ◌, ◌≤ℤ◌, ◌^◌, negsuc, ◌∷◌, ◌++◌, [], IsTrue, ◌*◌};
+ghost use Rattle.std.specs.Prelude.{All, Some, ℕ, drop, length, pos, take, true, unsigned_abs};
 ghost use Rattle.vr_guided.specs.Counts.{counted};
 ghost use Rattle.vr_guided.specs.Nexts.{IsFirstOf};
 ghost use Rattle.vr_guided.specs.Parts.{IsPart, weight_change};
 ghost use Rattle.vr_routes.specs.Pieces.{IsWithin-prop};
 ghost use Rattle.vr_guided.specs.RouteSums.{AreAllRouteSums};
-ghost use Rattle.vr_guided.specs.Savings.{touched_weight};
+ghost use Rattle.vr_guided.specs.Savings.{touched_weight, AreAlike, CutAtMost, SavesAtMost, TakesAtMost};
 ghost use Rattle.vr_guided.specs.Walks.{route_weight};
+ghost use Rattle.vr_known.specs.Touching.{AreFound};
+ghost use Rattle.vr_model.specs.declared.neighbours.Move.TheVariants.{Relocate, Exchange, Cross};
 ghost use Rattle.vr_model.specs.search.GuidedSearches.{penalised};
 ghost use Rattle.vr_model.specs.routes.Routes.{are_lists, route};
 ghost use Rattle.vr_model.specs.routes.Rules.{is_valid};
@@ -18,10 +20,11 @@ ghost use Rattle.vr_routes.specs.Changes.{AreParts};
 ghost use Rattle.vr_routes.specs.Pieces.{changed, part_at, IsSplice};
 ghost use Rattle.vr_balance.specs.Sums.{last_of};
 
-use crate::route_sums::AllRouteSums;
+use crate::route_sums::{AllRouteSums, RouteSums};
 use crate::stretches::Stretches;
 use crate::weights::{VehicleWeights, Weights};
 use vr_known::Touched;
+use vr_model::Move;
 use vr_routes::{Change, Routes, Splice};
 
 // The node before a place of a list, `start` before the first.
@@ -186,10 +189,160 @@ impl<'m, 'p, 's, 'r, 'c> WeighedChange<'m, 'p, 's, 'r, 'c> {
 }
 
 impl<'m, 'p, 's, 'r> WeighedRoutes<'m, 'p, 's, 'r> {
-    /// What new lists of these vehicles take of the penalised arc costs at most: what the arcs of their lists add now.
-    /// Takes no memory.
+    /// What the moves of a run take of the penalised arc costs at most, whatever their last number is. A visit that is
+    /// put elsewhere, or exchanged, takes no more than both its arcs add now and the dearest arc of the other list, or
+    /// the two dearest neighbours there; fronts that change vehicles which are alike, no more than the arcs at both
+    /// cuts; of other moves it is all that the arcs of their lists add now. The numbers of `mv` need not be those of a
+    /// move. Takes no memory.
     #[inline]
-    pub fn saved_by_lists(&self, touched: Touched) -> i128
+    pub fn saved_in_run(&self, mv: Move, touched: Touched) -> i128
+        requires first { touched.first < length self.now.routes.now.lists }
+        requires second { touched.second < length self.now.routes.now.lists }
+        requires found { AreFound self.now.weights.closed.model.now self.now.routes.now.lists mv (Some touched) }
+        ensures low { pos 0 ≤ℤ result }
+        ensures high { result ≤ℤ pos (2 ^ 90) }
+        ensures most { SavesAtMost self.now.weights.closed.model.now (counted self.now.weights.penalties.now)
+            self.now.routes.now.lists mv result }
+    {
+        match mv {
+            Move::Relocate { a, .. } => self.saved_by_relocating(touched, a),
+            Move::Exchange { a, .. } => self.saved_by_exchanging(touched, a),
+            Move::Cross { a, .. } => self.saved_by_crossing(touched, a),
+            Move::MakeActive { .. } => self.most_of(touched.first).most_at_gap,
+            _ => self.saved_by_lists(touched),
+        }
+    }
+
+    // What is taken at most where the node at place `a` of the first list is put into the second one.
+    #[inline]
+    fn saved_by_relocating(&self, touched: Touched, a: u32) -> i128
+        requires first { touched.first < length self.now.routes.now.lists }
+        requires second { touched.second < length self.now.routes.now.lists }
+        ensures low { pos 0 ≤ℤ result }
+        ensures high { result ≤ℤ pos (2 ^ 90) }
+        ensures most { SavesAtMost self.now.weights.closed.model.now (counted self.now.weights.penalties.now)
+            self.now.routes.now.lists (Relocate touched.first a touched.second 0) result }
+    {
+        self.saved_at_place(touched.first, a) + self.most_of(touched.second).most_at_gap
+    }
+
+    // What is taken at most where the node at place `a` of the first list is exchanged with one of the second; within
+    // one list, all that its arcs add.
+    #[inline]
+    fn saved_by_exchanging(&self, touched: Touched, a: u32) -> i128
+        requires first { touched.first < length self.now.routes.now.lists }
+        requires second { touched.second < length self.now.routes.now.lists }
+        ensures low { pos 0 ≤ℤ result }
+        ensures high { result ≤ℤ pos (2 ^ 90) }
+        ensures most { SavesAtMost self.now.weights.closed.model.now (counted self.now.weights.penalties.now)
+            self.now.routes.now.lists (Exchange touched.first a touched.second 0) result }
+    {
+        if touched.first == touched.second {
+            return self.saved_by_lists(touched);
+        }
+        self.saved_at_place(touched.first, a) + self.most_of(touched.second).most_at_place
+    }
+
+    // What is taken at most where the nodes before place `a` of the first list and a front of the second one change
+    // vehicles: where these are alike, what the arcs at both cuts add, else all that the arcs of both lists add.
+    #[inline]
+    fn saved_by_crossing(&self, touched: Touched, a: u32) -> i128
+        requires first { touched.first < length self.now.routes.now.lists }
+        requires second { touched.second < length self.now.routes.now.lists }
+        ensures low { pos 0 ≤ℤ result }
+        ensures high { result ≤ℤ pos (2 ^ 90) }
+        ensures most { SavesAtMost self.now.weights.closed.model.now (counted self.now.weights.penalties.now)
+            self.now.routes.now.lists (Cross touched.first a touched.second 0) result }
+    {
+        if !self.are_alike(touched.first, touched.second) {
+            return self.saved_by_lists(touched);
+        }
+        self.saved_at_gap(touched.first, a) + self.most_of(touched.second).most_at_gap
+    }
+
+    // Whether two vehicles have the same arc costs, and start and end at the same nodes.
+    #[inline]
+    fn are_alike(&self, v: u32, w: u32) -> bool
+        requires first { v < length self.now.routes.now.lists }
+        requires second { w < length self.now.routes.now.lists }
+        ensures { result ≡ true → AreAlike self.now.weights.closed.model.now v w }
+    {
+        let vehicles = &self.weights.closed.model.vehicles;
+        let one = vehicles.get(v as usize);
+        let other = vehicles.get(w as usize);
+        one.costs == other.costs && one.start == other.start && one.end == other.end
+    }
+
+    // What the arc at a gap of the list of a vehicle adds now. Nothing where there is no such gap.
+    #[inline]
+    fn saved_at_gap(&self, v: u32, t: u32) -> i128
+        requires { v < length self.now.routes.now.lists }
+        ensures low { pos 0 ≤ℤ result }
+        ensures high { result ≤ℤ pos (1001 * 2 ^ 70) }
+        ensures most { t ≤ length (route self.now.routes.now.lists v) → CutAtMost self.now.weights.closed.model.now
+            (counted self.now.weights.penalties.now) v (route self.now.routes.now.lists v) t result }
+    {
+        if t > self.routes.len(v) {
+            return 0;
+        }
+        let stretches = Stretches {
+            arcs: VehicleWeights {
+                weights: self.weights,
+                vehicle: v,
+            },
+            routes: self.routes,
+            route_sums: self.route_sums,
+        };
+        stretches.old_stretch(t, t)
+    }
+
+    // What is taken at most where others stand in the place of the node at place `a` of the list of a vehicle: what
+    // both its arcs add now. Nothing where there is no such place.
+    #[inline]
+    fn saved_at_place(&self, v: u32, a: u32) -> i128
+        requires { v < length self.now.routes.now.lists }
+        ensures low { pos 0 ≤ℤ result }
+        ensures high { result ≤ℤ pos (1001 * 2 ^ 70) }
+        ensures most { a < length (route self.now.routes.now.lists v) → TakesAtMost
+            self.now.weights.closed.model.now (counted self.now.weights.penalties.now) v
+            (route self.now.routes.now.lists v) a (a + 1) result }
+    {
+        if a >= self.routes.len(v) {
+            return 0;
+        }
+        let stretches = Stretches {
+            arcs: VehicleWeights {
+                weights: self.weights,
+                vehicle: v,
+            },
+            routes: self.routes,
+            route_sums: self.route_sums,
+        };
+        stretches.old_stretch(a, a + 1)
+    }
+
+    // What the arcs of the list of a vehicle add at most, by themselves and two by two.
+    #[inline]
+    fn most_of(&self, v: u32) -> &RouteSums
+        requires { v < length self.now.routes.now.lists }
+        ensures gap_in_range { IsIn (pos 0) (pos (1001 * 2 ^ 70)) result.now.most_at_gap }
+        ensures place_in_range { IsIn (pos 0) (pos (1001 * 2 ^ 70)) result.now.most_at_place }
+        ensures gap { (t : ℕ) → t ≤ length (route self.now.routes.now.lists v) → TakesAtMost
+            self.now.weights.closed.model.now (counted self.now.weights.penalties.now) v
+            (route self.now.routes.now.lists v) t t result.now.most_at_gap }
+        ensures cut { (t : ℕ) → t ≤ length (route self.now.routes.now.lists v) → CutAtMost
+            self.now.weights.closed.model.now (counted self.now.weights.penalties.now) v
+            (route self.now.routes.now.lists v) t result.now.most_at_gap }
+        ensures place { (b : ℕ) → b < length (route self.now.routes.now.lists v) → TakesAtMost
+            self.now.weights.closed.model.now (counted self.now.weights.penalties.now) v
+            (route self.now.routes.now.lists v) b (b + 1) result.now.most_at_place }
+    {
+        self.route_sums.of(v)
+    }
+
+    // What new lists of these vehicles take of the penalised arc costs at most: what the arcs of their lists add now.
+    #[inline]
+    fn saved_by_lists(&self, touched: Touched) -> i128
         requires first { touched.first < length self.now.routes.now.lists }
         requires second { touched.second < length self.now.routes.now.lists }
         ensures low { pos 0 ≤ℤ result }

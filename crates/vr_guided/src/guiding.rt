@@ -1,12 +1,13 @@
 //! Which moves guided search accepts; the search itself is `searching`.
 
-ghost use Rattle.std.specs.Prelude.{◌≡◌, ◌<◌, ◌≤◌, ◌*◌, ◌^◌, ◌*ℤ◌, ◌-ℤ◌, ◌≤ℤ◌, false, pos, IfSome, IsTrue};
+ghost use Rattle.std.specs.Prelude.{◌≡◌, ◌<◌, ◌≤◌, ◌*◌, ◌^◌, ◌*ℤ◌, ◌-ℤ◌, ◌≤ℤ◌, false, pos, IfSome, IsTrue, Some};
 ghost use Rattle.std.specs.Prelude.{length, unsigned_abs};
 ghost use Rattle.vr_guided.specs.Bounding.{IsLambda};
 ghost use Rattle.vr_guided.specs.Counts.{counted};
 ghost use Rattle.vr_guided.specs.RouteSums.{AreAllRouteSums};
 ghost use Rattle.vr_guided.specs.Guides.{is_gain, makes_less};
-ghost use Rattle.vr_guided.specs.Savings.{touched_weight};
+ghost use Rattle.vr_guided.specs.Savings.{SavesAtMost};
+ghost use Rattle.vr_known.specs.Touching.{AreFound};
 ghost use Rattle.vr_model.specs.routes.Rules.{is_valid};
 ghost use Rattle.vr_model.specs.tables.WellFormed.{IsIn};
 
@@ -59,7 +60,7 @@ impl<'m, 'p, 's> Accept for Guiding<'m, 'p, 's> {
 
     #[inline]
     fn open_below(&self, routes: &Routes, mv: Move) -> Option<i64> {
-        // all moves of the run change the lists of the same vehicles, and save no more than the arcs of these add now
+        // all moves of the run change the lists of the same vehicles
         let Some(touched) = Touched::found(self.weights.closed.model, routes, mv) else {
             return None;
         };
@@ -71,7 +72,7 @@ impl<'m, 'p, 's> Accept for Guiding<'m, 'p, 's> {
         if touched.second >= vehicles {
             return None;
         }
-        let saved = self.saved_by_lists(routes, touched);
+        let saved = self.saved_in_run(routes, mv, touched);
         self.enough_against(saved)
     }
 
@@ -93,25 +94,26 @@ impl<'m, 'p, 's> Accept for Guiding<'m, 'p, 's> {
 }
 
 impl<'m, 'p, 's> Guiding<'m, 'p, 's> {
-    // What new lists of these vehicles take of the penalised arc costs at most.
+    // What the moves of a run take of the penalised arc costs at most.
     #[inline]
-    fn saved_by_lists(&self, routes: &Routes, touched: Touched) -> i128
+    fn saved_in_run(&self, routes: &Routes, mv: Move, touched: Touched) -> i128
         requires stands { AreAllRouteSums self.now.weights.closed.model.now (counted self.now.weights.penalties.now)
             routes.now.lists self.now.route_sums.now }
         requires valid { IsTrue (is_valid self.now.weights.closed.model.now routes.now.lists) }
         requires first { touched.first < length routes.now.lists }
         requires second { touched.second < length routes.now.lists }
+        requires found { AreFound self.now.weights.closed.model.now routes.now.lists mv (Some touched) }
         ensures low { pos 0 ≤ℤ result }
         ensures high { result ≤ℤ pos (2 ^ 90) }
-        ensures most { touched_weight self.now.weights.closed.model.now (counted self.now.weights.penalties.now)
-            routes.now.lists touched ≤ℤ result }
+        ensures most { SavesAtMost self.now.weights.closed.model.now (counted self.now.weights.penalties.now)
+            routes.now.lists mv result }
     {
         let weighed = WeighedRoutes {
             weights: self.weights,
             routes,
             route_sums: self.route_sums,
         };
-        weighed.saved_by_lists(touched)
+        weighed.saved_in_run(mv, touched)
     }
 
     // A difference in cost that is no gain where so much of the penalised arc costs is saved: `p` times this over `q`,

@@ -14,13 +14,17 @@ use vr_known::Touched;
 use vr_model::{Model as RoutingModel, Move, NoMemory};
 use vr_routes::Routes;
 
-/// What the arcs of one vehicle add up to before each stop, taken forward and back.
+/// What the arcs of one vehicle add up to before each stop, taken forward and back, and what they add at most.
 #[derive(Drop)]
 pub struct RouteSums {
     /// Along its list from the start.
     pub forward: Sums,
     /// From the start on too, of each arc as it is taken back, from its target to its origin.
     pub back: Sums,
+    /// The most that one arc of its list adds, forward.
+    pub most_at_gap: i128,
+    /// The most that two arcs add that follow one another, those at one visit.
+    pub most_at_place: i128,
 }
 
 impl RouteSums {
@@ -29,6 +33,8 @@ impl RouteSums {
         RouteSums {
             forward: Sums::new(),
             back: Sums::new(),
+            most_at_gap: 0,
+            most_at_place: 0,
         }
     }
 
@@ -39,6 +45,9 @@ impl RouteSums {
     {
         self.forward.write(list, false);
         self.back.write(list, true);
+        let stops = list.nodes.len() + 2;
+        self.most_at_gap = self.forward.most_over(stops, 1);
+        self.most_at_place = self.forward.most_over(stops, 2);
     }
 }
 

@@ -1,9 +1,11 @@
 //! Sums of what arcs add along the list of a vehicle.
 
-ghost use Rattle.std.specs.Prelude.{◌≡◌, ◌<◌, ◌≤◌, ◌++◌, ◌∷◌, [], ◌-◌, ◌^◌, ◌+ℤ◌, List, ℕ, ℤ, length, pos};
+ghost use Rattle.std.specs.Prelude.{◌≡◌, ◌<◌, ◌≤◌, ◌++◌, ◌∷◌, [], ◌-◌, ◌*◌, ◌^◌, ◌+ℤ◌, ◌-ℤ◌, ◌≤ℤ◌, List, ℕ, ℤ};
+ghost use Rattle.std.specs.Prelude.{length, neg_ℤ, pos};
 ghost use Rattle.std.specs.Prelude.{slice_range, take};
+ghost use Rattle.std.specs.Int.{int_max};
 ghost use Rattle.vr_guided.specs.Counts.{counted};
-ghost use Rattle.vr_guided.specs.Sums.{AreArcSums, weight_by};
+ghost use Rattle.vr_guided.specs.Sums.{AddAtMost, AreArcSums, weight_by};
 ghost use Rattle.vr_model.specs.routes.Routes.{UsedArc, arcs_from};
 ghost use Rattle.vr_model.specs.tables.Numbers.{number_at, total_by};
 ghost use Rattle.vr_model.specs.tables.Tables.{vehicle_at};
@@ -92,4 +94,39 @@ impl Sums {
     {
         self.items[to] - self.items[from]
     }
+
+    // How much more there is at one of these stops than at another.
+    #[inline]
+    fn apart(&self, from: usize, to: usize) -> i128
+        requires order { from ≤ to }
+        requires place { to < length self.now }
+        requires few { to ≤ 1001 }
+        ensures value { result ≡ number_at self.now to -ℤ number_at self.now from }
+        ensures low { neg_ℤ (pos (1001 * 2 ^ 70)) ≤ℤ result }
+        ensures high { result ≤ℤ pos (1001 * 2 ^ 70) }
+    {
+        self.items[to] - self.items[from]
+    }
+
+    /// The most that so many arcs add that follow one another, of so many stops; 0 where there are not so many arcs.
+    pub fn most_over(&self, stops: usize, arcs: usize) -> i128
+        requires stops { stops ≡ length self.now }
+        requires few { stops ≤ 1002 }
+        ensures range { IsIn (pos 0) (pos (1001 * 2 ^ 70)) result }
+        ensures most { AddAtMost self.now arcs result }
+    {
+        let mut most = 0;
+        for k in 0..stops.saturating_sub(arcs) {
+            most = greater(most, self.apart(k, k + arcs));
+        }
+        most
+    }
+}
+
+// The greater of two numbers.
+#[inline]
+fn greater(one: i128, other: i128) -> i128
+    ensures { result ≡ int_max one other }
+{
+    if one < other { other } else { one }
 }

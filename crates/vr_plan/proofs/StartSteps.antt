@@ -17,7 +17,7 @@ use Rattle.vr_steps.specs.Lines.{IsLineOf, IsSoundLine}
 use Rattle.vr_steps.specs.Reached.{StandsFor}
 use Rattle.vr_steps.proofs.LawLemmas.{lines_stand_for_theirs}
 use Rattle.vr_plan.specs.Plans.{no_hop}
-use Rattle.vr_plan.specs.Narrow.{row_pinned, first_at, IsLeastTried, IsStartOf, with_start}
+use Rattle.vr_plan.specs.Narrow.{row_pinned, first_at, stands_at, IsLeastTried, IsLeastStart, IsStartOf, with_start}
 use Rattle.vr_plan.specs.Settled.{IsUnfeasible}
 use Rattle.vr_plan.specs.Starts.{HaveCumuls, HaveStarts}
 use Rattle.vr_plan.proofs.RowPins.{of_row_pinned, same_duration, least_start_may_be_pinned}
@@ -107,19 +107,23 @@ module _ (begun line : Line) (cumuls : List ℤ) (i : ℕ) (starts : List ℤ) (
     visits : (k : ℕ) → k < length line.hops → (get_or line.hops k no_hop).visit ≡ (Rattle.vr_model.specs.schedules.Schedules.arc_at narrow k).visit
     visits k lt = ap (λ h. h.visit) (s.hops k no_hop lt)
 
-    as_theirs : (best : Option ℤ) → IsLeastTried narrow i (get_or line.breaks i no_break).to (first_at line.hops cumuls (get_or line.breaks i no_break) ready) (suc (length cumuls)) best
-        → IsLeastTried narrow i (break_at narrow i).to (first_at line.hops cumuls (break_at narrow i) ready) (suc (suc (length line.hops))) best
-    as_theirs best tried = subst (λ n. IsLeastTried narrow i (break_at narrow i).to (first_at line.hops cumuls (break_at narrow i) ready) n best) (ap suc stops)
-        (subst (λ r. IsLeastTried narrow i r.to (first_at line.hops cumuls r ready) (suc (length cumuls)) best) row_is tried)
+    transits : (k : ℕ) → k < length line.hops → (get_or line.hops k no_hop).transit ≡ (Rattle.vr_model.specs.schedules.Schedules.arc_at narrow k).transit
+    transits k lt = ap (λ h. h.transit) (s.hops k no_hop lt)
+
+    as_theirs : (best : Option ℤ) → IsLeastStart line cumuls i ready best
+        → IsLeastTried narrow i (break_at narrow i).to (first_at line.hops cumuls (break_at narrow i) ready) (stands_at line.hops cumuls (break_at narrow i) ready) (suc (suc (length line.hops))) best
+    as_theirs best tried =
+        subst (λ n. IsLeastTried narrow i (break_at narrow i).to (first_at line.hops cumuls (break_at narrow i) ready) (stands_at line.hops cumuls (break_at narrow i) ready) n best) (ap suc stops)
+        (subst (λ r. IsLeastTried narrow i r.to (first_at line.hops cumuls r ready) (stands_at line.hops cumuls r ready) (suc (length cumuls)) best) row_is (tried narrow p.of))
 
   -- where no start can be had
-  pub stopped : ((defined : Defined) → IsLineOf defined line → IsLeastTried defined i (get_or line.breaks i no_break).to (first_at line.hops cumuls (get_or line.breaks i no_break) ready) (suc (length cumuls)) None) → IsUnfeasible begun
+  pub stopped : IsLeastStart line cumuls i ready None → IsUnfeasible begun
   stopped tried defined of feasible =
-      none_of_tried (narrow defined of) (s defined of).sound line.hops (sym (s defined of).arcs) (visits defined of) cumuls (p defined of).settled i (there_too defined of) (low defined of) ready ((p defined of).is_ready (there_too defined of))
-      (as_theirs defined of None (tried (narrow defined of) (p defined of).of)) ((p defined of).feasible feasible)
+      none_of_tried (narrow defined of) (s defined of).sound line.hops (sym (s defined of).arcs) (visits defined of) (transits defined of) cumuls (p defined of).settled i (there_too defined of) (low defined of) ready ((p defined of).is_ready (there_too defined of))
+      (as_theirs defined of None tried) ((p defined of).feasible feasible)
 
   -- one break more is settled
-  pub started_more : (x : ℤ) → IsStartOf (get_or line.breaks i no_break) x → ((defined : Defined) → IsLineOf defined line → IsLeastTried defined i (get_or line.breaks i no_break).to (first_at line.hops cumuls (get_or line.breaks i no_break) ready) (suc (length cumuls)) (Some x))
+  pub started_more : (x : ℤ) → IsStartOf (get_or line.breaks i no_break) x → IsLeastStart line cumuls i ready (Some x)
       → AreStarted begun (with_start line i x) cumuls (i + 1) (starts ++ x ∷ []) (x +ℤ (get_or line.breaks i no_break).duration)
   started_more x start tried =
       let valid = m.sound.each_break i no_break there in
@@ -136,7 +140,7 @@ module _ (begun line : Line) (cumuls : List ℤ) (i : ℕ) (starts : List ℤ) (
             let same = row_is defined of in
             let from : (break_at q_line i).from ≤ℤ x = subst (λ r. r.from ≤ℤ x) same start.from in
             let to : x ≤ℤ (break_at q_line i).to = subst (λ r. x ≤ℤ r.to) same start.to in
-            let least = as_theirs defined of (Some x) (tried q_line mine.of) in
+            let least = as_theirs defined of (Some x) tried in
             let n = m.start_of_each in (
               row_pinned q_line i x,
               record {
@@ -145,7 +149,7 @@ module _ (begun line : Line) (cumuls : List ℤ) (i : ℕ) (starts : List ℤ) (
                 chosen = λ plan c. mine.chosen plan (least_start_may_be_pinned q_line i x lt from to
                     (λ a b sa sb. mine.settled a sa ∙ sym (mine.settled b sb))
                     (λ a b sa sb j less. mine.started a sa j less ∙ sym (mine.started b sb j less))
-                    (least_of_tried q_line (s defined of).sound line.hops (sym (s defined of).arcs) (visits defined of) cumuls mine.settled i lt (low defined of) ready (mine.is_ready lt) x least) plan c);
+                    (least_of_tried q_line (s defined of).sound line.hops (sym (s defined of).arcs) (visits defined of) (transits defined of) cumuls mine.settled i lt (low defined of) ready (mine.is_ready lt) x least) plan c);
                 settled = λ a sa. mine.settled a (of_row_pinned q_line i x lt a from to sa).0;
                 started = λ a sa j less.
                     let both = of_row_pinned q_line i x lt a from to sa in
@@ -189,9 +193,5 @@ all_started begun line cumuls i starts ready m all defined of has =
     (plan, p.chosen plan is, ext_get_or (pos 0) plan.breaks starts long (λ j lt. p.started plan is.schedule j (let d = m.start_of_each in omega (arith, lt, long, d))))
 
 -- what was tried, named otherwise
-pub retry : (line : Line) (i : ℕ) (cumuls : List ℤ) (r r' : ℤ) (best best' : Option ℤ)
-    → ((defined : Defined) → IsLineOf defined line → IsLeastTried defined i (get_or line.breaks i no_break).to (first_at line.hops cumuls (get_or line.breaks i no_break) r) (suc (length cumuls)) best) → r ≡ r' → best ≡ best'
-    → (defined : Defined) → IsLineOf defined line → IsLeastTried defined i (get_or line.breaks i no_break).to (first_at line.hops cumuls (get_or line.breaks i no_break) r') (suc (length cumuls)) best'
-retry line i cumuls r r' best best' tried a b defined of =
-    subst (IsLeastTried defined i (get_or line.breaks i no_break).to (first_at line.hops cumuls (get_or line.breaks i no_break) r') (suc (length cumuls))) b
-    (subst (λ q. IsLeastTried defined i (get_or line.breaks i no_break).to (first_at line.hops cumuls (get_or line.breaks i no_break) q) (suc (length cumuls)) best) a (tried defined of))
+pub retry : (line : Line) (i : ℕ) (cumuls : List ℤ) (r r' : ℤ) (best best' : Option ℤ) → IsLeastStart line cumuls i r best → r ≡ r' → best ≡ best' → IsLeastStart line cumuls i r' best'
+retry line i cumuls r r' best best' tried a b = subst (IsLeastStart line cumuls i r') b (subst (λ q. IsLeastStart line cumuls i q best) a tried)

@@ -1,6 +1,6 @@
 -- Lines whose cumuls and break starts are put in.
-use Rattle.std.specs.Prelude.{◌≡◌, ℕ, zero, suc, ◌<◌, nat_lt, ◌&&◌, Bool, if◌then◌else◌, List, [], ◌∷◌, length, set}
-use Rattle.std.specs.Prelude.{slice_index_or, Option, Some, None, ℤ, pos, ◌+ℤ◌, ◌≤ℤ◌}
+use Rattle.std.specs.Prelude.{◌≡◌, ℕ, zero, suc, ◌<◌, nat_lt, ◌&&◌, Bool, true, if◌then◌else◌, List, [], ◌∷◌, length}
+use Rattle.std.specs.Prelude.{set, slice_index_or, Option, Some, None, ℤ, pos, ◌+ℤ◌, ◌-ℤ◌, ◌≤ℤ◌, int_le, int_lt, IsTrue}
 use Rattle.std.specs.Int.{int_max}
 use Rattle.vr_spans.specs.declared.runs.Run.{Run}
 use Rattle.vr_model.specs.tables.Numbers.{number_at, is_same_number}
@@ -53,19 +53,45 @@ abbrev pub IsTried : Line → ℕ → ℤ → ℤ → Option ℤ → Type 0
 IsTried line i to first None = first ≤ℤ to → IsFeasible (row_pinned line i first) → ⊥
 IsTried line i to first (Some x) = (x ≡ first) × (first ≤ℤ to) × IsFeasible (row_pinned line i first)
 
--- the least of the starts in the first n places that are no later than `to` and with which the line has a schedule
-abbrev pub IsLeastTried : Line → ℕ → ℤ → (ℕ → ℤ) → ℕ → Option ℤ → Type 0
-IsLeastTried line i to firsts n None = (p : ℕ) → p < n → firsts p ≤ℤ to → IsFeasible (row_pinned line i (firsts p)) → ⊥
-IsLeastTried line i to firsts n (Some x) = ((p : ℕ) × (p < n) × (x ≡ firsts p)) × (x ≤ℤ to)
-    × IsFeasible (row_pinned line i x)
-    × ((p : ℕ) → p < n → firsts p ≤ℤ to → IsFeasible (row_pinned line i (firsts p)) → x ≤ℤ firsts p)
+-- A break that is so long and starts at x may stand in a place: it ends before the first stop, or by the end of arc k,
+-- whose slack is enough for it. After the last stop it may in any case.
+abbrev pub may_stand : List Hop → List ℤ → ℤ → ℤ → ℕ → Bool
+may_stand hops cumuls long x zero = int_le (x +ℤ long) (number_at cumuls 0)
+may_stand hops cumuls long x (suc k) =
+    if nat_lt k (length hops) then int_le (x +ℤ long) (number_at cumuls (suc k))
+    && int_le (number_at cumuls k +ℤ (slice_index_or hops k no_hop).transit) (number_at cumuls (suc k) -ℤ long)
+    else true
 
--- the least of the starts in all places of break i, where it may not start before ready, with which a line has a
--- schedule that the code holds so
-abbrev pub IsLeastStart : Made → List ℤ → ℕ → ℤ → Option ℤ → Type 0
-IsLeastStart line cumuls i ready best = (defined : Line) → IsLineOf defined line →
+-- a break may stand in a place with its first start there
+abbrev pub stands_at : List Hop → List ℤ → BreakRow → ℤ → ℕ → Bool
+stands_at hops cumuls row ready place =
+    may_stand hops cumuls row.duration (first_at hops cumuls row ready place) place
+
+-- a start is earlier than the best so far, or the first
+abbrev pub is_earlier : ℤ → Option ℤ → Bool
+is_earlier x None = true
+is_earlier x (Some best) = int_lt x best
+
+-- the least of the starts in those of the first n places in which the break may stand that are no later than `to` and
+-- with which the line has a schedule
+abbrev pub IsLeastTried : Line → ℕ → ℤ → (ℕ → ℤ) → (ℕ → Bool) → ℕ → Option ℤ → Type 0
+IsLeastTried line i to firsts stands n None = (p : ℕ) → p < n → firsts p ≤ℤ to → IsTrue (stands p)
+    → IsFeasible (row_pinned line i (firsts p)) → ⊥
+IsLeastTried line i to firsts stands n (Some x) = ((p : ℕ) × (p < n) × (x ≡ firsts p)) × (x ≤ℤ to)
+    × IsFeasible (row_pinned line i x)
+    × ((p : ℕ) → p < n → firsts p ≤ℤ to → IsTrue (stands p) → IsFeasible (row_pinned line i (firsts p)) → x ≤ℤ firsts p)
+
+-- the least of the starts in the first n places of break i, where it may not start before ready, with which a line has
+-- a schedule that the code holds so
+abbrev pub IsLeastOf : Made → List ℤ → ℕ → ℤ → ℕ → Option ℤ → Type 0
+IsLeastOf line cumuls i ready n best = (defined : Line) → IsLineOf defined line →
     IsLeastTried defined i (slice_index_or line.breaks i no_break).to
-    (first_at line.hops cumuls (slice_index_or line.breaks i no_break) ready) (suc (length cumuls)) best
+    (first_at line.hops cumuls (slice_index_or line.breaks i no_break) ready)
+    (stands_at line.hops cumuls (slice_index_or line.breaks i no_break) ready) n best
+
+-- the least of those in all places
+abbrev pub IsLeastStart : Made → List ℤ → ℕ → ℤ → Option ℤ → Type 0
+IsLeastStart line cumuls i ready best = IsLeastOf line cumuls i ready (suc (length cumuls)) best
 
 -- the break may start at x
 pub record IsStartOf (row : BreakRow) (x : ℤ) : Type 0 where

@@ -1,14 +1,15 @@
 //! The break starts of the chosen schedule, break by break.
 
-ghost use Rattle.std.specs.Prelude.{◌≡◌, ◌<◌, ◌^◌, ◌↔◌, suc, pos, false, [], ◌+ℤ◌, ◌≤ℤ◌, All, IsTrue, IfOk, IfSome};
-ghost use Rattle.std.specs.Prelude.{IsNone, OnOk, length, slice_index_or};
+ghost use Rattle.std.specs.Prelude.{◌≡◌, ◌<◌, ◌^◌, ◌↔◌, ◌+◌, suc, pos, false, [], ◌+ℤ◌, ◌≤ℤ◌, All, IsTrue, IfOk};
+ghost use Rattle.std.specs.Prelude.{IfSome, IsNone, OnOk, length, slice_index_or, int_le, ◌&&◌, ◌-ℤ◌};
 ghost use Rattle.vr_model.specs.tables.Numbers.{horizon};
 ghost use Rattle.vr_model.specs.tables.WellFormed.{IsIn};
 ghost use Rattle.vr_steps.specs.Arcs.{IsSoundHop};
 ghost use Rattle.vr_model.specs.schedules.Lines.{Line as Defined};
 ghost use Rattle.vr_model.specs.schedules.Schedules.{IsFeasible, no_break};
 ghost use Rattle.vr_steps.specs.Lines.{IsLineOf, IsSoundLine};
-ghost use Rattle.vr_plan.specs.Narrow.{row_pinned, place_begin, IsTried, IsLeastStart, IsStartOf, with_start};
+ghost use Rattle.vr_plan.specs.Narrow.{row_pinned, place_begin, may_stand, is_earlier, IsTried, IsLeastOf};
+ghost use Rattle.vr_plan.specs.Narrow.{IsLeastStart, IsStartOf, with_start};
 ghost use Rattle.vr_plan.specs.Starts.{HaveCumuls, HaveStarts, HaveChosenStarts};
 ghost use Rattle.vr_plan.specs.Settled.{Goes, HaveChosenCumuls, IsUnfeasible};
 
@@ -91,6 +92,83 @@ fn place_begin(hops: &[Hop], cumuls: &[i64], place: usize) -> i64
     cumuls[hops.len()]
 }
 
+// Whether a break that is so long and starts at `first` may stand in a place: it ends before the first stop, or by the
+// end of arc `k`, whose slack is enough for it. After the last stop it may in any case.
+fn may_stand(hops: &[Hop], cumuls: &[i64], long: i64, first: i64, place: usize) -> bool
+    requires stops { length cumuls.now ≡ suc (length hops.now) }
+    requires range { All (IsIn (pos 0) horizon) cumuls.now }
+    requires hops { All IsSoundHop hops.now }
+    requires long { IsIn (pos 0) (pos (2 ^ 40)) long }
+    requires first { IsIn (pos 0) (pos (2 ^ 40)) first }
+    ensures { result ≡ may_stand hops.now cumuls.now long first place }
+{
+    let Some(k) = place.checked_sub(1) else {
+        return first + long <= cumuls[0];
+    };
+    if k < hops.len() {
+        return fits_arc(hops[k], cumuls[k], cumuls[k + 1], long, first);
+    }
+    true
+}
+
+// Whether a break that is so long and starts at `first` ends by the end of an arc between two cumuls, and the slack of
+// the arc is enough for it.
+fn fits_arc(hop: Hop, from: i64, to: i64, long: i64, first: i64) -> bool
+    requires hop { IsSoundHop hop }
+    requires from { IsIn (pos 0) horizon from }
+    requires to { IsIn (pos 0) horizon to }
+    requires long { IsIn (pos 0) (pos (2 ^ 40)) long }
+    requires first { IsIn (pos 0) (pos (2 ^ 40)) first }
+    ensures { result ≡ (int_le (first +ℤ long) to && int_le (from +ℤ hop.transit) (to -ℤ long)) }
+{
+    first + long <= to && from + hop.transit <= to - long
+}
+
+// Whether a start is earlier than the best so far, or the first.
+fn is_earlier(first: i64, best: Option<i64>) -> bool
+    ensures { result ≡ is_earlier first best }
+{
+    match best {
+        Some(best) => first < best,
+        None => true,
+    }
+}
+
+// The lesser of the best start so far and the first one in a place. A walk along the line is asked only where that is
+// earlier, and the break may stand there.
+fn best_with(
+    line: &mut Line,
+    walk: &mut Walk,
+    cumuls: &[i64],
+    i: usize,
+    ready: i64,
+    place: usize,
+    best: Option<i64>,
+) -> Result<Option<i64>, NoMemory>
+    requires sound { IsSoundLine line.old }
+    requires stops { length cumuls.now ≡ suc (length line.old.hops) }
+    requires range { All (IsIn (pos 0) horizon) cumuls.now }
+    requires place { i < length line.old.breaks }
+    requires ready { IsIn (pos 0) (pos (2 ^ 40)) ready }
+    requires best { IfSome best (IsStartOf (slice_index_or line.old.breaks i no_break)) }
+    ensures exact { IfOk result (λ found. IsLeastOf line.old cumuls.now i ready place best →
+        IsLeastOf line.old cumuls.now i ready (place + 1) found) }
+    ensures range { IfOk result (λ best. IfSome best (IsStartOf (slice_index_or line.old.breaks i no_break))) }
+    ensures same { OnOk result (line.new ≡ line.old) }
+{
+    let row = row_at(&line.breaks, i);
+    let hops = line.hops.as_slice();
+    let begin = place_begin(hops, cumuls, place);
+    let first = row.from.max(ready).max(begin);
+    if !is_earlier(first, best) {
+        return Ok(best);
+    }
+    if !may_stand(hops, cumuls, row.duration, first, place) {
+        return Ok(best);
+    }
+    Ok(lesser(best, try_start(line, walk, i, row.to, first)?))
+}
+
 // The least start that schedules of the line have for break `i`, `None` where there is no schedule. It may not start
 // before `ready`, when the break before it is over. The cumuls are settled, so in each place the first moment alone is
 // tried: what starts later there could start then.
@@ -110,12 +188,9 @@ fn least_start(
     ensures range { IfOk result (λ best. IfSome best (IsStartOf (slice_index_or line.old.breaks i no_break))) }
     ensures same { OnOk result (line.new ≡ line.old) }
 {
-    let row = row_at(&line.breaks, i);
     let mut best = None;
     for place in 0..cumuls.len() + 1 {
-        let begin = place_begin(line.hops.as_slice(), cumuls, place);
-        let first = row.from.max(ready).max(begin);
-        best = lesser(best, try_start(line, walk, i, row.to, first)?);
+        best = best_with(line, walk, cumuls, i, ready, place, best)?;
     }
     Ok(best)
 }

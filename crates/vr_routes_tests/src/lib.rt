@@ -9,3 +9,5 @@ mod changes;
 mod moves;
 #[cfg(test)]
 mod sequences;
+#[cfg(test)]
+mod strings;

@@ -8,7 +8,7 @@ from ..records import Break, Dimension, Evaluator, NodeRow, Soft, VehicleBreaks,
 from .manager import RoutingIndexManager
 from .refused import Named, refuse
 from .transits import Table, Transits, as_whole
-from .variables import CumulVar, IntervalVar, IntVar, StopRules, VarKind
+from .variables import WHY_SLACK, CumulVar, IntervalVar, SlackVar, StopRules
 
 
 class MatrixPool:
@@ -55,10 +55,9 @@ class RoutingDimension(Named):
         """The cumul of an index, whose range can be set."""
         return CumulVar(index, self._name, self.stop(index))
 
-    def SlackVar(self, index: int) -> IntVar:
-        """The slack behind an index, which a solution tells; a range of its own cannot be set."""
-        self._manager.IndexToNode(index)
-        return IntVar(VarKind.SLACK, index, self._name)
+    def SlackVar(self, index: int) -> SlackVar:
+        """The slack after an index, which a solution tells, and which can be set to 0 where none is asked for."""
+        return SlackVar(index, self._name, self.stop(index))
 
     def SetCumulVarSoftUpperBound(self, index: int, bound: int, coefficient: int) -> None:
         """Each unit of the cumul above the bound costs the coefficient, 0 to 10000."""
@@ -120,6 +119,30 @@ class RoutingDimension(Named):
             if found.setdefault(node, time) != time:
                 raise refuse(name, f"node {node} has {found[node]} at one index and {time} at another")
         return tuple(found.get(node, 0) for node in range(self._manager.GetNumberOfNodes()))
+
+    def pays_for_waiting(self) -> bool:
+        """Whether slack is there, and spans are paid, of vehicles or of all together."""
+        return self._slack_max > 0 and (any(self._span_costs) or self._global_span_cost > 0)
+
+    def check_slacks(self, transits: Transits) -> None:
+        """Raises `Unsupported` at a stop that was said to be without slack, where that would change what can be driven.
+
+        It changes nothing where there is no slack at all. It changes nothing either in a dimension whose cumuls start
+        at 0 and have upper bounds alone: there less slack is never worse, and the schedule has the least cumuls. So the
+        sample of several trips keeps its meaning, in which only the stops that reload use slack.
+        """
+        is_free = self._slack_max == 0 or (
+            self._fix_start and not self.breaks and not self.pays_for_waiting()
+            and all(rules.low == 0 and not rules.forbidden for rules in self._stops.values())
+        )
+        for index, rules in sorted(self._stops.items()):
+            if rules.is_without_slack and not (is_free and self._goes_up(transits, index)):
+                raise refuse(f"SlackVar({index}).SetValue(0)", WHY_SLACK)
+
+    def _goes_up(self, transits: Transits, index: int) -> bool:
+        """Whether no transit from an index is negative."""
+        node = self._manager.IndexToNode(index)
+        return self._slack_max == 0 or all(min(transits.matrix(number)[node]) >= 0 for number in self.evaluators)
 
     def to_record(self, transits: Transits, pool: MatrixPool) -> Dimension:
         """The dimension as a model has it."""

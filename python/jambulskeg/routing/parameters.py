@@ -6,7 +6,7 @@ from fractions import Fraction
 from typing import Any, Optional
 
 from ..records import MOST_TRIES, First, Improve, Search
-from .refused import Named, refuse, unknown
+from .refused import Named, hint, refuse, unknown
 from .routing_enums_pb2 import FirstSolutionStrategy, LocalSearchMetaheuristic
 from .transits import as_whole
 
@@ -29,8 +29,20 @@ IMPROVE = {
 }
 
 
+PLAIN = (
+    "first_solution_strategy", "local_search_metaheuristic", "solution_limit", "log_search",
+    "guided_local_search_lambda_coefficient", "tries",
+)
+"""The parameters that are plain values."""
+HINTS = ("use_full_propagation", "use_cp", "use_cp_sat", "optimization_step", "log_tag")
+"""The parameters that only say how OR-Tools' own search goes, and never what a solution is."""
+
+
 class Duration(Named):
     """A length of time: whole `seconds` and `nanos`."""
+
+    seconds: int
+    nanos: int
 
     def __init__(self) -> None:
         self.__dict__.update(seconds=0, nanos=0)
@@ -38,7 +50,14 @@ class Duration(Named):
     def __setattr__(self, name: str, value: Any) -> None:
         if name not in self.__dict__:
             raise unknown("Duration", name)
-        self.__dict__[name] = as_whole(value, f"Duration.{name}")
+        found = as_whole(value, f"Duration.{name}")
+        if found < 0:
+            raise refuse(f"Duration.{name} = {found}", "a length of time is 0 or more; 0 stands for no limit")
+        self.__dict__[name] = found
+
+    def CopyFrom(self, other: "Duration") -> None:
+        """Takes the length of another."""
+        self.seconds, self.nanos = other.seconds, other.nanos
 
     def FromSeconds(self, seconds: int) -> None:
         """The length of whole seconds."""
@@ -57,9 +76,9 @@ class RoutingSearchParameters(Named):
     """How a solution is looked for; `DefaultRoutingSearchParameters()` makes one.
 
     `first_solution_strategy` and `local_search_metaheuristic` take members of `routing_enums_pb2`; `solution_limit` is
-    the most solutions; `time_limit` decides how many rounds of growing tries are run; `log_search` tells of them on
-    standard error; `guided_local_search_lambda_coefficient` is the weight of penalties. `tries`, which OR-Tools has
-    not, is the most moves that are tried: with it a run gives the same answer on every machine.
+    the most solutions, 1 or more; `time_limit` decides how many rounds of growing tries are run; `log_search` tells
+    of them on standard error; `guided_local_search_lambda_coefficient` is the weight of penalties. `tries`, which
+    OR-Tools has not, is the most moves that are tried: with it a run gives the same answer on every machine.
     """
 
     def __init__(self) -> None:
@@ -68,6 +87,7 @@ class RoutingSearchParameters(Named):
             local_search_metaheuristic=LocalSearchMetaheuristic.AUTOMATIC,
             solution_limit=MOST_TRIES,
             time_limit=Duration(),
+            lns_time_limit=Duration(),
             log_search=False,
             guided_local_search_lambda_coefficient=0.1,
             tries=None,
@@ -75,11 +95,20 @@ class RoutingSearchParameters(Named):
 
     def __setattr__(self, name: str, value: Any) -> None:
         title = f"RoutingSearchParameters.{name}"
-        if name not in self.__dict__ or name == "time_limit":
-            raise unknown("RoutingSearchParameters", name) if name != "time_limit" else refuse(
-                title, "set its seconds, as in parameters.time_limit.seconds = 10"
-            )
-        self.__dict__[name] = checked(name, title, value)
+        if name in ("time_limit", "lns_time_limit"):
+            raise refuse(title, f"set its seconds, as in parameters.{name}.seconds = 10, or CopyFrom")
+        if name in HINTS:
+            hint(title, "the search has no such parameter")
+        elif name not in self.__dict__:
+            raise unknown("RoutingSearchParameters", name)
+        else:
+            self.__dict__[name] = checked(name, title, value)
+
+    def CopyFrom(self, other: "RoutingSearchParameters") -> None:
+        """Takes what other parameters say."""
+        self.time_limit.CopyFrom(other.time_limit)
+        self.lns_time_limit.CopyFrom(other.lns_time_limit)
+        self.__dict__.update({name: other.__dict__[name] for name in PLAIN})
 
     def search(self) -> Search:
         """The search that the parameters ask for. Raises `Unsupported` where both `tries` and a time limit are set."""
@@ -109,7 +138,12 @@ def checked(name: str, title: str, value: Any) -> Any:
         if not 0 < weight.numerator <= 1000 or abs(weight - Fraction(value)) > Fraction(1, 10**9):
             raise refuse(f"{title} = {value}", "it is a fraction p/q with p and q from 1 to 1000")
         return value
-    return None if name == "tries" and value is None else as_whole(value, title)
+    if name == "tries" and value is None:
+        return None
+    found = as_whole(value, title)
+    if found < (1 if name == "solution_limit" else 0):
+        raise refuse(f"{title} = {found}", "a limit is no number below 0, and of solutions there is one")
+    return found
 
 
 def known(words: Any, table: Any, title: str, value: Any) -> Any:

@@ -2,7 +2,8 @@
 
 from __future__ import annotations
 
-from typing import Any, Dict
+import sys
+from typing import Any, Dict, Set
 
 from ..errors import Unsupported
 
@@ -11,11 +12,27 @@ NO_HANDS_ON = "the program searches by itself; nothing can be handed into its se
 NOT_SAID = "the model cannot say it"
 TWO_NODES = "a transit depends on its two nodes alone"
 OWN_LIMITS = "the search has no such parameter; it is limited by tries, solutions and time_limit"
+NO_ORDER = "no rule says which stop comes next; pairs, policies, windows and SetAllowedVehiclesForIndex come nearest"
+REQUIRED = "a visit that must be made stands in no disjunction; solver().Add(ActiveVar(i) == 1) says the same"
+SLACK = "slack_max holds for all stops alike; SlackVar(i).SetValue(0) is had where the stop asks for no slack anyway"
+DOCKS = "no rule joins several vehicles: give the vehicles shifts that begin one after the other (CumulVar(Start))"
 NO_FILES = "write the solution as JSON (Assignment.solution.text()) and read it by jambulskeg.model.read_solution"
 
 WHY: Dict[str, str] = {
     "Assignment.Save": NO_FILES,
-    "IntVar.SetValue": NOT_SAID,
+    "ActiveVar.SetMax": "a visit that is not made is left out of the model",
+    "ActiveVar.SetRange": REQUIRED,
+    "Assignment.Add": "an assignment has every variable by itself",
+    "CumulVar.SetValues": "RemoveInterval takes out the numbers between",
+    "NextVar.RemoveValue": NO_ORDER,
+    "NextVar.RemoveValues": NO_ORDER,
+    "NextVar.SetMax": NO_ORDER,
+    "NextVar.SetMin": NO_ORDER,
+    "NextVar.SetRange": NO_ORDER,
+    "NextVar.SetValue": NO_ORDER,
+    "NextVar.SetValues": NO_ORDER,
+    "SlackVar.SetMin": SLACK,
+    "SlackVar.SetValues": SLACK,
     "RoutingDimension.SetCumulVarPiecewiseLinearCost": "soft upper bounds are the only costs of a cumul",
     "RoutingDimension.SetCumulVarSoftLowerBound": "soft upper bounds are the only costs of a cumul",
     "RoutingDimension.SetSlackCostCoefficientForAllVehicles": "slack costs nothing; SetSpanCostCoefficient counts it",
@@ -27,7 +44,7 @@ WHY: Dict[str, str] = {
     "RoutingDimension.AddNodePrecedence": "no rule joins two visits but that of a pair",
     "RoutingDimension.TransitVar": "read the cumuls and the slack",
     "RoutingModel.AddAtSolutionCallback": ONE_SOLUTION,
-    "RoutingModel.AddSearchMonitor": ONE_SOLUTION,
+    "RoutingModel.AddSearchMonitor": f"{ONE_SOLUTION}; log_search tells of each round on standard error",
     "RoutingModel.AddLocalSearchOperator": NO_HANDS_ON,
     "RoutingModel.AddLocalSearchFilter": NO_HANDS_ON,
     "RoutingModel.AddIntervalToAssignment": "breaks are in the assignment by themselves",
@@ -37,7 +54,6 @@ WHY: Dict[str, str] = {
     "RoutingModel.AddSoftSameVehicleConstraint": NOT_SAID,
     "RoutingModel.AddTemporalTypeIncompatibility": NOT_SAID,
     "RoutingModel.AddHardTypeIncompatibility": NOT_SAID,
-    "RoutingModel.AddVariableMaximizedByFinalizer": "by RoutingModel.schedule = ScheduleRule.TIGHT days begin late",
     "RoutingModel.AddWeightedVariableMinimizedByFinalizer": "the rule of the schedule has no weights",
     "RoutingModel.AddWeightedVariableMaximizedByFinalizer": "the rule of the schedule has no weights",
     "RoutingModel.ApplyLocks": "a search begins with a first solution of its own",
@@ -51,29 +67,40 @@ WHY: Dict[str, str] = {
     "RoutingModel.SetAmortizedCostFactorsOfVehicle": "a used vehicle costs its fixed cost",
     "RoutingModel.SetFirstSolutionEvaluator": NO_HANDS_ON,
     "RoutingModel.SetMaximumNumberOfActiveVehicles": "leave vehicles out of the model, or give them a fixed cost",
-    "RoutingModel.SetPrimaryConstrainedDimension": NO_HANDS_ON,
     "RoutingModel.SetVehicleUsedWhenEmpty": "a vehicle without visits is not used and costs nothing",
     "RoutingModel.SetVisitType": NOT_SAID,
     "RoutingModel.WriteAssignment": NO_FILES,
-    "RoutingSearchParameters.lns_time_limit": OWN_LIMITS,
     "RoutingSearchParameters.local_search_operators": OWN_LIMITS,
     "RoutingSearchParameters.number_of_solutions_to_collect": ONE_SOLUTION,
-    "RoutingSearchParameters.optimization_step": OWN_LIMITS,
     "RoutingSearchParameters.savings_parameters": OWN_LIMITS,
-    "RoutingSearchParameters.use_cp": OWN_LIMITS,
-    "RoutingSearchParameters.use_cp_sat": OWN_LIMITS,
-    "RoutingSearchParameters.use_full_propagation": OWN_LIMITS,
-    "Solver.Cumulative": "no rule joins several vehicles",
+    "Solver.AllDifferent": "visits on different vehicles: SetAllowedVehiclesForIndex with lists that share none",
+    "Solver.Cumulative": DOCKS,
+    "Solver.IntervalVar": "a break has a range of starts and one duration: FixedDurationIntervalVar",
+    "Solver.SearchLog": f"{ONE_SOLUTION}; log_search tells of each round on standard error",
+    "Solver.SearchMonitor": f"{ONE_SOLUTION}; log_search tells of each round on standard error",
+    "Solver.TimeLimit": "set time_limit of the search parameters",
     "Solver.IntVar": NOT_SAID,
     "Solver.Max": NOT_SAID,
     "Solver.Min": NOT_SAID,
     "Solver.Sum": NOT_SAID,
     "pywrapcp.DefaultRoutingModelParameters": "a model has no parameters",
+    "pywrapcp.SearchMonitor": f"{ONE_SOLUTION}; log_search tells of each round on standard error",
     "pywrapcp.Solver": "the constraint solver itself is not here",
 }
 """Why a name of OR-Tools is refused, for those that scripts use most."""
 
 ELSE = "it is not among the calls of python/OR-TOOLS.md"
+
+
+HINTED: Set[str] = set()
+"""The hints that were told."""
+
+
+def hint(name: str, why: str) -> None:
+    """Tells once, on standard error, of a call that is taken and changes nothing: it only helps OR-Tools' search."""
+    if name not in HINTED:
+        HINTED.add(name)
+        sys.stderr.write(f"jambulskeg: {name} changes nothing: {why}\n")
 
 
 class UnknownName(Unsupported, AttributeError):
@@ -94,7 +121,13 @@ def unknown(owner: str, name: str) -> AttributeError:
 
 
 class NamedType(type):
-    """The type of such classes, which refuses what is asked of the class itself, such as a constant."""
+    """The type of such classes. It refuses what is asked of the class itself, such as a constant, and lets a thing that
+    was made get no further attributes."""
+
+    def __call__(cls, *words: Any, **fields: Any) -> Any:
+        made = super().__call__(*words, **fields)
+        made.__dict__["_is_made"] = True
+        return made
 
     def __getattr__(cls, name: str) -> Any:
         raise unknown(cls.__name__, name)
@@ -108,3 +141,8 @@ class Named(metaclass=NamedType):
 
     def __getattr__(self, name: str) -> Any:
         raise unknown(self.TITLE or type(self).__name__, name)
+
+    def __setattr__(self, name: str, value: Any) -> None:
+        if "_is_made" in self.__dict__ and name not in self.__dict__:
+            raise unknown(self.TITLE or type(self).__name__, name)
+        super().__setattr__(name, value)

@@ -2,7 +2,7 @@
 
 from __future__ import annotations
 
-from typing import Any, Callable, Optional, Sequence, Tuple
+from typing import Any, Callable, List, Optional, Sequence, Tuple
 
 from ..complete import CannotBeDriven, complete
 from ..errors import Fault, NoFirstSolution, NotMet, Refused
@@ -16,11 +16,11 @@ from .building import Said
 from .dimension import RoutingDimension
 from .manager import RoutingIndexManager
 from .parameters import DefaultRoutingSearchParameters, RoutingSearchParameters
-from .refused import Named, refuse
+from .refused import Named, hint, refuse
 from .routing_enums_pb2 import RoutingSearchStatus
 from .solver import Solver
 from .transits import as_whole, checked_table, checked_values, table_of, values_of
-from .variables import CumulVar, IntVar, VarKind, VehicleVar
+from .variables import ActiveVar, CumulVar, IntVar, VarKind, VehicleVar
 
 NO_PENALTY = -1
 
@@ -30,8 +30,9 @@ class RoutingModel(Named):
 
     What the program cannot do is refused by name (`jambulskeg.errors.Unsupported`), what it refuses raises `Refused`.
     `program` is the program or its path, None to have it found; `checked` says whether each answer is put to the
-    proved check; `schedule` is the rule by which all vehicles choose their schedules; `rescued` tells after a search
-    which way it went.
+    proved check; `schedule` is the rule by which all vehicles choose their schedules, None for the one that is nearest
+    to OR-Tools: `TIGHT` where slack is there and spans are paid, or a late start was asked for, else `EARLIEST`;
+    `rescued` tells after a search which way it went.
     """
 
     PICKUP_AND_DELIVERY_NO_ORDER = 0
@@ -53,7 +54,7 @@ class RoutingModel(Named):
             raise refuse("RoutingModel(manager, parameters)", "a model has no parameters")
         self.program: ProgramLike = None
         self.checked = True
-        self.schedule = ScheduleRule.EARLIEST
+        self.schedule: Optional[ScheduleRule] = None
         self.rescued: Optional[Rescue] = None
         self._manager = index_manager
         self._said = Said(index_manager)
@@ -238,6 +239,11 @@ class RoutingModel(Named):
         )
         return True
 
+    def SetPrimaryConstrainedDimension(self, name: str) -> None:
+        """A hint for OR-Tools' search, which is taken and changes nothing. Raises `KeyError` where there is none."""
+        self.GetDimensionOrDie(name)
+        hint("RoutingModel.SetPrimaryConstrainedDimension", "every dimension is asked in each step")
+
     def GetDimensionOrDie(self, name: str) -> RoutingDimension:
         """The dimension of a name. Raises `KeyError` where there is none."""
         return self._said.dimensions[name]
@@ -264,6 +270,22 @@ class RoutingModel(Named):
         nodes = [self._visit(index, title) for index in indices]
         self._said.groups.append((nodes, as_whole(penalty, title), as_whole(max_cardinality, title)))
         return len(self._said.groups) - 1
+
+    def GetNumberOfDisjunctions(self) -> int:
+        """How many disjunctions there are."""
+        return len(self._said.groups)
+
+    def GetDisjunctionPenalty(self, disjunction: int) -> int:
+        """The penalty of a disjunction, -1 without one. Raises `IndexError` where there is no such disjunction."""
+        return self._said.group(disjunction)[1]
+
+    def GetDisjunctionMaxCardinality(self, disjunction: int) -> int:
+        """How many of its visits are made at most. Raises `IndexError` where there is no such disjunction."""
+        return self._said.group(disjunction)[2]
+
+    def GetDisjunctionNodeIndices(self, disjunction: int) -> List[int]:
+        """The indices of its visits. Raises `IndexError` where there is no such disjunction."""
+        return self._manager.NodesToIndices(self._said.group(disjunction)[0])
 
     def AddPickupAndDelivery(self, pickup: int, delivery: int) -> None:
         """A pickup and its delivery: by one vehicle, the pickup first, or neither."""
@@ -306,18 +328,38 @@ class RoutingModel(Named):
         """The vehicle of an index, which says which vehicles may make a visit."""
         return VehicleVar(self._known(index), self._said.rules(index) if self._manager.is_visit(index) else None)
 
-    def ActiveVar(self, index: int) -> IntVar:
-        """1 where a visit is made, else 0."""
-        return IntVar(VarKind.ACTIVE, self._known(index))
+    def ActiveVar(self, index: int) -> ActiveVar:
+        """1 if a visit is made, else 0; it may be said to be 1."""
+        return ActiveVar(self._known(index), self._said.rules(index) if self._manager.is_visit(index) else None)
+
+    def VehicleIndex(self, index: int) -> int:
+        """The vehicle of a start or an end, -1 of a visit."""
+        self._known(index)
+        for vehicle in range(self.vehicles()):
+            if index in (self.Start(vehicle), self.End(vehicle)):
+                return vehicle
+        return -1
 
     def _known(self, index: int) -> int:
         self._manager.IndexToNode(index)
         return index
 
     def AddVariableMinimizedByFinalizer(self, variable: IntVar) -> None:
-        """Takes a cumul, since the schedule has the least cumuls that its rule leaves."""
+        """Takes a variable. The schedule has the least cumuls that its rule leaves; of others it is a hint."""
+        name = "RoutingModel.AddVariableMinimizedByFinalizer"
+        if not isinstance(variable, IntVar):
+            raise refuse(name, "it is had for variables of the model alone")
         if not isinstance(variable, CumulVar):
-            raise refuse("RoutingModel.AddVariableMinimizedByFinalizer", "it is had for cumuls alone")
+            hint(name, "the schedule is chosen by its rule")
+
+    def AddVariableMaximizedByFinalizer(self, variable: IntVar) -> None:
+        """Takes the cumul of a start: all vehicles then begin as late as their ends allow (`ScheduleRule.TIGHT`)."""
+        if not isinstance(variable, CumulVar) or not self.IsStart(variable.index):
+            raise refuse(
+                "RoutingModel.AddVariableMaximizedByFinalizer",
+                "it is had for the cumul of a start, CumulVar(routing.Start(vehicle)): days then begin late",
+            )
+        self._said.begins_late = True
 
     def AddToAssignment(self, variable: IntVar) -> None:
         """Takes a variable of the model, since an assignment has them all."""

@@ -8,12 +8,12 @@ the pair may come before or after.
 from __future__ import annotations
 
 import time
-from typing import Any, Callable, Dict, List, Tuple
+from typing import Any, Callable, Dict, Iterable, List, Tuple
 
 from ..errors import Unsupported
-from .refused import Named, refuse
+from .refused import DOCKS, Named, refuse
 from .transits import as_whole
-from .variables import CumulVar, IntervalVar, IntVar, Relation, VarKind, VehicleVar
+from .variables import ActiveVar, CumulVar, IntervalVar, IntVar, Relation, SlackVar, VarKind, VehicleVar
 
 SameVehicle = Tuple[int, int]
 CumulOrder = Tuple[str, int, int]
@@ -24,6 +24,7 @@ class Solver(Named):
 
     def __init__(self) -> None:
         self.same: List[Tuple[Relation, SameVehicle]] = []
+        self.apart: List[Tuple[Relation, SameVehicle]] = []
         self.ordered: List[Tuple[Relation, CumulOrder]] = []
         self._began = time.monotonic()
 
@@ -31,7 +32,9 @@ class Solver(Named):
         """Adds a constraint. Raises `Unsupported` where a model cannot say it.
 
         Known are `VehicleVar(a) == VehicleVar(b)`, `ActiveVar(a) == ActiveVar(b)` and `CumulVar(a) <= CumulVar(b)` of a
-        pickup a and its delivery b; a cumul beside a number; `VehicleVar(a)` beside a number by `==` and `!=`.
+        pickup a and its delivery b; two vehicles that are the same, or not, by the vehicles that are allowed; a cumul
+        beside a number; `VehicleVar(a)` beside a number by `==` and `!=`, or among some; `ActiveVar(a) == 1`;
+        `SlackVar(a) == 0`.
         """
         if not isinstance(relation, Relation):
             raise refuse("Solver.Add", f"{relation!r} is no relation of two variables or of one and a number")
@@ -45,6 +48,8 @@ class Solver(Named):
         kinds = (left.kind, right.kind)
         if kinds in ((VarKind.VEHICLE,) * 2, (VarKind.ACTIVE,) * 2) and relation.sign == "==":
             self.same.append((relation, (left.index, right.index)))
+        elif kinds == (VarKind.VEHICLE,) * 2 and relation.sign == "!=":
+            self.apart.append((relation, (left.index, right.index)))
         elif kinds == (VarKind.CUMUL,) * 2 and relation.sign in ("<=", ">=") and left.dimension == right.dimension:
             ends = (left.index, right.index) if relation.sign == "<=" else (right.index, left.index)
             self.ordered.append((relation, (left.dimension, *ends)))
@@ -56,7 +61,13 @@ class Solver(Named):
         action = ONE.get((relation.left.kind, relation.sign))
         if action is None:
             raise unsaid(relation)
-        action(relation.left, as_whole(relation.right, f"Solver.Add({relation.in_words()})"))
+        right, name = relation.right, f"Solver.Add({relation.in_words()})"
+        is_among = relation.sign == "in"
+        action(relation.left, [as_whole(value, name) for value in right] if is_among else as_whole(right, name))
+
+    def MemberCt(self, variable: IntVar, values: Iterable[int]) -> Relation:
+        """The relation that a variable is among these, for `Add`."""
+        return variable.Member(values)
 
     def FixedDurationIntervalVar(
         self, start_min: Any, start_max: int, duration: Any = None, optional: Any = False, name: str = ""
@@ -66,7 +77,9 @@ class Solver(Named):
         Raises `Unsupported` for an optional break and for one whose start depends on a variable.
         """
         title = "Solver.FixedDurationIntervalVar"
-        if isinstance(start_min, (IntVar, Relation)) or not hasattr(duration, "__index__"):
+        if isinstance(start_min, (IntVar, Relation)):
+            raise refuse(f"{title} ({variable_words(start_min)})", f"its start is a variable; {DOCKS}")
+        if not hasattr(duration, "__index__"):
             raise refuse(title, "a break has a range of starts: start_min, start_max, duration, optional, name")
         if optional:
             raise refuse(f"{title} (optional)", "a used vehicle takes all of its breaks")
@@ -78,12 +91,22 @@ class Solver(Named):
         return int(1000 * (time.monotonic() - self._began))
 
 
+def variable_words(start: Any) -> str:
+    """A start that is a variable, in words."""
+    return str(start.in_words())
+
+
 def unsaid(relation: Relation) -> Unsupported:
     """The exception that refuses a constraint."""
     return refuse(f"Solver.Add({relation.in_words()})", "a model cannot say it")
 
 
-ONE: Dict[Tuple[VarKind, str], Callable[[Any, int], None]] = {
+ONE: Dict[Tuple[VarKind, str], Callable[[Any, Any], None]] = {
+    (VarKind.ACTIVE, "=="): ActiveVar.SetValue,
+    (VarKind.ACTIVE, ">="): ActiveVar.SetMin,
+    (VarKind.SLACK, "=="): SlackVar.SetValue,
+    (VarKind.SLACK, "<="): SlackVar.SetMax,
+    (VarKind.VEHICLE, "in"): VehicleVar.SetValues,
     (VarKind.CUMUL, "=="): CumulVar.SetValue,
     (VarKind.CUMUL, "!="): CumulVar.RemoveValue,
     (VarKind.CUMUL, "<="): CumulVar.SetMax,

@@ -8,8 +8,11 @@ from typing import Any, Iterable, List, Optional, Set, Tuple
 from ..errors import Fault, Refused
 from ..intervals import Interval
 from ..records import HORIZON, Soft
-from .refused import Named, refuse
+from .refused import Named, refuse, unknown
 from .transits import as_whole
+
+
+WHY_SLACK = "slack_max holds for all stops alike; 0 is had where the stop asks for no slack anyway"
 
 
 class VarKind(Enum):
@@ -37,10 +40,12 @@ class Relation:
 class IntVar(Named):
     """A variable of an index: its kind, and for cumuls and slacks the name of the dimension."""
 
-    TITLE = "IntVar"
-
     def __init__(self, kind: VarKind, index: int, dimension: str = "") -> None:
         self.kind, self.index, self.dimension = kind, index, dimension
+
+    def __getattr__(self, name: str) -> Any:
+        kind = self.__dict__.get("kind")
+        raise unknown(kind.value if kind else "IntVar", name)
 
     def in_words(self) -> str:
         """The variable in words."""
@@ -49,6 +54,10 @@ class IntVar(Named):
     def Name(self) -> str:
         """The variable in words."""
         return self.in_words()
+
+    def Member(self, values: Iterable[int]) -> Relation:
+        """The relation that the variable is among these, for `Solver.Add`."""
+        return Relation(self, "in", list(values))
 
     def __hash__(self) -> int:
         return hash((self.kind, self.index, self.dimension))
@@ -97,6 +106,7 @@ class StopRules:
         self.low, self.high = 0, HORIZON
         self.forbidden: List[Interval] = []
         self.soft: Optional[Soft] = None
+        self.is_without_slack = False
 
     def window(self) -> Optional[Tuple[int, int]]:
         """The window, None where every cumul lies in it."""
@@ -206,6 +216,51 @@ class VehicleVar(IntVar):
         found = {as_whole(value, "VehicleVar.RemoveValue") for value in values}
         self._rules.must_be_made |= -1 in found
         self._rules.keep(self._rules.left - found, self.in_words())
+
+
+class ActiveVar(IntVar):
+    """Whether a visit is made, 1 or 0, as far as it says that it must be."""
+
+    def __init__(self, index: int, rules: Optional[VisitRules]) -> None:
+        super().__init__(VarKind.ACTIVE, index)
+        self._of_visit = rules
+
+    def SetValue(self, value: int) -> None:
+        """The visit must be made, which 1 says; a start and an end are always there."""
+        if as_whole(value, "ActiveVar.SetValue") != 1:
+            raise refuse(f"{self.in_words()}.SetValue({value})", "a visit that is not made is left out of the model")
+        if self._of_visit is not None:
+            self._of_visit.must_be_made = True
+
+    def SetMin(self, low: int) -> None:
+        """The visit must be made if `low` is 1; 0 says nothing."""
+        if as_whole(low, "ActiveVar.SetMin") > 0:
+            self.SetValue(low)
+
+
+class SlackVar(IntVar):
+    """The slack after a stop, as far as it says that there is none."""
+
+    def __init__(self, index: int, dimension: str, rules: StopRules) -> None:
+        super().__init__(VarKind.SLACK, index, dimension)
+        self._rules = rules
+
+    def SetValue(self, value: int) -> None:
+        """There is no slack after the stop, which 0 says. That is had where the stop asks for none anyway; whether it
+        does is asked when the model is closed."""
+        if as_whole(value, "SlackVar.SetValue") != 0:
+            raise refuse(f"SlackVar({self.index}).SetValue({value})", WHY_SLACK)
+        self._rules.is_without_slack = True
+
+    def SetMax(self, high: int) -> None:
+        """The same for 0."""
+        self.SetValue(high)
+
+    def SetRange(self, low: int, high: int) -> None:
+        """The same for 0 to 0."""
+        if as_whole(low, "SlackVar.SetRange") > 0:
+            raise refuse(f"SlackVar({self.index}).SetRange({low}, {high})", WHY_SLACK)
+        self.SetValue(high)
 
 
 class IntervalVar(Named):

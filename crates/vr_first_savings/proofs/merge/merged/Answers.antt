@@ -1,40 +1,16 @@
-use Rattle.std.proofs.Common.{◌≡◌, ◌∙◌, ◌+◌, ◌-◌, ℕ, List, None, ap, sym, subst, arith, length}
-use Rattle.std.specs.Option.{option_map}
-use Rattle.vr_model.specs.first.Choosing.{least_by}
-use Rattle.vr_model.specs.first.SavingsJoins.{Join, join_key, joins, merged, after_join}
-use Rattle.vr_first_savings.specs.declared.choice.JoinChoice.{JoinChoice}
-use Rattle.vr_first_savings.specs.Joins.{join_of, AreApart}
-use Rattle.vr_first_savings.proofs.MergeLemmas.{found-read, merged-stops, merged-unwanted, merged-next}
-use Rattle.vr_first_savings.proofs.JoinedApart.{AreApart-joined}
+use Rattle.std.proofs.Common.{◌∙◌, ◌^◌, ℕ, refl, ap, sym, subst, pos, length}
+use Rattle.std.specs.Prelude.{replicate}
+use Rattle.std.proofs.lemmas.List.{get_or-replicate, length-replicate}
+use Rattle.vr_first_savings.specs.Bounds.{AreBounds}
+use Rattle.vr_first_savings.proofs.BoundLemmas.{bounds-unknown}
 use Rattle.vr_first_savings.proofs.merge.merged.Goals as goal
 
-pub returns-in-None-clause-merged : goal.returns-in-None-clause-merged
-returns-in-None-clause-merged c =
-    let model = c.args.lookups.now.closed.model.now in
-    let routes : List (List ℕ) = c.loop-step.routes.items in
-    let none : least_by (join_key model) (joins model routes) ≡ None =
-    sym (ap (λ routes. least_by (join_key model) (joins model routes)) c.deref.ensures.value) ∙ sym c.in_ok-choice.ensures.best ∙ ap (option_map (join_of c.deref.result.now)) c.in-None.is in
-    sym (merged-stops model (length c.args.routes.items - c.loop-step._step) routes none) ∙ c.loop-step.invariant.merges
+pub merge_all-requires-clause-number : goal.merge_all-requires-clause-number
+merge_all-requires-clause-number c =
+    ap length (c.deref_mut.ensures.value ∙ c.in_ok-bounds.ensures.items_if_clones_equal (λ y e. e)) ∙ length-replicate c.args.lookups.now.closed.model.now.nodes (pos (2 ^ 41))
 
-pub returns-then-not-is_wanted-clause-merged : goal.returns-then-not-is_wanted-clause-merged
-returns-then-not-is_wanted-clause-merged c =
+pub merge_all-requires-clause-bounds : goal.merge_all-requires-clause-bounds
+merge_all-requires-clause-bounds c =
     let model = c.args.lookups.now.closed.model.now in
-    let routes : List (List ℕ) = c.loop-step.routes.items in
-    let choice : JoinChoice = c.in-Some.choice in
-    let found = found-read model routes c.deref.result.now choice _ c.len.result c.is_wanted.result c.deref.ensures.value c.in-Some.is c.in_ok-choice.ensures.best c.in_ok-choice.ensures.may (omega arith) c.is_wanted.ensures in
-    sym (merged-unwanted model (length c.args.routes.items - c.loop-step._step) routes (join_of routes choice) found.best (sym found.tells ∙ c.if-not-is_wanted.true)) ∙ c.loop-step.invariant.merges
-
-pub loop-step-preserved : goal.loop-step-preserved
-loop-step-preserved c =
-    let model = c.args.lookups.now.closed.model.now in
-    let routes : List (List ℕ) = c.loop-step.routes.items in
-    let choice : JoinChoice = c.in-Some.choice in
-    let join : Join = join_of routes choice in
-    let found = found-read model routes c.deref.result.now choice _ c.len.result c.is_wanted.result c.deref.ensures.value c.in-Some.is c.in_ok-choice.ensures.best c.in_ok-choice.ensures.may (omega arith) c.is_wanted.ensures in
-    let n : ℕ = length c.args.routes.items in
-    let after : c.in_ok-routes-in-Some.routes.items ≡ after_join routes join = c.in_ok-routes-in-Some.ensures ∙ ap (λ routes. after_join routes (join_of routes choice)) c.deref-in-Some.ensures.value in
-    record {
-      merges = ap (merged model (n - (c.loop-step._step + 1))) after
-          ∙ sym (merged-next model (n - c.loop-step._step) (n - (c.loop-step._step + 1)) routes join found.best (sym found.tells ∙ c.if-not-is_wanted.false) (omega arith)) ∙ c.loop-step.invariant.merges;
-      apart = subst (AreApart model) (sym after) (AreApart-joined model routes choice c.loop-step.invariant.apart found.may);
-    }
+    subst (AreBounds model c.args.routes.items) (sym (c.deref_mut.ensures.value ∙ c.in_ok-bounds.ensures.items_if_clones_equal (λ y e. e)))
+    (bounds-unknown model c.args.routes.items (replicate model.nodes (pos (2 ^ 41))) model.nodes c.args.lookups.now.closed.well_formed c.requires.apart refl (λ k low. get_or-replicate model.nodes k (pos (2 ^ 41)) (pos 0) low))

@@ -1,0 +1,5 @@
+use Rattle.vr_ruin.proofs.AnswerLemmas.{refining_stops}
+use Rattle.vr_ruin.proofs.laws.refining_stops.Goals as goal
+
+pub returns : goal.returns
+returns c = refining_stops

@@ -1,0 +1,5 @@
+pub mod Lacking
+pub mod Offers
+pub mod Steps
+pub mod Refining
+pub mod Answering
