@@ -1,6 +1,7 @@
 """python -m jambulskeg: plans from spreadsheets, pictures of a day, what looks wrong in a model, many searches.
 
 Ends with 0 where there is an answer, with 1 and a sentence where there is none, with 2 where the words are unknown.
+`plan` ends with 3 if visits that must be made are left out.
 """
 
 from __future__ import annotations
@@ -178,8 +179,9 @@ def run_view(asked: argparse.Namespace) -> int:
             days = days_of(asked, model, solutions, tables)
             titles = titles_of(asked, files)
             outputs.write(asked.output, text_of(asked, tables, days, (titles, note)))
-    if note:
-        sys.stderr.write(note + "\n")
+    looks = [f"look at: {doubt}" for doubt in (tables.doubts if tables is not None else ())]
+    for line in [*looks, *([note] if note else [])]:
+        sys.stderr.write(line + "\n")
     return 0
 
 
