@@ -115,6 +115,9 @@ class CommandTests(unittest.TestCase):
         self.assertEqual(len(json.loads(self.read("a.geojson"))["features"]), 5)
         self.assertEqual(called(*words, "-o", self.at("a.html"))[0], 0)
         self.assertIn('download="plan.geojson"', self.read("a.html"))
+        vans = self.write("vans.csv", "name,capacty,start\nred,,yard\n")
+        told = called(*words, "--vehicles", vans, "--csv", self.at("a.csv"))[2]
+        self.assertIn("look at: " + vans + ", line 1, column 'capacty': this column is not read; is 'capacity'", told)
         day = [os.path.join(EXAMPLES, f"service-day.{end}") for end in ("json", "solved.json")]
         status, _, told = called("view", *day, "--clock", "8:00", "--ics", self.at("a.ics"), "--date", "2026-12-01")
         self.assertEqual((status, told, "DTSTART:20261201T080000" in self.read("a.ics")), (0, "", True))

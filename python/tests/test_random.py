@@ -12,7 +12,7 @@ from typing import Any, Dict, List, Tuple
 from jambulskeg.complete import complete, leave_later, shape_faults
 from jambulskeg.doubts import doubts
 from jambulskeg.errors import NoFirstSolution, Refused
-from jambulskeg.model import Model, check, first, solve, solve_with_log
+from jambulskeg.model import Model, ScheduleRule, check, first, solve, solve_with_log
 from jambulskeg.rescue import Way, rescue
 from jambulskeg.routing import pywrapcp
 
@@ -159,6 +159,7 @@ class ScriptTests(unittest.TestCase):
             if status != 0:
                 continue
             routing = self.script(tree)
+            routing.schedule = ScheduleRule.EARLIEST
             model = replace(routing.to_model(), search=tree["search"])
             self.assertEqual(solve(model).text() + "\n", line, number)
             parameters = pywrapcp.DefaultRoutingSearchParameters()
