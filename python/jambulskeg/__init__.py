@@ -4,7 +4,8 @@
 OR-Tools' calls, `jambulskeg.rescue` finds an answer where the construction finds none, `jambulskeg.complete` makes
 plans by hand, `jambulskeg.places` makes models of coordinates and spreadsheets, `jambulskeg.plan` goes from these to a
 plan, `jambulskeg.doubts` tells what looks wrong, `jambulskeg.view` draws a day, `jambulskeg.exports` writes it for
-other programs, `jambulskeg.portfolio` and `jambulskeg.batch` run many searches on many processors.
+other programs, `jambulskeg.portfolio` and `jambulskeg.batch` run many searches on many processors, `jambulskeg.region`
+plans thousands of visits.
 """
 
 __version__ = "0.18.0"

@@ -2,12 +2,13 @@
 
 Each region gets the tries of 60 seconds on four processors for 10,000 visits, in proportion to its visits. With the
 word `alone` the parts get all tries and no seams; with `once`, up to 999 visits are one run of the program with as many
-seconds as the region has taken. README.md has what it printed.
+tries as a model may ask for. README.md has what it printed; `picture` reads such rows and writes their drawing.
 """
 
 from __future__ import annotations
 
 import contextlib
+import math
 import os
 import resource
 import sys
@@ -17,10 +18,10 @@ from typing import List, Sequence, Tuple
 
 sys.path.insert(0, os.path.dirname(os.path.dirname(os.path.abspath(__file__))))
 
+from jambulskeg.model import solve
 from jambulskeg.places import model_of
-from jambulskeg.records import First, Improve, Search
+from jambulskeg.records import MOST_TRIES, First, Improve, Search
 from jambulskeg.region import Asked, OwnCrew, RegionTables, Store, check_plan, plan, region_page
-from jambulskeg.rescue import rescue, timed_solver
 from tests.region_support import made_region
 
 JOBS = 4
@@ -34,8 +35,8 @@ def used() -> float:
     return sum(entry.ru_utime + entry.ru_stime for entry in found)
 
 
-def measured(visits: int, seams: bool) -> float:
-    """Plans a region and prints what it took; the processor seconds."""
+def measured(visits: int, seams: bool) -> None:
+    """Plans a region and prints what it took."""
     region, began, before = made_region(visits), time.monotonic(), used()
     tables = RegionTables.of(region)
     with tempfile.TemporaryDirectory() as folder, contextlib.closing(Store(folder)) as store:
@@ -51,17 +52,51 @@ def measured(visits: int, seams: bool) -> float:
         f"{100 - 100 * whole.cost / first.cost:.1f} % | {len(whole.days())} | {len(whole.missing)} | "
         f"{len(page.encode()) // 1024} KB | {os.getloadavg()[0]:.0f} |", flush=True
     )
-    return seconds
 
 
-def once(visits: int, seconds: float) -> None:
-    """One run of the program on the whole region, by rounds of growing tries."""
+def once(visits: int) -> None:
+    """One run of the program on the whole region."""
     region, before = made_region(visits), used()
-    search = Search(first=First.PARALLEL_CHEAPEST_INSERTION, improve=Improve.GUIDED_LOCAL_SEARCH)
-    model = model_of(region.places, region.vans, region.roads, search)
-    found = rescue(model, solver=timed_solver(seconds))
-    print(f"one run of {visits} visits: {used() - before:.0f} processor seconds, cost {found.solved.solution.cost:,}, "
-          f"{found.sentence}", flush=True)
+    search = Search(First.PARALLEL_CHEAPEST_INSERTION, Improve.GUIDED_LOCAL_SEARCH, MOST_TRIES)
+    found = solve(model_of(region.places, region.vans, region.roads, search))
+    print(f"one run of {visits} visits: {used() - before:.0f} processor seconds, cost {found.cost:,}", flush=True)
+
+
+def picture(rows: Sequence[Tuple[int, float, float]]) -> str:
+    """A drawing of rows of visits, processor seconds and cost: both for each visit, the most of each being the top."""
+    def points(values: Sequence[float]) -> List[Tuple[float, float]]:
+        top, low = max(values), math.log10(rows[0][0])
+        wide = math.log10(rows[-1][0]) - low or 1
+        return [(60 + 620 * (math.log10(row[0]) - low) / wide, 260 - 200 * value / top)
+                for row, value in zip(rows, values)]
+
+    marks = ['<rect width="740" height="320" fill="#fff"/>', '<path d="M60 40V260H700" fill="none" stroke="#4a5361"/>']
+    lines = (
+        ("#1f5fa8", "milliseconds of a processor for each visit", [1000 * row[1] / row[0] for row in rows], -8),
+        ("#b4451f", "cost for each visit", [row[2] / row[0] for row in rows], 18),
+    )
+    for at, (colour, words, values, aside) in enumerate(lines):
+        way = points(values)
+        marks.append(f'<path d="M{"L".join(f"{x:.0f} {y:.0f}" for x, y in way)}" fill="none" stroke="{colour}"/>')
+        for (x, y), value in zip(way, values):
+            marks.append(f'<circle cx="{x:.0f}" cy="{y:.0f}" r="4" fill="{colour}"/>')
+            place = f'x="{x:.0f}" y="{y + aside:.0f}" text-anchor="middle"'
+            marks.append(f'<text {place} fill="{colour}">{value:.0f}</text>')
+        marks.append(f'<text x="64" y="{18 + 18 * at}" fill="{colour}">{words}</text>')
+    marks += [
+        f'<text x="{x:.0f}" y="280" text-anchor="middle">{row[0]:,}</text>'
+        for row, (x, _) in zip(rows, points([1.0] * len(rows)))
+    ]
+    return (
+        '<svg xmlns="http://www.w3.org/2000/svg" viewBox="0 0 740 320" font-family="sans-serif" font-size="13">'
+        f'{"".join(marks)}<text x="380" y="305" text-anchor="middle">visits</text></svg>'
+    )
+
+
+def rows_of(lines: Sequence[str]) -> List[Tuple[int, float, float]]:
+    """The visits, processor seconds and costs of rows that were printed."""
+    cells = [[cell.strip().replace(",", "") for cell in line.strip("|\n ").split("|")] for line in lines]
+    return [(int(row[0]), float(row[2]), float(row[7])) for row in cells if row[0].isdigit()]
 
 
 def words_of(words: Sequence[str]) -> Tuple[List[int], bool, bool]:
@@ -72,11 +107,14 @@ def words_of(words: Sequence[str]) -> Tuple[List[int], bool, bool]:
 
 def main() -> None:
     """Measures what is asked for."""
+    if sys.argv[1:] == ["picture"]:
+        print(picture(rows_of(sys.stdin.readlines())))
+        return
     sizes, is_alone, is_once = words_of(sys.argv[1:])
     for visits in sizes:
-        seconds = measured(visits, not is_alone)
+        measured(visits, not is_alone)
         if is_once:
-            once(visits, seconds)
+            once(visits)
 
 
 if __name__ == "__main__":

@@ -30,7 +30,7 @@ from jambulskeg.region import (
     check_plan, cut, model_of_part, plan, plan_table, read_region, region_page, sheet_files, write_roads,
 )
 from jambulskeg.region.checking import once
-from jambulskeg.region.crew import Answers
+from jambulskeg.region.crew import Answers, ModelOf
 from jambulskeg.region.mending import groups_of
 from jambulskeg.region.near import links_of, nearest
 from jambulskeg.solution import Solution
@@ -48,10 +48,10 @@ class Backwards:
     def __init__(self, change: Callable[[int, Answer], Optional[Answer]] = lambda count, answer: answer) -> None:
         self._change, self.count = change, 0
 
-    def each(self, models: Sequence[Model]) -> Answers:
+    def each(self, count: int, model_of: ModelOf) -> Answers:
         """The answers, the last part's first."""
-        order = list(range(len(models)))[::-1]
-        for at, answer in OwnCrew(1).each([models[number] for number in order]):
+        order = list(range(count))[::-1]
+        for at, answer in OwnCrew(1).each(count, lambda place: model_of(order[place])):
             self.count += 1
             changed = self._change(self.count, answer)
             if changed is not None:

@@ -10,24 +10,26 @@ import tempfile
 from concurrent.futures import ThreadPoolExecutor, as_completed
 from dataclasses import dataclass
 from threading import Event
-from typing import IO, Generator, List, Protocol, Sequence, Tuple
+from typing import IO, Callable, Generator, List, Protocol, Tuple
 
 from ..engines import Answer, EngineFailed, GnuParallel, answer_of, last_of, results, solved, started, stop_twice
 from ..model import Model
 from ..program import ProgramLike, program_of
 
-__all__ = ["Answers", "Crew", "OwnCrew", "ParallelCrew"]
+__all__ = ["Answers", "Crew", "ModelOf", "OwnCrew", "ParallelCrew"]
 
 Answers = Generator[Tuple[int, Answer], None, None]
 """The numbers of models and their answers, as they come."""
+ModelOf = Callable[[int], Model]
+"""The model of a number, made when it is asked for."""
 
 
 class Crew(Protocol):
     """What solves models side by side."""
 
-    def each(self, models: Sequence[Model]) -> Answers:
-        """The number of each model and its answer, as they come. Raises `EngineFailed` where the crew itself fails;
-        the answers before that hold."""
+    def each(self, count: int, model_of: ModelOf) -> Answers:
+        """The number of each of so many models and its answer, as they come. Raises `EngineFailed` where the crew
+        itself fails; the answers before that hold."""
 
     def close(self) -> None:
         """Ends what the crew has started."""
@@ -40,12 +42,12 @@ class OwnCrew:
     jobs: int = 1
     program: ProgramLike = None
 
-    def each(self, models: Sequence[Model]) -> Answers:
+    def each(self, count: int, model_of: ModelOf) -> Answers:
         """The number of each model and its answer, as they come."""
         found = program_of(self.program)
         pool, stop = ThreadPoolExecutor(max_workers=max(1, self.jobs)), Event()
         try:
-            tasks = {pool.submit(lambda at: solved(models[at], found, stop), at): at for at in range(len(models))}
+            tasks = {pool.submit(lambda at: solved(model_of(at), found, stop), at): at for at in range(count)}
             for task in as_completed(tasks):
                 yield tasks[task], task.result()
         finally:
@@ -62,19 +64,19 @@ class ParallelCrew:
 
     engine: GnuParallel
 
-    def each(self, models: Sequence[Model]) -> Answers:
+    def each(self, count: int, model_of: ModelOf) -> Answers:
         """The number of each model and its answer, as they come. Raises `EngineFailed` where some have no answer."""
         with tempfile.TemporaryFile("w+", encoding="utf-8") as texts, tempfile.TemporaryFile("w+") as errors:
-            longest = max(texts.write(models[at].text() + "\n") for at in range(len(models)))
+            longest = max(texts.write(model_of(at).text() + "\n") for at in range(count))
             texts.seek(0)
             seen = set()
             for at, answer in self._answers(longest, texts, errors):
                 seen.add(at)
                 yield at, answer
-            if len(seen) < len(models):
+            if len(seen) < count:
                 errors.seek(0)
                 raise EngineFailed(
-                    f"{len(models) - len(seen)} of {len(models)} parts have no result; GNU parallel said: "
+                    f"{count - len(seen)} of {count} parts have no result; GNU parallel said: "
                     f"{last_of(errors.read())}"
                 )
 

@@ -18,7 +18,9 @@ from .day import Part, Point, Region
 __all__ = ["MOST_VISITS", "cut"]
 
 MOST_VISITS = 150
-"""The most visits of a part, where nothing else is asked for."""
+"""The most visits of a part, where nothing else is asked for. Parts of 100 cost 1.3 percent more in the same seconds,
+since each has fewer routes to choose among; parts of 250, 340 and 500 cost 1, 2 and 4 percent more, since they are not
+searched to an end."""
 FULL = 0.95
 """A site is full when this share of its loads or hours is used."""
 VANS_OF_A_PART = 80

@@ -15,7 +15,7 @@ from typing import Dict, Sequence, Set
 
 from ..engines import Answer, EngineFailed, answer_of, last_of, results, started, work_of
 from ..model import Model
-from .crew import Answers
+from .crew import Answers, ModelOf
 
 __all__ = ["SlurmCrew"]
 
@@ -65,16 +65,16 @@ class SlurmCrew:
         self._folder = os.path.abspath(folder)
         self._job, self._starts, self._given = "", 0, 0
 
-    def each(self, models: Sequence[Model]) -> Answers:
+    def each(self, count: int, model_of: ModelOf) -> Answers:
         """The number of each model and its answer, as they come. Raises `EngineFailed` where Slurm keeps no worker."""
         for name in ("open", "taken", "done", "new"):
             os.makedirs(os.path.join(self._folder, name), exist_ok=True)
         first = self._given
-        self._given += len(models)
+        self._given += count
         waiting: Dict[str, int] = {}
-        for at in range(len(models)):
+        for at in range(count):
             waiting[f"{first + at:08}"] = at
-            self._give(f"{first + at:08}", models[at])
+            self._give(f"{first + at:08}", model_of(at))
         asked = time.monotonic() if self._job else 0.0
         while waiting:
             came = sorted(waiting.keys() & set(os.listdir(self._path("done"))))

@@ -6,7 +6,7 @@ import json
 from contextlib import closing
 from dataclasses import dataclass
 from functools import lru_cache
-from typing import Callable, Dict, List, Optional, Sequence, TypeVar, Union, overload
+from typing import Callable, Dict, List, Optional, Sequence, TypeVar, Union
 
 from ..engines import Answer, EngineFailed
 from ..errors import JambulskegError, NoFirstSolution, Refused
@@ -60,27 +60,6 @@ class Round:
         return f"{self.number:04}-{at:04}"
 
 
-class Models(Sequence[Model]):
-    """The models of a round, each made when it is asked for."""
-
-    def __init__(self, models: "PartModels", numbers: Sequence[int]) -> None:
-        self._models, self._numbers = models, numbers
-
-    def __len__(self) -> int:
-        return len(self._numbers)
-
-    @overload
-    def __getitem__(self, at: int) -> Model: ...
-
-    @overload
-    def __getitem__(self, at: slice) -> Sequence[Model]: ...
-
-    def __getitem__(self, at: Union[int, slice]) -> Union[Model, Sequence[Model]]:
-        if isinstance(at, slice):
-            return Models(self._models, self._numbers[at])
-        return self._models.begun(self._numbers[at])
-
-
 class PartModels:
     """The models of the parts of a round by their numbers; the latest are kept."""
 
@@ -130,7 +109,7 @@ def solve_parts(
         if not left:
             break
         try:
-            with closing(crew.each(Models(models, left))) as answers:
+            with closing(crew.each(len(left), lambda place: models.begun(left[place]))) as answers:
                 for place, answer in answers:
                     take(left[place], answer, keep=True)
         except EngineFailed as problem:
