@@ -43,7 +43,7 @@ no_dearer_than : (a b c : ℤ) → int_lt a b ≡ true → b ≤ℤ c → a ≤�
 no_dearer_than a b c e h = grind (arith, ints)
 
 -- lists that lack something are no better than those that lack nothing ..
-not_best : (m n : ℕ) (less : Bool) → n ≡ 0 → (m == 0) ≡ false → (nat_lt m n || ((m == n) && less)) ≡ false
+pub not_best : (m n : ℕ) (less : Bool) → n ≡ 0 → (m == 0) ≡ false → (nat_lt m n || ((m == n) && less)) ≡ false
 not_best m n less e f = ap₂ (λ a b. a || (b && less)) below (ap (λ n. m == n) e ∙ f)
   where
     below : nat_lt m n ≡ false
@@ -482,7 +482,7 @@ refining_stops model lists limit wish = stops_from model (ruin_of model lists wi
 
 -- ---- heat
 
-less_hot : (h : ℕ) → 61 * h / 64 ≤ h
+pub less_hot : (h : ℕ) → 61 * h / 64 ≤ h
 less_hot h = grind arith
 
 cooled_down : (levels h : ℕ) → cooled levels h ≤ h

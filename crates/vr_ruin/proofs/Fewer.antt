@@ -70,6 +70,15 @@ all_of_part q [] whole held all = refl
 all_of_part q (x ∷ xs) whole held all =
     and_both (q x) (list_all q xs) (held_passes q whole x all (held x (ap (λ b. b || holds xs x) (eq-eqb x x refl)))) (all_of_part q xs whole (λ y h. held y (passes_more (y == x) (holds xs y) h)) all)
 
+pub all_left : (q p : ℕ → Bool) (xs : List ℕ) → list_all q xs ≡ true → list_all q (filter p xs) ≡ true
+all_left q p xs all = all_of_part q (filter p xs) xs (holds_left p xs) all
+
+-- a list in its own place
+pub set_same : (lists : List (List ℕ)) (v : ℕ) → v < length lists → with_route lists v (route lists v) ≡ lists
+set_same [] v low = refl
+set_same (l ∷ ls) zero low = refl
+set_same (l ∷ ls) (suc v) low = ap (λ rest. l ∷ rest) (set_same ls v (omega (arith, low)))
+
 active_fewer : (lists : List (List ℕ)) (v : ℕ) (list : List ℕ) → v < length lists → IsPart list (route lists v) → (x : ℕ) → is_active (with_route lists v list) x ≡ true → is_active lists x ≡ true
 active_fewer [] v list low part x h = absurd (omega (arith, low))
 active_fewer (l ∷ ls) zero list low part x h = by (holds list x) refl h

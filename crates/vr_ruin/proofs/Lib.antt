@@ -4,3 +4,13 @@ pub mod Fewer
 pub mod Placed
 pub mod Remade
 pub mod AnswerLemmas
+pub mod AskLemmas
+pub mod PayLemmas
+pub mod LackCounts
+pub mod TrialLemmas
+pub mod MakingLemmas
+pub mod TurnLemmas
+pub mod CuttingLemmas
+pub mod SearchLemmas
+pub mod AdvanceLemmas
+pub mod BeginLemmas

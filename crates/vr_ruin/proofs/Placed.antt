@@ -110,27 +110,27 @@ second-there x y = ap (λ a. (x == y) || (a || false)) (eq-eqb x x refl) ∙ las
 apart : (p d : ℕ) → is_distinct (p ∷ d ∷ []) ≡ true → (p == d) ≡ false
 apart p d h = or-false_left (p == d) false (fails_not ((p == d) || false) (and_left (not ((p == d) || false)) true h))
 
-placed-visits : (model : Model) (item : Item) (list places : List ℕ) → AreIn item places → IsItem model item → list_all (is_visit model) list ≡ true → list_all (is_visit model) (inserted_in list (item_nodes item) places) ≡ true
+pub placed-visits : (model : Model) (item : Item) (list places : List ℕ) → AreIn item places → list_all (is_visit model) (item_nodes item) ≡ true → list_all (is_visit model) list ≡ true → list_all (is_visit model) (inserted_in list (item_nodes item) places) ≡ true
 placed-visits model (Visit n) list places (t, same) is all =
     ap (λ ps. list_all (is_visit model) (inserted_in list (n ∷ []) ps)) same
-    ∙ one-all (is_visit model) (take t list) (drop t list) n (and_left (is_visit model n) true is.visits) (ap (list_all (is_visit model)) (take-append-drop t list) ∙ all)
+    ∙ one-all (is_visit model) (take t list) (drop t list) n (and_left (is_visit model n) true is) (ap (list_all (is_visit model)) (take-append-drop t list) ∙ all)
 placed-visits model (PickupAndDelivery p d) list places (s, t, low, same) is all =
     ap (λ ps. list_all (is_visit model) (inserted_in list (p ∷ d ∷ []) ps)) same
     ∙ two-all (is_visit model) (take s list) (slice_range list s t) (drop t list) p d
-    (and_left (is_visit model p) _ is.visits) (and_left (is_visit model d) true (and_right (is_visit model p) _ is.visits))
+    (and_left (is_visit model p) _ is) (and_left (is_visit model d) true (and_right (is_visit model p) _ is))
     (ap (list_all (is_visit model)) (split-three list s t low) ∙ all)
 
-placed-distinct : (model : Model) (item : Item) (list places : List ℕ) → AreIn item places → IsItem model item → is_distinct list ≡ true → ((x : ℕ) → holds (item_nodes item) x ≡ true → holds list x ≡ false)
+pub placed-distinct : (item : Item) (list places : List ℕ) → AreIn item places → is_distinct (item_nodes item) ≡ true → is_distinct list ≡ true → ((x : ℕ) → holds (item_nodes item) x ≡ true → holds list x ≡ false)
     → is_distinct (inserted_in list (item_nodes item) places) ≡ true
-placed-distinct model (Visit n) list places (t, same) is d absent =
+placed-distinct (Visit n) list places (t, same) is d absent =
     let whole = take-append-drop t list in
     ap (λ ps. is_distinct (inserted_in list (n ∷ []) ps)) same
     ∙ one-distinct (take t list) (drop t list) n (ap is_distinct whole ∙ d) (ap (λ l. holds l n) whole ∙ absent n (first-there n false))
-placed-distinct model (PickupAndDelivery p d) list places (s, t, low, same) is e absent =
+placed-distinct (PickupAndDelivery p d) list places (s, t, low, same) is e absent =
     let whole = split-three list s t low in
     ap (λ ps. is_distinct (inserted_in list (p ∷ d ∷ []) ps)) same
     ∙ two-distinct (take s list) (slice_range list s t) (drop t list) p d (ap is_distinct whole ∙ e)
-    (ap (λ l. holds l p) whole ∙ absent p (first-there p ((p == d) || false))) (ap (λ l. holds l d) whole ∙ absent d (second-there d p)) (apart p d is.distinct)
+    (ap (λ l. holds l p) whole ∙ absent p (first-there p ((p == d) || false))) (ap (λ l. holds l d) whole ∙ absent d (second-there d p)) (apart p d is)
 
 -- the list with an item that stood in no list is one with nodes added
 pub item_added : (model : Model) (lists : List (List ℕ)) (v : ℕ) (item : Item) (places : List ℕ) → AreBuilt model lists → v < length lists → IsItem model item → is_active lists (first_node (item_nodes item)) ≡ false
@@ -140,7 +140,7 @@ item_added model lists v item places built low is first at =
     record {
       vehicle = low;
       nodes_are = placed-holds item (route lists v) places at;
-      visits = placed-visits model item (route lists v) places at is (built-visits model lists v built);
-      distinct = placed-distinct model item (route lists v) places at is (built-distinct model lists v built) (λ x there. inactive-route lists x v (inactive x there));
+      visits = placed-visits model item (route lists v) places at is.visits (built-visits model lists v built);
+      distinct = placed-distinct item (route lists v) places at is.distinct (built-distinct model lists v built) (λ x there. inactive-route lists x v (inactive x there));
       inactive = inactive;
     }

@@ -39,7 +39,8 @@ use Rattle.vr_strings.specs.declared.sizes.Ruin.{Ruin}
 use Rattle.vr_ruin.specs.Offers.{empty_vehicles, insertions_into, is_paid, keeps_open, offer, offer_at, offer_key, offers, offers_of, put_back, rank_key, recreated, with_offer}
 use Rattle.vr_ruin.specs.Steps.{RefineState, RefineStep, heat_at, judged_at, remade, step_from}
 use Rattle.vr_ruin.specs.Answering.{StepsStayOpen}
-use Rattle.vr_ruin.proofs.Fewer.{built_fewer, part_left}
+use Rattle.vr_ruin.specs.Makings.{firsts, one, AreInTurn}
+use Rattle.vr_ruin.proofs.Fewer.{built_fewer, part_left, set_same}
 use Rattle.vr_ruin.proofs.Owners.{item_is, owned}
 use Rattle.vr_ruin.proofs.Placed.{item_added, places_in}
 
@@ -58,11 +59,6 @@ module _ (model : Model) where
       by : (b : Bool) → is_route_open model v left ≡ b → AreBuilt model (with_route state.lists v (cond b left list))
       by true e = built_fewer model state.lists v left built low (part_left (λ node. not (goes_out model (gone_of list (drawn_string longest (length list) (place_of list visit) state.words).0) node)) list (built-distinct model state.lists v built)) e
       by false e = subst (AreBuilt model) (sym (set_same state.lists v low)) built
-        where
-          set_same : (lists : List (List ℕ)) (v : ℕ) → v < length lists → with_route lists v (route lists v) ≡ lists
-          set_same [] v low = refl
-          set_same (l ∷ ls) zero low = refl
-          set_same (l ∷ ls) (suc v) low = ap (λ rest. l ∷ rest) (set_same ls v (omega (arith, low)))
 
   found_in : (p : ℕ → Bool) (xs : List ℕ) (x : ℕ) → find p xs ≡ Some x → In xs x
   found_in p [] x e = absurd (cc)
@@ -147,19 +143,25 @@ module _ (model : Model) where
 
 -- ---- items that are to be put back
 
-abbrev pub one : Bool → ℕ
-one true = 1
-one false = 0
-
--- how many items of a list have a number as their first node
-abbrev pub firsts : ℕ → List (List ℕ) → ℕ
-firsts n xs = sum_by (λ item. one (first_node item == n)) xs
-
 -- items of a model that are in no list, each of them once
 pub record AreToPlace (model : Model) (lists xs : List (List ℕ)) : Type 0 where
   pub among : (item : List ℕ) → In xs item → In (items model) item
   pub inactive : (item : List ℕ) → In xs item → is_active lists (first_node item) ≡ false
   pub once : (n : ℕ) → firsts n xs ≤ 1
+
+pub to_place_of : (model : Model) (lists xs : List (List ℕ)) → AreInTurn model lists xs → AreToPlace model lists xs
+to_place_of model lists xs turn = record {
+  among = λ item there. of_contains (items model) item (turn.among item (to_contains xs item there));
+  inactive = λ item there. turn.inactive item (to_contains xs item there);
+  once = turn.once;
+}
+
+pub in_turn_of : (model : Model) (lists xs : List (List ℕ)) → AreToPlace model lists xs → AreInTurn model lists xs
+in_turn_of model lists xs left = record {
+  among = λ item there. to_contains (items model) item (left.among item (of_contains xs item there));
+  inactive = λ item there. left.inactive item (of_contains xs item there);
+  once = left.once;
+}
 
 module _ (model : Model) (well_formed : IsWellFormed model) where
   -- ---- the items of a model, each of them once
@@ -249,7 +251,7 @@ module _ (model : Model) (well_formed : IsWellFormed model) where
   least_in : {A : Type 0} (key : A → List ℤ) (xs : List A) (x : A) → least_by key xs ≡ Some x → In xs x
   least_in key xs x e = let h : IsFirstLeast key xs x = subst (λ o. MatchOption o (xs ≡ []) (IsFirstLeast key xs)) e (least_first key xs) in of_contains xs x (h.place, h.in_list, h.stands_there x)
 
-  offer_is : (lists : List (List ℕ)) (item : List ℕ) (v : ℕ) (insertion : Insertion) → v < length lists → offer model lists item v ≡ Some insertion → IsOffered lists item insertion
+  pub offer_is : (lists : List (List ℕ)) (item : List ℕ) (v : ℕ) (insertion : Insertion) → v < length lists → offer model lists item v ≡ Some insertion → IsOffered lists item insertion
   offer_is lists item v insertion low e =
       let of = of_filter (keeps_open model lists) (insertions_into lists item v) insertion (least_in (offer_key model lists) (filter (keeps_open model lists) (insertions_into lists item v)) insertion e) in
       from_map (λ places. record { item = item; vehicle = v; places = places }) (places_for item (route lists v)) insertion of.0 (λ places there same. built_of places there same of.1)
@@ -326,6 +328,16 @@ module _ (model : Model) (well_formed : IsWellFormed model) where
     once = λ n. let all = left.once n in let count = sum_by-cons (λ item. one (first_node item == n)) item rest in omega (arith, all, count);
   }
 
+  -- an insertion that is offered for an item in no list, and for which the groups have room, leaves open lists
+  pub offered_open : (lists : List (List ℕ)) (it : Item) (insertion : Insertion) → AreBuilt model lists → IsItem model it → is_active lists (first_node (item_nodes it)) ≡ false → fits_beside model lists (item_nodes it) ≡ true
+      → IsOffered lists (item_nodes it) insertion → AreBuilt model (inserted lists insertion)
+  offered_open lists it insertion built valid inactive fits offered =
+      let v = insertion.vehicle in
+      let list = inserted_in (route lists v) (item_nodes it) insertion.places in
+      let added : IsAdded model lists v (item_nodes it) list = item_added model lists v it insertion.places built offered.vehicle valid inactive (places_in it (route lists v) insertion.places offered.places) in
+      let opens : is_open model (with_route lists v list) ≡ true = is_open-local model lists v list (item_nodes it) built.are_open offered.vehicle added.nodes_are ∙ and_both (is_route_open model v list) (fits_beside model lists (item_nodes it)) offered.opens fits in
+      subst (λ item. AreBuilt model (with_route lists v (inserted_in (route lists v) item insertion.places))) (sym offered.item_is) (AreBuilt-added model lists v (item_nodes it) list built added opens)
+
   insertion_open : (lists : List (List ℕ)) (item : List ℕ) (rest : List (List ℕ)) (insertion : Insertion) → IsStillOpen lists (item ∷ rest) → fits_beside model lists item ≡ true → IsOffered lists item insertion
       → IsStillOpen (inserted lists insertion) rest
   insertion_open lists item rest insertion before fits offered = subst (λ i. IsStillOpen (inserted_by i) rest) (sym offered.item_is) (made (item_is model well_formed item (before.left.among item (inl refl))))
@@ -364,7 +376,7 @@ module _ (model : Model) (well_formed : IsWellFormed model) where
 
   -- ---- items in their turns
 
-  put_back_open : (wide : Bool) (lists : List (List ℕ)) (words : Lcg) (item : List ℕ) (rest : List (List ℕ)) → IsStillOpen lists (item ∷ rest) → IsStillOpen (put_back model wide (lists, words) item).0 rest
+  pub put_back_open : (wide : Bool) (lists : List (List ℕ)) (words : Lcg) (item : List ℕ) (rest : List (List ℕ)) → IsStillOpen lists (item ∷ rest) → IsStillOpen (put_back model wide (lists, words) item).0 rest
   put_back_open wide lists words item rest before = by (fits_beside model lists item) refl
     where
       stays : IsStillOpen lists rest

@@ -3,3 +3,13 @@ pub mod Offers
 pub mod Steps
 pub mod Refining
 pub mod Answering
+pub mod Placings
+pub mod Ranks
+pub mod Trials
+pub mod Payments
+pub mod Standings
+pub mod Makings
+pub mod Cuttings
+pub mod Steppers
+pub mod Searching
+pub mod Answers

@@ -11,12 +11,38 @@
 //! and not valid, and find valid ones.
 //!
 //! The laws (`laws`): all routes of a search are open, and an answer has the first cheapest of the valid ones that the
-//! search had. `wish` has what is asked of a search.
+//! search had. `wish` has what is asked of a search, and `answer` what it gives.
+//!
+//! The search: `beginning` begins it and answers, `searching` goes from step to step, `advancing` makes one step and
+//! `accepting` takes what comes out of it over. `stepping` makes routes anew: `cutting` takes strings out, `turning`
+//! puts the items back in their turns, by the offers that `making` writes in the order of `ranking`. They do so on
+//! routes on trial (`trial`), whose lists are always open, and which `asking` asks for the best place of an item in a
+//! list (`placing`). `judging` says which routes are better and which are accepted, by `lacking`, `paying` and
+//! `heating`.
 #![tactic(auto)]
 
+mod accepting;
+mod advancing;
+mod answer;
+mod asking;
+mod beginning;
+mod cutting;
+mod heating;
+mod judging;
+mod lacking;
 mod laws;
+mod making;
+mod paying;
+mod placing;
+mod ranking;
+mod searching;
+mod stepping;
+mod trial;
+mod turning;
 mod wish;
 
+pub use answer::Refined;
+pub use beginning::refine_over;
 pub use laws::{
     cooling_goes_on, heat_is_bounded, open_is_valid_without_lack, refining_answers,
     refining_is_sound, refining_stops, steps_stay_open, valid_first_is_kept,

@@ -9,9 +9,9 @@ ghost use Rattle.vr_rules.specs.Totals.{HasTotal};
 use vr_model::{Closed, Parts};
 use vr_routes::Routes;
 
-// The costs of the arcs that a vehicle takes with a list, added up. A list of 1000 visits has 1001 arcs, an empty one
-// none, not even from the start to the end.
-fn arcs_of_route(closed: Closed<'_>, vehicle: u32, list: &[u32]) -> i64
+/// The costs of the arcs that a vehicle takes with a list, added up. A list of 1000 visits has 1001 arcs, an empty one
+/// none, not even from the start to the end. It takes no memory. `vr_ruin` asks it of one list, `cost` of all.
+pub fn arcs_of_route(closed: Closed<'_>, vehicle: u32, list: &[u32]) -> i64
     requires vehicle { vehicle < length closed.model.now.vehicles }
     requires nodes { All (λ node. node < closed.model.now.nodes) list.now }
     requires few { length list.now ≤ 1000 }

@@ -1,10 +1,10 @@
-//! What valid routes cost.
+//! What open routes cost.
 
 ghost use Rattle.std.specs.Prelude.{◌≡◌, ◌+◌, IfOk, IsTrue, length};
 ghost use Rattle.vr_model.specs.routes.Costs.{assigned, parts_at};
-ghost use Rattle.vr_model.specs.routes.Rules.{is_valid};
+ghost use Rattle.vr_model.specs.routes.Rules.{is_open};
 ghost use Rattle.vr_rules.specs.Parts.{AreTimed};
-ghost use Rattle.vr_rules.specs.Totals.{HasTotal};
+ghost use Rattle.vr_rules.specs.Totals.{AreInRange};
 
 use crate::costs::{arcs_of_routes, fixed_of_routes};
 use crate::marks::Marked;
@@ -64,12 +64,12 @@ fn timed_of(of: &Marked<'_, '_, '_, '_>, timer: &mut Timer) -> Result<Timed, NoM
     Ok(timed)
 }
 
-// What valid routes cost at their chosen schedules.
+// What open routes cost at their chosen schedules.
 pub(crate) fn parts_of(of: &Marked<'_, '_, '_, '_>, timer: &mut Timer) -> Result<Parts, NoMemory>
-    requires { IsTrue (is_valid of.now.lookups.now.closed.model.now of.now.routes.now.lists) }
+    requires { IsTrue (is_open of.now.lookups.now.closed.model.now of.now.routes.now.lists) }
     ensures parts { IfOk result (λ parts. parts ≡ parts_at of.now.lookups.now.closed.model.now
         (assigned of.now.lookups.now.closed.model.now of.now.routes.now.lists)) }
-    ensures total { IfOk result HasTotal }
+    ensures range { IfOk result AreInRange }
 {
     let (closed, routes) = (of.lookups.closed, of.routes);
     let penalty = penalty_of_groups(closed, of.marks);

@@ -9,7 +9,7 @@ ghost use Rattle.vr_model.specs.routes.Rules.{is_valid as is_valid_of};
 ghost use Rattle.vr_model.specs.tables.Tables.{is_visit};
 ghost use Rattle.vr_model.specs.tables.WellFormed.{IsWellFormed};
 ghost use Rattle.vr_rules.specs.Placing.{AreBuilt};
-ghost use Rattle.vr_rules.specs.Totals.{HasTotal};
+ghost use Rattle.vr_rules.specs.Totals.{AreInRange, HasTotal};
 
 use crate::costs::total_cost;
 use crate::marks::with_marks;
@@ -162,6 +162,19 @@ impl<'m> Rules<'m> {
         requires valid { IsTrue (is_valid_of self.old routes.now.lists) }
         ensures parts { IfOk result (λ parts. parts ≡ parts_at self.old (assigned self.old routes.now.lists)) }
         ensures total { IfOk result HasTotal }
+        ensures model { self.new ≡ self.old }
+    {
+        let kept = &mut *self.kept;
+        let of = with_marks(&self.lookups, routes, &mut kept.marks)?;
+        parts_of(&of, &mut kept.timer)
+    }
+
+    /// What open routes cost at their chosen schedules, also where visits are missing that must be served. Each of the
+    /// six parts has its bound, and so has any sum of them. `vr_ruin` asks it.
+    pub fn cost_where_open(&mut self, routes: &Routes) -> Result<Parts, NoMemory>
+        requires built { AreBuilt self.old routes.now.lists }
+        ensures parts { IfOk result (λ parts. parts ≡ parts_at self.old (assigned self.old routes.now.lists)) }
+        ensures range { IfOk result AreInRange }
         ensures model { self.new ≡ self.old }
     {
         let kept = &mut *self.kept;

@@ -2,16 +2,16 @@ use Rattle.std.proofs.Common.{◌≡◌, ◌∙◌, subst, sym, arith}
 use Rattle.std.proofs.lemmas.Int.{ints}
 use Rattle.vr_model.specs.declared.records.Parts.{Parts}
 use Rattle.vr_model.specs.routes.Costs.{assigned, parts_at}
-use Rattle.vr_rules.specs.Totals.{HasTotal}
-use Rattle.vr_rules.proofs.PenaltyLemmas.{groups_fit-open, penalty_part-marks, valid-open}
+use Rattle.vr_rules.specs.Totals.{AreInRange}
+use Rattle.vr_rules.proofs.PenaltyLemmas.{groups_fit-open, penalty_part-marks}
 use Rattle.vr_rules.proofs.PartLemmas.{soft-part, span-part}
-use Rattle.vr_rules.proofs.TotalLemmas.{read, valid-total}
+use Rattle.vr_rules.proofs.TotalLemmas.{read}
 use Rattle.vr_rules.proofs.parts.parts_of.Goals.{After-fixed_of_routes}
 use Rattle.vr_rules.proofs.parts.parts_of.Goals as goal
 
 pub penalty_of_groups-penalty-requires-clause-fit : goal.penalty_of_groups-penalty-requires-clause-fit
 penalty_of_groups-penalty-requires-clause-fit c =
-    groups_fit-open c.args.of.now.lookups.now.closed.model.now c.args.of.now.lookups.now.closed.well_formed c.args.of.now.routes.now.lists c.args.of.now.marks.now c.args.of.now.marks_are (valid-open c.args.of.now.lookups.now.closed.model.now c.args.of.now.routes.now.lists c.requires)
+    groups_fit-open c.args.of.now.lookups.now.closed.model.now c.args.of.now.lookups.now.closed.well_formed c.args.of.now.routes.now.lists c.args.of.now.marks.now c.args.of.now.marks_are c.requires
 
 -- the parts as code puts them together
 abbrev added_up : After-fixed_of_routes → Parts
@@ -45,9 +45,32 @@ added_up_is c =
     let span = span_read ∙ timed.span ∙ span-part model lists in
     λ t. record { arcs = arcs t; fixed = fixed t; global = global t; penalty = penalty t; soft = soft t; span = span t }
 
+-- and have their bounds
+in_range : (c : After-fixed_of_routes) → AreInRange (added_up c)
+in_range c =
+    let few = c.args.of.now.lookups.now.closed.well_formed.number_of_dimensions in
+    let timed = c.in_ok-timed.ensures in
+    let arcs_read : read c.arcs_of_routes.result ≡ c.arcs_of_routes.result = omega (arith, ints, c.arcs_of_routes.ensures.low, c.arcs_of_routes.ensures.high) in
+    let fixed_read : read c.fixed_of_routes.result ≡ c.fixed_of_routes.result = omega (arith, ints, c.fixed_of_routes.ensures.low, c.fixed_of_routes.ensures.high) in
+    let penalty_read : read c.penalty_of_groups-penalty.result ≡ c.penalty_of_groups-penalty.result = omega (arith, ints, c.penalty_of_groups-penalty.ensures.low, c.penalty_of_groups-penalty.ensures.high) in
+    let soft_read : read c.in_ok-timed.timed.soft ≡ c.in_ok-timed.timed.soft = omega (arith, ints, timed.soft_not_negative, timed.soft_bound, few) in
+    let span_read : read c.in_ok-timed.timed.span ≡ c.in_ok-timed.timed.span = omega (arith, ints, timed.span_in_range.low, timed.span_in_range.high, few) in
+    let global_read : read c.in_ok-timed.timed.global ≡ c.in_ok-timed.timed.global = omega (arith, ints, timed.global_in_range.low, timed.global_in_range.high, few) in
+    record {
+      arcs_low = omega (arith, ints, arcs_read, c.arcs_of_routes.ensures.low);
+      arcs_high = omega (arith, ints, arcs_read, c.arcs_of_routes.ensures.high);
+      fixed_low = omega (arith, ints, fixed_read, c.fixed_of_routes.ensures.low);
+      fixed_high = omega (arith, ints, fixed_read, c.fixed_of_routes.ensures.high);
+      global = record { low = omega (arith, ints, global_read, timed.global_in_range.low, few); high = omega (arith, ints, global_read, timed.global_in_range.high, few) };
+      penalty_low = omega (arith, ints, penalty_read, c.penalty_of_groups-penalty.ensures.low);
+      penalty_high = omega (arith, ints, penalty_read, c.penalty_of_groups-penalty.ensures.high);
+      soft_low = omega (arith, ints, soft_read, timed.soft_not_negative);
+      soft_high = omega (arith, ints, soft_read, timed.soft_bound, few);
+      span = record { low = omega (arith, ints, span_read, timed.span_in_range.low, few); high = omega (arith, ints, span_read, timed.span_in_range.high, few) };
+    }
+
 pub returns-clause-parts : goal.returns-clause-parts
 returns-clause-parts c = added_up_is (goal.at.returns-clause-parts c).After-fixed_of_routes
 
-pub returns-clause-total : goal.returns-clause-total
-returns-clause-total c =
-    subst HasTotal (sym (added_up_is (goal.at.returns-clause-total c).After-fixed_of_routes)) (valid-total c.args.of.now.lookups.now.closed.model.now c.args.of.now.lookups.now.closed.well_formed c.args.of.now.routes.now.lists c.requires)
+pub returns-clause-range : goal.returns-clause-range
+returns-clause-range c = in_range (goal.at.returns-clause-range c).After-fixed_of_routes

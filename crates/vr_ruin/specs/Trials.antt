@@ -1,0 +1,18 @@
+-- Routes on trial.
+use Rattle.std.specs.Prelude.{◌≡◌, ℕ, List, length}
+use Rattle.vr_model.specs.tables.Tables.{visits}
+use Rattle.vr_model.specs.declared.records.Model.{Model}
+use Rattle.vr_routes.specs.Tours.{Tours}
+use Rattle.vr_rules.specs.Placing.{AreBuilt}
+
+-- a model, and lists of it
+pub record OnTrial : Type 0 where
+  pub model : Model
+  pub lists : List (List ℕ)
+
+-- routes with the visits of a model hold open lists of it, and others have as many lists
+pub record AreOnTrial (model : Model) (routes spare : Tours) : Type 0 where
+  pub visits_are : routes.visits ≡ visits model
+  pub built : AreBuilt model routes.lists
+  pub spare_visits : spare.visits ≡ visits model
+  pub spare_many : length spare.lists ≡ length model.vehicles

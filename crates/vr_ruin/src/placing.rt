@@ -1,0 +1,98 @@
+//! Insertions of an item into one route, and which of two comes first.
+
+ghost use Rattle.std.specs.Prelude.{◌≡◌, ◌≤◌, OnOk, length, map, pos};
+ghost use Rattle.vr_model.specs.tables.Limits.{most_nodes};
+ghost use Rattle.vr_model.specs.tables.Numbers.{is_lex_less};
+ghost use Rattle.vr_rules.specs.Placing.{improves as improves_by};
+ghost use Rattle.vr_ruin.specs.Placings.{item_in, key_of, placed as placed_of, places_in, AreWithin};
+
+use vr_model::{NoMemory, Seq};
+use vr_rules::Item;
+
+/// An item at its places in a list, which are counted in the list without it.
+#[derive(Clone, Copy)]
+pub(crate) enum Placing {
+    /// A visit, and the place that it is put before.
+    One(u32, u32),
+    /// A pickup and its delivery, and the places that they are put before.
+    Two(u32, u32, u32, u32),
+}
+
+/// An item at its places in the list of a vehicle, and what it adds to the arc costs there.
+#[derive(Clone, Copy)]
+pub(crate) struct Offer {
+    pub(crate) placing: Placing,
+    pub(crate) vehicle: u32,
+    pub(crate) increase: i64,
+}
+
+impl Placing {
+    /// The item that is placed.
+    pub(crate) fn item(self) -> Item
+        ensures { result ≡ item_in self }
+    {
+        match self {
+            Placing::One(node, _) => Item::Visit(node),
+            Placing::Two(pickup, delivery, _, _) => Item::PickupAndDelivery(pickup, delivery),
+        }
+    }
+}
+
+// Whether places come before others in lexicographic order.
+fn places_before(one: Placing, other: Placing) -> bool
+    ensures { result ≡ is_lex_less (map pos (places_in one)) (map pos (places_in other)) }
+{
+    match (one, other) {
+        (Placing::One(_, t), Placing::One(_, u)) => t < u,
+        // a visit and a pair do not come here: offers of one item are compared
+        (Placing::One(_, t), Placing::Two(_, _, s, _)) => t <= s,
+        (Placing::Two(_, _, s, _), Placing::One(_, t)) => s < t,
+        (Placing::Two(_, _, s, t), Placing::Two(_, _, r, u)) => s < r || (s <= r && t < u),
+    }
+}
+
+// Whether an offer comes before another of the same vehicle: by what it adds, then by its places.
+fn comes_before(one: Offer, other: Offer) -> bool
+    ensures { result ≡ is_lex_less (key_of one) (key_of other) }
+{
+    one.increase < other.increase
+        || (one.increase <= other.increase && places_before(one.placing, other.placing))
+}
+
+/// Whether an offer is better than the best so far, or the first.
+pub(crate) fn improves(best: Option<Offer>, next: Offer) -> bool
+    ensures { result ≡ improves_by key_of best next }
+{
+    match best {
+        Some(best) => comes_before(next, best),
+        None => true,
+    }
+}
+
+/// Writes the list with an item placed in it over another list.
+pub(crate) fn write_placed(
+    list: &[u32],
+    placing: Placing,
+    longer: &mut Seq<u32>,
+) -> Result<(), NoMemory>
+    requires within { AreWithin list.now placing }
+    requires few { length list.now ≤ most_nodes }
+    ensures { OnOk result (longer.new ≡ placed_of list.now placing) }
+{
+    longer.truncate(0);
+    match placing {
+        Placing::One(node, t) => {
+            longer.extend_from_slice(&list[..t as usize])?;
+            longer.push(node)?;
+            longer.extend_from_slice(&list[t as usize..])?;
+        }
+        Placing::Two(pickup, delivery, s, t) => {
+            longer.extend_from_slice(&list[..s as usize])?;
+            longer.push(pickup)?;
+            longer.extend_from_slice(&list[s as usize..t as usize])?;
+            longer.push(delivery)?;
+            longer.extend_from_slice(&list[t as usize..])?;
+        }
+    }
+    Ok(())
+}
