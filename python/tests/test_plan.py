@@ -107,6 +107,13 @@ class PlanTests(PlanCase):
         self.assertIn("line 5, column 'name': no vehicle starts or ends at 'Depot 2'", told)
         self.assertIn("look at: to leave a visit of group 0 out costs 5", told)
 
+    def test_columns_that_plan_nothing_are_told(self) -> None:
+        places = self.write("p.csv", "name,x,y,Phone,From\nyard,0,0,,\nAda,1,1,0791,13:00\n")
+        status, _, told = called("plan", places, self.write("v.csv", "start,Plate\nyard,B 12\n"), "--seconds", "0")
+        self.assertEqual(status, 0)
+        self.assertIn(f"{places}: these columns are kept and plan nothing: Phone, From\n", told)
+        self.assertIn("v.csv: these columns are kept and plan nothing: Plate\n", told)
+
     def test_doubts_of_the_model_have_names(self) -> None:
         rows = "yard,0,0,,,\nAda,90,0,0:00,0:30,500\nBen,1,1,0:10,9:00,\n"
         places = self.write("p.csv", f"name,x,y,open,close,penalty\n{rows}")

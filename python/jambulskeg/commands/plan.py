@@ -81,8 +81,8 @@ def run_plan(asked: argparse.Namespace) -> int:
     find()
     title = asked.title or (f"Plan of {asked.date.isoformat()}" if asked.date else "Plan of the day")
     date = asked.date or datetime.date.today()
-    for doubt in tables.doubts:
-        tell(f"look at: {doubt}")
+    for sentence in [*(f"look at: {doubt}" for doubt in tables.doubts), *unread(asked, tables)]:
+        tell(sentence)
     sheets = sheet_paths(asked.sheets, tables)
     files = [path for path in (
         asked.output, asked.page, asked.geojson, asked.ics, asked.model, asked.solution, *sheets
@@ -105,6 +105,15 @@ def run_plan(asked: argparse.Namespace) -> int:
     for line in [*left[:FEW], *more, *earlier_sheets(asked.sheets, sheets)]:
         tell(line)
     return stop.status or (LEFT_OUT if planned.required else 0)
+
+
+def unread(asked: argparse.Namespace, tables: DayTables) -> Iterator[str]:
+    """A sentence for each file with columns that plan nothing: they are kept, and come back in what is written."""
+    for path, further in ((asked.places, tables.further), (asked.vans, tables.van_further)):
+        columns = list(dict.fromkeys(heading for row in further for heading in row))
+        if columns:
+            yield f"{path}: these columns are kept and plan nothing: {', '.join(columns[:FEW])}" + (
+                f" and {len(columns) - FEW} more" if len(columns) > FEW else "")
 
 
 def tell(sentence: str) -> None:
