@@ -87,7 +87,7 @@ class PlanTests(PlanCase):
         status, out, told = called("plan", *words, "--seconds", "0")
         with open(os.path.join(EXAMPLES, "..", "docs", "HOWTO.md"), encoding="utf-8") as file:
             text = file.read()
-        self.assertEqual((status, len(told.splitlines())), (0, 2))
+        self.assertEqual((status, len(told.splitlines())), (0, 4))
         for line in told.splitlines():
             self.assertIn(f"    {line}\n", text)
         for name in words:
@@ -111,8 +111,8 @@ class PlanTests(PlanCase):
         places = self.write("p.csv", "name,x,y,Phone,From\nyard,0,0,,\nAda,1,1,0791,13:00\n")
         status, _, told = called("plan", places, self.write("v.csv", "start,Plate\nyard,B 12\n"), "--seconds", "0")
         self.assertEqual(status, 0)
-        self.assertIn(f"{places}: these columns are kept and plan nothing: Phone, From\n", told)
-        self.assertIn("v.csv: these columns are kept and plan nothing: Plate\n", told)
+        self.assertIn("columns of the places that are kept and plan nothing: Phone, From\n", told)
+        self.assertIn("columns of the vehicles that are kept and plan nothing: Plate\n", told)
 
     def test_doubts_of_the_model_have_names(self) -> None:
         rows = "yard,0,0,,,\nAda,90,0,0:00,0:30,500\nBen,1,1,0:10,9:00,\n"

@@ -81,7 +81,7 @@ def run_plan(asked: argparse.Namespace) -> int:
     find()
     title = asked.title or (f"Plan of {asked.date.isoformat()}" if asked.date else "Plan of the day")
     date = asked.date or datetime.date.today()
-    for sentence in [*(f"look at: {doubt}" for doubt in tables.doubts), *unread(asked, tables)]:
+    for sentence in [*(f"look at: {doubt}" for doubt in tables.doubts), *unread(tables)]:
         tell(sentence)
     sheets = sheet_paths(asked.sheets, tables)
     files = [path for path in (
@@ -107,13 +107,13 @@ def run_plan(asked: argparse.Namespace) -> int:
     return stop.status or (LEFT_OUT if planned.required else 0)
 
 
-def unread(asked: argparse.Namespace, tables: DayTables) -> Iterator[str]:
-    """A sentence for each file with columns that plan nothing: they are kept, and come back in what is written."""
-    for path, further in ((asked.places, tables.further), (asked.vans, tables.van_further)):
+def unread(tables: DayTables) -> Iterator[str]:
+    """A sentence for each table with columns that plan nothing: they are kept, and come back in what is written."""
+    for whose, further in (("places", tables.further), ("vehicles", tables.van_further)):
         columns = list(dict.fromkeys(heading for row in further for heading in row))
         if columns:
-            yield f"{path}: these columns are kept and plan nothing: {', '.join(columns[:FEW])}" + (
-                f" and {len(columns) - FEW} more" if len(columns) > FEW else "")
+            more = f" and {len(columns) - FEW} more" if len(columns) > FEW else ""
+            yield f"columns of the {whose} that are kept and plan nothing: {', '.join(columns[:FEW])}{more}"
 
 
 def tell(sentence: str) -> None:
