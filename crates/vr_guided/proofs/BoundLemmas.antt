@@ -17,7 +17,7 @@ use Rattle.vr_model.proofs.routes.Lists.{are-lists, are_lists-count, route-below
 use Rattle.vr_model.proofs.tables.Bounds.{arc_cost_in_range}
 use Rattle.vr_routes.specs.declared.pieces.Piece.{Piece}
 use Rattle.vr_routes.specs.Pieces.{IsSplice, joined}
-use Rattle.vr_guided.specs.Bounding.{AugmentedCostsAreBounded}
+use Rattle.vr_guided.specs.Bounding.{AugmentedCostsAreBounded, IsBounded}
 use Rattle.vr_guided.specs.Counts.{AtMost}
 use Rattle.vr_guided.specs.Walks.{route_weight, stretch_weight, unused_weight, arc_weight}
 use Rattle.vr_balance.specs.Sums.{last_of}
@@ -144,8 +144,8 @@ module _ (model : Model) (well : IsWellFormed model) (p : Penalties) (few : AtMo
       (sym ends.joins) (middle_saved (route lists v) (joined lists middle) front behind next others ends.order e (subst Below ends.joins each))
 
 -- a sum of the two parts
-sum-up_to : (x y : ℤ) → IsUpTo (1000 * (2 ^ 63 - 1)) x → IsUpTo (1000 * (1100 * most)) y → IsUpTo (2 ^ 100) (x +ℤ y)
-sum-up_to x y a b = record { at_least = omega (arith, ints, a.at_least, b.at_least); at_most = omega (arith, ints, a.at_most, b.at_most) }
+sum-bounded : (x y : ℤ) → IsUpTo (1000 * (2 ^ 63 - 1)) x → IsUpTo (1000 * (1100 * most)) y → IsBounded (x +ℤ y)
+sum-bounded x y a b = record { least = omega (arith, ints, a.at_least, b.at_least); below = omega (arith, ints, a.at_most, b.at_most) }
 
 pub augmented_costs_are_bounded : AugmentedCostsAreBounded
 unfolding augmented
@@ -154,6 +154,6 @@ augmented_costs_are_bounded model well lambda is p few lists valid =
     let more = penalised-up_to model well p few lists valid in
     let q : IsUpTo 1000 lambda.q = record { at_least = (let l = is.q_in_range.at_least in omega (arith, ints, l)); at_most = is.q_in_range.at_most } in
     let p_low : IsUpTo 1000 lambda.p = record { at_least = (let l = is.p_in_range.at_least in omega (arith, ints, l)); at_most = is.p_in_range.at_most } in
-    sum-up_to (lambda.q *ℤ cost model lists) (lambda.p *ℤ penalised model p lists)
+    sum-bounded (lambda.q *ℤ cost model lists) (lambda.p *ℤ penalised model p lists)
     (product-up_to 1000 (2 ^ 63 - 1) lambda.q (cost model lists) q costs.greatest (inr costs.least))
     (product-up_to 1000 (1100 * most) lambda.p (penalised model p lists) p_low more.at_most (inr more.at_least))

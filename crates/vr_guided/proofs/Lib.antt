@@ -16,6 +16,7 @@ pub mod GuidedLemmas
 pub mod StartLemmas
 pub mod AnswerLemmas
 pub mod BoundLemmas
+pub mod PenaltyLemmas
 pub mod TermLemmas
 pub mod SavingLemmas
 pub mod SpareLemmas

@@ -1,5 +1,5 @@
 -- What augmented costs come to, as a statement.
-use Rattle.std.specs.Prelude.{ℕ, ◌^◌, List, IsTrue, pos}
+use Rattle.std.specs.Prelude.{ℕ, ◌^◌, List, IsTrue, ℤ, pos, ◌≤ℤ◌, ◌<ℤ◌}
 use Rattle.vr_model.specs.tables.WellFormed.{IsIn, IsWellFormed}
 use Rattle.vr_model.specs.routes.Rules.{is_valid}
 use Rattle.vr_model.specs.search.GuidedSearches.{Penalties, augmented}
@@ -12,10 +12,15 @@ pub record IsLambda (lambda : Lambda) : Type 0 where
   pub p_in_range : IsIn (pos 1) (pos 1000) lambda.p
   pub q_in_range : IsIn (pos 1) (pos 1000) lambda.q
 
--- with such a lambda, and where no arc was penalised more than 10^9 times, valid lists of a well-formed model have an
--- augmented cost from 0 to 2^100
+-- an augmented cost is not negative, and below 2^100
+pub record IsBounded (cost : ℤ) : Type 0 where
+  pub least : pos 0 ≤ℤ cost
+  pub below : cost <ℤ pos (2 ^ 100)
+
+-- with such a lambda, and where no arc was penalised more than 10^9 times, valid lists of a well-formed model have a
+-- bounded augmented cost
 abbrev pub AugmentedCostsAreBounded : Type 0
 AugmentedCostsAreBounded =
     (model : Model) → IsWellFormed model → (lambda : Lambda) → IsLambda lambda
     → (penalties : Penalties) → AtMost 1000000000 penalties → (lists : List (List ℕ)) → IsTrue (is_valid model lists)
-    → IsIn (pos 0) (pos (2 ^ 100)) (augmented model lambda penalties lists)
+    → IsBounded (augmented model lambda penalties lists)

@@ -12,3 +12,4 @@ pub mod Nexts
 pub mod Answering
 pub mod Bounding
 pub mod Lists
+pub mod Penalising

@@ -3,6 +3,7 @@
 
 ghost use Rattle.vr_guided.specs.Answering.{GuidedIsSound};
 ghost use Rattle.vr_guided.specs.Bounding.{AugmentedCostsAreBounded};
+ghost use Rattle.vr_guided.specs.Penalising.{PenaltiesAreFew};
 
 /// The best lists of guided local search from valid lists are valid and cost no more than these, its last lists are
 /// valid, and its tries and its solutions are within the limit.
@@ -10,8 +11,13 @@ pub fn guided_is_sound()
     ensures { GuidedIsSound }
 {}
 
-/// The augmented cost of valid lists is not negative and at most 2^100, where no arc was penalised more than 10^9
-/// times.
+/// The augmented cost of valid lists is not negative and below 2^100, where no arc was penalised more than 10^9 times.
 pub fn augmented_costs_are_bounded()
     ensures { AugmentedCostsAreBounded }
+{}
+
+/// No arc is penalised more often than a move was tried, wherever guided search comes to, and so no more often than its
+/// limit allows tries.
+pub fn penalties_are_few()
+    ensures { PenaltiesAreFew }
 {}

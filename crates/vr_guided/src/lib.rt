@@ -37,6 +37,6 @@ mod walks;
 mod weights;
 mod worths;
 
-pub use laws::{augmented_costs_are_bounded, guided_is_sound};
+pub use laws::{augmented_costs_are_bounded, guided_is_sound, penalties_are_few};
 pub use searching::{Guided, guide};
 pub use vr_model::Lambda;

@@ -6,3 +6,4 @@ pub mod PathLns
 pub mod Standing
 pub mod Ending
 pub mod Answering
+pub mod Bounding

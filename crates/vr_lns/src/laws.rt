@@ -1,10 +1,17 @@
-//! Laws over the definitions. A call has no code: its contract is the law. Nothing calls it: proofs cite the lemma of
-//! the same name.
+//! Laws over the definitions. A call has no code: its contract is the law. Nothing calls them: proofs cite the lemma
+//! that answers it.
 
 ghost use Rattle.vr_lns.specs.Answering.{PathLnsIsSound};
+ghost use Rattle.vr_lns.specs.Bounding.{PathLnsBoundUnmet};
 
 /// The lists of a search by cuts from valid lists are valid and cost no more than these, and its tries and its
 /// solutions are within the limit. `vr_app` rests its answer on the law.
 pub fn path_lns_is_sound()
     ensures { PathLnsIsSound }
+{}
+
+/// A search by cuts ends by itself: a bound on its rounds that is above the number of tries left is never met, so the
+/// definition, which has one round more than tries, does not end at it.
+pub fn path_lns_bound_unmet()
+    ensures { PathLnsBoundUnmet }
 {}

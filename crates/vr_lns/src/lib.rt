@@ -27,7 +27,7 @@ mod searching;
 mod standing;
 
 pub use cutting::Cut;
-pub use laws::path_lns_is_sound;
+pub use laws::{path_lns_bound_unmet, path_lns_is_sound};
 pub use rebuilding::Rebuild;
 pub use searching::{lns, lns_over};
 pub use vr_model::Limit;

@@ -110,12 +110,14 @@ fn found_by<J: Judge, L: Ledger>(
     }
 }
 
-// Whether a judge is asked so often in so many tries: by rebuilding of no more moves, since some are known to be
-// refused, and guided search rules some out itself; by filters of fewer.
-fn is_asked_enough(by: By, asked: u64, tries: u64) -> bool {
-    match by {
-        By::Rebuilding => asked > 0 && asked <= tries,
-        By::Filters => asked > 0 && asked < tries,
+// Whether a judge is asked so often in so many tries. By rebuilding, which has no bounds, a descent judges each move
+// that it tries: here no move is known to be refused, since a commit changes the one list that there is, or spans of
+// all vehicles cost something. Guided and tabu search rule some out themselves. By filters fewer are judged than tried.
+fn is_asked_enough(by: By, search: Search, asked: u64, tries: u64) -> bool {
+    match (by, search) {
+        (By::Rebuilding, Search::Descent) => asked == tries,
+        (By::Rebuilding, _) => asked > 0 && asked <= tries,
+        (By::Filters, _) => asked > 0 && asked < tries,
     }
 }
 
@@ -171,7 +173,7 @@ pub(crate) fn finds<J: Judge, L: Ledger>(
     )?;
     let tries = found.report.tries;
     Ok(
-        is_asked_enough(by, counting.count, tries)
+        is_asked_enough(by, sought.search, counting.count, tries)
             && is_looked_enough(counting.looks, tries)
             && found.has_best
             && ends_so(routes, &found.report, &sought.wanted),

@@ -5,3 +5,4 @@ pub mod Tabus
 pub mod Rounds
 pub mod Standing
 pub mod Answering
+pub mod Bounding

@@ -24,6 +24,6 @@ mod searching;
 mod tabu_list;
 mod written_list;
 
-pub use laws::tabu_is_sound;
+pub use laws::{tabu_bound_unmet, tabu_is_sound};
 pub use searching::{TabuAnswer, tabu};
 pub use vr_model::Limit;

@@ -1,0 +1,3 @@
+pub mod TightSchedules
+pub mod SearchRows
+pub mod ImportedFile
