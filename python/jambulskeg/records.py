@@ -302,6 +302,21 @@ class Search(Record):
         yield from repeated([words.index(word) for word in self.neighbourhoods or ()], "/neighbourhoods")
 
 
+@dataclass(frozen=True)
+class Refine(Record):
+    """A search by ruin and recreate from given routes, of the program vr_refine (SISR: Christiaens, Vanden Berghe).
+
+    A step takes about `removed` visits out of neighbouring routes, from one of them a string of at most `string`, and
+    puts them back at the cheapest places. `seed` is where its random numbers begin, `heat` how much dearer a step may
+    make the routes at first and still be kept; the search chooses it if it is None. Its steps are the model's `tries`.
+    """
+
+    seed: Annotated[int, Whole(0, LARGEST)] = 0
+    removed: Annotated[int, Whole(1, 100)] = 10
+    string: Annotated[int, Whole(1, 100)] = 10
+    heat: Annotated[Optional[int], Maybe(Whole(0, GREATEST_ENTRY))] = None
+
+
 def moves_of(search: Search) -> int:
     """How many moves take about as long as the tries of a search."""
     return min(search.tries * MOVES_OF_A_CUT, MOST_TRIES) if search.improve is Improve.PATH_LNS else search.tries
