@@ -31,6 +31,7 @@ from .portfolio import LAMBDAS, Outcome, Portfolio, portfolio
 from .program import find
 from .reasons import why_left_out, why_not_shorter
 from .records import Model
+from .refine import at_hand
 from .solution import Solution
 from .stopping import stopping
 from .region.command import add_region
@@ -43,7 +44,7 @@ STOPPED = 130
 """The exit status where it is stopped from the keyboard, as shells have it."""
 BELONGS = {
     "sshlogin": ("parallel",), "folder": ("slurm",), "option": ("parallel", "slurm"),
-    "remote_program": ("parallel", "slurm"),
+    "remote_program": ("parallel", "slurm"), "remote_refine": ("parallel", "slurm"),
 }
 """The engines that some words belong to."""
 
@@ -142,6 +143,7 @@ def add_search(command: argparse.ArgumentParser) -> None:
                          help="a further word of parallel or sbatch, as in --option=--partition=long")
     command.add_argument("--folder", metavar="DIR", help="a new folder that keeps the files of slurm")
     command.add_argument("--remote-program", metavar="PATH", help="vr_cli on the machines of parallel or slurm")
+    command.add_argument("--remote-refine", metavar="PATH", help="vr_refine there; without it nothing is refined there")
 
 
 def positive(text: str) -> int:
@@ -300,9 +302,11 @@ def engine_of(asked: argparse.Namespace) -> Engine:
     if asked.engine == "own":
         return OwnProcesses(asked.jobs)
     program = asked.remote_program or os.path.abspath(find())
+    here = None if asked.remote_program else at_hand()
+    refiner = asked.remote_refine or (os.path.abspath(here.path) if here is not None else "")
     if asked.engine == "parallel":
-        return GnuParallel(asked.jobs, program, asked.sshlogin, asked.option)
-    return Slurm(asked.jobs, program, asked.option, asked.folder)
+        return GnuParallel(asked.jobs, program, asked.sshlogin, asked.option, refiner)
+    return Slurm(asked.jobs, program, asked.option, asked.folder, refiner)
 
 
 def run_portfolio(asked: argparse.Namespace) -> int:

@@ -19,7 +19,7 @@ from .records import Model
 from .solution import Solution
 
 __all__ = [
-    "A_COUNT", "A_FILE", "A_LIMIT", "A_MODEL", "A_PATH", "A_SOLUTION", "DAYS", "MODELS", "NUMBERS", "PAIRS", "ROUTES",
+    "A_COUNT", "A_FILE", "A_LIMIT", "A_MODEL", "A_PATH", "A_SOLUTION", "MODELS", "NUMBERS", "PAIRS", "ROUTES",
     "Rule", "a", "asks", "either", "number",
 ]
 
@@ -96,11 +96,6 @@ def routes(value: Any) -> str:
     return "" if is_well else "a solution, or for each vehicle a list of visits"
 
 
-def days(value: Any) -> str:
-    """Models in a list."""
-    return "" if is_list(value) and all(isinstance(model, Model) for model in value) else "a list of models"
-
-
 def models(value: Any) -> str:
     """Models by their names."""
     is_well = isinstance(value, Mapping) and all(isinstance(model, Model) for model in value.values())
@@ -116,5 +111,4 @@ A_FILE: Rule = lambda value: "" if isinstance(value, bytes) else path(value) and
 NUMBERS: Rule = numbers
 PAIRS: Rule = pairs
 ROUTES: Rule = routes
-DAYS: Rule = days
 MODELS: Rule = models

@@ -29,7 +29,7 @@ GREATEST_TRANSIT = 2**30
 GREATEST_COEFFICIENT = 10000
 MOST_TRIES = 10**9
 MOVES_OF_A_CUT = 1000
-"""A cut of path LNS takes about as long as so many moves, and on large days longer."""
+"""A cut of path LNS, or a step of ruin and recreate, takes about as long as so many moves, on large days longer."""
 
 NODE = Whole(0, MOST_NODES - 1)
 VEHICLE = Whole(0, MOST_VEHICLES - 1)
@@ -324,7 +324,12 @@ def moves_of(search: Search) -> int:
 
 def tries_for(improve: Improve, moves: int) -> int:
     """The tries with which a search takes about as long as one that tries so many moves."""
-    return -(-moves // MOVES_OF_A_CUT) if improve is Improve.PATH_LNS else moves
+    return steps_for(moves) if improve is Improve.PATH_LNS else moves
+
+
+def steps_for(moves: int) -> int:
+    """The steps of ruin and recreate, or the cuts of path LNS, that take about as long as so many moves."""
+    return -(-moves // MOVES_OF_A_CUT)
 
 
 @dataclass(frozen=True, repr=False)

@@ -13,19 +13,23 @@ import os
 import shutil
 from dataclasses import dataclass
 from threading import Event
-from typing import List, Optional, Sequence, Tuple, Union
+from typing import Any, List, Optional, Sequence, Tuple, Union
 
 from . import program as programs
-from .arguments import A_LIMIT, A_MODEL, ROUTES, a, asks, either
+from .arguments import A_LIMIT, A_MODEL, ROUTES, Rule, a, asks, either
 from .complete import CannotBeDriven, route_of
 from .errors import JambulskegError, NoFirstSolution, NotMet, ProgramMissing
 from .findings import Finding, sentence_of
+from .kinds import is_list
 from .model import meets, solution_of
 from .program import Program, ProgramLike, in_repository, sought
 from .records import Model, Refine, Search, Vehicle
 from .solution import Solution
 
-__all__ = ["BESIDE", "Refine", "Routes", "at_hand", "begin", "find", "price", "program_of", "refines", "solve"]
+__all__ = [
+    "BESIDE", "QUESTIONS", "Question", "Refine", "Routes", "at_hand", "begin", "belonging", "find", "price", "program_of", "refines",
+    "solve",
+]
 
 NAME = "vr_refine"
 VARIABLE = "VR_REFINE"
@@ -61,16 +65,21 @@ def program_of(given: ProgramLike) -> Program:
     return Program(find()) if given is None else programs.program_of(given)
 
 
-def at_hand(vr_cli: ProgramLike = None) -> Optional[Program]:
-    """The vr_refine that belongs to a vr_cli and refines by ruin and recreate; None if there is none.
+def belonging(vr_cli: ProgramLike = None) -> Optional[Program]:
+    """The vr_refine that belongs to a vr_cli; None if there is none.
 
     It is that of VR_REFINE, or lies beside vr_cli. Raises `ProgramMissing` if VR_REFINE names no program.
     """
     places = beside(programs.program_of(vr_cli).path)
     if not os.environ.get(VARIABLE) and not any(map(shutil.which, places)):
         return None
-    found = Program(sought(NAME, VARIABLE, places))
-    return found if refines(found) else None
+    return Program(sought(NAME, VARIABLE, places))
+
+
+def at_hand(vr_cli: ProgramLike = None) -> Optional[Program]:
+    """The vr_refine that belongs to a vr_cli, if it knows ruin and recreate; else None. Raises as `belonging` does."""
+    found = belonging(vr_cli)
+    return found if found is not None and refines(found) else None
 
 
 def refines(program: ProgramLike = None) -> bool:
@@ -95,6 +104,15 @@ def lists_of(routes: Routes) -> List[List[int]]:
     return [[*map(operator.index, visits)] for visits in given]
 
 
+def text_beside(model: str, routes: Optional[Routes], refine: Optional[Refine]) -> str:
+    """What the program reads, with the text of a model."""
+    lists = None if routes is None else lists_of(routes)
+    asked = None if refine is None else refine.tree()
+    more = [f',"{key}":{json.dumps(value)}' for key, value in (("routes", lists), ("refine", asked))
+            if value is not None]
+    return "".join((f'{{"model":{model}', *more, "}"))
+
+
 @dataclass(frozen=True)
 class Question:
     """What vr_refine is asked: a model, and beside it routes and what is asked of ruin and recreate."""
@@ -105,14 +123,11 @@ class Question:
 
     def text(self) -> str:
         """What the program reads."""
-        routes = None if self.routes is None else lists_of(self.routes)
-        refine = None if self.refine is None else self.refine.tree()
-        more = [f',"{key}":{json.dumps(value)}' for key, value in (("routes", routes), ("refine", refine))
-                if value is not None]
-        return "".join((f'{{"model":{self.model.text()}', *more, "}"))
+        return text_beside(self.model.text(), self.routes, self.refine)
 
     def answer(
-        self, word: str, program: ProgramLike, *, checked: bool, seconds: Optional[float], stop: Optional[Event] = None
+        self, word: str, program: ProgramLike, *, checked: bool, seconds: Optional[float] = None,
+        stop: Optional[Event] = None,
     ) -> Solution:
         """The solution that a mode of the program writes, found to meet the model by vr_cli if that is asked for."""
         try:
@@ -120,6 +135,15 @@ class Question:
         except NoFirstSolution:
             raise NoFirstSolution(NONE_TO_BEGIN if self.refine is None else NONE_FOUND) from None
         return meets(self.model, solution, seconds=seconds) if checked else solution
+
+
+def questions(value: Any) -> str:
+    """Models or questions in a list."""
+    is_well = is_list(value) and all(isinstance(entry, (Model, Question)) for entry in value)
+    return "" if is_well else "a list of models"
+
+
+QUESTIONS: Rule = questions
 
 
 @asks(model=A_MODEL, routes=ROUTES, seconds=either(A_LIMIT))
