@@ -15,6 +15,7 @@ from typing import Iterator, List, Optional, Sequence, Tuple
 
 from .batch import Found, batch, read_folder
 from .commands.plan import add_plan
+from .commands.refine import add_price, add_refine
 from .commands.replan import add_replan
 from .complete import shape_faults, shorten
 from .desk.command import add_desk
@@ -73,9 +74,14 @@ def failed(sentence: str) -> int:
 
 def parser() -> argparse.ArgumentParser:
     """The words that are taken."""
-    out = argparse.ArgumentParser(prog="python -m jambulskeg", description="Vehicle routing by the program vr_cli.")
-    commands = out.add_subparsers(required=True, metavar="plan|view|doubts|portfolio|batch|convert|replan|desk|region")
+    out = argparse.ArgumentParser(
+        prog="python -m jambulskeg", description="Vehicle routing by the programs vr_cli and vr_refine."
+    )
+    names = "plan|price|refine|view|doubts|portfolio|batch|convert|replan|desk|region"
+    commands = out.add_subparsers(required=True, metavar=names)
     add_plan(commands.add_parser("plan", help="from two spreadsheets to a plan, a page, and a sheet a driver"))
+    add_price(commands.add_parser("price", help="what a plan costs that is there already, or which rule it breaks"))
+    add_refine(commands.add_parser("refine", help="a search that goes on from a plan, for some seconds"))
     add_view(commands.add_parser("view", help="a page (or an SVG) of a day, or of two side by side"))
     look = commands.add_parser("doubts", help="what a model may say and looks wrong, a line each")
     look.add_argument("model", metavar="MODEL", help="the model file")
