@@ -15,6 +15,7 @@ from typing import Iterator, List, Optional, Sequence, Tuple
 
 from .batch import Found, batch, read_folder
 from .commands.plan import add_plan
+from .commands.refine import add_price, add_refine
 from .commands.replan import add_replan
 from .complete import shape_faults, shorten
 from .desk.command import add_desk
@@ -31,6 +32,7 @@ from .portfolio import LAMBDAS, Outcome, Portfolio, portfolio
 from .program import find
 from .reasons import why_left_out, why_not_shorter
 from .records import Model
+from .refine import at_hand
 from .solution import Solution
 from .stopping import stopping
 from .region.command import add_region
@@ -43,7 +45,7 @@ STOPPED = 130
 """The exit status where it is stopped from the keyboard, as shells have it."""
 BELONGS = {
     "sshlogin": ("parallel",), "folder": ("slurm",), "option": ("parallel", "slurm"),
-    "remote_program": ("parallel", "slurm"),
+    "remote_program": ("parallel", "slurm"), "remote_refine": ("parallel", "slurm"),
 }
 """The engines that some words belong to."""
 
@@ -72,9 +74,14 @@ def failed(sentence: str) -> int:
 
 def parser() -> argparse.ArgumentParser:
     """The words that are taken."""
-    out = argparse.ArgumentParser(prog="python -m jambulskeg", description="Vehicle routing by the program vr_cli.")
-    commands = out.add_subparsers(required=True, metavar="plan|view|doubts|portfolio|batch|convert|replan|desk|region")
+    out = argparse.ArgumentParser(
+        prog="python -m jambulskeg", description="Vehicle routing by the programs vr_cli and vr_refine."
+    )
+    names = "plan|price|refine|view|doubts|portfolio|batch|convert|replan|desk|region"
+    commands = out.add_subparsers(required=True, metavar=names)
     add_plan(commands.add_parser("plan", help="from two spreadsheets to a plan, a page, and a sheet a driver"))
+    add_price(commands.add_parser("price", help="what a plan costs that is there already, or which rule it breaks"))
+    add_refine(commands.add_parser("refine", help="a search that goes on from a plan, for some seconds"))
     add_view(commands.add_parser("view", help="a page (or an SVG) of a day, or of two side by side"))
     look = commands.add_parser("doubts", help="what a model may say and looks wrong, a line each")
     look.add_argument("model", metavar="MODEL", help="the model file")
@@ -142,6 +149,7 @@ def add_search(command: argparse.ArgumentParser) -> None:
                          help="a further word of parallel or sbatch, as in --option=--partition=long")
     command.add_argument("--folder", metavar="DIR", help="a new folder that keeps the files of slurm")
     command.add_argument("--remote-program", metavar="PATH", help="vr_cli on the machines of parallel or slurm")
+    command.add_argument("--remote-refine", metavar="PATH", help="vr_refine there; without it nothing is refined there")
 
 
 def positive(text: str) -> int:
@@ -300,9 +308,11 @@ def engine_of(asked: argparse.Namespace) -> Engine:
     if asked.engine == "own":
         return OwnProcesses(asked.jobs)
     program = asked.remote_program or os.path.abspath(find())
+    here = None if asked.remote_program else at_hand()
+    refiner = asked.remote_refine or (os.path.abspath(here.path) if here is not None else "")
     if asked.engine == "parallel":
-        return GnuParallel(asked.jobs, program, asked.sshlogin, asked.option)
-    return Slurm(asked.jobs, program, asked.option, asked.folder)
+        return GnuParallel(asked.jobs, program, asked.sshlogin, asked.option, refiner)
+    return Slurm(asked.jobs, program, asked.option, asked.folder, refiner)
 
 
 def run_portfolio(asked: argparse.Namespace) -> int:

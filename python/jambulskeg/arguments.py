@@ -19,8 +19,8 @@ from .records import Model
 from .solution import Solution
 
 __all__ = [
-    "A_COUNT", "A_FILE", "A_LIMIT", "A_MODEL", "A_PATH", "A_SOLUTION", "DAYS", "MODELS", "NUMBERS", "PAIRS", "Rule",
-    "a", "asks", "either", "number",
+    "A_COUNT", "A_FILE", "A_LIMIT", "A_MODEL", "A_PATH", "A_SOLUTION", "MODELS", "NUMBERS", "PAIRS", "ROUTES",
+    "Rule", "a", "asks", "either", "number",
 ]
 
 F = TypeVar("F", bound=Callable[..., Any])
@@ -90,9 +90,10 @@ def pairs(value: Any) -> str:
     return "" if is_well else "pairs of whole numbers"
 
 
-def days(value: Any) -> str:
-    """Models in a list."""
-    return "" if is_list(value) and all(isinstance(model, Model) for model in value) else "a list of models"
+def routes(value: Any) -> str:
+    """Visits of each vehicle, or a solution that has them."""
+    is_well = isinstance(value, Solution) or is_list(value) and not any(map(numbers, value))
+    return "" if is_well else "a solution, or for each vehicle a list of visits"
 
 
 def models(value: Any) -> str:
@@ -109,5 +110,5 @@ A_PATH: Rule = path
 A_FILE: Rule = lambda value: "" if isinstance(value, bytes) else path(value) and "a path or bytes"
 NUMBERS: Rule = numbers
 PAIRS: Rule = pairs
-DAYS: Rule = days
+ROUTES: Rule = routes
 MODELS: Rule = models

@@ -6,15 +6,14 @@
 from __future__ import annotations
 
 import os
-from dataclasses import replace
 from threading import Event
 from typing import Dict, List, Mapping, Optional, Sequence, Tuple, Union
 
 from .arguments import A_PATH, MODELS, PAIRS, asks, either, number
-from .engines import Engine
+from .engines import Engine, OwnProcesses
 from .errors import JambulskegError
 from .model import Model, read_model
-from .portfolio import LAMBDAS, Portfolio, an_engine, collected, run_by, variants
+from .portfolio import LAMBDAS, Portfolio, Watcher, an_engine, collected, run_by, searches_of, task_of
 from .program import ProgramLike
 
 __all__ = ["Found", "batch", "read_folder"]
@@ -26,16 +25,18 @@ Found = Union[Portfolio, JambulskegError]
 def batch(
     models: Mapping[str, Model], engine: Optional[Engine] = None, program: ProgramLike = None, *,
     tries: Optional[int] = None, lambdas: Sequence[Tuple[int, int]] = LAMBDAS, keep_going: bool = False,
-    stop: Optional[Event] = None,
+    stop: Optional[Event] = None, progress: Optional[Watcher] = None,
 ) -> Dict[str, Found]:
     """For each model what `portfolio` gives or raises; one that has no answer leaves the others alone. Once the event
-    `stop` is set, running searches are ended.
+    `stop` is set, running searches are ended. `progress` is told of each search that has ended, with the name of its
+    model; where it is None, a terminal is.
 
     Raises `EngineFailed` where the engine itself fails.
     """
-    asked = {name: variants(model, tries, lambdas) for name, model in models.items()}
-    tasks = [replace(models[name], search=search) for name, searches in asked.items() for search in searches]
-    answers = run_by(engine, tasks, program, stop)
+    used = engine or OwnProcesses(1, program)
+    asked = {name: searches_of(model, used, tries, lambdas) for name, model in models.items()}
+    tasks = [(name, task_of(models[name], search)) for name, searches in asked.items() for search in searches]
+    answers = run_by(used, [task for _, task in tasks], stop, progress, [name for name, _ in tasks])
     found: Dict[str, Found] = {}
     begin = 0
     for name, searches in asked.items():

@@ -43,7 +43,7 @@ class JambulskegError(Exception):
 
 
 class ProgramMissing(JambulskegError):
-    """The program vr_cli was found nowhere."""
+    """The program, vr_cli or vr_refine, was found nowhere."""
 
 
 class ProgramFailed(JambulskegError):

@@ -3,7 +3,7 @@
 from __future__ import annotations
 
 from dataclasses import dataclass
-from typing import Optional
+from typing import Optional, Sequence
 
 from .arguments import A_SOLUTION, a, asks
 from .solution import Solution
@@ -19,6 +19,7 @@ SENTENCES = {
     "pair": "of pair {number} one is made alone, by another vehicle, or the delivery first",
     "policy": "{vehicle} does not deliver in the order of its policy",
     "allowed": "{vehicle} makes {node} at {place} of its nodes, and may not",
+    "schedule": "{vehicle} has no schedule in dimension {number} that keeps its rules",
     "cumul": "{vehicle} has at stop {number}, {node}, a cumul outside its capacity or window, in a forbidden interval, "
              "or not 0 at a fixed start",
     "slack": "{vehicle} has behind stop {number}, {node}, a slack that its cumuls do not leave, or above slack_max: "
@@ -30,7 +31,8 @@ SENTENCES = {
     "first_cost": "'first_cost' is less than the cost",
     "limits": "'tries' or 'solutions' are not within the limits of the model's search",
 }
-"""What each rule says where it is broken, in the order in which they are looked at."""
+"""What each rule says where it is broken, in the order in which they are looked at; routes without schedules may break
+those from `required` to `schedule`."""
 PARTS = ("arcs", "fixed", "global", "penalty", "soft", "span")
 
 
@@ -55,15 +57,19 @@ class Finding:
 @asks(finding=a(Finding), solution=A_SOLUTION)
 def explain(finding: Finding, solution: Solution) -> str:
     """The finding in a sentence."""
+    return sentence_of(finding, [route.nodes for route in solution.routes])
+
+
+def sentence_of(finding: Finding, nodes: Sequence[Sequence[int]]) -> str:
+    """The finding in a sentence; `nodes` are those of each vehicle, from its start to its end."""
     if finding.rule is None:
         return f"the solution meets its model and costs {finding.cost}"
-    route = solution.routes[finding.vehicle] if 0 <= finding.vehicle < len(solution.routes) else None
-    has_node = route is not None and 0 <= finding.place < len(route.nodes)
+    own = nodes[finding.vehicle] if 0 <= finding.vehicle < len(nodes) else ()
     return SENTENCES.get(finding.rule, "the solution breaks the rule '{rule}'").format(
         rule=finding.rule,
         vehicle=f"vehicle {finding.vehicle}",
         number=finding.place,
         place=f"place {finding.place}",
-        node=f"node {route.nodes[finding.place]}" if route is not None and has_node else "a node",
+        node=f"node {own[finding.place]}" if 0 <= finding.place < len(own) else "a node",
         part=PARTS[finding.place] if 0 <= finding.place < len(PARTS) else finding.place,
     )

@@ -12,9 +12,10 @@ out is told, and why; such a plan is never passed off as one that makes all visi
 from __future__ import annotations
 
 import re
+import time
 from concurrent.futures import ThreadPoolExecutor
 from dataclasses import dataclass, field, replace
-from threading import Event
+from threading import Event, Lock
 from typing import Dict, List, Mapping, Optional, Tuple
 
 from .complete import complete, leave_later
@@ -22,11 +23,12 @@ from .doubts import doubts
 from .engines import Engine, OwnProcesses
 from .errors import JambulskegError
 from .places import DayTables, Roads, model_of_day
-from .portfolio import portfolio
+from .portfolio import Ended, portfolio
 from .program import ProgramLike
 from .reasons import Reason, why_left_out
 from .records import MOST_TRIES, Group, Improve, Model, Search
 from .rescue import FIRST_TRIES, Progress, Rescue, Way, missing, rescue, timed_solver, with_search
+from .rounds import teller
 from .solution import Solution
 
 __all__ = ["SECONDS", "Planned", "plan_day"]
@@ -85,8 +87,7 @@ def plan_day(
 ) -> Planned:
     """The plan of a day, searched for about `seconds`, by `jobs` searches at a time.
 
-    One of them is `rescue`, the others are those of portfolios; `progress` is told of each cheaper solution of the
-    former. Once the event `stop` is set, the best plan so far is the answer. Each driver leaves as late as the plan
+    One of them is `rescue`, the others are those of portfolios; `progress` is told of each cheaper solution. Once the event `stop` is set, the best plan so far is the answer. Each driver leaves as late as the plan
     lets him, if that is no dearer. Raises `Refused` if the model has a fault, `NoFirstSolution` if nothing is found,
     `Stopped`, and what the program raises.
     """
@@ -109,12 +110,13 @@ def searched(
 ) -> Tuple[Rescue, Optional[Solution]]:
     """What `rescue` finds in some seconds, and the cheapest answer of portfolios of the other jobs beside it; `told` is
     what is told of the former, and what stops it."""
-    solver = timed_solver(seconds, program, progress=told[0], stop=told[1])
+    tell = Cheapest(told[0] or teller())
+    solver = timed_solver(seconds, program, progress=tell, stop=told[1])
     if jobs == 1:
         return rescue(model, program, solver=solver), None
     over = Event()
     with ThreadPoolExecutor(max_workers=1) as pool:
-        others = pool.submit(by_portfolios, model, OwnProcesses(jobs - 1, program), program, over)
+        others = pool.submit(by_portfolios, model, OwnProcesses(jobs - 1, program), program, over, tell)
         try:
             found = rescue(model, program, solver=solver)
         finally:
@@ -122,17 +124,40 @@ def searched(
         return found, others.result()
 
 
-def by_portfolios(model: Model, engine: Engine, program: ProgramLike, over: Event) -> Optional[Solution]:
+@dataclass
+class Cheapest:
+    """Tells of each solution that is cheaper than all before, whoever finds it, by the seconds since it was made."""
+
+    tell: Progress
+    began: float = field(default_factory=time.monotonic)
+    best: Optional[int] = None
+    lock: Lock = field(default_factory=Lock)
+
+    def __call__(self, _: float, cost: int) -> None:
+        with self.lock:
+            if self.best is None or cost < self.best:
+                self.best = cost
+                self.tell(time.monotonic() - self.began, cost)
+
+    def ended(self, entry: Ended) -> None:
+        """Takes note of a search of a portfolio."""
+        if entry.cost is not None:
+            self(entry.seconds, entry.cost)
+
+
+def by_portfolios(
+    model: Model, engine: Engine, program: ProgramLike, over: Event, tell: Cheapest
+) -> Optional[Solution]:
     """The cheapest answer of portfolios whose tries grow, until an event ends them; None without any."""
     best: Optional[Solution] = None
     tries = FIRST_TRIES
     while not over.is_set() and tries <= MOST_TRIES:
         try:
             asked = with_search(model, tries=tries)
-            found = portfolio(asked, engine, program, keep_going=True, stop=over).solution
+            found = portfolio(asked, engine, program, keep_going=True, stop=over, progress=tell.ended)
         except JambulskegError:
             return best
-        best = found if best is None or found.cost < best.cost else best
+        best = found.solution if best is None or found.solution.cost < best.cost else best
         tries *= GROWS
     return best
 

@@ -1,8 +1,9 @@
 """Many searches of one model, the cheapest checked answer kept.
 
-A portfolio runs constructions times searches, guided ones with several lambdas, each a process of its own, on an
-engine of `engines`. All are run to their ends, and among equal costs the one that stands first is kept: the same
-arguments give the same answer, whatever the order in which they end.
+A portfolio runs constructions times searches, guided ones with several lambdas, and ruin and recreate with several
+seeds if there is a vr_refine, each a process of its own, on an engine of `engines`. All are run to their ends, and
+among equal costs the one that stands first is kept: the same arguments give the same answer, whatever the order in
+which they end.
 
     found = portfolio(model, OwnProcesses(4))
     print(found.solution.cost, found.outcomes[found.number].name)
@@ -10,21 +11,28 @@ arguments give the same answer, whatever the order in which they end.
 
 from __future__ import annotations
 
-from dataclasses import dataclass, replace
-from threading import Event
-from typing import List, Optional, Sequence, Tuple
+import sys
+import time
+from dataclasses import dataclass, field, replace
+from threading import Event, Lock
+from typing import Callable, Dict, List, Optional, Sequence, Tuple, Union
 
-from .arguments import A_MODEL, PAIRS, asks, either, number
-from .engines import Answer, Engine, OwnProcesses
+from .arguments import A_MODEL, NUMBERS as WHOLE_NUMBERS, PAIRS, asks, either, number
+from .engines import Answer, Engine, OwnProcesses, Task, TellingEngine
 from .errors import JambulskegError, NoFirstSolution, NotMet, Refused, Stopped
 from .model import meets
 from .program import ProgramLike
-from .records import First, Improve, Model, Search, moves_of, tries_for
+from .records import First, Improve, Model, Refine, Search, moves_of, steps_for, tries_for
+from .refine import Question
 from .rescue import as_own
 from .rounds import ALIKE
 from .solution import Solution
 
-__all__ = ["Incomplete", "LAMBDAS", "Outcome", "Portfolio", "collected", "portfolio", "variants"]
+__all__ = [
+    "Ended", "Incomplete", "LAMBDAS", "Outcome", "Portfolio", "Refining", "SEEDS", "Variant", "collected", "portfolio",
+    "refinings", "tell_ended", "variants",
+]
+
 
 def an_engine(value: object) -> str:
     """Something that runs searches."""
@@ -33,6 +41,9 @@ def an_engine(value: object) -> str:
 
 LAMBDAS: Sequence[Tuple[int, int]] = ((1, 10), (1, 5), (1, 3), (1, 20))
 """The weights of penalties that guided searches are run with."""
+
+SEEDS: Sequence[int] = (0, 1, 2, 3)
+"""The seeds that ruin and recreate is run with."""
 
 NUMBERS = {
     Improve.GUIDED_LOCAL_SEARCH: ", lambda {}/{}", Improve.PATH_LNS: ", cut {}", Improve.TABU_SEARCH: ", tenure {}"
@@ -53,16 +64,33 @@ class Incomplete(JambulskegError):
 
 
 @dataclass(frozen=True)
+class Refining:
+    """Ruin and recreate as one of the searches of a portfolio: from the construction of `search`, as many steps as it
+    has `tries`."""
+
+    search: Search
+    refine: Refine
+
+
+Variant = Union[Search, Refining]
+"""A search of a portfolio."""
+
+
+@dataclass(frozen=True)
 class Outcome:
-    """What a search of a portfolio came to: its solution, or what went wrong."""
+    """What a search of a portfolio came to: its solution, or what went wrong. `refine` is what ruin and recreate was
+    asked, None if it was the search that `search` names."""
 
     search: Search
     solution: Optional[Solution] = None
     problem: Optional[JambulskegError] = None
+    refine: Optional[Refine] = None
 
     @property
     def name(self) -> str:
         """The search in words."""
+        if self.refine is not None:
+            return f"{self.search.first.value}, ruin and recreate, seed {self.refine.seed}"
         words = f"{self.search.first.value}, {self.search.improve.value}"
         return words + NUMBERS.get(self.search.improve, "").format(*numbers_of(self.search))
 
@@ -86,6 +114,66 @@ class Portfolio:
     def stopped(self) -> int:
         """How many searches had not ended when the portfolio was stopped."""
         return sum(1 for outcome in self.outcomes if isinstance(outcome.problem, Stopped))
+
+
+@dataclass(frozen=True)
+class Ended:
+    """A search that has ended, `ended` being how many of `searches` have: the seconds since the beginning, its cost and
+    the least cost so far, None without an answer, and the name of its model if there are several."""
+
+    seconds: float
+    cost: Optional[int]
+    best: Optional[int]
+    ended: int
+    searches: int
+    model: str = ""
+
+
+Watcher = Callable[[Ended], None]
+"""What is told of each search that has ended."""
+
+
+def tell_ended(entry: Ended) -> None:
+    """Tells of a search that has ended on standard error."""
+    cost = "no answer yet" if entry.best is None else f"cost {entry.best}"
+    of = f"{entry.model}: " if entry.model else ""
+    sys.stderr.write(f"{entry.seconds:8.1f} s  {of}{cost}  ({entry.ended} of {entry.searches} searches)\n")
+    sys.stderr.flush()
+
+
+def watcher() -> Optional[Watcher]:
+    """What is told if nothing else is asked for: the terminal, if there is one."""
+    return tell_ended if sys.stderr.isatty() else None
+
+
+@dataclass
+class Tally:
+    """The searches that have ended: `names` has the model of each task. It may be told by any thread."""
+
+    names: Sequence[str]
+    tell: Watcher
+    began: float = field(default_factory=time.monotonic)
+    ended: int = 0
+    best: Dict[str, int] = field(default_factory=dict)
+    lock: Lock = field(default_factory=Lock)
+
+    def __call__(self, place: int, answered: Answer) -> None:
+        with self.lock:
+            self.ended += 1
+            name, cost = self.names[place], None if isinstance(answered, JambulskegError) else answered.cost
+            if cost is not None:
+                self.best[name] = min(cost, self.best.get(name, cost))
+            seconds = time.monotonic() - self.began
+            self.tell(Ended(seconds, cost, self.best.get(name), self.ended, len(self.names), name))
+
+
+@asks(model=A_MODEL, tries=either(number(0)), seeds=WHOLE_NUMBERS)
+def refinings(model: Model, tries: Optional[int] = None, seeds: Sequence[int] = SEEDS) -> List[Refining]:
+    """Ruin and recreate with each seed, from the model's construction, of so many steps that it takes about as long as
+    the searches of `variants`."""
+    own = model.search if tries is None else replace(model.search, tries=tries)
+    search = replace(own, tries=steps_for(moves_of(own)))
+    return [Refining(search, Refine(seed=seed)) for seed in seeds]
 
 
 @asks(model=A_MODEL, tries=either(number(0)), lambdas=PAIRS)
@@ -125,29 +213,52 @@ def key_of(search: Search) -> Tuple[First, Improve, Tuple[int, ...]]:
 def portfolio(
     model: Model, engine: Optional[Engine] = None, program: ProgramLike = None, *, tries: Optional[int] = None,
     lambdas: Sequence[Tuple[int, int]] = LAMBDAS, keep_going: bool = False, stop: Optional[Event] = None,
+    progress: Optional[Watcher] = None,
 ) -> Portfolio:
-    """The cheapest checked answer of the searches of `variants`, run by an engine (one process, where none is named).
+    """The cheapest checked answer of the searches of `variants`, and of `refinings` if the engine has a vr_refine, run
+    by an engine (one process, where none is named).
 
     `program` is the one that checks. Once the event `stop` is set, running searches are ended and the best of the
-    others is the answer. Raises `NoFirstSolution` where no search has an answer, `Stopped` where none had one when it
-    was stopped, `Refused` where the model has a fault, `EngineFailed`, and `Incomplete` where a search ended by an
-    accident, unless `keep_going`.
+    others is the answer. `progress` is told of each search that has ended; where it is None, a terminal is. Raises
+    `NoFirstSolution` where no search has an answer, `Stopped` where none had one when it was stopped, `Refused` where
+    the model has a fault, `EngineFailed`, and `Incomplete` where a search ended by an accident, unless `keep_going`.
     """
-    searches = variants(model, tries, lambdas)
-    answers = run_by(engine, [replace(model, search=search) for search in searches], program, stop)
+    used = engine or OwnProcesses(1, program)
+    searches = searches_of(model, used, tries, lambdas)
+    answers = run_by(used, [task_of(model, search) for search in searches], stop, progress)
     return collected(model, searches, answers, program, keep_going=keep_going)
 
 
+def searches_of(
+    model: Model, engine: Engine, tries: Optional[int], lambdas: Sequence[Tuple[int, int]]
+) -> List[Variant]:
+    """The searches of a portfolio that an engine runs."""
+    refines = isinstance(engine, TellingEngine) and engine.has_refiner()
+    return [*variants(model, tries, lambdas), *(refinings(model, tries) if refines else ())]
+
+
+def task_of(model: Model, search: Variant) -> Task:
+    """What an engine is asked for a search."""
+    if isinstance(search, Refining):
+        return Question(replace(model, search=search.search), None, search.refine)
+    return replace(model, search=search)
+
+
 def run_by(
-    engine: Optional[Engine], models: Sequence[Model], program: ProgramLike, stop: Optional[Event]
+    engine: Engine, tasks: Sequence[Task], stop: Optional[Event], progress: Optional[Watcher] = None,
+    names: Sequence[str] = (),
 ) -> List[Answer]:
-    """What an engine answers; one that knows nothing of stops is asked without."""
-    used = engine or OwnProcesses(1, program)
-    return used.run(models) if stop is None else used.run(models, stop)
+    """What an engine answers; `names` are those of the models of the tasks. An engine that tells nothing has no
+    questions among its tasks; one that knows nothing of stops is asked without."""
+    if isinstance(engine, TellingEngine):
+        watch = progress or watcher()
+        return engine.run_all(tasks, stop, watch and Tally(names or [""] * len(tasks), watch))
+    models = [task for task in tasks if isinstance(task, Model)]
+    return engine.run(models) if stop is None else engine.run(models, stop)
 
 
 def collected(
-    model: Model, searches: Sequence[Search], answers: Sequence[Answer], program: ProgramLike = None, *,
+    model: Model, searches: Sequence[Variant], answers: Sequence[Answer], program: ProgramLike = None, *,
     keep_going: bool = False,
 ) -> Portfolio:
     """The cheapest checked one of the answers of some searches. Raises as `portfolio` does."""
@@ -164,9 +275,12 @@ def collected(
     raise why_none(outcomes)
 
 
-def outcome_of(search: Search, found: Answer) -> Outcome:
+def outcome_of(search: Variant, found: Answer) -> Outcome:
     """The outcome of a search."""
-    return Outcome(search, problem=found) if isinstance(found, JambulskegError) else Outcome(search, found)
+    own, refine = (search.search, search.refine) if isinstance(search, Refining) else (search, None)
+    if isinstance(found, JambulskegError):
+        return Outcome(own, problem=found, refine=refine)
+    return Outcome(own, found, refine=refine)
 
 
 def fitted(model: Model, solution: Solution) -> Solution:

@@ -1,4 +1,4 @@
-"""Finding the program vr_cli, running it, and telling its statuses apart as exceptions."""
+"""Finding a program, running it, and telling its statuses apart as exceptions; `find` finds vr_cli."""
 
 from __future__ import annotations
 
@@ -16,7 +16,7 @@ from .errors import (
     ProgramMissing, ProgramSlow, Refused, Stopped, TooLong, WrongArgument,
 )
 
-__all__ = ["BESIDE", "Program", "ProgramLike", "find", "program_of"]
+__all__ = ["BESIDE", "Program", "ProgramLike", "find", "program_of", "sought"]
 
 NAME = "vr_cli"
 VARIABLE = "VR_CLI"
@@ -25,11 +25,18 @@ TICK = 0.05
 LONGEST_WAIT = 3600.0
 """How many seconds are waited for a process at a time: the operating system takes no more than some days."""
 REPOSITORY = os.path.dirname(os.path.dirname(os.path.dirname(os.path.abspath(__file__))))
-BESIDE = (
-    os.path.join(REPOSITORY, "release", "x86_64-linux", NAME),
-    os.path.join(REPOSITORY, "crates", NAME, "out", NAME),
-)
-"""Where the program lies in the repository that this package belongs to: as it is handed out, and as ./vr builds it."""
+
+
+def in_repository(name: str) -> Tuple[str, str]:
+    """Where a program lies in the repository that this package belongs to: as it is handed out, and as it is built."""
+    return (
+        os.path.join(REPOSITORY, "release", "x86_64-linux", name),
+        os.path.join(REPOSITORY, "crates", name, "out", name),
+    )
+
+
+BESIDE = in_repository(NAME)
+"""Where vr_cli lies in the repository."""
 
 PLAIN: Dict[int, Tuple[Type[JambulskegError], str]] = {
     1: (ProgramFailed, "the program does not know the words that it was called with; it is another version"),
@@ -54,22 +61,28 @@ def find(path: Optional[str] = None) -> str:
     Raises `ProgramMissing` with the places that were looked at, also where `path` or VR_CLI names no program, and
     `WrongArgument`.
     """
+    return sought(NAME, VARIABLE, BESIDE, path)
+
+
+def sought(name: str, variable: str, places: Sequence[str], path: Optional[str] = None) -> str:
+    """The path of a program: `path`, else that of the variable, else the first of some places, else on the path. Raises
+    as `find` does."""
     if path is not None and not is_path(path):
         raise WrongArgument("find", "path", path, "a path")
-    named = os.fspath(path or "") or os.environ.get(VARIABLE)
+    named = os.fspath(path or "") or os.environ.get(variable)
     if named:
         found = shutil.which(named)
         if found is None:
-            whose = "the path that was handed in" if path else f"the variable {VARIABLE}"
+            whose = "the path that was handed in" if path else f"the variable {variable}"
             raise ProgramMissing(f"{whose} names no program that can be run: {named}")
         return found
-    for place in (*BESIDE, NAME):
+    for place in (*places, name):
         found = shutil.which(place)
         if found is not None:
             return found
     raise ProgramMissing(
-        f"the program {NAME} was not found at {' or '.join(BESIDE)}, and not on the path; build it by ./vr in its "
-        f"repository, or let the variable {VARIABLE} name it"
+        f"the program {name} was not found at {' or '.join(places)}, and not on the path; build it by ./vr in its "
+        f"repository, or let the variable {variable} name it"
     )
 
 

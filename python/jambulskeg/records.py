@@ -29,7 +29,7 @@ GREATEST_TRANSIT = 2**30
 GREATEST_COEFFICIENT = 10000
 MOST_TRIES = 10**9
 MOVES_OF_A_CUT = 1000
-"""A cut of path LNS takes about as long as so many moves, and on large days longer."""
+"""A cut of path LNS, or a step of ruin and recreate, takes about as long as so many moves, on large days longer."""
 
 NODE = Whole(0, MOST_NODES - 1)
 VEHICLE = Whole(0, MOST_VEHICLES - 1)
@@ -302,6 +302,21 @@ class Search(Record):
         yield from repeated([words.index(word) for word in self.neighbourhoods or ()], "/neighbourhoods")
 
 
+@dataclass(frozen=True)
+class Refine(Record):
+    """A search by ruin and recreate from given routes, of the program vr_refine (SISR: Christiaens, Vanden Berghe).
+
+    A step takes about `removed` visits out of neighbouring routes, from one of them a string of at most `string`, and
+    puts them back at the cheapest places. `seed` is where its random numbers begin, `heat` how much dearer a step may
+    make the routes at first and still be kept; the search chooses it if it is None. Its steps are the model's `tries`.
+    """
+
+    seed: Annotated[int, Whole(0, LARGEST)] = 0
+    removed: Annotated[int, Whole(1, 100)] = 10
+    string: Annotated[int, Whole(1, 100)] = 10
+    heat: Annotated[Optional[int], Maybe(Whole(0, GREATEST_ENTRY))] = None
+
+
 def moves_of(search: Search) -> int:
     """How many moves take about as long as the tries of a search."""
     return min(search.tries * MOVES_OF_A_CUT, MOST_TRIES) if search.improve is Improve.PATH_LNS else search.tries
@@ -309,7 +324,12 @@ def moves_of(search: Search) -> int:
 
 def tries_for(improve: Improve, moves: int) -> int:
     """The tries with which a search takes about as long as one that tries so many moves."""
-    return -(-moves // MOVES_OF_A_CUT) if improve is Improve.PATH_LNS else moves
+    return steps_for(moves) if improve is Improve.PATH_LNS else moves
+
+
+def steps_for(moves: int) -> int:
+    """The steps of ruin and recreate, or the cuts of path LNS, that take about as long as so many moves."""
+    return -(-moves // MOVES_OF_A_CUT)
 
 
 @dataclass(frozen=True, repr=False)

@@ -1,9 +1,9 @@
 """An answer where the construction finds none.
 
 All constructions may end without a first solution on models that have solutions. `rescue` tries the one that the model
-asks for, then the others, then the model with every required visit made optional at a penalty above what any day
-costs. It tells which way it went, and an answer that leaves out a required visit is never passed off as one of the
-model.
+asks for, then the others, then ruin and recreate from what the construction leaves (with vr_refine), then the model
+with every required visit made optional at a penalty above what any day costs. It tells which way it went, and an answer
+that leaves out a required visit is never passed off as one of the model.
 """
 
 from __future__ import annotations
@@ -18,17 +18,20 @@ from .arguments import A_LIMIT, A_MODEL, asks, either, number
 from .errors import NoFirstSolution, Refused
 from .model import meets, solve
 from .program import Program, ProgramLike, program_of
-from .records import GREATEST_ENTRY, First, Group, Improve, Model, StopRow
-from .rounds import ALIKE, FIRST_TRIES, Progress, Round, Solved, constructions, solve_for, teller, with_search
+from .records import GREATEST_ENTRY, First, Group, Improve, Model, Refine, StopRow, moves_of, steps_for
+from .refine import Routes, at_hand, solve as refined
+from .rounds import ALIKE, FIRST_TRIES, On, Progress, Round, Solved, constructions, solve_for, teller, with_search
 from .solution import Solution, Stop
 
 __all__ = [
-    "FIRST_TRIES", "RESCUE_TRIES", "Progress", "Rescue", "Round", "Solved", "Solver", "TimedSolver", "Way", "relax",
-    "rescue", "solve_for", "timed_solver", "with_search",
+    "FIRST_TRIES", "RESCUE_STEPS", "RESCUE_TRIES", "Progress", "Rescue", "Round", "Solved", "Solver", "TimedSolver",
+    "Way", "relax", "rescue", "solve_for", "timed_solver", "with_search",
 ]
 
 RESCUE_TRIES = 1000000
 """The tries of a search that is to bring in visits that were left out, where no more are asked for."""
+RESCUE_STEPS = 5000
+"""The steps of ruin and recreate that is to find a first solution, where no more are asked for."""
 
 
 class Way(Enum):
@@ -36,6 +39,8 @@ class Way(Enum):
 
     AS_ASKED = "the construction that the model asks for"
     OTHER_CONSTRUCTION = "another construction"
+    RUIN = "ruin and recreate from what the construction leaves"
+    GIVEN = "the routes that it began with"
     PENALTIES = "penalties for required visits"
 
 
@@ -63,7 +68,7 @@ class Rescue:
     @property
     def sentence(self) -> str:
         """Which way it went, and who is left out."""
-        said = f"by {self.way.value} ({self.construction.value})"
+        said = f"by {self.way.value}" + ("" if self.way is Way.GIVEN else f" ({self.construction.value})")
         if not self.left_out:
             return said
         nodes = ", ".join(map(str, self.left_out))
@@ -79,7 +84,7 @@ def rescue(
     model: Model, program: ProgramLike = None, *, checked: bool = True, seconds: Optional[float] = None,
     solver: Optional[Solver] = None, tries: int = RESCUE_TRIES,
 ) -> Rescue:
-    """An answer of the model, by other constructions or by penalties where its own finds none.
+    """An answer of the model, by other constructions, by ruin and recreate or by penalties where its own finds none.
 
     `seconds` is the most that each run may take. `solver` solves a model in place of the program's `solve`, for
     instance `timed_solver(10)`. `tries` is the least number of tries of guided local search over penalties; where
@@ -87,17 +92,41 @@ def rescue(
     help.
     """
     found = program_of(program)
-    solver = solver or (lambda asked: Solved(asked, solve(asked, found, checked=checked, seconds=seconds)))
-    for construction in words_for(solver, model):
-        solved = tried(solver, with_search(model, first=construction), construction is model.search.first)
+    once: Solver = lambda asked: Solved(asked, solve(asked, found, checked=checked, seconds=seconds))
+    for construction in words_for(solver or once, model):
+        solved = tried(solver or once, with_search(model, first=construction), construction is model.search.first)
         if solved is not None:
-            way = Way.AS_ASKED if solved.model.search.first is model.search.first else Way.OTHER_CONSTRUCTION
-            return Rescue(way, solved.model, solved, solved.solution)
-    best = by_penalties(model, solver, tries)
+            return Rescue(way_of(model, solved), solved.model, solved, solved.solution)
+    solved = None if solver else by_ruin(model, found, checked, seconds)
+    if solved is not None:
+        return Rescue(Way.RUIN, solved.model, solved, solved.solution)
+    best = by_penalties(model, solver or once, tries)
     if not best.left_out:
         own = as_own(best.solved.solution)
         best = replace(best, solution=meets(model, own, found) if checked else own)
     return best
+
+
+def way_of(model: Model, solved: Solved) -> Way:
+    """How a solution of a model was found that leaves nobody out."""
+    begun = solved.rounds[0].on if solved.rounds else None
+    if begun is not None:
+        return Way.GIVEN if begun is On.GIVEN else Way.RUIN
+    return Way.AS_ASKED if solved.model.search.first is model.search.first else Way.OTHER_CONSTRUCTION
+
+
+def by_ruin(model: Model, program: Program, checked: bool, seconds: Optional[float]) -> Optional[Solved]:
+    """What ruin and recreate finds that begins with the lists at which the model's construction ends; None without
+    vr_refine, or if it finds nothing."""
+    refiner = at_hand(program)
+    if refiner is None or model.search.improve is Improve.NONE:
+        return None
+    asked = with_search(model, tries=max(RESCUE_STEPS, steps_for(moves_of(model.search))))
+    try:
+        solution = refined(asked, None, Refine(), refiner, checked=checked, seconds=seconds)
+    except NoFirstSolution:
+        return None
+    return Solved(asked, solution, refine=Refine())
 
 
 @dataclass
@@ -111,6 +140,7 @@ class TimedSolver:
     progress: Progress
     stop: Optional[Event]
     began: Optional[float] = None
+    begin: Optional[Routes] = None
 
     def __call__(self, model: Model) -> Solved:
         """The cheapest solution of rounds; each model gets one round at least, also where no seconds are left. Raises
@@ -120,14 +150,14 @@ class TimedSolver:
         spent = now - self.began
         return solve_for(
             model, max(0.0, self.time_limit - spent), self.program, checked=self.checked, stop=self.stop,
-            progress=lambda seconds, cost: self.progress(spent + seconds, cost),
+            begin=self.begin, progress=lambda seconds, cost: self.progress(spent + seconds, cost),
         )
 
 
 @asks(time_limit=A_LIMIT)
 def timed_solver(
     time_limit: float, program: ProgramLike = None, *, checked: bool = True, progress: Optional[Progress] = None,
-    stop: Optional[Event] = None,
+    stop: Optional[Event] = None, begin: Optional[Routes] = None,
 ) -> TimedSolver:
     """A solver for `rescue` that has `time_limit` seconds.
 
@@ -135,9 +165,10 @@ def timed_solver(
 
     `progress` is told of each cheaper solution, by the seconds since the beginning and its cost; where it is None, a
     terminal is. Penalties for visits that must be made are a part of that cost as long as `rescue` needs them. Once the
-    event `stop` is set, by another thread or a signal, the best solution so far is the answer.
+    event `stop` is set, by another thread or a signal, the best solution so far is the answer. With vr_refine the first
+    round takes the routes `begin`, if they are given and can be filled up.
     """
-    return TimedSolver(time_limit, program_of(program), checked, progress or teller(), stop)
+    return TimedSolver(time_limit, program_of(program), checked, progress or teller(), stop, begin=begin)
 
 
 def words_for(solver: Solver, model: Model) -> Sequence[First]:

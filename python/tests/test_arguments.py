@@ -8,7 +8,9 @@ import pathlib
 import unittest
 from typing import Any, Callable, Dict, List
 
-from jambulskeg import arguments, batch, complete, doubts, engines, model, portfolio, program, replan, rescue, rounds
+from jambulskeg import (
+    arguments, batch, complete, doubts, engines, model, portfolio, program, refine, replan, rescue, rounds,
+)
 from jambulskeg.errors import JambulskegError, WrongArgument
 from jambulskeg.model import Model, generate, read_model, read_solution
 
@@ -29,6 +31,8 @@ NO_MODELS: Dict[str, Call] = {
     "shape_faults": lambda bad: complete.shape_faults(bad, {}), "doubts": doubts.doubts,
     "portfolio": portfolio.portfolio, "variants": portfolio.variants, "batch": lambda bad: batch.batch({"a": bad}),
     "replan": lambda bad: replan.replan(bad, PLAN, 3), "glue": lambda bad: replan.glue(bad, REST, PLAN),
+    "price": lambda bad: refine.price(bad, PLAN), "begin": refine.begin, "refine": refine.solve,
+    "refinings": portfolio.refinings,
 }
 NO_SOLUTIONS: Dict[str, Call] = {
     "check": lambda bad: model.check(DAY, bad), "meets": lambda bad: model.meets(DAY, bad),
@@ -39,7 +43,7 @@ NO_SOLUTIONS: Dict[str, Call] = {
 NO_SECONDS: Dict[str, Call] = {
     "solve": lambda bad: model.solve(DAY, seconds=bad), "check": lambda bad: model.check(DAY, PLAN, seconds=bad),
     "rescue": lambda bad: rescue.rescue(DAY, seconds=bad), "timed_solver": rescue.timed_solver,
-    "solve_for": lambda bad: rounds.solve_for(DAY, bad),
+    "solve_for": lambda bad: rounds.solve_for(DAY, bad), "price": lambda bad: refine.price(DAY, PLAN, seconds=bad),
 }
 NO_COUNTS: Dict[str, Call] = {
     "own": engines.OwnProcesses, "parallel": engines.GnuParallel, "slurm": engines.Slurm, "generate": generate,
@@ -51,7 +55,7 @@ NO_COUNTS: Dict[str, Call] = {
 }
 NO_PATHS: Dict[str, Call] = {
     "read_model": read_model, "read_solution": read_solution, "read_folder": batch.read_folder,
-    "find": program.find, "program": lambda bad: model.solve(DAY, bad),
+    "find": program.find, "refiner": refine.find, "program": lambda bad: model.solve(DAY, bad),
     "Program": lambda bad: model.solve(DAY, program.Program(bad)),
 }
 OTHERS: Dict[str, Call] = {
@@ -61,6 +65,7 @@ OTHERS: Dict[str, Call] = {
     "engine": lambda bad: portfolio.portfolio(DAY, bad), "models": batch.batch,
     "import": lambda bad: model.import_tsplib(bad, 3), "run": lambda bad: engines.OwnProcesses().run(bad),
     "run by parallel": lambda bad: engines.GnuParallel().run(bad), "run by slurm": lambda bad: engines.Slurm().run(bad),
+    "routes": lambda bad: refine.price(DAY, bad), "refine": lambda bad: refine.solve(DAY, PLAN, bad),
     "explain": lambda bad: model.explain(bad, PLAN), "explained": lambda bad: model.explain(model.Finding(1), bad),
 }
 
@@ -106,7 +111,7 @@ class ArgumentTests(unittest.TestCase):
         self.assertEqual(arguments.number(1, 3)(4), "a whole number from 1 to 3")
         given = {
             arguments.A_COUNT: 0, arguments.A_LIMIT: -1, arguments.A_PATH: 7, arguments.A_FILE: 7,
-            arguments.NUMBERS: [1.5], arguments.PAIRS: [(1,)], arguments.MODELS: {"a": 1}, arguments.DAYS: [7],
+            arguments.NUMBERS: [1.5], arguments.PAIRS: [(1,)], arguments.MODELS: {"a": 1}, arguments.ROUTES: [7], refine.QUESTIONS: [7],
             arguments.A_MODEL: 7, arguments.A_SOLUTION: 7,
         }
         for wanted, value in given.items():

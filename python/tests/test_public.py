@@ -15,7 +15,7 @@ from typing import Iterator, List, Tuple, Union
 
 from jambulskeg import (
     batch, complete, desk, doubts, engines, errors, exports, formats, model, output, places, plan, portfolio, program,
-    reasons, region, replan, rescue, rounds, schedules, tables, view,
+    reasons, refine, region, replan, rescue, rounds, schedules, tables, view,
 )
 from jambulskeg.routing import pywrapcp
 
@@ -95,7 +95,7 @@ INHERITED = ("faults", "taken", "tree", "own_faults", "kind_of", "applied", "wor
 """What a kind, a record and a change of a day say once, where they are defined first."""
 MODULES = (
     batch, complete, desk, doubts, engines, errors, exports, formats, model, output, places, plan, portfolio, program,
-    reasons, region, replan, rescue, rounds, schedules, tables, view, pywrapcp,
+    reasons, refine, region, replan, rescue, rounds, schedules, tables, view, pywrapcp,
 )
 """The modules whose calls are for users."""
 

@@ -66,7 +66,7 @@ class ReadmeTests(unittest.TestCase):
 
     def test_each_piece_runs(self) -> None:
         pieces = [block for block in blocks() if block.startswith("from ")]
-        self.assertEqual(len(pieces), 12)
+        self.assertEqual(len(pieces), 13)
         model = read_model(os.path.join(EXAMPLES, "service-day.json"))
         solution = read_solution(os.path.join(EXAMPLES, "service-day.solved.json"))
         write("model.json", model.text())
@@ -74,7 +74,7 @@ class ReadmeTests(unittest.TestCase):
         names: Dict[str, Any] = {"places": ()}
         with contextlib.redirect_stdout(io.StringIO()) as out:
             for piece in pieces:
-                exec(piece.replace("timed_solver(10", "timed_solver(0"), names)
+                exec(re.sub(r"(timed_solver|from_morning)\(10", r"\1(0", piece), names)
                 names.update(lists=solution.lists(), tree=solution.tree())
         said = out.getvalue()
         self.assertIn("by the construction that the model asks for (PATH_CHEAPEST_ARC)", said)

@@ -1,4 +1,7 @@
-"""An answer where the construction finds none, and rounds that turn through constructions."""
+"""An answer where the construction finds none, and rounds that turn through constructions.
+
+No vr_refine is at hand here; `test_refining` has rounds that go on from the best so far.
+"""
 
 from __future__ import annotations
 
@@ -32,7 +35,17 @@ def impossible() -> Model:
     return Model.of({**THREE, "dimensions": [time]})
 
 
-class RescueTests(unittest.TestCase):
+class WithoutRefining(unittest.TestCase):
+    """Tests that find no vr_refine."""
+
+    def setUp(self) -> None:
+        for module in ("rounds", "rescue"):
+            patch = mock.patch(f"jambulskeg.{module}.at_hand", return_value=None)
+            patch.start()
+            self.addCleanup(patch.stop)
+
+
+class RescueTests(WithoutRefining):
     def test_as_asked(self) -> None:
         found = rescue(DAY)
         self.assertEqual((found.way, found.construction), (Way.AS_ASKED, First.PARALLEL_CHEAPEST_INSERTION))
@@ -172,7 +185,7 @@ class RescueTests(unittest.TestCase):
         self.assertIsInstance(rescue(model, solver=wrong, checked=False), Rescue)
 
 
-class RoundTests(unittest.TestCase):
+class RoundTests(WithoutRefining):
     def test_rounds_turn_through_constructions_and_numbers(self) -> None:
         told: List[Tuple[float, int]] = []
         progress: Progress = lambda seconds, cost: told.append((seconds, cost))
@@ -186,6 +199,8 @@ class RoundTests(unittest.TestCase):
         self.assertGreater(len({tuple(entry.search.lambda_) for entry in rounds}), 1)
         self.assertEqual(found.solution.cost, min(entry.cost for entry in rounds))
         self.assertEqual(solve(found.model), found.solution)
+        self.assertEqual(found.again(), found.solution)
+        self.assertEqual({(entry.on, entry.refine) for entry in rounds}, {(None, None)})
         costs = [entry.cost for entry in rounds]
         self.assertEqual([entry.best for entry in rounds], [min(costs[:at + 1]) for at in range(len(costs))])
         self.assertEqual([cost for _, cost in told], sorted({entry.best for entry in rounds}, reverse=True))

@@ -194,8 +194,12 @@ class SolvingTests(RoutingTest):
         routing.AddDimension(number, 0, 40, True, "way")
         known = routing.ReadAssignmentFromRoutes([[1, 3], [2]], True)
         self.assertEqual((known.ObjectiveValue(), known.solution.lists()), (34, [[1, 3], [2]]))
-        self.assertIsNone(routing.ReadAssignmentFromRoutes([[1]], True))
-        self.assertIsNone(routing.ReadAssignmentFromRoutes([[1, 3, 2]] * 2, True))
+        rows = ([[1]], NotMet, "visit 2 stands in no group"), ([[1, 3, 2]] * 2, NotMet, "node 1 at place 1")
+        for routes, kind, sentence in rows:
+            with mock.patch("sys.stderr", new=io.StringIO()) as stderr:
+                self.assertIsNone(routing.ReadAssignmentFromRoutes(routes, True))
+            self.assertIsInstance(routing.broken, kind)
+            self.assertRegex(stderr.getvalue(), f"^jambulskeg: RoutingModel.ReadAssignmentFromRoutes: .*{sentence}")
         self.refused(18, lambda: routing.ReadAssignmentFromRoutes([[0]], True))
         self.assertEqual(routing.Solve(known).ObjectiveValue(), 18)
         best = routing.Solve()
@@ -205,18 +209,40 @@ class SolvingTests(RoutingTest):
         self.assertLessEqual(again.ObjectiveValue(), best.ObjectiveValue())
         self.unsupported("SolveFromAssignment", lambda: routing.SolveFromAssignmentWithParameters([[1]], none))
 
+    def test_a_search_goes_on_from_an_assignment(self) -> None:
+        _, routing, _ = made()
+        known = routing.ReadAssignmentFromRoutes([[1, 3], [2]], True)
+        none, short = pywrapcp.DefaultRoutingSearchParameters(), pywrapcp.DefaultRoutingSearchParameters()
+        none.tries = 0
+        short.time_limit.FromMilliseconds(100)
+        kept = routing.SolveFromAssignmentWithParameters(known, none)
+        self.assertEqual((kept.ObjectiveValue(), kept.solution.lists()), (34, [[1, 3], [2]]))
+        self.assertEqual((routing.status(), routing.rescued.way), (1, Way.GIVEN))
+        self.assertEqual(routing.rescued.sentence, "by the routes that it began with")
+        self.assertEqual(routing.SolveFromAssignmentWithParameters(known, short).ObjectiveValue(), 18)
+        self.assertEqual(routing.SolveFromAssignmentWithParameters(None, none).ObjectiveValue(), 18)
+        cheap = routing.ReadAssignmentFromRoutes([[1, 2, 3]], True)
+        self.assertEqual(routing.SolveFromAssignmentsWithParameters([known, None, cheap], none).ObjectiveValue(),
+                         cheap.ObjectiveValue())
+        self.assertEqual(routing.SolveFromAssignmentsWithParameters([], none).ObjectiveValue(), 18)
+
     def test_an_assignment_is_kept_where_the_search_finds_nothing_cheaper(self) -> None:
         _, routing, number = made()
         best = routing.Solve()
-        with mock.patch.object(type(routing), "SolveWithParameters", return_value=None):
-            self.assertEqual(routing.Solve(best).solution.lists(), best.solution.lists())
         dear = routing.ReadAssignmentFromRoutes([[2, 1], [3]], False)
-        with mock.patch.object(type(routing), "SolveWithParameters", return_value=dear):
-            self.assertEqual(routing.Solve(best).ObjectiveValue(), best.ObjectiveValue())
+        with mock.patch("jambulskeg.routing.routing_model.belonging", return_value=None):
+            for found in (None, dear):
+                with mock.patch.object(type(routing), "SolveWithParameters", return_value=found):
+                    self.assertEqual(routing.Solve(best).ObjectiveValue(), best.ObjectiveValue())
+        self.assertEqual(routing.Solve(best).ObjectiveValue(), best.ObjectiveValue())
         routing.AddDisjunction([3], 0)
-        with mock.patch.object(type(routing), "SolveWithParameters", return_value=None):
-            routing.AddDimension(number, 0, 3, True, "short")
-            self.assertIsNone(routing.Solve(best))
+        routing.AddDimension(number, 0, 3, True, "short")
+        for module in ("routing_model", "beginning"):
+            with mock.patch("sys.stderr", new=io.StringIO()) as stderr:
+                with mock.patch(f"jambulskeg.routing.{module}.belonging", return_value=None):
+                    self.assertIsNone(routing.Solve(best))
+            self.assertEqual(routing.status(), routing.ROUTING_FAIL)
+            self.assertIn("cannot drive its list in the dimension 'short'", stderr.getvalue())
 
     def test_the_program_and_the_check_can_be_chosen(self) -> None:
         body = (

@@ -13,7 +13,7 @@ from ..output import Output
 from ..places import METRES, Measure, Place, Roads, strict_places, whole
 from ..records import Model
 from ..replan import (
-    Replanned, Rest, Unavailable, Where, going_on, replan, searched, solve_rest, with_places, with_tours,
+    Replanned, Rest, Unavailable, Where, from_morning, going_on, replan, searched, solve_rest, with_places, with_tours,
 )
 from ..rescue import timed_solver
 from ..rounds import to_terminal
@@ -53,6 +53,7 @@ def add_replan(command: argparse.ArgumentParser) -> None:
     command.add_argument("--time", metavar="NAME", help="the dimension of times")
     command.add_argument("--seconds", type=seconds, default=10.0, help="how long is searched; 10 if it is left out")
     command.add_argument("--keep", action="store_true", help="do not search: the plan goes on, with new orders put in")
+    command.add_argument("--anew", action="store_true", help="do not begin with the routes of the morning")
     command.add_argument("--progress", action="store_true",
                          help="tell each cheaper plan on standard error; a terminal is told anyway")
     command.set_defaults(run=run_replan)
@@ -87,7 +88,9 @@ def run_replan(asked: argparse.Namespace) -> int:
             for path, entry in ((asked.day, rest.day), (asked.rest, rest.model)) if path is not None
         ]
         out = files.enter_context(Output(asked.output))
-        search = searched(timed_solver(asked.seconds, progress=to_terminal if asked.progress else None, stop=stop))
+        tell = to_terminal if asked.progress else None
+        anew = searched(timed_solver(asked.seconds, progress=tell, stop=stop))
+        search = anew if asked.anew else from_morning(asked.seconds, progress=tell, stop=stop)
         found = solve_rest(rest, going_on if asked.keep else search)
         for file, entry in models:
             file.write(entry.text() + "\n")

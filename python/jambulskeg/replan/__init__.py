@@ -4,10 +4,10 @@
     found = rescue(rest.model, solver=timed_solver(10))
     whole = glue(rest.day, rest, found.solution)
 
-or, with the plan of the morning as a second candidate, `solve_rest(rest, searched(timed_solver(10))).whole`.
+or, from the routes of the morning and with their plan as a second candidate, `solve_rest(rest, from_morning(10)).whole`.
 """
 
-from .answering import Replanned, RestSolver, going_on, searched, solve_rest
+from .answering import Replanned, RestSolver, from_morning, going_on, searched, solve_rest
 from .continuing import continued
 from .gluing import Moved, glue, moved
 from .layout import Layout
@@ -18,6 +18,6 @@ from .tours import with_tours
 
 __all__ = [
     "CannotBeReplanned", "Clock", "Layout", "Moved", "Replanned", "Rest", "RestSolver", "Unavailable", "Van", "Where",
-    "continued", "glue", "going_on", "moved", "replan", "searched", "solve_rest",
-    "with_places", "with_tours",
+    "continued", "from_morning", "glue", "going_on", "moved", "replan", "searched", "solve_rest", "with_places",
+    "with_tours",
 ]

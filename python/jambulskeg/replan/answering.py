@@ -3,19 +3,21 @@
 from __future__ import annotations
 
 from dataclasses import dataclass
+from threading import Event
 from typing import Callable, Optional
 
-from ..arguments import a, asks
+from ..arguments import A_LIMIT, a, asks
 from ..errors import NoFirstSolution, Stopped
 from ..program import ProgramLike
-from ..rescue import Solver, rescue
+from ..refine import Routes
+from ..rescue import Progress, Solver, rescue, timed_solver
 from ..solution import Solution
 from .alike import renumbered
 from .continuing import continued
 from .gluing import Moved, glue, moved
 from .rest import Rest
 
-__all__ = ["Replanned", "RestSolver", "going_on", "searched", "solve_rest"]
+__all__ = ["Replanned", "RestSolver", "from_morning", "going_on", "searched", "solve_rest"]
 
 RestSolver = Callable[[Rest], Solution]
 """How the rest is solved: gives a solution of `rest.model`, or raises `NoFirstSolution`. A search that begins with
@@ -44,6 +46,21 @@ def searched(solver: Optional[Solver] = None, program: ProgramLike = None) -> Re
             nodes = ", ".join(str(rest.layout.nodes[node]) for node in found.left_out)
             raise NoFirstSolution(f"no solution of the rest was found: these required visits stay out: {nodes}")
         return found.solution
+
+    return search
+
+
+@asks(seconds=A_LIMIT)
+def from_morning(
+    seconds: float, program: ProgramLike = None, *, progress: Optional[Progress] = None, stop: Optional[Event] = None
+) -> RestSolver:
+    """A solver of the rest that goes on from the routes of the morning for some seconds, so that few visits change
+    vehicle. Without vr_refine it begins with nothing, as `searched(timed_solver(seconds))` does."""
+
+    def search(rest: Rest) -> Solution:
+        kept = continued(rest, program, checked=False)
+        begin: Routes = rest.lists if kept is None else kept
+        return searched(timed_solver(seconds, program, progress=progress, stop=stop, begin=begin), program)(rest)
 
     return search
 

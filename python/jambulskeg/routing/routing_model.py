@@ -2,16 +2,20 @@
 
 from __future__ import annotations
 
+import sys
 from typing import Any, Callable, List, Optional, Sequence, Tuple
 
-from ..complete import CannotBeDriven, complete
-from ..errors import Fault, NoFirstSolution, NotMet, Refused
-from ..model import meets, solve
+from ..complete import CannotBeDriven
+from ..errors import Fault, JambulskegError, NoFirstSolution, NotMet, Refused
+from ..model import solve
 from ..program import ProgramLike, program_of
 from ..records import Model, Policy, ScheduleRule
+from ..refine import belonging
 from ..rescue import Rescue, Solver as ModelSolver, rescue, timed_solver
 from ..rounds import Solved, to_terminal
+from ..solution import Solution
 from .assignment import Assignment, as_assignment
+from .beginning import go_on, priced
 from .building import Said
 from .dimension import RoutingDimension
 from .manager import RoutingIndexManager
@@ -32,7 +36,7 @@ class RoutingModel(Named):
     `program` is the program or its path, None to have it found; `checked` says whether each answer is put to the
     proved check; `schedule` is the rule by which all vehicles choose their schedules, None for the one that is nearest
     to OR-Tools: `TIGHT` where slack is there and spans are paid, or a late start was asked for, else `EARLIEST`;
-    `rescued` tells after a search which way it went.
+    `rescued` tells after a search which way it went, and `broken` what routes break that were handed in.
     """
 
     PICKUP_AND_DELIVERY_NO_ORDER = 0
@@ -56,6 +60,7 @@ class RoutingModel(Named):
         self.checked = True
         self.schedule: Optional[ScheduleRule] = None
         self.rescued: Optional[Rescue] = None
+        self.broken: Optional[JambulskegError] = None
         self._manager = index_manager
         self._said = Said(index_manager)
         self._status = RoutingSearchStatus.ROUTING_NOT_SOLVED
@@ -418,36 +423,61 @@ class RoutingModel(Named):
         return timed_solver(limit, found, checked=self.checked, progress=progress)
 
     def SolveFromAssignmentWithParameters(
-        self, assignment: Assignment, parameters: RoutingSearchParameters
+        self, assignment: Optional[Assignment], parameters: RoutingSearchParameters
     ) -> Optional[Assignment]:
-        """The cheaper of the assignment and of what a search finds, which begins with a first solution of its own."""
-        known = as_assignment(assignment, "RoutingModel.SolveFromAssignmentWithParameters")
-        found = self.SolveWithParameters(parameters)
-        if found is not None and found.ObjectiveValue() <= known.ObjectiveValue():
-            return found
-        again = self._completed(known.solution.lists(), found.model if found else self.to_model(parameters))
-        if again is None or (found is not None and found.ObjectiveValue() <= again.ObjectiveValue()):
-            return found
+        """What a search finds that begins with the assignment, which is no dearer; None if the assignment breaks a rule
+        of the model as it is now, which `broken` tells. Without vr_refine the cheaper of the assignment and of what a
+        search finds that begins with a first solution of its own."""
+        return self.SolveFromAssignmentsWithParameters([assignment], parameters)
+
+    def SolveFromAssignmentsWithParameters(
+        self, assignments: Sequence[Optional[Assignment]], parameters: RoutingSearchParameters
+    ) -> Optional[Assignment]:
+        """The same, from the cheapest of some assignments that break no rule; without any it is `SolveWithParameters`.
+        """
+        title = "RoutingModel.SolveFromAssignmentsWithParameters"
+        known = [as_assignment(entry, title) for entry in assignments if entry is not None]
+        if not known:
+            return self.SolveWithParameters(parameters)
+        model = self.to_model(parameters)
+        begun = [found for entry in known for found in [self._priced(title, entry.solution.lists(), model)] if found]
+        self._status = RoutingSearchStatus.ROUTING_FAIL
+        if not begun:
+            return None
+        best = min(begun, key=lambda solution: solution.cost)
+        if belonging(self.program) is None:
+            found = self.SolveWithParameters(parameters)
+            self._status = RoutingSearchStatus.ROUTING_SUCCESS
+            is_found = found is not None and found.ObjectiveValue() <= best.cost
+            return found if is_found else Assignment(self._manager, model, best, self._said.breaks())
+        limit, progress = parameters.time_limit.total(), to_terminal if parameters.log_search else None
+        self.rescued = go_on(model, best, self.program, limit, progress, self.checked)
         self._status = RoutingSearchStatus.ROUTING_SUCCESS
-        return again
+        solved = self.rescued.solved
+        return Assignment(self._manager, solved.model, solved.solution, self._said.breaks())
 
     def ReadAssignmentFromRoutes(
         self, routes: Sequence[Sequence[int]], ignore_inactive_indices: bool
     ) -> Optional[Assignment]:
         """The assignment of routes, which are lists of indices without starts and ends; None where they cannot be
-        driven or break a rule. No index of a visit is inactive, so the last argument changes nothing."""
-        lists = [[self._visit(index, "RoutingModel.ReadAssignmentFromRoutes") for index in route] for route in routes]
+        driven or break a rule, which `broken` tells. No index of a visit is inactive, so the last argument changes
+        nothing."""
+        title = "RoutingModel.ReadAssignmentFromRoutes"
+        lists = [[self._visit(index, title) for index in route] for route in routes]
         lists += [[] for _ in range(self.vehicles() - len(lists))]
-        return self._completed(lists, self.to_model())
+        model = self.to_model()
+        found = self._priced(title, lists, model)
+        return None if found is None else Assignment(self._manager, model, found, self._said.breaks())
 
-    def _completed(self, lists: Sequence[Sequence[int]], model: Model) -> Optional[Assignment]:
-        """The assignment of lists of visits; None where they cannot be driven or break a rule."""
+    def _priced(self, title: str, lists: Sequence[Sequence[int]], model: Model) -> Optional[Solution]:
+        """The solution of lists of visits; None where they break a rule, which is told on standard error."""
+        self.broken = None
         try:
-            solution = complete(model, lists, self.program, checked=False)
-            meets(model, solution, self.program)
-        except (CannotBeDriven, NotMet):
+            return priced(model, lists, self.program)
+        except (CannotBeDriven, NotMet) as problem:
+            self.broken = problem
+            sys.stderr.write(f"jambulskeg: {title}: {problem}\n")
             return None
-        return Assignment(self._manager, model, solution, self._said.breaks())
 
     def IsVehicleUsed(self, assignment: Assignment, vehicle: int) -> bool:
         """Whether a vehicle leaves."""
