@@ -14,25 +14,26 @@ import sys
 import tempfile
 import unittest
 from dataclasses import replace
-from typing import Callable, Iterator, List, Optional, Sequence, Tuple
+from typing import Any, Callable, Dict, Iterator, List, Optional, Sequence, Tuple
 from unittest import mock
 
 from jambulskeg.__main__ import main
-from jambulskeg.engines import Answer, EngineFailed, GnuParallel
-from jambulskeg.errors import NoMemory, Refused
+from jambulskeg.engines import Answer, EngineFailed
+from jambulskeg.errors import NoFirstSolution, NoMemory, Refused
 from jambulskeg.model import check
 from jambulskeg.places import BadTable, Place, Roads, Van
 from jambulskeg.program import find
 from jambulskeg.records import Model
 from jambulskeg.region import (
     Asked, BadRoads, Checked, CheckedPart, Crew, Entry, FolderTaken, NotSolved, OwnCrew, ParallelCrew, Part, PartModel,
-    Planned, Region, RegionTables, RoadTable, RunDiffers, Shape, SharedTwice, SlurmCrew, Standing, Store, VanDay,
-    check_plan, cut, model_of_part, plan, plan_table, read_region, region_page, sheet_files, write_roads,
+    Planned, Region, RegionTables, RoadTable, RunDiffers, Searcher, Shape, SharedTwice, SlurmCrew, Standing, Store,
+    VanDay, check_plan, cut, model_of_part, plan, plan_table, read_region, region_page, sheet_files, write_roads,
 )
 from jambulskeg.region.checking import once
-from jambulskeg.region.crew import Answers, ModelOf
-from jambulskeg.region.mending import groups_of
+from jambulskeg.region.crew import Answers, TextOf
+from jambulskeg.region.mending import WARMTH, effort_of, first_effort, groups_of
 from jambulskeg.region.near import links_of, nearest
+from jambulskeg.region.tasks import Round, solve_parts
 from jambulskeg.solution import Solution
 
 from .region_support import ROAD_WORDS, made_region, write_tables
@@ -46,12 +47,12 @@ class Backwards:
     """A crew whose answers come in another order, and go through `change`, which may raise or give none."""
 
     def __init__(self, change: Callable[[int, Answer], Optional[Answer]] = lambda count, answer: answer) -> None:
-        self._change, self.count = change, 0
+        self._change, self.count, self.searcher = change, 0, Searcher.found()
 
-    def each(self, count: int, model_of: ModelOf) -> Answers:
+    def each(self, count: int, text_of: TextOf) -> Answers:
         """The answers, the last part's first."""
         order = list(range(count))[::-1]
-        for at, answer in OwnCrew(1).each(count, lambda place: model_of(order[place])):
+        for at, answer in OwnCrew(1, self.searcher).each(count, lambda place: text_of(order[place])):
             self.count += 1
             changed = self._change(self.count, answer)
             if changed is not None:
@@ -392,6 +393,9 @@ class ResumeTests(unittest.TestCase):
                 plan(self.region, SMALL, OwnCrew(2), store)
             with self.assertRaisesRegex(RunDiffers, "other tables"):
                 plan(self.region, replace(SMALL, most=50), OwnCrew(2), store, resume=True)
+            other = OwnCrew(2, Searcher("vr", not Searcher.found().refines))
+            with self.assertRaisesRegex(RunDiffers, "searched by another program"):
+                plan(self.region, SMALL, other, store, resume=True)
             done = plan(self.region, SMALL, OwnCrew(2), store, resume=True)
             again = plan(self.region, SMALL, Backwards(stop), store, resume=True)
             self.assertEqual(again, done)
@@ -431,11 +435,11 @@ class CrewTests(unittest.TestCase):
         known = planned(region)
         for lost in (-1, 2):
             with engine_on_path("parallel", PARALLEL, lost):
-                found = planned(region, SMALL, ParallelCrew(GnuParallel(2, os.path.abspath(find()))))
+                found = planned(region, SMALL, ParallelCrew(2, Searcher.found()))
             self.assertEqual(found.standing, known.standing)
         with engine_on_path("parallel", "sys = __import__('sys'); sys.exit(sys.stderr.write('no machine\\n'))"):
             with self.assertRaisesRegex(NotSolved, "3 of 3 parts have no result; GNU parallel said: no machine"):
-                planned(region, SMALL, ParallelCrew(GnuParallel(2, os.path.abspath(find()))))
+                planned(region, SMALL, ParallelCrew(2, Searcher.found()))
 
     def test_workers_of_slurm_find_the_same_plan(self) -> None:
         region = made_region(120)
@@ -445,7 +449,7 @@ class CrewTests(unittest.TestCase):
                 with open(name, "w", encoding="utf-8") as file:
                     file.write(f"#!{sys.executable}\n{body}")
                 os.chmod(name, 0o755)
-            crew = SlurmCrew(1, os.path.abspath(find()), ["--partition=long"], os.path.join(folder, "crew"))
+            crew = SlurmCrew(1, Searcher.found(), ["--partition=long"], os.path.join(folder, "crew"))
             found = planned(region, SMALL, crew)
             crew.close()
             self.assertTrue(os.path.exists("crew/job2") and os.path.exists("crew/end"))
@@ -454,7 +458,41 @@ class CrewTests(unittest.TestCase):
     def test_slurm_takes_no_job(self) -> None:
         with engine_on_path("sbatch", "import sys; sys.stderr.write('no such partition\\n')"):
             with self.assertRaisesRegex(NotSolved, "sbatch took no job; it said: no such partition"):
-                planned(made_region(60), SMALL, SlurmCrew(1, "vr_cli", [], "crew"))
+                planned(made_region(60), SMALL, SlurmCrew(1, Searcher("vr_cli"), [], "crew"))
+
+
+class RefiningTests(unittest.TestCase):
+    def test_what_the_searcher_is_given(self) -> None:
+        region = made_region(40)
+        part, lists = Part(tuple(region.visits), (0, 1)), ((5, 9, 2), ())
+        texts: List[Dict[str, Any]] = []
+
+        class Reads(Backwards):
+            """A crew that reads what it is given, and has no answer."""
+
+            def each(self, count: int, text_of: TextOf) -> Answers:
+                texts.append(json.loads(text_of(0)))
+                yield 0, NoFirstSolution("none")
+
+        for effort, routes in ((first_effort(9000, 40, True), None), (effort_of(7, 9000, True), [lists]),
+                               (effort_of(7, 9000, False), [lists])):
+            with kept() as store:
+                solve_parts(Round(region, 0, [part], effort, routes), Reads(), store, lambda at, model, found: at)
+        first, seam, anew = texts
+        self.assertEqual((first["refine"], "routes" in first), ({}, False))
+        self.assertEqual((seam["refine"]["seed"], seam["routes"]), (7, [[5, 9, 2], []]))
+        self.assertEqual(seam["model"]["search"]["tries"], 18)
+        ways = [0, *lists[0], 0]
+        mean = sum(round(math.dist(region.points[one], region.points[other])) for one, other in zip(ways, ways[1:])) / 4
+        self.assertAlmostEqual(seam["refine"]["heat"], WARMTH * mean, delta=2)
+        self.assertEqual((set(anew) & {"model", "routes", "refine"}, anew["search"]["tries"]), (set(), 9000))
+
+    @unittest.skipUnless(Searcher.found().refines, "the vr_refine at hand does not know ruin and recreate")
+    def test_going_on_is_cheaper(self) -> None:
+        region = made_region(150)
+        found = planned(region, SMALL)
+        anew = planned(region, replace(SMALL, shape=Shape.usual(False)), OwnCrew(2, Searcher(find())))
+        self.assertLess(found.journal[-1].cost, anew.journal[-1].cost)
 
 
 class RoadTests(unittest.TestCase):

@@ -15,7 +15,7 @@ from ..solution import Solution
 from .crew import Crew
 from .cutting import MOST_VISITS, cut
 from .day import Part, PartModel, Region
-from .mending import Shape, Standing, applied, first_search, groups_of, search_of
+from .mending import Shape, Standing, applied, effort_of, first_effort, groups_of
 from .near import nearest
 from .store import Store
 from .tasks import Round, solve_parts
@@ -57,14 +57,15 @@ class RunDiffers(JambulskegError, ValueError):
 @dataclass(frozen=True)
 class Asked:
     """What is asked of a plan: the seconds for all of it and the processes at a time, from which follow the moves that
-    are tried in all, or these moves (`tries`; no clock ends the plan then); how large parts and seams are at most.
+    are tried in all, or these moves (`tries`; no clock ends the plan then); how large parts and seams are at most. By
+    itself a seam has the usual shape for the program that searches it.
     """
 
     seconds: float = 60
     jobs: int = 1
     tries: Optional[int] = None
     most: int = MOST_VISITS
-    shape: Shape = Shape()
+    shape: Optional[Shape] = None
     seams: bool = True
 
     def budget(self) -> int:
@@ -167,13 +168,14 @@ class Run:
         self, region: Region, asked: Asked, crew: Crew, store: Store, program: ProgramLike, progress: Progress
     ) -> None:
         self._region, self._asked, self._crew, self._store = region, asked, crew, store
-        self._program, self._progress = program, progress
+        self._program, self._progress, self._refines = program, progress, crew.searcher.refines
+        self._shape = asked.shape or Shape.usual(self._refines)
         self._began, self._before = time.monotonic(), 0.0
         self._near: Dict[int, List[int]] = {}
 
     def found(self, resume: bool) -> Optional[Planned]:
         """The state that the folder has, None where it has none. Raises `RunDiffers`."""
-        head = {"digest": digest_of(self._region, self._asked)}
+        head = {"digest": digest_of(self._region, self._asked, self._shape, self._refines)}
         old, state = self._store.read("asked.json"), self._store.read("state.json")
         if old is not None and not resume and not (state or {}).get("ended"):
             raise RunDiffers(
@@ -181,7 +183,10 @@ class Run:
                 "another --folder begins anew"
             )
         if old is not None and resume and old != head:
-            raise RunDiffers(f"the run in the folder {self._store.folder} has other tables, or was asked otherwise")
+            raise RunDiffers(
+                f"the run in the folder {self._store.folder} has other tables, was asked otherwise, or its parts were "
+                "searched by another program"
+            )
         if resume and state is not None:
             found = Planned.of(state)
             self._before = found.journal[-1].seconds
@@ -202,7 +207,7 @@ class Run:
         parts = [part for part in cut(self._region, self._asked.most) if part.vans]
         share = CUTTING_SHARE if self._asked.seams else 1.0
         tries = max(1, min(MOST_TRIES, int(self._asked.budget() * share) // max(1, len(parts))))
-        search = first_search(tries, max((len(part.visits) for part in parts), default=0))
+        effort = first_effort(tries, max((len(part.visits) for part in parts), default=0), self._refines)
 
         def judge(at: int, model: PartModel, solution: Optional[Solution]) -> Outcome:
             if solution is None:
@@ -210,7 +215,7 @@ class Run:
             return Outcome(model.lists(solution), solution.cost - solution.parts.penalty)
 
         outcomes = solve_parts(
-            Round(self._region, 0, parts, search), self._crew, self._store, judge, self._program
+            Round(self._region, 0, parts, effort), self._crew, self._store, judge, self._program
         )
         standing = Standing(((),) * len(self._region.vans))
         for at, (part, outcome) in enumerate(zip(parts, outcomes)):
@@ -248,7 +253,7 @@ class Run:
 
     def _tries(self, state: Planned) -> int:
         """The tries of a seam."""
-        seams = max(1, len(state.standing.used()) // self._asked.shape.routes)
+        seams = max(1, len(state.standing.used()) // self._shape.routes)
         first = int(self._asked.budget() * (1 - CUTTING_SHARE)) // (PASSES * seams)
         return min(MOST_TRIES, max(FEWEST_TRIES, min(FIRST_TRIES, first)) * LEVELS[min(state.level, len(LEVELS) - 1)])
 
@@ -261,7 +266,7 @@ class Run:
         parts = []
         if len(standing.awake.intersection(used)) > RESTED * len(used):
             parts = groups_of(
-                region, standing, self._near, number, self._asked.shape, seams_alone=state.level < ALL_FROM
+                region, standing, self._near, number, self._shape, seams_alone=state.level < ALL_FROM
             )
         if not parts:
             return replace(state, level=state.level + 1, standing=replace(standing, awake=frozenset(used)))
@@ -271,8 +276,9 @@ class Run:
         def judge(at: int, model: PartModel, solution: Optional[Solution]) -> Outcome:
             return gain(model, solution, lists[at])
 
+        effort = effort_of(number, tries, self._refines)
         outcomes = solve_parts(
-            Round(region, number, parts, search_of(number, tries), lists), self._crew, self._store, judge, self._program
+            Round(region, number, parts, effort, lists), self._crew, self._store, judge, self._program
         )
         mended = set(state.mended)
         for at, (part, outcome) in enumerate(zip(parts, outcomes)):
@@ -317,7 +323,7 @@ def gain(model: PartModel, solution: Optional[Solution], lists: Sequence[Sequenc
     return Outcome(model.lists(solution), solution.cost - before.cost - missing * model.duty, missing)
 
 
-def digest_of(region: Region, asked: Asked) -> str:
+def digest_of(region: Region, asked: Asked, shape: Shape, refines: bool) -> str:
     """A digest of the tables and of all that a plan depends on."""
-    what = region, asked.budget(), asked.most, asked.shape, asked.seams
+    what = region, asked.budget(), asked.most, shape, asked.seams, refines
     return hashlib.sha256(repr(what).encode("utf-8", "surrogatepass")).hexdigest()
