@@ -101,7 +101,7 @@ def plan_day(
     shown = replace(model, groups=[*model.groups, *(Group([node], 0) for node in required)])
     final = leave_later(shown, complete(shown, solution.lists(), program), program)
     reasons = why_left_out(shown, final, required=required)
-    how = found.sentence if found.way is Way.PENALTIES and not required else ""
+    how = found.sentence if found.way in (Way.RUIN, Way.PENALTIES) and not required else ""
     return Planned(tables, shown, final, how, required, reasons, looks)
 
 

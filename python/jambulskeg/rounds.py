@@ -31,7 +31,7 @@ from .refine import Routes, at_hand, solve as refined, text_beside
 from .solution import Solution, Stop
 
 __all__ = [
-    "ALIKE", "FIRST_STEPS", "FIRST_TRIES", "Progress", "Round", "Solved", "constructions", "solve_for", "teller",
+    "ALIKE", "FIRST_STEPS", "FIRST_TRIES", "On", "Progress", "Round", "Solved", "constructions", "solve_for", "teller",
     "to_terminal", "with_search",
 ]
 

@@ -250,7 +250,7 @@ class FaultTests(PlanCase):
 
 def wait_for(path: str) -> int:
     """The number in a file, when it is there."""
-    for _ in range(300):
+    for _ in range(1200):
         if os.path.exists(path) and os.path.getsize(path):
             with open(path, encoding="utf-8") as file:
                 return int(file.read())

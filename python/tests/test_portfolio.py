@@ -5,6 +5,7 @@ GNU parallel and Slurm are stood in for by small programs here; try_engines.py t
 
 from __future__ import annotations
 
+import io
 import math
 import os
 import stat
@@ -14,16 +15,21 @@ import unittest
 from contextlib import contextmanager
 from dataclasses import replace
 from threading import Event
-from typing import Dict, Iterator, List, Optional, Sequence, Tuple
+from typing import Callable, Dict, Iterator, List, Optional, Sequence, Tuple
 from unittest import mock
 
 from jambulskeg.batch import Found, batch, read_folder
-from jambulskeg.engines import Answer, Engine, EngineFailed, GnuParallel, OwnProcesses, Slurm
+from jambulskeg.engines import (
+    Answer, Engine, EngineFailed, GnuParallel, OwnProcesses, Slurm, Task, TellingEngine, Told,
+)
 from jambulskeg.errors import (
     Fault, JambulskegError, NoFirstSolution, NoMemory, NotMet, ProgramFailed, ProgramKilled, Refused,
 )
 from jambulskeg.model import Improve, Model, check, read_model, solve
-from jambulskeg.portfolio import LAMBDAS, Incomplete, Outcome, Portfolio, collected, portfolio, variants
+from jambulskeg.portfolio import (
+    LAMBDAS, SEEDS, Ended, Incomplete, Outcome, Portfolio, Refining, Variant, collected, portfolio, refinings,
+    tell_ended, variants,
+)
 from jambulskeg.program import find
 
 from .support import EXAMPLES, THREE, Fake, need_searches
@@ -138,6 +144,42 @@ class PortfolioTests(unittest.TestCase):
         self.assertEqual(found[0].number, costs.index(min(costs)))
         self.assertEqual(check(model, found[0].solution).cost, min(costs))
         self.assertFalse(Outcome(model.search, found[0].solution).is_accident)
+
+    def test_each_search_that_has_ended_is_told(self) -> None:
+        model, watched = small(), []
+        watch: Callable[[Ended], None] = watched.append
+        engine: TellingEngine = OwnProcesses(2)
+        told: Told = lambda number, answered: None
+        tasks: List[Task] = [model]
+        self.assertEqual(engine.run_all(tasks, None, told), [solve(model)])
+        found = portfolio(model, engine, progress=watch)
+        count = len(found.outcomes)
+        ended = [(entry.ended, entry.searches) for entry in watched]
+        self.assertEqual(ended, [(number, count) for number in range(1, count + 1)])
+        costs = [entry.cost for entry in watched if entry.cost is not None]
+        self.assertEqual((min(costs), watched[-1].best), (found.solution.cost,) * 2)
+        self.assertEqual(sorted(entry.seconds for entry in watched), [entry.seconds for entry in watched])
+        with mock.patch("sys.stderr", new=io.StringIO()) as stderr:
+            portfolio(model)
+            self.assertEqual(stderr.getvalue(), "")
+            with mock.patch.object(stderr, "isatty", return_value=True):
+                batch({"monday": model})
+            lines = stderr.getvalue().splitlines()
+            tell_ended(Ended(1.0, None, None, 1, 21))
+        said = rf"^ +[.0-9]+ s  monday: cost {found.solution.cost}  \({count} of {count} searches\)$"
+        self.assertRegex(lines[-1], said)
+        self.assertEqual(stderr.getvalue().splitlines()[-1], "     1.0 s  no answer yet  (1 of 21 searches)")
+
+    def test_ruin_and_recreate_beside_them(self) -> None:
+        found: List[Refining] = refinings(small(tries=20000), seeds=[5, 7])
+        self.assertEqual([(entry.search.tries, entry.refine.seed) for entry in found], [(20, 5), (20, 7)])
+        self.assertEqual(len(refinings(small())), len(SEEDS))
+        entry: Variant = found[0]
+        outcome = collected(small(), [entry], [solve(small())]).outcomes[0]
+        self.assertEqual(outcome.name, f"{small().search.first.value}, ruin and recreate, seed 5")
+        self.assertIsInstance(GnuParallel(1, "vr", refiner="vr_refine").has_refiner(), bool)
+        script = Slurm(1, "vr", refiner="a refiner").script("folder", 0, 3, [2])
+        self.assertIn("case $task in 2) 'a refiner' solve ;; *) vr solve ;; esac; printf", script)
 
     def test_more_tries_than_the_model_has(self) -> None:
         model = small("service-day", tries=10)

@@ -30,11 +30,13 @@ class PriceTests(CommandCase):
         self.assertEqual(check(read_model(model), read_solution(self.at("out.json"))).cost, 18)
         rules, made = self.write("rules.json", Model.of(RULES).text()), self.write("made.json", "[[1,2,5],[3,4]]")
         status, out, _ = called("price", rules, made)
-        self.assertEqual(out.splitlines(), ["cost 7: arcs 7", "vehicle 0: 0 1 2 5 0", "vehicle 1: 0 3 4 0", "left out: 6"])
+        lines = ["cost 7: arcs 7", "vehicle 0: 0 1 2 5 0", "vehicle 1: 0 3 4 0", "left out: 6"]
+        self.assertEqual(out.splitlines(), lines)
         self.assertEqual(called("price", *SERVICE)[1].splitlines()[0][:10], "cost 1338:")
 
     def test_what_is_wrong_is_said(self) -> None:
-        model, rules = (self.write(name, Model.of(tree).text()) for name, tree in (("a.json", THREE), ("r.json", RULES)))
+        model = self.write("a.json", Model.of(THREE).text())
+        rules = self.write("r.json", Model.of(RULES).text())
         rows = (
             (model, "[[1,0]]", "plan.json: /routes/0/1: the node is a start or an end"),
             (model, "[[1,2],[]]", "plan.json: /routes: "), (model, "[[1,7]]", "plan.json: /routes/0/1: "),

@@ -20,7 +20,9 @@ from jambulskeg.findings import Finding, sentence_of
 from jambulskeg.model import Model, Stop, check, first, read_model, read_solution, solve as solve_anew
 from jambulskeg.program import Program, find as find_solver, sought
 from jambulskeg.records import Refine, Search
-from jambulskeg.refine import BESIDE, Routes, at_hand, begin, find, price, program_of, refines, solve
+from jambulskeg.refine import (
+    BESIDE, QUESTIONS, Question, Routes, at_hand, begin, belonging, find, price, program_of, refines, solve,
+)
 
 from .support import EXAMPLES, THREE, Fake, environment, tree_with
 
@@ -62,7 +64,7 @@ class FindingTests(unittest.TestCase):
                 with mock.patch.dict(os.environ, environment(VR_CLI=solver, VR_REFINE=None, PATH=""), clear=True):
                     self.assertRaisesRegex(ProgramMissing, "vr_refine was not found.*VR_REFINE", find)
                     self.assertRaises(ProgramMissing, lambda: price(MODEL, [[1, 2]]))
-                    self.assertIsNone(at_hand())
+                    self.assertEqual((at_hand(), belonging()), (None, None))
         with mock.patch.dict(os.environ, environment(VR_REFINE="/nowhere")):
             for call in (find, at_hand, lambda: begin(MODEL)):
                 self.assertRaisesRegex(ProgramMissing, "VR_REFINE names no program", call)
@@ -74,7 +76,7 @@ class FindingTests(unittest.TestCase):
             for path, is_new in ((old, False), (killed, False), (new, True)):
                 self.assertIs(refines(path), is_new)
                 with mock.patch.dict(os.environ, environment(VR_REFINE=path)):
-                    self.assertEqual(at_hand(), Program(path) if is_new else None)
+                    self.assertEqual((at_hand(), belonging()), (Program(path) if is_new else None, Program(path)))
             os.link(new, os.path.join(os.path.dirname(new), "vr_refine"))
             with mock.patch.dict(os.environ, environment(VR_REFINE=None), clear=True):
                 self.assertEqual(at_hand(new), Program(os.path.join(os.path.dirname(new), "vr_refine")))
@@ -135,6 +137,14 @@ class PriceTests(unittest.TestCase):
         self.assertRaises(WrongArgument, lambda: solve(MODEL, refine={}))  # type: ignore[arg-type]
 
 
+    def test_a_question_is_one_line(self) -> None:
+        asked = Question(MODEL, [[2, 1]], Refine(seed=3))
+        self.assertTrue(asked.text().endswith(',"routes":[[2, 1]],"refine":{"seed": 3}}'))
+        self.assertNotIn("\n", asked.text())
+        self.assertEqual(asked.answer("price", None, checked=True).cost, 18)
+        self.assertEqual((QUESTIONS([asked, MODEL]), QUESTIONS([7])), ("", "a list of models"))
+
+
 class BeginTests(unittest.TestCase):
     def test_routes_to_begin_with(self) -> None:
         optional = Model.of(tree_with(groups=[{"nodes": [2], "penalty": 3}]))
@@ -143,7 +153,8 @@ class BeginTests(unittest.TestCase):
             self.assertEqual(begin(optional, routes).lists(), wanted)
         self.assertEqual(begin(MODEL, [[1]]).lists(), [[2, 1]])
         self.assertEqual(begin(MODEL), first(MODEL))
-        self.assertRaisesRegex(NoFirstSolution, "no routes to begin with", lambda: begin(Model.of(RULES), [[1, 2], [3]]))
+        rules = Model.of(RULES)
+        self.assertRaisesRegex(NoFirstSolution, "no routes to begin with", lambda: begin(rules, [[1, 2], [3]]))
 
     def test_the_models_own_search_goes_on_from_routes(self) -> None:
         day = read_model(os.path.join(EXAMPLES, "service-day.json"))

@@ -1,6 +1,7 @@
 """python -m jambulskeg refine: what it finds, and how it says what is wrong.
 
-These tests ask for a vr_refine that knows ruin and recreate; with one that refuses the object `refine` they are skipped.
+These tests ask for a vr_refine that knows ruin and recreate; with one that refuses the object `refine` they are
+skipped.
 """
 
 from __future__ import annotations
@@ -48,7 +49,7 @@ class RefineTests(CommandCase):
         words = ["--seconds", "0", "-o", self.at("out.json")]
         status, _, told = called("refine", SERVICE, self.write("plan.json", str([lists[0][1:], *lists[1:]])), *words)
         self.assertEqual(status, 0)
-        self.assertRegex(told, r"^cost \d+, \d+ before; |^look at: .*plan.json: visit \d+ stands in no group.*\ncost \d+\n$")
+        self.assertRegex(told, r"^cost \d+, \d+ before; |^look at: .*plan.json: visit \d+ stands in no group.*\ncost \d+\n")
         self.assertTrue(check(DAY, read_solution(self.at("out.json"))).meets)
         for text, sentence in (("[[1]]", "plan.json: /routes: "), ("[[0],[],[],[]]", "plan.json: /routes/0/0: ")):
             status, out, told = called("refine", SERVICE, self.write("plan.json", text), *words)
@@ -58,8 +59,8 @@ class RefineTests(CommandCase):
     def test_a_full_disk_and_a_killed_program(self) -> None:
         words = ["refine", SERVICE, self.write("plan.json", first(DAY).text()), "--seconds", "20"]
         self.assertIn("/dev/full: No space left", called(*words[:-1], "0", "-o", "/dev/full")[2])
-        body = f"if len(text) > 1000 and sys.argv[1] == 'solve': os.kill(os.getpid(), 9)\n{RUNS.format(find())}{FORWARDS}"
-        with Fake(body) as path, mock.patch.dict(os.environ, {"VR_REFINE": path}):
+        kills = "if len(text) > 1000 and sys.argv[1] == 'solve': os.kill(os.getpid(), 9)\n"
+        with Fake(f"{kills}{RUNS.format(find())}{FORWARDS}") as path, mock.patch.dict(os.environ, {"VR_REFINE": path}):
             status, out, told = called(*words, "-o", self.write("out.json", "old"))
         self.assertEqual((status, out), (1, ""))
         self.assertIn("ended by the signal SIGKILL", told)

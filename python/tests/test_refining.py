@@ -1,10 +1,13 @@
 """Ruin and recreate: what it finds, and rounds, rescues and portfolios that go on from the best routes so far.
 
-These tests ask for a vr_refine that knows ruin and recreate; with one that refuses the object `refine` they are skipped.
+These tests ask for a vr_refine that knows ruin and recreate; with one that refuses the object `refine` they are
+skipped.
 """
 
 from __future__ import annotations
 
+import contextlib
+import io
 import os
 import threading
 import time
@@ -20,10 +23,10 @@ from jambulskeg.program import find as find_solver
 from jambulskeg.records import Refine
 from jambulskeg.refine import find, refines, solve
 from jambulskeg.replan import from_morning, replan, solve_rest
-from jambulskeg.rescue import RESCUE_STEPS, Way, rescue, timed_solver, with_search
+from jambulskeg.rescue import RESCUE_STEPS, Rescue, Solved, Way, rescue, timed_solver, with_search
 from jambulskeg.rounds import FIRST_STEPS, FIRST_TRIES, On, solve_for
 
-from .support import EXAMPLES, Fake, environment, tree_with
+from .support import EXAMPLES, Fake, environment, example, tree_with
 from .test_portfolio import PARALLEL, SBATCH, engine_on_path
 
 DAY = read_model(os.path.join(EXAMPLES, "service-day.json"))
@@ -53,7 +56,8 @@ class RefiningTests(unittest.TestCase):
         self.assertLess(found.cost, begun.cost)
         self.assertTrue(check(with_search(DAY, tries=3000), found).meets)
         self.assertEqual(found, solve(with_search(DAY, tries=3000), begun.lists(), Refine(0, 10, 10)))
-        self.assertNotEqual(found, solve(with_search(DAY, tries=3000), begun, Refine(seed=1, removed=3, string=2, heat=0)))
+        other = Refine(seed=1, removed=3, string=2, heat=0)
+        self.assertNotEqual(found, solve(with_search(DAY, tries=3000), begun, other))
 
     def test_a_day_that_no_construction_finds(self) -> None:
         model = Model.of(LOADED)
@@ -156,6 +160,22 @@ class RoundTests(unittest.TestCase):
                 threading.Timer(0.5, stop.set).start()
                 self.assertRaises(Stopped, lambda: solve(DAY, None, Refine(), stop=stop))
                 self.assertLess(time.monotonic() - began, 20)
+
+    def test_the_days_of_the_guides(self) -> None:
+        def by_refining(model: Model, *_: object, **__: object) -> Rescue:
+            asked = with_search(model, tries=20000)
+            found = solve(asked, None, Refine())
+            return Rescue(Way.RUIN, asked, Solved(asked, found, refine=Refine()), found)
+
+        totals = {
+            "salesman": 7293, "longest_route": 1552, "capacities": 6208, "time_windows": 71, "dropped_visits": 7548,
+            "breaks": 71, "pickups": 210504, "several_trips": 6208,
+        }
+        for name, total in totals.items():
+            with contextlib.redirect_stdout(io.StringIO()) as out:
+                with mock.patch("jambulskeg.routing.routing_model.rescue", by_refining):
+                    example(name).main()
+            self.assertRegex(out.getvalue(), rf"(?m)^(total|longest|arcs|objective|any order): {total}\b", name)
 
 
 @unittest.skipUnless(refines(), "the vr_refine at hand does not know ruin and recreate")
