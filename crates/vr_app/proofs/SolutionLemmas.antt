@@ -112,25 +112,30 @@ searched-sound mode.First model first well_formed valid = untried-sound model fi
 searched-sound mode.Solve model first well_formed valid = improved-sound model.search.improve model first well_formed valid
 searched-sound mode.Log model first well_formed valid = improved-sound model.search.improve model first well_formed valid
 
--- what is found from valid lists is printed as a solution
-pub found-printed : (asked : Mode) (model : Model) (first : List (List ℕ)) → IsWellFormed model → IsTrue (is_valid model first) → (begins : List (List ℕ) → Type 0) → begins first
-    → PrintsBegun begins model (line_of_found model (found_from asked model first))
+-- what a sound search found is printed as a solution
+pub sound-printed : (model : Model) (found : Found) → IsWellFormed model → IsTrue (is_valid model found.first) → IsSound model found.first found.outcome
+    → (begins : List (List ℕ) → Type 0) → begins found.first → PrintsBegun begins model (line_of_found model found)
 unfolding line_of_found
-found-printed asked model first well_formed valid begins e =
-    let sound = searched-sound asked model first well_formed valid in
-    let bounds = costs_are_bounded model well_formed first valid in
+sound-printed model found well_formed valid sound begins e =
+    let bounds = costs_are_bounded model well_formed found.first valid in
     let limits = sound.in_limits in
     record {
-      first = first;
-      assignment = assigned model (searched asked model first).best;
-      report = (searched asked model first).report;
+      first = found.first;
+      assignment = assigned model found.outcome.best;
+      report = found.outcome.report;
       is_first = e;
-      is_solution = is-solution model first (searched asked model first).best sound.valid sound.no_dearer;
+      is_solution = is-solution model found.first found.outcome.best sound.valid sound.no_dearer;
       is_in_limits = sound.in_limits;
       text_is = refl;
-      meets = printed_meets model well_formed (searched asked model first).best sound.valid (cost model first) sound.no_dearer (omega (arith, ints, bounds.greatest))
-          (searched asked model first).report limits.tries limits.some_solution limits.solutions;
+      meets = printed_meets model well_formed found.outcome.best sound.valid (cost model found.first) sound.no_dearer (omega (arith, ints, bounds.greatest))
+          found.outcome.report limits.tries limits.some_solution limits.solutions;
     }
+
+-- so is what is found from valid lists
+pub found-printed : (asked : Mode) (model : Model) (first : List (List ℕ)) → IsWellFormed model → IsTrue (is_valid model first) → (begins : List (List ℕ) → Type 0) → begins first
+    → PrintsBegun begins model (line_of_found model (found_from asked model first))
+found-printed asked model first well_formed valid begins e =
+    sound-printed model (found_from asked model first) well_formed valid (searched-sound asked model first well_formed valid) begins e
 
 -- a summary of these numbers
 abbrev pub summary_with : ℕ → ℤ → ℤ → ℕ → ℕ → ℕ → Summary

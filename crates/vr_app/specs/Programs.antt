@@ -6,7 +6,6 @@ use Rattle.vr_io.specs.Whole.{TookFront}
 use Rattle.vr_app.specs.Input.{max_input}
 use Rattle.vr_app.specs.Reply.{Replies, Reply}
 use Rattle.vr_app.specs.Runs.{IsStatusOfAnswer, WhereKnown}
-use Rattle.vr_app.specs.Status.{IsStatus}
 
 -- what a program replies to words and the bytes of an input, and whether the words have the input read
 pub record Program : Type 0 where
@@ -47,6 +46,11 @@ program_run words left_before left_after read_faults_before read_faults_after wr
       write_faults_after = write_faults_after;
       status = status;
     }
+
+-- a source or a sink, before a run and after it
+pub record Passed (A : Type 0) : Type 0 where
+  pub old : A
+  pub new : A
 
 -- the text was written, and is the only one
 abbrev pub Wrote : Run → List ℕ → Type 0
@@ -99,11 +103,3 @@ abbrev pub IsEmptiedBy : Program → Run → Type 0
 IsEmptiedBy program run = Reads program run → run.status ≢ 2 → run.status ≢ 7 → run.status ≢ 8
     → WhereKnown run.left_before (λ bytes. (run.status ≡ 3 → (program.reply run.words bytes).status ≢ 8)
     → run.left_after ≡ Some [])
-
--- the run gives a status; its text is that of the reply, whole where nothing failed, or memory was wanting; the sink,
--- that before and after it, takes nothing where the source failed or memory was wanting
-pub record IsRunBy {K : Type 0} (program : Program) (run : Run) (old new : K) : Type 0 where
-  pub status : IsStatus run.status
-  pub reply : IsReplyOf program run
-  pub complete : IsCompleteBy program run
-  pub unwritten : (run.status ≡ 2) ⊎ (run.status ≡ 7) → new ≡ old

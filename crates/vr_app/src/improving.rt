@@ -30,8 +30,8 @@ pub struct FirstSolution {
     pub cost: i64,
 }
 
-// How many tries and solutions a model allows.
-fn limit_of(closed: Closed<'_>) -> Limit
+/// How many tries and solutions a model allows.
+pub fn limit_of(closed: Closed<'_>) -> Limit
     ensures limit { result ≡ how.limit_of closed.entry.model.now }
     ensures tries { result.tries ≤ 1000000000 }
     ensures one_solution { 1 ≤ result.solutions }

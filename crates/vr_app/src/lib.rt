@@ -26,9 +26,10 @@
 //!
 //! `vr_cli` calls [`run`] with the words of its command line and the two standard streams. `vr_refine`, the second
 //! program, has words and a reply of its own. It takes from here what both have: the value of an input, the search of a
-//! mode with its line and reports ([`answer_from`]), the first solution, the answers that say a status, and how
-//! an answer is delivered. What is promised of a run of either is in `specs/Programs`. [`read_owned`],
-//! [`improve_judged`] and [`FirstSolution`] are public for a test of `vr_app_tests` alone.
+//! mode with its line and reports ([`answer_from`]), the first solution and the routes at which a construction ends,
+//! reports behind a line ([`done`]), the answers that say a status, and how an answer is delivered. What is promised of
+//! a run of either is in `specs/Programs`. [`read_owned`], [`improve_judged`] and [`FirstSolution`] are public for a
+//! test of `vr_app_tests` alone.
 //!
 //! The way from `main` to a tried move, with what each frame adds:
 //!
@@ -95,10 +96,11 @@ mod words;
 
 pub use answer::{Answer, broken, none_found, not_json, refused, too_long, usage};
 pub use best::Best;
-pub use first::first_routes;
-pub use improving::{FirstSolution, Watchers};
+pub use first::{built_routes, fill_up, first_routes};
+pub use improving::{FirstSolution, Watchers, limit_of};
 pub use input::{parse_owned, read_owned};
 pub use laws::{imported_trees_are_models, printed_meets};
+pub use logs::done;
 pub use reply::{Stop, deliver, run};
 pub use search::improve_judged;
 pub use solving::answer_from;

@@ -1,16 +1,11 @@
 -- What a run comes to whose watchers report so.
 use Rattle.std.specs.Prelude.{◌≡◌, ◌⊎◌, ℕ, List}
 use Rattle.vr_model.specs.declared.search.Event.{Event}
-use Rattle.vr_app.specs.Programs.{Run}
+use Rattle.vr_app.specs.Programs.{Passed, Run}
 use Rattle.vr_app.specs.Promises.{HasCause, HasFailed, IsChecking, IsComplete, IsEmptied, IsImporting, IsReply}
 use Rattle.vr_app.specs.Promises.{IsSolving}
 use Rattle.vr_app.specs.Runs.{ReadsNothing}
 use Rattle.vr_app.specs.Status.{IsStatus}
-
--- a source or a sink, before a run and after it
-pub record Passed (A : Type 0) : Type 0 where
-  pub old : A
-  pub new : A
 
 -- all that is promised of a run: its status and its text, what is given exactly when, whose failure gives 2 and 3, how
 -- far the source is read, and when source and sink are left as they are

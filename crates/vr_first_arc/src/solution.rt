@@ -48,6 +48,23 @@ fn filled_lists(alloc: Global, lookups: &Lookups<'_>) -> Result<Vec<Seq<u32>>, N
     Ok(lists)
 }
 
+/// The routes at which the construction ends, valid or not: they are open. A search that may begin with routes that
+/// lack something asks this one.
+///
+/// `NoMemory` where there was no memory.
+pub fn built_over(alloc: Global, lookups: &Lookups<'_>) -> Result<Routes, NoMemory>
+    ensures lists { IfOk result (λ routes. routes.lists ≡ path_cheapest_arc lookups.now.closed.model.now) }
+    ensures built { IfOk result (λ routes. AreBuilt lookups.now.closed.model.now routes.lists) }
+    ensures visits { IfOk result (λ routes. routes.visits ≡ visits lookups.now.closed.model.now) }
+{
+    let lists = filled_lists(alloc, lookups)?;
+    match Routes::from_lists(alloc, lookups.closed.model, &lists)? {
+        Some(routes) => Ok(routes),
+        // they are lists of the model, so there are such routes
+        None => unreachable!(),
+    }
+}
+
 /// The first solution of a model (`PATH_CHEAPEST_ARC` in OR-Tools): vehicle after vehicle, items are appended to its
 /// list as long as the lists stay open, each time the item of the least class, and of those the one to which the arc
 /// costs least, and of those the one of the least number.

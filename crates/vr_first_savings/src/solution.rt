@@ -52,6 +52,23 @@ fn are_valid(alloc: Global, lookups: &Lookups<'_>, routes: &Routes) -> Result<bo
     rules.valid(routes)
 }
 
+/// The routes at which the construction ends, valid or not. A search that may begin with routes that lack something
+/// asks this one.
+///
+/// `NoMemory` where there was no memory.
+pub fn built_over(alloc: Global, lookups: &Lookups<'_>) -> Result<Routes, NoMemory>
+    ensures savings { IfOk result (λ routes. routes.lists ≡ savings lookups.now.closed.model.now) }
+    ensures lists { IfOk result (λ routes. IsTrue (are_lists lookups.now.closed.model.now routes.lists)) }
+    ensures visits { IfOk result (λ routes. routes.visits ≡ visits lookups.now.closed.model.now) }
+{
+    let lists = lists_by_savings(alloc, lookups)?;
+    match Routes::from_lists(alloc, lookups.closed.model, &lists)? {
+        Some(routes) => Ok(routes),
+        // they are lists of the model, so there are such routes
+        None => unreachable!(),
+    }
+}
+
 /// The first solution of a model by savings (`SAVINGS` in OR-Tools, after Clarke and Wright): each item that may be a
 /// route of its own begins as one, and routes are joined where that saves most. Routes are built as if vehicle 0 drove
 /// each. A model that names this construction has vehicles that are alike; of another model it gives what it can.
@@ -64,11 +81,7 @@ pub fn first_over(alloc: Global, lookups: &Lookups<'_>) -> Result<Option<Routes>
     ensures visits { IfOk result (λ first.
         IfSome first (λ routes. routes.visits ≡ visits lookups.now.closed.model.now)) }
 {
-    let lists = lists_by_savings(alloc, lookups)?;
-    // they are lists of the model, so there are such routes
-    let Some(routes) = Routes::from_lists(alloc, lookups.closed.model, &lists)? else {
-        return Ok(None);
-    };
+    let routes = built_over(alloc, lookups)?;
     if are_valid(alloc, lookups, &routes)? {
         Ok(Some(routes))
     } else {

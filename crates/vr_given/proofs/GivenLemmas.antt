@@ -1,23 +1,25 @@
--- Inputs as they are read: their models are well formed, and their routes are lists of the model.
-use Rattle.std.proofs.Common.{◌≡◌, ◌∙◌, ℕ, true, false, ◌||◌, ◌==◌, List, [], ◌∷◌, ◌++◌, length, refl, sym, ap, subst, arith, append_assoc}
-use Rattle.std.specs.Prelude.{IsTrue, codes}
+-- Inputs as they are read: their models are well formed, their routes are lists of the model, and what is asked of a
+-- search may be asked.
+use Rattle.std.proofs.Common.{◌≡◌, ◌∙◌, ◌≤◌, ◌<◌, ◌^◌, ℕ, true, false, ◌||◌, ◌==◌, List, [], ◌∷◌, ◌++◌, length, refl, sym, ap, subst, arith, append_assoc}
+use Rattle.std.specs.Prelude.{ℤ, pos, negsuc, nat_abs, IsTrue, codes}
+use Rattle.std.proofs.lemmas.Int.{ints}
 use Rattle.std.specs.List.{list_all, concat}
 use Rattle.std.proofs.lemmas.List.{append-nil}
 use Rattle.std.proofs.lemmas.List.Folds.{concat-append, list_all-append, list_any-append}
 use Rattle.vr_json.specs.Reading.{array, required}
-use Rattle.vr_json.proofs.Readings.{EachEnsures, after, any_value, array_keeps, gives, maybe_ensures, refuse_if_ensures, required_ensures, weaker}
+use Rattle.vr_json.proofs.Readings.{EachEnsures, after, any_value, array_keeps, count_ensures, gives, maybe_ensures, optional_ensures, refuse_if_ensures, required_ensures, weaker, whole_ensures}
 use Rattle.vr_model.specs.deciding.Testing.{and_both, test_of_eq}
 use Rattle.vr_model.specs.routes.Routes.{are_lists, holds, is_active, is_distinct}
 use Rattle.vr_model.specs.tables.Tables.{is_visit}
-use Rattle.vr_model.specs.tables.WellFormed.{HasLength, IsWellFormed}
+use Rattle.vr_model.specs.tables.WellFormed.{HasLength, IsIn, IsWellFormed}
 use Rattle.vr_model.specs.declared.records.Model.{Model}
 use Rattle.vr_model.proofs.routes.Lists.{is_active-concat}
 use Rattle.vr_read.specs.Models.{read_model}
 use Rattle.vr_read.proofs.Distinct.{is_distinct_push}
 use Rattle.vr_read.proofs.WellFormedModels.{well_formed_from_read}
 use Rattle.vr_read.proofs.WellFormedVehicles.{visit_ensures}
-use Rattle.vr_given.specs.Givens.{given_at, given_routes, route_visit, route_visits}
-use Rattle.vr_given.specs.GivenLaws.{IsGiven}
+use Rattle.vr_given.specs.Givens.{given_at, given_routes, natural, route_visit, route_visits, wish}
+use Rattle.vr_given.specs.GivenLaws.{IsGiven, IsWish}
 
 concat-push : (routes : List (List ℕ)) (nodes : List ℕ) → concat (routes ++ nodes ∷ []) ≡ concat routes ++ nodes
 concat-push routes nodes = concat-append routes (nodes ∷ []) ∙ ap (λ xs. concat routes ++ xs) (append-nil nodes)
@@ -67,11 +69,36 @@ model_field_ensures =
     let read : EachEnsures IsWellFormed read_model = λ path d. record { of_value = λ model is. well_formed_from_read path d model is } in
     required_ensures (codes "model") read
 
+-- a whole number from 0 is at most the greatest
+as_natural : (most : ℕ) (z : ℤ) → IsIn (pos 0) (pos most) z → nat_abs z ≤ most
+as_natural most (pos n) h = omega (arith, ints, h.at_most)
+as_natural most (negsuc n) h = absurd (omega (arith, ints, h.at_least))
+
+natural_ensures : (most : ℕ) → EachEnsures (λ n. n ≤ most) (natural (pos most))
+unfolding natural
+natural_ensures most path d = after (whole_ensures (pos 0) (pos most) path d) λ z h. gives (as_natural most z h)
+
+seed_ensures : EachEnsures (λ n. n < 2 ^ 63) (natural (pos 9223372036854775807))
+seed_ensures path d = weaker (λ n h. omega (arith, h)) (natural_ensures 9223372036854775807 path d)
+
+heat_ensures : EachEnsures (λ n. n ≤ 2 ^ 40) (natural (pos 1099511627776))
+heat_ensures path d = weaker (λ n h. omega (arith, h)) (natural_ensures 1099511627776 path d)
+
+wish_ensures : EachEnsures IsWish wish
+unfolding wish
+wish_ensures path d =
+    after (optional_ensures (codes "seed") 0 (omega arith) seed_ensures path d) λ seed seed_ok.
+    after (optional_ensures (codes "removed") 10 (omega arith, omega arith) (count_ensures 1 100) path d) λ removed removed_ok.
+    after (optional_ensures (codes "string") 10 (omega arith, omega arith) (count_ensures 1 100) path d) λ longest longest_ok.
+    after (maybe_ensures (codes "heat") heat_ensures path d) λ heat heat_ok.
+    after any_value λ others _.
+    gives (record { seed = seed_ok; removed = removed_ok; string = longest_ok; heat = heat_ok })
+
 pub given_ensures : EachEnsures IsGiven given_at
 unfolding given_at
 given_ensures path d =
     after (model_field_ensures path d) λ model well.
     after (maybe_ensures (codes "routes") (given_routes_ensure model) path d) λ routes are.
-    after any_value λ wished _.
+    after (maybe_ensures (codes "refine") wish_ensures path d) λ wished wished_ok.
     after any_value λ others _.
-    gives (record { well_formed = well; are_routes = are })
+    gives (record { well_formed = well; are_routes = are; is_wish = wished_ok })

@@ -1,12 +1,12 @@
 -- What the status of a reply says of the input, and what its text says.
 use Rattle.std.proofs.Common.{◌≡◌, ◌∙◌, ◌≤◌, ◌↔◌, ℕ, true, List, Option, Some, None, Result, Ok, Err, refl, ap, sym, subst, arith, length}
-use Rattle.std.specs.Prelude.{IsSome, is_none}
+use Rattle.std.specs.Prelude.{[], IsSome, is_none, is_some}
 use Rattle.serde_json.specs.Data.{Data}
 use Rattle.vr_json.specs.Trees.{text_line}
 use Rattle.vr_json.specs.declared.fault.Fault.{Fault}
 use Rattle.vr_model.specs.declared.search.Event.{Event}
 use Rattle.vr_app.specs.Causes.{HasFault, IsNotJson, IsTooLong}
-use Rattle.vr_app.specs.Found.{found_from, found_with}
+use Rattle.vr_app.specs.Found.{Found}
 use Rattle.vr_app.specs.Input.{input_value, max_input}
 use Rattle.vr_app.specs.Reply.{Reply, not_json, reply_to_bytes, reply_to_found, reply_to_json, too_long}
 use Rattle.vr_app.specs.Texts.{refused_tree}
@@ -14,22 +14,24 @@ use Rattle.vr_app.specs.declared.words.Mode.{Mode}
 use Rattle.vr_app.specs.declared.words.Mode.TheVariants as mode
 use Rattle.vr_app.proofs.CauseLemmas.{Classifies, done-classifies, fault-classifies, of_input-classifies, undone-classifies}
 use Rattle.vr_app.proofs.InputLemmas.{of_input, reply-short}
-use Rattle.vr_app.proofs.SolutionLemmas.{found-printed}
-use Rattle.vr_given.specs.Begin.{begin_lists}
+use Rattle.vr_app.proofs.SolutionLemmas.{found-printed, sound-printed}
+use Rattle.vr_given.specs.Givens.{given_of}
 use Rattle.vr_given.specs.ListFaults.{fault_of_lists}
 use Rattle.vr_given.specs.declared.faults.ListFault.{ListFault}
 use Rattle.vr_given.specs.declared.given.Given.{Given}
-use Rattle.vr_given.proofs.BeginLemmas.{begin-valid, begun-given}
 use Rattle.vr_given.proofs.FaultLemmas.{faultless-valid}
-use Rattle.vr_refine.specs.Causes.{HasBegin, HasNoBegin, IsFaultedBy, IsFaulty, IsFoundBy, IsPriceable, IsPricedBy}
-use Rattle.vr_refine.specs.Inputs.{begun_of, priced_of}
+use Rattle.vr_given.proofs.GivenLemmas.{given_ensures}
+use Rattle.vr_refine.specs.Causes.{HasFound, HasFoundNone, IsFaultedBy, IsFaulty, IsFoundBy, IsPriceable, IsPricedBy}
+use Rattle.vr_refine.specs.Inputs.{priced_of}
 use Rattle.vr_refine.specs.Promises.{AsksPrice, IsAskedFor, ReadsInput}
 use Rattle.vr_refine.specs.Reply.{reply, reply_in, reply_to_given, reply_to_lists, reply_to_priced, reply_to_tree}
+use Rattle.vr_refine.specs.Wishes.{found_of, is_found_by, wish_in}
 use Rattle.vr_refine.specs.Words.{is_read, request_of}
 use Rattle.vr_refine.specs.declared.inputs.Priced.{Priced}
 use Rattle.vr_refine.specs.declared.words.Request.{Request}
 use Rattle.vr_refine.specs.declared.words.Request.TheVariants.{Find, Price}
-use Rattle.vr_refine.proofs.ReadLemmas.{IsSound, begun_ensures, priced_ensures}
+use Rattle.vr_refine.proofs.FoundLemmas.{is-found, sound-found}
+use Rattle.vr_refine.proofs.ReadLemmas.{IsSound, priced_ensures}
 
 -- ---- lists that are priced
 
@@ -112,52 +114,56 @@ module _ (reports : List Event → List ℕ) (bytes : List ℕ) where
 
 -- which inputs have this status, if a solution is asked for
 abbrev pub ClassifiesFound : Mode → List ℕ → ℕ → Type 0
-ClassifiesFound asked bytes status = Classifies (begun_of asked) 6 HasBegin HasNoBegin bytes status
+ClassifiesFound asked bytes status = Classifies given_of 6 (HasFound asked) (HasFoundNone asked) bytes status
 
 module _ (asked : Mode) (reports : List Event → List ℕ) (bytes : List ℕ) where
   -- a reply of status 0 has the text of a solution
   abbrev FoundWhere : Reply → Type 0
   FoundWhere answer = answer.status ≡ 0 → IsFoundBy asked reports bytes answer.text
 
+  -- whether something is found
+  has-found : (given : Given) (o : Option Found) → found_of asked given ≡ o → is_found_by given.model given.routes (wish_in asked given.wish) ≡ is_some o
+  has-found given o e = sym (is-found asked given.model given.routes (wish_in asked given.wish)) ∙ ap is_some e
+
   module _ (d : Data) (short : length bytes ≤ max_input) (some : input_value bytes ≡ Some d) where
-    found-classify : (given : Given) → begun_of asked d ≡ Ok given → (o : Option (List (List ℕ))) → begin_lists given.model given.routes ≡ o
-        → ClassifiesFound asked bytes (reply_to_found asked reports given.model (found_with asked given.model o)).status
+    found-classify : (given : Given) → given_of d ≡ Ok given → (o : Option Found) → found_of asked given ≡ o → ClassifiesFound asked bytes (reply_to_found asked reports given.model o).status
     found-classify given is None none =
-        undone-classifies (begun_of asked) 6 HasBegin HasNoBegin (omega arith) (λ e. absurd (omega arith)) bytes d short some given is none (λ h. let k = subst IsSome none h in absurd cc)
-    found-classify given is (Some lists) first =
-        done-classifies (begun_of asked) 6 HasBegin HasNoBegin (omega arith) (λ e. absurd (omega arith)) bytes d short some given is (subst IsSome (sym first) refl) (λ h. let k = sym first ∙ h in absurd cc)
+        undone-classifies given_of 6 (HasFound asked) (HasFoundNone asked) (omega arith) (λ e. absurd (omega arith)) bytes d short some given is (has-found given None none) (λ h. let k = sym (has-found given None none) ∙ h in absurd cc)
+    found-classify given is (Some found) e =
+        done-classifies given_of 6 (HasFound asked) (HasFoundNone asked) (omega arith) (λ e. absurd (omega arith)) bytes d short some given is (has-found given (Some found) e) (λ h. let k = sym (has-found given (Some found) e) ∙ h in absurd cc)
 
-    given-classify : (m : Result Given Fault) → begun_of asked d ≡ m → ClassifiesFound asked bytes (reply_to_given asked reports m).status
-    given-classify (Err fault) is = fault-classifies (begun_of asked) 6 HasBegin HasNoBegin (omega arith) (λ e. absurd (omega arith)) bytes d short some fault is
-    given-classify (Ok given) is = found-classify given is (begin_lists given.model given.routes) refl
+    given-classify : (m : Result Given Fault) → given_of d ≡ m → ClassifiesFound asked bytes (reply_to_given asked reports m).status
+    given-classify (Err fault) is = fault-classifies given_of 6 (HasFound asked) (HasFoundNone asked) (omega arith) (λ e. absurd (omega arith)) bytes d short some fault is
+    given-classify (Ok given) is = found-classify given is (found_of asked given) refl
 
-    found-found : (given : Given) → begun_of asked d ≡ Ok given → (o : Option (List (List ℕ))) → begin_lists given.model given.routes ≡ o
-        → FoundWhere (reply_to_found asked reports given.model (found_with asked given.model o))
+    found-found : (given : Given) → given_of d ≡ Ok given → (o : Option Found) → found_of asked given ≡ o → FoundWhere (reply_to_found asked reports given.model o)
     found-found given is None none zero = absurd (omega arith)
-    found-found given is (Some first) e zero =
-        let sound = (begun_ensures asked d).of_value given is in record {
+    found-found given is (Some found) e zero =
+        let read = (given_ensures [] d).of_value given is in
+        let sound = sound-found given.model read.well_formed given.routes read.are_routes asked (wish_in asked given.wish) found e in record {
           given = given;
-          found = found_from asked given.model first;
+          found = found;
           is_read = record { short = short; value = d; is_value = some; is_read = is };
-          is_found = ap (found_with asked given.model) e;
-          as_given = λ lists given_is valid. let k : Some first ≡ Some lists = sym e ∙ ap (begin_lists given.model) given_is ∙ (begun-given given.model lists valid).own in cc;
-          prints = found-printed asked given.model first sound.well_formed (begin-valid given.model given.routes first e) (λ first. begin_lists given.model given.routes ≡ Some first) e;
+          is_found = e;
+          is_sought = sound.is_sought;
+          as_given = sound.as_given;
+          prints = sound-printed given.model found read.well_formed sound.first_valid sound.sound (λ first. first ≡ found.first) refl;
           text_is = refl;
         }
 
-    given-found : (m : Result Given Fault) → begun_of asked d ≡ m → FoundWhere (reply_to_given asked reports m)
+    given-found : (m : Result Given Fault) → given_of d ≡ m → FoundWhere (reply_to_given asked reports m)
     given-found (Err fault) is zero = absurd (omega arith)
-    given-found (Ok given) is zero = found-found given is (begin_lists given.model given.routes) refl zero
+    given-found (Ok given) is zero = found-found given is (found_of asked given) refl zero
 
   find-classifies : ClassifiesFound asked bytes (reply_to_bytes (reply_to_tree (Find asked) reports) bytes).status
-  find-classifies = of_input-classifies (begun_of asked) 6 HasBegin HasNoBegin (omega arith) (λ e. absurd (omega arith)) bytes (reply_to_tree (Find asked) reports)
-      (λ d short some. given-classify d short some (begun_of asked d) refl)
+  find-classifies = of_input-classifies given_of 6 (HasFound asked) (HasFoundNone asked) (omega arith) (λ e. absurd (omega arith)) bytes (reply_to_tree (Find asked) reports)
+      (λ d short some. given-classify d short some (given_of d) refl)
 
   find-found : FoundWhere (reply_to_bytes (reply_to_tree (Find asked) reports) bytes)
   find-found = of_input (reply_to_tree (Find asked) reports) bytes FoundWhere (λ long zero. absurd (omega arith)) (λ short none zero. absurd (omega arith))
-      (λ d short some. given-found d short some (begun_of asked d) refl)
+      (λ d short some. given-found d short some (given_of d) refl)
 
-  find-refused : (fault : Fault) → HasFault (begun_of asked) bytes fault → (reply_to_bytes (reply_to_tree (Find asked) reports) bytes).text ≡ text_line (refused_tree fault)
+  find-refused : (fault : Fault) → HasFault given_of bytes fault → (reply_to_bytes (reply_to_tree (Find asked) reports) bytes).text ≡ text_line (refused_tree fault)
   find-refused fault r =
       ap (λ answer. answer.text) (reply-short (reply_to_tree (Find asked) reports) bytes r.short ∙ ap (reply_to_json (reply_to_tree (Find asked) reports)) r.is_value ∙ ap (reply_to_given asked reports) r.is_fault)
 
@@ -182,7 +188,7 @@ module _ (reports : List Event → List ℕ) (words : List (List ℕ)) (bytes : 
     pub asked-found : (reply reports words bytes).status ≡ 0 → IsFoundBy asked reports bytes (reply reports words bytes).text
     asked-found = let P : Option Request → Type 0 = λ o. FoundWhere asked reports bytes (reply_in reports o bytes) in subst P (sym asks) (find-found asked reports bytes)
 
-    pub asked-refused : (fault : Fault) → HasFault (begun_of asked) bytes fault → (reply reports words bytes).text ≡ text_line (refused_tree fault)
+    pub asked-refused : (fault : Fault) → HasFault given_of bytes fault → (reply reports words bytes).text ≡ text_line (refused_tree fault)
     asked-refused fault r = ap (λ o. (reply_in reports o bytes).text) asks ∙ find-refused asked reports bytes fault r
 
 -- which inputs are too long or no JSON, whatever accepted words ask of them

@@ -1,15 +1,13 @@
--- What each word reads has a well-formed model, and lists of it.
+-- What is priced has a well-formed model, and lists of it.
 use Rattle.std.proofs.Common.{ℕ, List, [], Option, Some, None}
 use Rattle.std.specs.Prelude.{IsTrue}
 use Rattle.serde_json.specs.Data.{Data}
-use Rattle.vr_json.proofs.Readings.{Ensures, after, any_value, fails, gives}
+use Rattle.vr_json.proofs.Readings.{Ensures, after, fails, gives}
 use Rattle.vr_model.specs.routes.Routes.{are_lists}
 use Rattle.vr_model.specs.tables.WellFormed.{IsWellFormed, WherePresent}
 use Rattle.vr_model.specs.declared.records.Model.{Model}
-use Rattle.vr_app.specs.declared.words.Mode.{Mode}
-use Rattle.vr_given.specs.GivenLaws.{IsGiven}
 use Rattle.vr_given.proofs.GivenLemmas.{given_ensures}
-use Rattle.vr_refine.specs.Inputs.{begun_of, priced_from, priced_of}
+use Rattle.vr_refine.specs.Inputs.{priced_from, priced_of}
 use Rattle.vr_refine.specs.declared.inputs.Priced.{Priced}
 
 -- the model is well formed, and the lists are lists of it
@@ -24,10 +22,3 @@ of_routes path model well (Some lists) are = gives (record { well_formed = well;
 pub priced_ensures : (d : Data) → Ensures IsSound (priced_of d)
 unfolding priced_of
 priced_ensures d = after (given_ensures [] d) λ given sound. of_routes [] given.model sound.well_formed given.routes sound.are_routes
-
-pub begun_ensures : (asked : Mode) (d : Data) → Ensures IsGiven (begun_of asked d)
-unfolding begun_of
-begun_ensures asked d =
-    after (given_ensures [] d) λ given sound.
-    after any_value λ unwished _.
-    gives sound

@@ -11,7 +11,8 @@ use Rattle.vr_app.specs.declared.words.Mode.{Mode}
 use Rattle.vr_app.proofs.EndLemmas.{not_met_only, replies, settled_0, settled_5, settled_9, settled_by, unread}
 use Rattle.vr_refine.specs.Causes.{IsFaultedBy, IsFoundBy, IsPricedBy}
 use Rattle.vr_refine.specs.Ended.{Ran}
-use Rattle.vr_refine.specs.Inputs.{begun_of, priced_of}
+use Rattle.vr_given.specs.Givens.{given_of}
+use Rattle.vr_refine.specs.Inputs.{priced_of}
 use Rattle.vr_refine.specs.Promises.{AsksPrice, IsAskedFor, IsNotAccepted, ReadsInput}
 use Rattle.vr_refine.specs.Reply.{reply, reply_in}
 use Rattle.vr_refine.specs.Words.{is_read}
@@ -48,7 +49,7 @@ module _ {K : Type 0} {written : K → Option (List ℕ)} {faults : K → ℕ} {
       let r = replies ran.by (settled_by settled_0 e) bytes known in
       ((reply reports words bytes).text, asked-found reports words bytes asked asks (sym r.status ∙ e), r.written)
 
-  pub search_refusal : status ≡ 5 → (asked : Mode) → IsAskedFor asked words → WhereKnown left_before (λ bytes. (fault : Fault) → HasFault (begun_of asked) bytes fault → Took (written old) (written new) (text_line (refused_tree fault)))
+  pub search_refusal : status ≡ 5 → (asked : Mode) → IsAskedFor asked words → WhereKnown left_before (λ bytes. (fault : Fault) → HasFault given_of bytes fault → Took (written old) (written new) (text_line (refused_tree fault)))
   search_refusal e asked asks bytes known fault has = subst (Took (written old) (written new)) (asked-refused reports words bytes asked asks fault has) (replies ran.by (settled_by settled_5 e) bytes known).written
 
   -- of words that are not accepted

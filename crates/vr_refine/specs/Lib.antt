@@ -1,5 +1,6 @@
 pub mod Words
 pub mod Inputs
+pub mod Wishes
 pub mod Reply
 pub mod Causes
 pub mod Promises

@@ -9,8 +9,9 @@ use Rattle.vr_app.specs.Programs.{HasFailedOf, IsCompleteBy, IsEmptiedBy, IsRepl
 use Rattle.vr_app.specs.Runs.{IsStatusOfAnswer, WhereKnown, WhereSettled}
 use Rattle.vr_app.specs.Texts.{refused_tree}
 use Rattle.vr_app.specs.declared.words.Mode.{Mode}
-use Rattle.vr_refine.specs.Causes.{Begins, BeginsNowhere, HasFaulty, HasValid, IsFaultedBy, IsFoundBy, IsPricedBy}
-use Rattle.vr_refine.specs.Inputs.{begun_of, priced_of}
+use Rattle.vr_given.specs.Givens.{given_of}
+use Rattle.vr_refine.specs.Causes.{Finds, FindsNone, HasFaulty, HasValid, IsFaultedBy, IsFoundBy, IsPricedBy}
+use Rattle.vr_refine.specs.Inputs.{priced_of}
 use Rattle.vr_refine.specs.Reply.{program_of}
 use Rattle.vr_refine.specs.Words.{is_read, request_of}
 use Rattle.vr_refine.specs.declared.words.Request.TheVariants.{Find, Price}
@@ -48,21 +49,21 @@ pub record IsPricing (run : Run) : Type 0 where
   pub refusal : run.status ≡ 5 → AsksPrice run.words → WhereKnown run.left_before (λ bytes.
       (fault : Fault) → HasFault priced_of bytes fault → Wrote run (text_line (refused_tree fault)))
 
--- Of words that ask for a solution, 0 comes exactly if there are lists to begin with, 6 exactly if there are none. What
--- is written is a solution, which meets a check: valid lists with their chosen schedules and their cost, no dearer than
--- the lists that the search began with; with `--log` the watchers' reports follow. 5 comes exactly if the input is
--- refused; the text says code and path.
+-- Of words that ask for a solution, 0 comes exactly if one is found, 6 exactly if none is: there are no lists to begin
+-- with, or the best ones of ruin and recreate lack something. What is written is a solution, which meets a check: valid
+-- lists with their chosen schedules and their cost, no dearer than the lists of the first cost; with `--log` the
+-- watchers' reports follow. 5 comes exactly if the input is refused; the text says code and path.
 pub record IsSearching (reports : List Event → List ℕ) (run : Run) : Type 0 where
   pub done : (asked : Mode) → WhereSettled (IsAskedFor asked run.words) run.left_before run.status
-      (λ bytes. (run.status ≡ 0) ↔ Begins asked bytes)
+      (λ bytes. (run.status ≡ 0) ↔ Finds asked bytes)
   pub solution : run.status ≡ 0 → (asked : Mode) → IsAskedFor asked run.words → WhereKnown run.left_before (λ bytes.
       (text : List ℕ) × IsFoundBy asked reports bytes text × Wrote run text)
   pub none_found : (asked : Mode) → WhereSettled (IsAskedFor asked run.words) run.left_before run.status
-      (λ bytes. (run.status ≡ 6) ↔ BeginsNowhere asked bytes)
+      (λ bytes. (run.status ≡ 6) ↔ FindsNone asked bytes)
   pub refused : (asked : Mode) → WhereSettled (IsAskedFor asked run.words) run.left_before run.status
-      (λ bytes. (run.status ≡ 5) ↔ IsRefusedInput (begun_of asked) bytes)
+      (λ bytes. (run.status ≡ 5) ↔ IsRefusedInput given_of bytes)
   pub refusal : run.status ≡ 5 → (asked : Mode) → IsAskedFor asked run.words → WhereKnown run.left_before (λ bytes.
-      (fault : Fault) → HasFault (begun_of asked) bytes fault → Wrote run (text_line (refused_tree fault)))
+      (fault : Fault) → HasFault given_of bytes fault → Wrote run (text_line (refused_tree fault)))
 
 -- Of accepted words, 8 comes exactly if the input is too long, and 4 exactly if it is no JSON. 1 comes exactly if the
 -- words are not accepted.

@@ -5,17 +5,18 @@ use Rattle.vr_json.specs.declared.fault.Fault.{Fault}
 use Rattle.vr_model.specs.declared.records.Model.{Model}
 use Rattle.vr_model.specs.declared.search.Event.{Event}
 use Rattle.vr_watch.specs.Reports.{tallied, traced}
-use Rattle.vr_app.specs.Found.{Found, found_from, found_with, line_of_found}
+use Rattle.vr_app.specs.Found.{found_from, line_of_found}
 use Rattle.vr_app.specs.Programs.{Program}
 use Rattle.vr_app.specs.Reply.{Reply, breaks, done, refused, reply_to_bytes, reply_to_found, usage}
 use Rattle.vr_app.specs.Reports.{joined_reports}
 use Rattle.vr_app.specs.declared.words.Mode.{Mode}
 use Rattle.vr_app.specs.declared.words.Mode.TheVariants as mode
-use Rattle.vr_given.specs.Begin.{begin_lists}
+use Rattle.vr_given.specs.Givens.{given_of}
 use Rattle.vr_given.specs.ListFaults.{fault_of_lists, list_rule_word}
 use Rattle.vr_given.specs.declared.faults.ListFault.{ListFault}
 use Rattle.vr_given.specs.declared.given.Given.{Given}
-use Rattle.vr_refine.specs.Inputs.{begun_of, priced_of}
+use Rattle.vr_refine.specs.Inputs.{priced_of}
+use Rattle.vr_refine.specs.Wishes.{found_of}
 use Rattle.vr_refine.specs.Words.{is_read, request_of}
 use Rattle.vr_refine.specs.declared.inputs.Priced.{Priced}
 use Rattle.vr_refine.specs.declared.words.Request.{Request}
@@ -32,10 +33,6 @@ abbrev pub reply_to_priced : Result Priced Fault → Reply
 reply_to_priced (Err fault) = refused fault
 reply_to_priced (Ok it) = reply_to_lists it.model it.lists (fault_of_lists it.model it.lists)
 
--- what a mode finds from what is given; none exactly if there is no beginning
-abbrev pub found_of : Mode → Given → Option Found
-found_of asked given = found_with asked given.model (begin_lists given.model given.routes)
-
 -- the reply to what is found, or to the first fault; `reports` is what the watchers report after events
 abbrev pub reply_to_given : Mode → (List Event → List ℕ) → Result Given Fault → Reply
 reply_to_given asked reports (Err fault) = refused fault
@@ -44,7 +41,7 @@ reply_to_given asked reports (Ok given) = reply_to_found asked reports given.mod
 -- the reply to a tree
 abbrev pub reply_to_tree : Request → (List Event → List ℕ) → Data → Reply
 reply_to_tree Price reports d = reply_to_priced (priced_of d)
-reply_to_tree (Find asked) reports d = reply_to_given asked reports (begun_of asked d)
+reply_to_tree (Find asked) reports d = reply_to_given asked reports (given_of d)
 
 -- the reply to a request, or to words that are not accepted
 abbrev pub reply_in : (List Event → List ℕ) → Option Request → List ℕ → Reply

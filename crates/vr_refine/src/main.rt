@@ -1,10 +1,11 @@
-//! The second program: it prices routes that a planner gives, fills them up, and goes on from them by the search that
-//! their model names.
+//! The second program: it prices routes that a planner gives, fills them up, and goes on from them, by the search that
+//! their model names or by ruin and recreate.
 //!
-//! An input is an object with a model, and beside it the routes of its vehicles, if there are any (`vr_given`). Three
-//! words ask something of it. `price` says what the routes cost as they are, or the first rule that they break. `first`
-//! says with which routes a search begins: given valid ones as they are, given open ones filled up by parallel cheapest
-//! insertion, and without any the first solution. `solve` says the best routes that the search finds from there.
+//! An input is an object with a model, and beside it the routes of its vehicles and what is asked of ruin and recreate,
+//! if they are there (`vr_given`). Three words ask something of it. `price` says what the routes cost as they are, or
+//! the first rule that they break. `first` says with which routes the model's own search begins: given valid ones as
+//! they are, given open ones filled up by parallel cheapest insertion, and without any the first solution. `solve` says
+//! the best routes that a search finds from there: ruin and recreate, if it is asked for, else the model's own.
 //!
 //! What is replied to words and bytes is defined in `specs/Reply`, and `reply::run` gives it. Whatever may be said of
 //! runs of both programs is said in `vr_app` (`specs/Programs`); what is said of this one alone is in `specs/Promises`.
@@ -12,13 +13,15 @@
 //!
 //! The way down: `main` has the words and the two standard streams, and `run_watched` the watchers. `reply` reads the
 //! source and writes to the sink; `answers` has the answer to a value, by `pricing` or from where a search begins
-//! (`begin`); `inputs` is what each word reads. It ends with the statuses of `vr_cli`.
+//! (`begin`), which is the model's own or that of `refining`; `inputs` is what each word reads. It ends with the
+//! statuses of `vr_cli`.
 #![tactic(auto)]
 
 mod answers;
 mod begin;
 mod inputs;
 mod pricing;
+mod refining;
 mod reply;
 #[cfg(test)]
 mod tests;
@@ -59,13 +62,20 @@ fn main(rt: HostRuntime) -> ExitCode {
     };
     let mut source = StdSource::new(rt.stdin());
     let mut sink = StdSink::new(rt.stdout());
-    match run_watched(alloc, &words, &mut source, &mut sink) {
-        Ok(status) => ExitCode::from(status),
-        Err(_) => ExitCode::from(NO_MEMORY),
-    }
+    let ran = run_watched(alloc, &words, &mut source, &mut sink);
+    ExitCode::from(status_of(ran))
 }
 
-// Runs with some watchers: what is written is the reply of the definition, with their reports.
+// The status with which the program ends: that of the run, or that there was no memory for its watchers.
+fn status_of(ran: Result<u8, AllocError>) -> u8
+    ensures given { IfOk ran (λ status. result ≡ status) }
+    ensures no_memory { OnErr ran (result ≡ 7) }
+{
+    ran.unwrap_or(NO_MEMORY)
+}
+
+// Runs with some watchers, and hands on all that `run` promises: what is written is the reply of the definition, with
+// their reports.
 fn run_with<S: Source, K: Sink>(
     alloc: Global,
     words: &[String],
@@ -76,7 +86,8 @@ fn run_with<S: Source, K: Sink>(
     ensures { let reports = joined_reports (λ w later. after w later) watch.items in
         IsLogged reports (program_run (bytes_of words.now)
         (S.left source.old) (S.left source.new) (S.faults source.old) (S.faults source.new)
-        (K.written sink.old) (K.written sink.new) (K.faults sink.old) (K.faults sink.new) result) sink.old sink.new }
+        (K.written sink.old) (K.written sink.new) (K.faults sink.old) (K.faults sink.new) result)
+        (record { old = source.old; new = source.new }) (record { old = sink.old; new = sink.new }) }
 {
     run(alloc, words, source, sink, watch)
 }
@@ -91,7 +102,8 @@ fn run_watched<S: Source, K: Sink>(
 ) -> Result<u8, AllocError>
     ensures logged { IfOk result (λ given. IsLogged log_of (program_run (bytes_of words.now)
         (S.left source.old) (S.left source.new) (S.faults source.old) (S.faults source.new)
-        (K.written sink.old) (K.written sink.new) (K.faults sink.old) (K.faults sink.new) given) sink.old sink.new) }
+        (K.written sink.old) (K.written sink.new) (K.faults sink.old) (K.faults sink.new) given)
+        (record { old = source.old; new = source.new }) (record { old = sink.old; new = sink.new })) }
     ensures unread { OnErr result (source.new ≡ source.old) }
     ensures unwritten { OnErr result (sink.new ≡ sink.old) }
 {

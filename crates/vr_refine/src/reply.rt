@@ -99,14 +99,17 @@ fn run_lent<S: Source, K: Sink>(
 /// | words | reads | writes on status 0 |
 /// |---|---|---|
 /// | `price` | a model and routes | the line of these routes as they are |
-/// | `first` | a model, and routes or none | the line of the routes with which a search begins |
-/// | `solve` | the same | the line of the best routes that the model's search finds from there |
+/// | `first` | a model, and routes or none | the line of the routes with which the model's search begins |
+/// | `solve` | the same | the line of the best routes that a search finds from there |
 /// | `solve --log` | the same | the same, and behind it what each watcher reports of the search, in order |
 ///
 /// What is read is an object with the field `model`, and beside it `routes` and `refine`, if they are there
 /// (`vr_given::read_given`). A search begins with given valid routes as they are; with given open routes filled up by
-/// parallel cheapest insertion, if that makes them valid; and without any with the first solution. `price` and `first`
-/// read `refine` and do not use it. The search that it speaks of is not there yet, so `solve` refuses it.
+/// parallel cheapest insertion, if that makes them valid; and without any with the first solution.
+///
+/// With `refine`, `solve` searches by ruin and recreate in place of the search that the model names. Such a search may
+/// begin with routes that lack something: those that insertion fills up need not be valid then, and without any it
+/// begins where the model's construction ends. `price` and `first` read `refine` and do not use it.
 ///
 /// | status | comes | written |
 /// |---|---|---|
@@ -116,15 +119,16 @@ fn run_lent<S: Source, K: Sink>(
 /// | 3 | only if the sink failed in this call; it comes in place of the status of the text | a front of the text |
 /// | 4 | exactly if the input is no JSON | `{"status":"NOT_JSON"}` |
 /// | 5 | exactly if reading finds a fault | `{"code":C,"path":"P","status":"ROUTING_INVALID"}` |
-/// | 6 | of `first` and `solve`, exactly if there are no routes to begin with | `{"status":"ROUTING_FAIL"}` |
+/// | 6 | of `first` and `solve`, exactly if nothing is found | `{"status":"ROUTING_FAIL"}` |
 /// | 7 | want of memory; nothing in the contract ties it to a refused growth | nothing |
 /// | 8 | exactly if the input has more than 67108864 bytes | `{"status":"TOO_LONG"}` |
 /// | 9 | `price`: exactly if a rule is broken | `{"place":L,"rule":"R","status":"NOT_MET","vehicle":V}` |
 ///
-/// With 5, C is the code and P the path of the first fault of reading; that `price` finds no routes, or `solve` a wish,
-/// comes after all other faults. With 9, R is the first rule (`vr_given::ListRule`) that is broken, with its vehicle V
-/// and place L, -1 where one does not apply. Of routes that are priced, both the cost and the first cost are theirs; of
-/// routes that are found, the first cost is that of the routes with which the search began.
+/// With 5, C is the code and P the path of the first fault of reading; that `price` finds no routes comes after all
+/// other faults. With 6 there are no routes to begin with, or the best routes of ruin and recreate lack something. With
+/// 9, R is the first rule (`vr_given::ListRule`) that is broken, with its vehicle V and place L, -1 where one does not
+/// apply. Of routes that are priced, both the cost and the first cost are theirs; of routes that are found, the first
+/// cost is that of the routes with which the search began, or of the first ones that it had which lack nothing.
 ///
 /// Only with `--log` is an event of the search noted, to every watcher in order; a watcher that finds no memory for it
 /// ends the run with status 7. All watchers are dropped at the end.

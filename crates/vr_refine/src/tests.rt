@@ -40,12 +40,20 @@ const CLOSED: &str =
     "{\"model\":{\"format\":1,\"nodes\":3,\"matrices\":[[[0,1,2],[1,0,9],[9,1,0]]],\
     \"vehicles\":[{\"start\":0,\"end\":0}],\"pairs\":[{\"pickup\":1,\"delivery\":2}]},\"routes\":[[2,1]]}";
 
+// What ruin and recreate is asked, with one step: all visits are taken out and put back the other way round.
 const WISHED: &str =
     "{\"model\":{\"format\":1,\"nodes\":3,\"matrices\":[[[0,1,2],[1,0,9],[9,1,0]]],\
-    \"vehicles\":[{\"start\":0,\"end\":0}]},\"refine\":{\"seed\":7}}";
+    \"vehicles\":[{\"start\":0,\"end\":0}],\"search\":{\"tries\":1}},\"refine\":{}}";
+
+// Two loads of 2 and two of 3 for two vans of 5: the construction puts the first two together.
+const LACKING: &str =
+    "{\"model\":{\"format\":1,\"nodes\":5,\"matrices\":[[[0,1,2,3,4],[1,0,1,2,3],[2,1,0,1,2],[3,2,1,0,1],[4,3,2,1,0]]],\
+    \"vehicles\":[{\"start\":0,\"end\":0},{\"start\":0,\"end\":0}],\"search\":{\"tries\":0},\
+    \"dimensions\":[{\"name\":\"load\",\"evaluators\":[{\"values\":[0,2,2,3,3]}],\"slack_max\":0,\"capacity\":5,\
+    \"fix_start\":true}]},\"refine\":{}}";
 
 #[rattlefmt::skip]
-static ROWS: [Row<'static>; 15] = [
+static ROWS: [Row<'static>; 18] = [
     Row { words: "price", input: ROUND, stops: None, status: 0, text: PRICED },
     Row { words: "price", input: OPEN, stops: None, status: 9, text: MISSING },
     Row { words: "price", input: CLOSED, stops: None, status: 9, text: "{\"place\":0,\"rule\":\"pair\"," },
@@ -56,7 +64,10 @@ static ROWS: [Row<'static>; 15] = [
     Row { words: "first", input: WISHED, stops: None, status: 0, text: "{\"cost\":19," },
     Row { words: "solve", input: ROUND, stops: None, status: 0, text: "{\"cost\":4,\"dropped\":[],\"first_cost\":19," },
     Row { words: "solve --log", input: ROUND, stops: None, status: 0, text: "{\"cost\":4," },
-    Row { words: "solve", input: WISHED, stops: None, status: 5, text: "{\"code\":13,\"path\":\"/refine\"," },
+    Row { words: "solve", input: WISHED, stops: None, status: 0, text: "{\"cost\":4,\"dropped\":[],\"first_cost\":1" },
+    Row { words: "solve --log", input: WISHED, stops: None, status: 0, text: "{\"cost\":4," },
+    Row { words: "solve --log", input: WISHED, stops: Some(1), status: 7, text: "" },
+    Row { words: "solve", input: LACKING, stops: None, status: 6, text: "{\"status\":\"ROUTING_FAIL\"}\n" },
     Row { words: "solve --log", input: ROUND, stops: Some(1), status: 7, text: "" },
     Row { words: "check", input: "", stops: None, status: 1, text: "{\"status\":\"USAGE\"}\n" },
     Row { words: "first", input: "[", stops: None, status: 4, text: "{\"status\":\"NOT_JSON\"}\n" },

@@ -5,4 +5,15 @@ pub returns : goal.returns
 unfolding IsLogged
 returns g c =
     let e = c.run.ensures in
-    record { status = e.status; reply = e.reply; complete = e.complete; unwritten = e.unwritten }
+    record {
+      status = e.status;
+      reply = e.reply;
+      complete = e.complete;
+      pricing = e.pricing;
+      searching = e.searching;
+      cause = e.cause;
+      failed = e.failed;
+      unwritten = e.unwritten;
+      emptied = e.emptied;
+      untouched = e.untouched;
+    }

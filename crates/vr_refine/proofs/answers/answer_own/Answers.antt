@@ -7,7 +7,7 @@ use Rattle.vr_app.specs.Reports.{joined_reports}
 use Rattle.vr_app.proofs.SolutionLemmas.{valid_in}
 use Rattle.vr_given.specs.Begin.{begin_lists}
 use Rattle.vr_given.proofs.BeginLemmas.{begin-valid}
-use Rattle.vr_refine.proofs.answers.answer_over.Goals as goal
+use Rattle.vr_refine.proofs.answers.answer_own.Goals as goal
 
 pub answer_from-requires-clause-valid : goal.answer_from-requires-clause-valid
 answer_from-requires-clause-valid g c =
