@@ -108,7 +108,7 @@ module _ (model : Model) (v : ℕ) where
   next_unplaced : (lists : List (List ℕ)) (item : List ℕ) → next_appended model lists v ≡ Some item → In (unplaced model lists) item
   next_unplaced lists item e =
       let first : IsFirstLeast (append_key model lists v) (open_ones lists) item =
-          subst (λ o. MatchOption o (open_ones lists ≡ []) (IsFirstLeast (append_key model lists v) (open_ones lists))) e (least_first (append_key model lists v) (open_ones lists)) in
+      subst (λ o. MatchOption o (open_ones lists ≡ []) (IsFirstLeast (append_key model lists v) (open_ones lists))) e (least_first (append_key model lists v) (open_ones lists)) in
       let there = of_contains (open_ones lists) item (first.place, first.in_list, first.stands_there item) in
       (of_filter (λ item. is_open model (appended lists v item)) (unplaced model lists) item there).0
 

@@ -124,7 +124,7 @@ module _ (model : Model) where
   next_steps : (lists : List (List ℕ)) (insertion : Insertion) → next_inserted model lists ≡ Some insertion → Steps lists insertion
   next_steps lists insertion e =
       let first : IsFirstLeast (insertion_key model lists) (open_ones lists) insertion =
-          subst (λ o. MatchOption o (open_ones lists ≡ []) (IsFirstLeast (insertion_key model lists) (open_ones lists))) e (least_first (insertion_key model lists) (open_ones lists)) in
+      subst (λ o. MatchOption o (open_ones lists ≡ []) (IsFirstLeast (insertion_key model lists) (open_ones lists))) e (least_first (insertion_key model lists) (open_ones lists)) in
       let there = of_contains (open_ones lists) insertion (first.place, first.in_list, first.stands_there insertion) in
       steps lists insertion (of_filter (λ insertion. is_open model (inserted lists insertion)) (insertions model lists) insertion there).0
 

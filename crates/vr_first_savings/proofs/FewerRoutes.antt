@@ -88,10 +88,10 @@ module _ (model : Model) where
   one_route_less : (routes : List (List ℕ)) (join : Join) → IsJoin routes join → length (after_join routes join) < length routes
   one_route_less routes join is =
       let less = two_less (λ list. not (is_part_of join list)) (λ list. first_node list == first_node join.front) routes join.front join.back is.front_there is.back_there
-          (ap (λ b. not (b || (first_node join.front == first_node join.back))) (eq-eqb (first_node join.front) (first_node join.front) refl))
-          (ap (λ b. not ((first_node join.back == first_node join.front) || b)) (eq-eqb (first_node join.back) (first_node join.back) refl) ∙ ap not (or-true (first_node join.back == first_node join.front)))
-          (eq-eqb (first_node join.front) (first_node join.front) refl)
-          (eq_turned (first_node join.back) (first_node join.front) ∙ is.apart) in
+      (ap (λ b. not (b || (first_node join.front == first_node join.back))) (eq-eqb (first_node join.front) (first_node join.front) refl))
+      (ap (λ b. not ((first_node join.back == first_node join.front) || b)) (eq-eqb (first_node join.back) (first_node join.back) refl) ∙ ap not (or-true (first_node join.back == first_node join.front)))
+      (eq-eqb (first_node join.front) (first_node join.front) refl)
+      (eq_turned (first_node join.back) (first_node join.front) ∙ is.apart) in
       omega (arith, less)
 
   -- ---- the next join
@@ -102,7 +102,7 @@ module _ (model : Model) where
   next_joins : (routes : List (List ℕ)) (join : Join) → next routes ≡ Some join → IsJoin routes join
   next_joins routes join e =
       let first : IsFirstLeast (join_key model) (joins model routes) join =
-          subst (λ o. MatchOption o (joins model routes ≡ []) (IsFirstLeast (join_key model) (joins model routes))) e (least_first (join_key model) (joins model routes)) in
+      subst (λ o. MatchOption o (joins model routes ≡ []) (IsFirstLeast (join_key model) (joins model routes))) e (least_first (join_key model) (joins model routes)) in
       of_joins routes join (of_contains (joins model routes) join (first.place, first.in_list, first.stands_there join))
 
   ends : (more : ℕ) (routes : List (List ℕ)) → length routes ≤ more → IsMerged model (merged model more routes)
