@@ -43,8 +43,17 @@ settled_0 = record { is_read = λ e. absurd (omega arith); is_written = λ e. ab
 pub settled_1 : IsStatusOfAnswer 1
 settled_1 = record { is_read = λ e. absurd (omega arith); is_written = λ e. absurd (omega arith); has_memory = λ e. absurd (omega arith) }
 
+pub settled_4 : IsStatusOfAnswer 4
+settled_4 = record { is_read = λ e. absurd (omega arith); is_written = λ e. absurd (omega arith); has_memory = λ e. absurd (omega arith) }
+
 pub settled_5 : IsStatusOfAnswer 5
 settled_5 = record { is_read = λ e. absurd (omega arith); is_written = λ e. absurd (omega arith); has_memory = λ e. absurd (omega arith) }
+
+pub settled_6 : IsStatusOfAnswer 6
+settled_6 = record { is_read = λ e. absurd (omega arith); is_written = λ e. absurd (omega arith); has_memory = λ e. absurd (omega arith) }
+
+pub settled_8 : IsStatusOfAnswer 8
+settled_8 = record { is_read = λ e. absurd (omega arith); is_written = λ e. absurd (omega arith); has_memory = λ e. absurd (omega arith) }
 
 pub settled_9 : IsStatusOfAnswer 9
 settled_9 = record { is_read = λ e. absurd (omega arith); is_written = λ e. absurd (omega arith); has_memory = λ e. absurd (omega arith) }
@@ -55,18 +64,18 @@ settled_by is e = subst IsStatusOfAnswer (sym e) is
 -- an answer has none of the statuses of failures
 answer-settles : (status : Status) → IsOfAnswer status → IsStatusOfAnswer (status_number status)
 answer-settles status (inl e) = settled_by settled_1 (ap status_number e)
-answer-settles status (inr (inr e)) = record { is_read = λ k. absurd (omega (arith, k, ap status_number e)); is_written = λ k. absurd (omega (arith, k, ap status_number e)); has_memory = λ k. absurd (omega (arith, k, ap status_number e)) }
+answer-settles status (inr (inr e)) = settled_by settled_8 (ap status_number e)
 answer-settles status (inr (inl (inl (inl (inl e))))) = settled_by settled_0 (ap status_number e)
-answer-settles status (inr (inl (inl (inl (inr e))))) = record { is_read = λ k. absurd (omega (arith, k, ap status_number e)); is_written = λ k. absurd (omega (arith, k, ap status_number e)); has_memory = λ k. absurd (omega (arith, k, ap status_number e)) }
+answer-settles status (inr (inl (inl (inl (inr e))))) = settled_by settled_6 (ap status_number e)
 answer-settles status (inr (inl (inl (inr e)))) = settled_by settled_5 (ap status_number e)
-answer-settles status (inr (inl (inr (inl e)))) = record { is_read = λ k. absurd (omega (arith, k, ap status_number e)); is_written = λ k. absurd (omega (arith, k, ap status_number e)); has_memory = λ k. absurd (omega (arith, k, ap status_number e)) }
+answer-settles status (inr (inl (inr (inl e)))) = settled_by settled_4 (ap status_number e)
 answer-settles status (inr (inl (inr (inr e)))) = settled_by settled_9 (ap status_number e)
 
 -- ---- how a run ends, by its status
 
 module _ {K : Type 0} (written : K → Option (List ℕ)) (faults : K → ℕ) (P : Answer → Type 0) (failed : Type 0) (old new : K) (status : ℕ) where
   -- a status that is that of an answer is that of a written one
-  end-written : Ends written faults P failed old new status → IsStatusOfAnswer status → IsAnswered P (written old) (written new) status
+  pub end-written : Ends written faults P failed old new status → IsStatusOfAnswer status → IsAnswered P (written old) (written new) status
   end-written (inl is) settled = is
   end-written (inr (inl cut)) settled = absurd (settled.is_written cut.status_is)
   end-written (inr (inr (inl silent))) settled = absurd (settled.is_read silent.0.status_is)

@@ -11,6 +11,7 @@ pub mod ShortestLemmas
 pub mod SpanLemmas
 pub mod FileLemmas
 pub mod EndLemmas
+pub mod StatusLemmas
 pub mod RunLemmas
 pub mod ImportedFiles
 pub mod ImportedMatrices

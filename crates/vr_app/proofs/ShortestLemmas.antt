@@ -59,8 +59,8 @@ none_of (x ∷ xs) e = absurd (omega (arith, e))
 module _ (line : Defined) (none : line.breaks ≡ []) where
   one_shortest : (p q : Wanted) → IsShortestSchedule line p → IsShortestSchedule line q → p ≡ q
   one_shortest p q a b =
-      let low = a.least q b.schedule in
-      let high = b.least p a.schedule in
+      let low = a.least.least q b.schedule in
+      let high = b.least.least p a.schedule in
       let same : span line q ≡ span line p = omega (arith, ints, low, high) in
       let cumuls : p.cumuls ≡ q.cumuls =
       lex_both p.cumuls q.cumuls (a.schedule.cumul_of_each_stop ∙ sym b.schedule.cumul_of_each_stop) (a.first q b.schedule same) (b.first p a.schedule (sym same)) in
@@ -96,7 +96,10 @@ module _ (made : Line) (none : made.breaks ≡ []) (least : Least) where
       record {
         plan_is = shortest_is defined (sym of.breaks ∙ none) (as_defined least.plan) (record {
           schedule = r.schedule;
-          least = λ other s. let b = l.least other s in omega (arith, ints, its, b);
+          least = record {
+            reached = (as_defined least.plan, r.schedule, refl);
+            least = λ other s. let b = l.least other s in omega (arith, ints, its, b);
+          };
           first = λ other s e. f other s (e ∙ its);
         });
         span_is = sym its;

@@ -8,6 +8,7 @@ use Rattle.vr_app.specs.Programs.{Program}
 use Rattle.vr_app.specs.Promises.{program_of}
 use Rattle.vr_app.specs.Runs.{IsAsking, IsNotAccepted, WhereKnown}
 use Rattle.vr_app.specs.Status.{status_number}
+use Rattle.vr_app.specs.Statuses.{SettlesAs}
 use Rattle.vr_app.specs.declared.answer.Answer.{Answer}
 use Rattle.vr_app.specs.declared.status.Status.{Status}
 use Rattle.vr_app.specs.declared.status.Status.TheVariants as all
@@ -61,9 +62,11 @@ pub record RanBy {K : Type 0} (written : K → Option (List ℕ)) (faults : K �
   pub ends : Ends written faults (RespondsBy program unknown asking words left_before left_after)
       (Rose read_faults_before read_faults_after × (program.is_read words ≡ true)) old new status
 
--- the same of the program whose watchers report so
+-- the same of the program whose watchers report so; its status is one of an answer to what the words ask for, unless
+-- something failed
 pub record Ran {K : Type 0} (written : K → Option (List ℕ)) (faults : K → ℕ) (reports : List Event → List ℕ)
     (words : List (List ℕ)) (left_before left_after : Option (List ℕ)) (read_faults_before read_faults_after : ℕ)
     (old new : K) (status : ℕ) : Type 0 where
   pub by : RanBy written faults (program_of reports) (IsNotAccepted words) (IsAsking words) words left_before left_after
       read_faults_before read_faults_after old new status
+  pub settles : SettlesAs words status

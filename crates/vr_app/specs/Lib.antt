@@ -17,6 +17,7 @@ pub mod Causes
 pub mod Met
 pub mod Answers
 pub mod Runs
+pub mod Statuses
 pub mod Programs
 pub mod Promises
 pub mod Ended

@@ -32,14 +32,15 @@ abbrev pub IsComplete : (List Event → List ℕ) → Run → Type 0
 IsComplete reports run = IsCompleteBy (program_of reports) run
 
 -- Of words that ask for a solution, 0 comes exactly where the input is a model with a first solution, 6 exactly where
--- it is a model without one. What is written is a solution, which meets a check: valid lists with their chosen
--- schedules and their cost; with `--log` the watchers' reports follow. 5 comes exactly where the model is refused; the
--- text says code and path.
+-- it is a model without one; 6 comes of no other words. What is written is a solution, which meets a check: valid
+-- lists with their chosen schedules and their cost; with `--log` the watchers' reports follow. 5 comes exactly where
+-- the model is refused; the text says code and path.
 pub record IsSolving (reports : List Event → List ℕ) (run : Run) : Type 0 where
   pub done : WhereSolved run.words run.left_before run.status (λ bytes. (run.status ≡ 0) ↔ HasFirst bytes)
   pub solution : run.status ≡ 0 → (asked : Mode) → IsAskedFor asked run.words → WhereKnown run.left_before (λ bytes.
       (text : List ℕ) × IsAnsweredBy asked reports bytes text × Wrote run text)
   pub none_found : WhereSolved run.words run.left_before run.status (λ bytes. (run.status ≡ 6) ↔ HasNoFirst bytes)
+  pub none_found_only : run.status ≡ 6 → IsSolutionAsked run.words
   pub refused : WhereSolved run.words run.left_before run.status
       (λ bytes. (run.status ≡ 5) ↔ IsRefusedInput model_of_value bytes)
   pub refusal : run.status ≡ 5 → IsSolutionAsked run.words → WhereKnown run.left_before (λ bytes.
@@ -78,11 +79,15 @@ pub record IsImporting (run : Run) : Type 0 where
       (fault : Fault) → HasFlaw vehicles bytes fault → Wrote run (text_line (refused_tree fault)))
 
 -- Of words that read, 8 comes exactly where the input is too long; of all of them but `import`, 4 comes exactly where
--- it is no JSON. 1 comes exactly where the words are not accepted. Of accepted words that read nothing only 0 comes.
+-- it is no JSON. Of no other words 8, 4 or 5 comes. 1 comes exactly where the words are not accepted. Of accepted words
+-- that read nothing only 0 comes.
 pub record HasCause (run : Run) : Type 0 where
   pub too_long : WhereAnswered run.words run.left_before run.status (λ bytes. (run.status ≡ 8) ↔ IsTooLong bytes)
   pub not_json : WhereAnswered run.words run.left_before run.status (λ bytes.
       (run.status ≡ 4) ↔ (ReadsJson run.words × IsNotJson bytes))
+  pub too_long_only : run.status ≡ 8 → ReadsInput run.words
+  pub not_json_only : run.status ≡ 4 → ReadsJson run.words
+  pub refused_only : run.status ≡ 5 → ReadsInput run.words
   pub usage : IsStatusOfAnswer run.status → IsNotAccepted run.words → run.status ≡ 1
   pub usage_only : run.status ≡ 1 → IsNotAccepted run.words
   pub numbered : IsStatusOfAnswer run.status → ReadsNothing run.words → IsNotAccepted run.words ⊎ (run.status ≡ 0)

@@ -6,7 +6,6 @@ use Rattle.vr_app.specs.declared.words.Mode.{Mode}
 use Rattle.vr_app.specs.declared.words.Question.{Question}
 use Rattle.vr_app.specs.declared.words.Question.TheVariants as question
 use Rattle.vr_app.specs.declared.words.Request.TheVariants as request
-use Rattle.vr_app.specs.declared.words.Task.{Task}
 use Rattle.vr_app.specs.declared.words.Task.TheVariants as task
 
 -- the words, as bytes
@@ -24,10 +23,6 @@ IsAskedFor asked words = request_of words ≡ Some (request.Read (task.Find aske
 -- the words ask for a solution of the input
 abbrev pub IsSolutionAsked : List (List ℕ) → Type 0
 IsSolutionAsked words = (asked : Mode) × IsAskedFor asked words
-
--- the task is a question about a solution
-abbrev pub IsQuestion : Task → Type 0
-IsQuestion it = (asked : Question) × (it ≡ task.Ask asked)
 
 -- the words ask this about the solution in the input
 abbrev pub Asks : Question → List (List ℕ) → Type 0

@@ -5,16 +5,16 @@ use Rattle.std.specs.Prelude.{Bool, ℤ, pos, neg_ℤ, ◌-ℤ◌, ◌≤ℤ◌,
 use Rattle.std.proofs.lemmas.Int.{ints}
 use Rattle.vr_model.specs.tables.Numbers.{number_at, within, horizon, is_lex_le, is_same_number}
 use Rattle.vr_model.specs.schedules.Lines.{Line}
-use Rattle.vr_model.specs.schedules.Schedules.{Plan, both_sides, cumul, span, IsFeasible, IsSchedule}
+use Rattle.vr_model.specs.schedules.Schedules.{Plan, both_sides, cumul, span, IsFeasible, IsLeastSpan, IsSchedule}
 use Rattle.vr_model.specs.deciding.ChosenSchedule.{IsLeastPlan, NoPlan, find_chosen, find_plan}
 use Rattle.vr_model.specs.deciding.Testing.{and_both, and_left, and_right, eq_of_tests, or_cases, or_left, or_right}
 use Rattle.vr_model.specs.deciding.Testing.{tests_of_eq, within_is}
 use Rattle.vr_model.specs.routes.Costs.{no_plan}
 
--- the shortest schedule: no schedule has a lesser span, and none of its span has cumuls that come before its own
+-- the shortest schedule: it has the least span, and no schedule of this span has cumuls that come before its own
 pub record IsShortestSchedule (line : Line) (plan : Plan) : Type 0 where
   pub schedule : IsSchedule line plan
-  pub least : (other : Plan) → IsSchedule line other → span line plan ≤ℤ span line other
+  pub least : IsLeastSpan line (span line plan)
   pub first : (other : Plan) → IsSchedule line other → span line other ≡ span line plan
       → IsTrue (is_lex_le plan.cumuls other.cumuls)
 
@@ -111,7 +111,10 @@ shortest_from line best is (inl r) =
       r.0,
       record {
         schedule = r.1.keeps;
-        least = λ other s. let b = is.1 other s in omega (arith, ints, same, b);
+        least = record {
+          reached = (r.0, r.1.keeps, refl);
+          least = λ other s. let b = is.1 other s in omega (arith, ints, same, b);
+        };
         first = λ other s e.
             let m = r.1.keeps.cumul_of_each_stop in
             let n = s.cumul_of_each_stop in

@@ -9,9 +9,10 @@ ghost use Rattle.vr_app.specs.Promises.{HasCause, HasFailed, IsChecking, IsCompl
 ghost use Rattle.vr_app.specs.Promises.{IsImporting, IsReply, IsSolving};
 ghost use Rattle.vr_app.specs.Reply as replies;
 ghost use Rattle.vr_app.specs.Reports.{joined_reports};
-ghost use Rattle.vr_app.specs.Runs.{IsAsking, IsNotAccepted, IsQuestion, ReadsInput, ReadsNothing, WhereKnown};
-ghost use Rattle.vr_app.specs.Runs.{bytes_of};
+ghost use Rattle.vr_app.specs.Runs.{IsAskedFor, ReadsInput, ReadsNothing, WhereKnown, bytes_of};
 ghost use Rattle.vr_app.specs.Status.{IsStatus};
+ghost use Rattle.vr_app.specs.Statuses.{IsOfRequest, IsOfTask};
+ghost use Rattle.vr_app.specs.Words.{request_of as request_in};
 
 use crate::answer::{Answer, too_long, usage};
 use crate::demo::demo;
@@ -20,7 +21,7 @@ use crate::improving::Watchers;
 use crate::numbered::generated;
 use crate::solving::answer_input;
 use crate::status::Status;
-use crate::words::{Request, Task, request_of};
+use crate::words::{Mode, Request, Task, request_of};
 use std::alloc::Global;
 use vr_io::{ReadError, Sink, Source, read_all, write_all};
 use vr_model::NoMemory;
@@ -59,7 +60,8 @@ fn respond_to_input<S: Source>(
     ensures emptied { IfOk result (λ a. a.status ≢ Status.TooLong
         → WhereKnown (S.left source.old) (λ bytes. S.left source.new ≡ Some [])) }
     ensures status { IfOk result (λ a. IsOfInput a.status) }
-    ensures not_met_only { IfOk result (λ a. a.status ≡ Status.NotMet → IsQuestion task) }
+    ensures of_task { IfOk result (λ a. IsOfTask task a.status) }
+    ensures untold { task ≢ Task.Find Mode.Log → watch.new ≡ watch.old }
     ensures fault { IsErrOf result Stop.ReadFault → Rose (S.faults source.old) (S.faults source.new) }
 {
     match read_all(alloc, source, MOST_INPUT_BYTES) {
@@ -102,8 +104,8 @@ fn respond<S: Source>(
     ensures unread { let reports = joined_reports (λ w later. after w later) watch.old.items in
         IfOk result (λ a. ReadsNothing (bytes_of words.now) → (bytes : List ℕ)
         → AnswersReply (replies.reply reports (bytes_of words.now) bytes) a) }
-    ensures usage_only { IfOk result (λ a. a.status ≡ Status.Usage → IsNotAccepted (bytes_of words.now)) }
-    ensures not_met_only { IfOk result (λ a. a.status ≡ Status.NotMet → IsAsking (bytes_of words.now)) }
+    ensures of_words { IfOk result (λ a. IsOfRequest (request_in (bytes_of words.now)) a.status) }
+    ensures untold { (IsAskedFor Mode.Log (bytes_of words.now) → ⊥) → watch.new ≡ watch.old }
     ensures untouched { ReadsNothing (bytes_of words.now) → source.new ≡ source.old }
     ensures emptied { IfOk result (λ a. ReadsInput (bytes_of words.now) → a.status ≢ Status.TooLong
         → WhereKnown (S.left source.old) (λ bytes. S.left source.new ≡ Some [])) }
@@ -150,6 +152,7 @@ fn run_lent<S: Source, K: Sink>(
         Ran (λ k. K.written k) (λ k. K.faults k) reports (bytes_of words.now) (S.left source.old) (S.left source.new)
         (S.faults source.old) (S.faults source.new) sink.old sink.new result }
     ensures untouched { ReadsNothing (bytes_of words.now) → source.new ≡ source.old }
+    ensures untold { (IsAskedFor Mode.Log (bytes_of words.now) → ⊥) → watch.new ≡ watch.old }
 {
     let reply = respond(alloc, words, source, watch);
     deliver(reply, sink)
@@ -194,7 +197,7 @@ fn run_lent<S: Source, K: Sink>(
 /// the schedules of the least span the one whose cumuls, compared from the start on, are least. With 5, C is the code
 /// and P the path of the first fault of reading, of `import` a `/` and the number of the line, `/0` for the file as a
 /// whole; with 9, R is the first rule (`vr_check::Rule`) that is broken, with its vehicle V and place L, -1 where one
-/// does not apply. The causes of 4, 5 and 8 are said of the words that read.
+/// does not apply. 4, 5 and 8 come of words that read alone, 6 and 9 of those alone that are named with them.
 ///
 /// Only with `--log` is an event of the search noted, to every watcher in order; a watcher that finds no memory for it
 /// ends the run with status 7. All watchers are dropped at the end.

@@ -1,6 +1,6 @@
 //! The search of a mode: what it makes of a first solution, by the judge that is chosen here.
 
-ghost use Rattle.std.specs.Prelude.{◌≡◌, ◌<◌, IfOk, IsTrue, OnOk};
+ghost use Rattle.std.specs.Prelude.{◌≡◌, ◌≢◌, ◌<◌, IfOk, IsTrue, OnOk};
 ghost use Rattle.vr_app.specs.Endings.{IsBestOfOutcome};
 ghost use Rattle.vr_app.specs.Found as found;
 ghost use Rattle.vr_app.specs.Improved as how;
@@ -106,8 +106,8 @@ pub(crate) fn search_unwatched(
     search_watched(alloc, lookups, first, first_cost, &mut none)
 }
 
-/// What the search of a mode makes of the first solution of a model, which costs so much. With `Log` the watchers are
-/// told of each event. The only refusal is want of memory.
+/// What the search of a mode makes of the first solution of a model, which costs so much. With `Log` alone the watchers
+/// are told, of each event. The only refusal is want of memory.
 pub(crate) fn search(
     alloc: Global,
     mode: Mode,
@@ -123,6 +123,7 @@ pub(crate) fn search(
         (found.searched mode lookups.now.closed.model.now first.lists)) }
     ensures told { mode ≡ Mode.Log → OnOk result (Reported (λ w later. after w later) watch.old.items watch.new.items
         (found.searched mode lookups.now.closed.model.now first.lists).events) }
+    ensures untold { mode ≢ Mode.Log → watch.new ≡ watch.old }
 {
     match mode {
         Mode::First => Ok(untried(first)),

@@ -1,6 +1,6 @@
 //! The answers to the input.
 
-ghost use Rattle.std.specs.Prelude.{◌≡◌, ◌≤◌, Ok, IfOk, IfSome, IsTrue, OnOk, length, option_map};
+ghost use Rattle.std.specs.Prelude.{◌≡◌, ◌≢◌, ◌≤◌, Ok, IfOk, IfSome, IsTrue, OnOk, length, option_map};
 ghost use Rattle.serde_json.specs.View.{view};
 ghost use Rattle.vr_model.specs.routes.Rules.{is_valid};
 ghost use Rattle.vr_model.specs.tables.Tables.{visits};
@@ -11,7 +11,7 @@ ghost use Rattle.vr_app.specs.Found.{found_events, found_from, found_with, line_
 ghost use Rattle.vr_app.specs.Input.{max_input, model_of_value};
 ghost use Rattle.vr_app.specs.Reply as replies;
 ghost use Rattle.vr_app.specs.Reports.{joined_reports};
-ghost use Rattle.vr_app.specs.Runs.{IsQuestion};
+ghost use Rattle.vr_app.specs.Statuses.{IsOfTask};
 
 use crate::answer::{Answer, none_found, not_json, refused};
 use crate::checked::answer_checked;
@@ -20,7 +20,6 @@ use crate::improving::Watchers;
 use crate::input::{parse_owned, read_owned};
 use crate::logs::done;
 use crate::search::search;
-use crate::status::Status;
 use crate::total::total_over;
 use crate::words::{Mode, Task};
 use serde_json::Value;
@@ -45,6 +44,7 @@ fn line_from(
         (found_from mode lookups.now.closed.model.now first.lists)) }
     ensures told { mode ≡ Mode.Log → OnOk result (Reported (λ w later. after w later) watch.old.items watch.new.items
         (found_from mode lookups.now.closed.model.now first.lists).outcome.events) }
+    ensures untold { mode ≢ Mode.Log → watch.new ≡ watch.old }
 {
     let first_cost = total_over(alloc, lookups, &first)?;
     let found = search(alloc, mode, lookups, first, first_cost, watch)?;
@@ -65,6 +65,7 @@ fn line_found(
         (found_with mode lookups.now.closed.model.now (lists_in first))) }
     ensures told { mode ≡ Mode.Log → OnOk result (Reported (λ w later. after w later) watch.old.items watch.new.items
         (found_events (found_with mode lookups.now.closed.model.now (lists_in first)))) }
+    ensures untold { mode ≢ Mode.Log → watch.new ≡ watch.old }
 {
     match first {
         None => Ok(None),
@@ -92,6 +93,7 @@ pub fn answer_from(
         let found = found_with mode model (lists_in first) in
         IfOk result (AnswersReply (replies.reply_to_found mode reports model found)) }
     ensures status { IfOk result (λ a. IsOfModel a.status) }
+    ensures untold { mode ≢ Mode.Log → watch.new ≡ watch.old }
 {
     match line_found(alloc, mode, lookups, first, watch)? {
         Some(line) => done(mode, line, watch),
@@ -109,6 +111,7 @@ fn answer_over(
     ensures reply { let reports = joined_reports (λ w later. after w later) watch.old.items in
         IfOk result (AnswersReply (replies.reply_to_model mode reports (Ok lookups.now.closed.model.now))) }
     ensures status { IfOk result (λ a. IsOfSolving a.status) }
+    ensures untold { mode ≢ Mode.Log → watch.new ≡ watch.old }
 {
     let first = first_routes(alloc, lookups)?;
     answer_from(alloc, mode, lookups, first, watch)
@@ -124,6 +127,7 @@ fn answer_model(
     ensures reply { let reports = joined_reports (λ w later. after w later) watch.old.items in
         IfOk result (AnswersReply (replies.reply_to_model mode reports (Ok closed.entry.model.now))) }
     ensures status { IfOk result (λ a. IsOfSolving a.status) }
+    ensures untold { mode ≢ Mode.Log → watch.new ≡ watch.old }
 {
     let lookups = Lookups::open(alloc, closed)?;
     answer_over(alloc, mode, &lookups, watch)
@@ -139,6 +143,7 @@ fn answer_solved(
     ensures reply { let reports = joined_reports (λ w later. after w later) watch.old.items in
         IfOk result (AnswersReply (replies.reply_to_model mode reports (model_of_value (view value)))) }
     ensures status { IfOk result (λ a. IsOfSolving a.status) }
+    ensures untold { mode ≢ Mode.Log → watch.new ≡ watch.old }
 {
     match read_owned(alloc, value) {
         Ok(model) => answer_model(alloc, mode, Closed { model: &model }, watch),
@@ -157,7 +162,8 @@ fn answer_value(
     ensures reply { let reports = joined_reports (λ w later. after w later) watch.old.items in
         IfOk result (AnswersReply (replies.reply_to_tree task reports (view value))) }
     ensures status { IfOk result (λ a. IsOfShort a.status) }
-    ensures not_met_only { IfOk result (λ a. a.status ≡ Status.NotMet → IsQuestion task) }
+    ensures of_task { IfOk result (λ a. IsOfTask task a.status) }
+    ensures untold { task ≢ Task.Find Mode.Log → watch.new ≡ watch.old }
 {
     match task {
         Task::Find(mode) => answer_solved(alloc, mode, value, watch),
@@ -176,7 +182,8 @@ pub(crate) fn answer_input(
     ensures reply { let reports = joined_reports (λ w later. after w later) watch.old.items in
         length bytes.items ≤ max_input → IfOk result (AnswersReply (replies.reply_to_input task reports bytes.items)) }
     ensures status { IfOk result (λ a. IsOfShort a.status) }
-    ensures not_met_only { IfOk result (λ a. a.status ≡ Status.NotMet → IsQuestion task) }
+    ensures of_task { IfOk result (λ a. IsOfTask task a.status) }
+    ensures untold { task ≢ Task.Find Mode.Log → watch.new ≡ watch.old }
 {
     match parse_owned(alloc, bytes)? {
         None => not_json(alloc),

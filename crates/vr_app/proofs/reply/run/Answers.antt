@@ -1,6 +1,8 @@
 use Rattle.std.proofs.Common.{inl, inr}
+use Rattle.vr_app.specs.Runs.{bytes_of}
 use Rattle.vr_app.proofs.EndLemmas as ending
 use Rattle.vr_app.proofs.RunLemmas as run
+use Rattle.vr_app.proofs.StatusLemmas as asked
 use Rattle.vr_app.proofs.reply.run.Goals as goal
 
 pub returns-clause-reply : goal.returns-clause-reply
@@ -22,6 +24,7 @@ returns-clause-solving g c = let ran = c.run_lent.ensures.ran in record {
   done = λ settled solves bytes known. (run.classifies-first ran settled solves bytes known).done;
   solution = run.solution ran;
   none_found = λ settled solves bytes known. (run.classifies-first ran settled solves bytes known).undone;
+  none_found_only = asked.none_found_only (bytes_of c.args.words.now) _ ran.settles;
   refused = λ settled solves bytes known. (run.classifies-first ran settled solves bytes known).refused;
   refusal = run.refusal ran;
 }
@@ -50,6 +53,9 @@ pub returns-clause-cause : goal.returns-clause-cause
 returns-clause-cause g c = let ran = c.run_lent.ensures.ran in record {
   too_long = λ settled reads bytes known. (run.classifies-text ran settled reads bytes known).too_long;
   not_json = λ settled reads bytes known. (run.classifies-text ran settled reads bytes known).not_json;
+  too_long_only = asked.too_long_only (bytes_of c.args.words.now) _ ran.settles;
+  not_json_only = asked.not_json_only (bytes_of c.args.words.now) _ ran.settles;
+  refused_only = asked.refused_only (bytes_of c.args.words.now) _ ran.settles;
   usage = run.usage ran;
   usage_only = ending.usage_only ran.by;
   numbered = run.numbered ran;
