@@ -172,7 +172,8 @@ def solve_for(
 
 @dataclass
 class Rounds:
-    """Rounds that are run: the best so far, and how many seconds the tries of a kind of round took."""
+    """Rounds that are run: the best so far, and how many seconds the tries of a kind of round took. `seen` gets the
+    solution of each round, and may itself use some of the time that is left."""
 
     model: Model
     limit: float
@@ -185,6 +186,7 @@ class Rounds:
     rounds: List[Round] = field(default_factory=list)
     pace: Dict[Union[First, On], Tuple[float, int]] = field(default_factory=dict)
     gains: Dict[On, float] = field(default_factory=dict)
+    seen: Callable[[Solution], None] = lambda solution: None
 
     def __post_init__(self) -> None:
         self.began = time.monotonic()
@@ -278,6 +280,7 @@ class Rounds:
         self.rounds.append(Round(len(self.rounds) + 1, found.model.search, cost, least, seconds, on, found.refine))
         if is_best:
             self.tell(seconds, cost)
+        self.seen(found.solution)
 
     def go_on(self, refiner: Program) -> None:
         """Runs rounds that go on from the best so far."""

@@ -18,7 +18,7 @@ from jambulskeg.desk import Answer, Asker, BadChange, Edits, Folder, FolderInUse
 from jambulskeg.desk.asking import lenient, merged
 from jambulskeg.desk.changes import Move, Within
 from jambulskeg.desk.folder import Basis, NoSuchDay
-from jambulskeg.desk.improving import run_until
+from jambulskeg.desk.improving import Improver
 from jambulskeg.desk.nearby import LEAST_VANS, MOST_VANS, Nearby
 from jambulskeg.desk.offers import offers
 from jambulskeg.desk.opening import basis_of_model, example_basis
@@ -26,10 +26,11 @@ from jambulskeg.desk.part import part_of
 from jambulskeg.desk.states import Lists, edited
 from jambulskeg.desk.pages import told
 from jambulskeg.desk.touched import check_touched, touched_by
-from jambulskeg.errors import JambulskegError, NotJson, NotMet, ProgramFailed, ProgramSlow, Refused
-from jambulskeg.model import check, read_model, solve
+from jambulskeg.errors import JambulskegError, NotJson, NotMet, ProgramFailed, Refused
+from jambulskeg.model import check, first, read_model, solve
 from jambulskeg.program import Program
 from jambulskeg.records import Allowed, Model
+from jambulskeg.rounds import with_search
 from jambulskeg.view.day import Names
 
 from .desk_support import THREE_VANS
@@ -482,19 +483,38 @@ class PartTests(unittest.TestCase):
 
 
 class ImproverTests(unittest.TestCase):
-    def test_a_program_that_reads_late_gets_all_of_its_input(self) -> None:
-        with tempfile.TemporaryDirectory() as folder:
-            path = os.path.join(folder, "late")
-            with open(path, "w", encoding="ascii") as file:
-                file.write("#!/bin/sh\nsleep 0.2\nwc -c\n")
-            os.chmod(path, 0o755)
-            text = "x" * 10**6
-            self.assertEqual(run_until(Program(path), ["solve"], text, 20, threading.Event()).strip(), "1000000")
-            self.assertRaises(ProgramSlow, run_until, Program(path), ["solve"], text, 0.05, threading.Event())
-            stopped = threading.Event()
-            stopped.set()
-            self.assertRaises(ProgramSlow, run_until, Program(path), ["solve"], text, 20, stopped)
-            self.assertRaises(ProgramFailed, run_until, Program(folder), ["solve"], text, 20, stopped)
+    def improved(self, model: Model, state: State, seconds: float, stop: float = 60) -> Improver:
+        """A search that has ended, or was stopped after some seconds."""
+        found = Improver(Asker(model, PROGRAM), state, seconds)
+        timer = threading.Timer(stop, found.stopped.set)
+        timer.start()
+        found.search()
+        timer.cancel()
+        return found
+
+    def test_it_goes_on_from_the_routes(self) -> None:
+        model = model_named("hundred-customers")
+        lists = tupled(first(model).lists())
+        found = self.improved(model, State(lists, pinned=frozenset([0])), 1)
+        assert found.best is not None
+        self.assertEqual((found.points[0].cost, found.best[0][0]), (Asker(model, PROGRAM).judged(lists).solution.cost,
+                                                                    lists[0]))
+        self.assertEqual(found.points[-1].cost, found.best[1].solution.cost)
+        self.assertLess(found.points[-1].cost, found.points[0].cost)
+        self.assertGreater(found.rounds, 1)
+
+    def test_it_is_stopped_at_once(self) -> None:
+        model = with_search(model_named("hundred-customers"), tries=10**9)
+        began = time.monotonic()
+        found = self.improved(model, State(tupled(first(model).lists())), 600, 0.3)
+        self.assertLess(time.monotonic() - began, 5)
+        self.assertIsNotNone(found.best)
+
+    def test_a_day_that_no_construction_finds(self) -> None:
+        model = example_basis(THREE_VANS, PROGRAM).model
+        found = self.improved(model, State(((), (), ()), off=frozenset([0, 1])), 1)
+        assert found.best is not None
+        self.assertTrue(found.best[1].missing and found.best[0][2])
 
 
 class OfferTests(unittest.TestCase):

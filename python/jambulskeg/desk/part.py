@@ -32,6 +32,11 @@ class Part:
             out[vehicle] = tuple(self.nodes[node] for node in visits)
         return tuple(out)
 
+    def own(self, lists: Lists) -> List[List[int]]:
+        """The lists of the part's vehicles in the day, by its own numbers."""
+        places = {node: place for place, node in enumerate(self.nodes)}
+        return [[places[node] for node in lists[vehicle]] for vehicle in self.vehicles]
+
 
 def part_of(model: Model, state: State) -> Part:
     """The part of a day that a search may change. Raises `BadChange` where nothing may be changed."""

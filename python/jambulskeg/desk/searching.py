@@ -12,12 +12,14 @@ from typing import Any, Dict, Optional
 
 from ..errors import JambulskegError
 from .days import Answer, OpenDay
-from .improving import MOST_SECONDS, PATIENCE, Improver
+from .improving import MOST_SECONDS, Improver
 from .states import BadChange
 
 __all__ = ["Search", "Searches"]
 
 LEAST_SECONDS = 1
+LOOK = 0.05
+"""So many seconds pass between two looks whether a waiting search was stopped."""
 
 
 class Search(threading.Thread):
@@ -56,7 +58,7 @@ class Search(threading.Thread):
 
     def run(self) -> None:
         """Searches, and changes the day once."""
-        while not self._turn.acquire(timeout=PATIENCE):
+        while not self._turn.acquire(timeout=LOOK):
             if self._improver.stopped.is_set():
                 self.status, self.sentence = "ended", "The search was stopped before its turn."
                 return
