@@ -18,19 +18,18 @@ from typing import Callable, Iterator, List, Optional, Sequence, Tuple
 from unittest import mock
 
 from jambulskeg.__main__ import main
-from jambulskeg.engines import Answer, EngineFailed, GnuParallel
+from jambulskeg.engines import Answer, EngineFailed
 from jambulskeg.errors import NoMemory, Refused
 from jambulskeg.model import check
 from jambulskeg.places import BadTable, Place, Roads, Van
-from jambulskeg.program import find
 from jambulskeg.records import Model
 from jambulskeg.region import (
     Asked, BadRoads, Checked, CheckedPart, Crew, Entry, FolderTaken, NotSolved, OwnCrew, ParallelCrew, Part, PartModel,
-    Planned, Region, RegionTables, RoadTable, RunDiffers, Shape, SharedTwice, SlurmCrew, Standing, Store, VanDay,
-    check_plan, cut, model_of_part, plan, plan_table, read_region, region_page, sheet_files, write_roads,
+    Planned, Region, RegionTables, RoadTable, RunDiffers, Searcher, Shape, SharedTwice, SlurmCrew, Standing, Store,
+    VanDay, check_plan, cut, model_of_part, plan, plan_table, read_region, region_page, sheet_files, write_roads,
 )
 from jambulskeg.region.checking import once
-from jambulskeg.region.crew import Answers, ModelOf
+from jambulskeg.region.crew import Answers, TextOf
 from jambulskeg.region.mending import groups_of
 from jambulskeg.region.near import links_of, nearest
 from jambulskeg.solution import Solution
@@ -46,12 +45,12 @@ class Backwards:
     """A crew whose answers come in another order, and go through `change`, which may raise or give none."""
 
     def __init__(self, change: Callable[[int, Answer], Optional[Answer]] = lambda count, answer: answer) -> None:
-        self._change, self.count = change, 0
+        self._change, self.count, self.searcher = change, 0, Searcher.found()
 
-    def each(self, count: int, model_of: ModelOf) -> Answers:
+    def each(self, count: int, text_of: TextOf) -> Answers:
         """The answers, the last part's first."""
         order = list(range(count))[::-1]
-        for at, answer in OwnCrew(1).each(count, lambda place: model_of(order[place])):
+        for at, answer in OwnCrew(1, self.searcher).each(count, lambda place: text_of(order[place])):
             self.count += 1
             changed = self._change(self.count, answer)
             if changed is not None:
@@ -431,11 +430,11 @@ class CrewTests(unittest.TestCase):
         known = planned(region)
         for lost in (-1, 2):
             with engine_on_path("parallel", PARALLEL, lost):
-                found = planned(region, SMALL, ParallelCrew(GnuParallel(2, os.path.abspath(find()))))
+                found = planned(region, SMALL, ParallelCrew(2, Searcher.found()))
             self.assertEqual(found.standing, known.standing)
         with engine_on_path("parallel", "sys = __import__('sys'); sys.exit(sys.stderr.write('no machine\\n'))"):
             with self.assertRaisesRegex(NotSolved, "3 of 3 parts have no result; GNU parallel said: no machine"):
-                planned(region, SMALL, ParallelCrew(GnuParallel(2, os.path.abspath(find()))))
+                planned(region, SMALL, ParallelCrew(2, Searcher.found()))
 
     def test_workers_of_slurm_find_the_same_plan(self) -> None:
         region = made_region(120)
@@ -445,7 +444,7 @@ class CrewTests(unittest.TestCase):
                 with open(name, "w", encoding="utf-8") as file:
                     file.write(f"#!{sys.executable}\n{body}")
                 os.chmod(name, 0o755)
-            crew = SlurmCrew(1, os.path.abspath(find()), ["--partition=long"], os.path.join(folder, "crew"))
+            crew = SlurmCrew(1, Searcher.found(), ["--partition=long"], os.path.join(folder, "crew"))
             found = planned(region, SMALL, crew)
             crew.close()
             self.assertTrue(os.path.exists("crew/job2") and os.path.exists("crew/end"))
@@ -454,7 +453,7 @@ class CrewTests(unittest.TestCase):
     def test_slurm_takes_no_job(self) -> None:
         with engine_on_path("sbatch", "import sys; sys.stderr.write('no such partition\\n')"):
             with self.assertRaisesRegex(NotSolved, "sbatch took no job; it said: no such partition"):
-                planned(made_region(60), SMALL, SlurmCrew(1, "vr_cli", [], "crew"))
+                planned(made_region(60), SMALL, SlurmCrew(1, Searcher("vr_cli"), [], "crew"))
 
 
 class RoadTests(unittest.TestCase):

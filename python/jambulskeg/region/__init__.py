@@ -7,7 +7,7 @@
 """
 
 from .checking import Checked, CheckedPart, SharedTwice, VanDay, check_plan
-from .crew import Crew, OwnCrew, ParallelCrew
+from .crew import Crew, OwnCrew, ParallelCrew, Searcher
 from .cutting import cut
 from .day import Part, PartModel, Region, model_of_part
 from .mending import Shape, Standing
@@ -22,7 +22,7 @@ from .writing import plan_table, sheet_files
 
 __all__ = [
     "Asked", "BadRoads", "Checked", "CheckedPart", "Crew", "Entry", "FolderTaken", "NotSolved", "OwnCrew",
-    "ParallelCrew", "Part", "PartModel", "Planned", "Region", "RegionTables", "RoadTable", "RunDiffers", "Shape",
-    "SharedTwice", "SlurmCrew", "Standing", "Store", "VanDay", "check_plan", "cut", "model_of_part", "plan",
+    "ParallelCrew", "Part", "PartModel", "Planned", "Region", "RegionTables", "RoadTable", "RunDiffers", "Searcher",
+    "Shape", "SharedTwice", "SlurmCrew", "Standing", "Store", "VanDay", "check_plan", "cut", "model_of_part", "plan",
     "plan_table", "read_region", "region_page", "sheet_files", "write_roads",
 ]

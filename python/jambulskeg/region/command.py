@@ -9,12 +9,10 @@ from dataclasses import replace
 from typing import Tuple
 
 from ..commands.plan import LEFT_OUT, jobs_of, roads_of, seconds_of, speed_of, tell
-from ..engines import GnuParallel
 from ..output import Output, Outputs
-from ..program import find
 from ..stopping import ending
 from .checking import Checked, check_plan
-from .crew import Crew, OwnCrew, ParallelCrew
+from .crew import Crew, OwnCrew, ParallelCrew, Searcher
 from .cutting import MOST_VISITS
 from .mending import Shape
 from .page import region_page
@@ -74,7 +72,9 @@ def add_crew(command: argparse.ArgumentParser) -> None:
     command.add_argument("--sshlogin", action="append", default=[], metavar="LOGIN", help="GNU parallel's machines")
     command.add_argument("--option", action="append", default=[], metavar="WORD",
                          help="a further word of parallel or sbatch, as in --option=--partition=long")
-    command.add_argument("--remote-program", metavar="PATH", help="vr_cli on the machines of parallel or slurm")
+    command.add_argument("--remote-program", metavar="PATH",
+                         help="vr_cli on the machines of parallel or slurm, which then searches all parts")
+    command.add_argument("--remote-refine", metavar="PATH", help="vr_refine there, which then searches all parts")
     command.add_argument("--folder", metavar="DIR", help="where the run is kept; else PLAN.region")
     command.add_argument("--resume", action="store_true", help="go on with the run in the folder")
     command.add_argument("--quiet", action="store_true", help="tell nothing of the rounds")
@@ -129,14 +129,21 @@ def crew_of(asked: argparse.Namespace, store: Store) -> Crew:
     """Who solves the parts."""
     if asked.sshlogin and asked.engine != "parallel":
         raise ValueError("--sshlogin belongs to --with parallel")
-    if (asked.option or asked.remote_program) and asked.engine == "own":
-        raise ValueError("--option and --remote-program belong to --with parallel or slurm")
+    if (asked.option or asked.remote_program or asked.remote_refine) and asked.engine == "own":
+        raise ValueError("--option, --remote-program and --remote-refine belong to --with parallel or slurm")
+    searcher = searcher_of(asked)
     if asked.engine == "own":
-        return OwnCrew(asked.jobs)
-    program = asked.remote_program or os.path.abspath(find())
+        return OwnCrew(asked.jobs, searcher)
     if asked.engine == "parallel":
-        return ParallelCrew(GnuParallel(asked.jobs, program, asked.sshlogin, asked.option))
-    return SlurmCrew(asked.jobs, program, asked.option, store.path(f"slurm-{os.getpid()}"))
+        return ParallelCrew(asked.jobs, searcher, asked.sshlogin, asked.option)
+    return SlurmCrew(asked.jobs, searcher, asked.option, store.path(f"slurm-{os.getpid()}"))
+
+
+def searcher_of(asked: argparse.Namespace) -> Searcher:
+    """The program that searches parts: that of other machines, if one is named."""
+    if asked.remote_refine:
+        return Searcher(asked.remote_refine, True)
+    return Searcher(asked.remote_program) if asked.remote_program else Searcher.found()
 
 
 def found_of(checked: Checked) -> str:

@@ -1,6 +1,7 @@
 """Who solves the parts of a round: processes of this machine, GNU parallel, or workers that Slurm has started.
 
-A crew hands out each answer as it comes, so that it is kept at once; `engines`, which it stands on, waits for all.
+All of them run one program, the searcher. A crew hands out each answer as it comes, so that it is kept at once;
+`engines`, which it stands on, waits for all.
 """
 
 from __future__ import annotations
@@ -8,27 +9,48 @@ from __future__ import annotations
 import os
 import tempfile
 from concurrent.futures import ThreadPoolExecutor, as_completed
-from dataclasses import dataclass
+from dataclasses import dataclass, field
 from threading import Event
-from typing import IO, Callable, Generator, List, Protocol, Tuple
+from typing import IO, Callable, Generator, List, Protocol, Sequence, Tuple
 
-from ..engines import Answer, EngineFailed, GnuParallel, answer_of, last_of, results, solved, started, stop_twice
-from ..model import Model
-from ..program import ProgramLike, program_of
+from ..engines import Answer, EngineFailed, GnuParallel, answer_of, last_of, results, started, stop_twice
+from ..errors import JambulskegError, Stopped
+from ..model import solution_of
+from ..program import Program, ProgramLike, program_of
+from ..refine import at_hand
 
-__all__ = ["Answers", "Crew", "ModelOf", "OwnCrew", "ParallelCrew"]
+__all__ = ["Answers", "Crew", "OwnCrew", "ParallelCrew", "Searcher", "TextOf"]
 
 Answers = Generator[Tuple[int, Answer], None, None]
-"""The numbers of models and their answers, as they come."""
-ModelOf = Callable[[int], Model]
-"""The model of a number, made when it is asked for."""
+"""The numbers of parts and their answers, as they come."""
+TextOf = Callable[[int], str]
+"""What the searcher is given for the part of a number, made when it is asked for."""
+
+
+@dataclass(frozen=True)
+class Searcher:
+    """The program that searches parts, at its path on the machines of the crew: vr_refine, which goes on from the
+    routes as they are (`refines`), or vr_cli, which begins anew."""
+
+    path: str
+    refines: bool = False
+
+    @classmethod
+    def found(cls, program: ProgramLike = None) -> "Searcher":
+        """The vr_refine that belongs to a vr_cli, or else that vr_cli itself. Raises `ProgramMissing`."""
+        refining = at_hand(program)
+        return cls(os.path.abspath((refining or program_of(program)).path), refining is not None)
 
 
 class Crew(Protocol):
-    """What solves models side by side."""
+    """What solves parts side by side."""
 
-    def each(self, count: int, model_of: ModelOf) -> Answers:
-        """The number of each of so many models and its answer, as they come. Raises `EngineFailed` where the crew
+    @property
+    def searcher(self) -> Searcher:
+        """The program that the crew runs."""
+
+    def each(self, count: int, text_of: TextOf) -> Answers:
+        """The number of each of so many parts and its answer, as they come. Raises `EngineFailed` where the crew
         itself fails; the answers before that hold."""
 
     def close(self) -> None:
@@ -40,14 +62,14 @@ class OwnCrew:
     """At most `jobs` processes of this machine at a time."""
 
     jobs: int = 1
-    program: ProgramLike = None
+    searcher: Searcher = field(default_factory=Searcher.found)
 
-    def each(self, count: int, model_of: ModelOf) -> Answers:
-        """The number of each model and its answer, as they come."""
-        found = program_of(self.program)
+    def each(self, count: int, text_of: TextOf) -> Answers:
+        """The number of each part and its answer, as they come."""
+        found = Program(self.searcher.path)
         pool, stop = ThreadPoolExecutor(max_workers=max(1, self.jobs)), Event()
         try:
-            tasks = {pool.submit(lambda at: solved(model_of(at), found, stop), at): at for at in range(count)}
+            tasks = {pool.submit(lambda at: searched(text_of(at), found, stop), at): at for at in range(count)}
             for task in as_completed(tasks):
                 yield tasks[task], task.result()
         finally:
@@ -58,16 +80,28 @@ class OwnCrew:
         """Nothing is left to end."""
 
 
+def searched(text: str, program: Program, stop: Event) -> Answer:
+    """The searcher's answer to a text, or what it raises."""
+    try:
+        return Stopped() if stop.is_set() else solution_of(program.ask(["solve"], text, stop=stop))
+    except JambulskegError as problem:
+        return problem
+
+
 @dataclass(frozen=True)
 class ParallelCrew:
-    """GNU parallel, called once for each round, as the engine says: on which machines, and with which words."""
+    """GNU parallel, called once for each round: at most `jobs` parts at a time on each machine, those of `sshlogins`,
+    with further words of its own."""
 
-    engine: GnuParallel
+    jobs: int
+    searcher: Searcher
+    sshlogins: Sequence[str] = ()
+    options: Sequence[str] = ()
 
-    def each(self, count: int, model_of: ModelOf) -> Answers:
-        """The number of each model and its answer, as they come. Raises `EngineFailed` where some have no answer."""
+    def each(self, count: int, text_of: TextOf) -> Answers:
+        """The number of each part and its answer, as they come. Raises `EngineFailed` where some have no answer."""
         with tempfile.TemporaryFile("w+", encoding="utf-8") as texts, tempfile.TemporaryFile("w+") as errors:
-            longest = max(texts.write(model_of(at).text() + "\n") for at in range(count))
+            longest = max(texts.write(text_of(at) + "\n") for at in range(count))
             texts.seek(0)
             seen = set()
             for at, answer in self._answers(longest, texts, errors):
@@ -82,7 +116,8 @@ class ParallelCrew:
 
     def _answers(self, longest: int, texts: IO[str], errors: IO[str]) -> Answers:
         """What GNU parallel writes, task by task; it is ended where this process is stopped."""
-        process = started(self.engine.words(longest), os.getcwd(), texts, errors)
+        engine = GnuParallel(self.jobs, self.searcher.path, self.sshlogins, self.options)
+        process = started(engine.words(longest), os.getcwd(), texts, errors)
         with process:
             try:
                 lines: List[str] = []

@@ -124,12 +124,14 @@ class PartModel:
         """The visits of each van, by their numbers in the region."""
         return [[self.nodes[node] for node in route.visits] for route in solution.routes]
 
+    def own(self, lists: Lists) -> List[List[int]]:
+        """The visits of each van, by their nodes in the part."""
+        node_of = {place: node for node, place in enumerate(self.nodes)}
+        return [[node_of[place] for place in visits] for visits in lists]
+
     def solution(self, lists: Lists, model: Optional[Model] = None) -> Solution:
         """The solution of given visits, with its schedules. Raises `CannotBeDriven`."""
-        node_of = {place: node for node, place in enumerate(self.nodes)}
-        return complete(
-            model or self.asked, [[node_of[place] for place in visits] for visits in lists], checked=False
-        )
+        return complete(model or self.asked, self.own(lists), checked=False)
 
     def missing(self, solution: Solution) -> int:
         """How many visits that must be made a solution leaves out."""

@@ -3,6 +3,9 @@
 This is POPMUSIC (Taillard and Voss, 2002): parts that share no route are solved side by side; what is cheaper is kept,
 and its routes are tried again with their new neighbours; what is not rests until the search is longer. Which parts are
 solved depends on the plan and on the number of the round alone, not on the order in which answers come.
+
+Where the searcher is vr_refine, a part goes on from its routes as they stand, by ruin and recreate; else it is solved
+from nothing.
 """
 
 from __future__ import annotations
@@ -13,16 +16,16 @@ from collections import Counter
 from dataclasses import dataclass, replace
 from typing import Dict, FrozenSet, List, Mapping, Optional, Sequence, Set, Tuple
 
-from ..records import First, Improve, Model, Search
-from .day import Lists, Part, PartModel, Region
+from ..records import First, Improve, Refine, Search
+from .day import Part, Region
 from .near import Links, links_of
 
-__all__ = ["Shape", "Standing", "applied", "begun", "first_search", "groups_of", "search_of"]
+__all__ = ["Effort", "Shape", "Standing", "applied", "effort_of", "first_effort", "groups_of"]
 
 LAMBDAS = ((1, 5), (1, 20), (1, 10), (1, 3))
 """The weights of penalties, which change from round to round."""
-
-
+MOVES_OF_A_STEP = 300
+"""A step of ruin and recreate takes about as long as so many moves."""
 MANY = 50_000
 """So many tries for each visit are many."""
 OF_ONE_PART = 0.3
@@ -58,29 +61,31 @@ class Standing:
         return [van for van, visits in enumerate(self.routes) if visits]
 
 
-def first_search(tries: int, visits: int) -> Search:
+@dataclass(frozen=True)
+class Effort:
+    """How the parts of a round are searched: by the model's own search, or by ruin and recreate (`refine`)."""
+
+    search: Search
+    refine: Optional[Refine] = None
+
+
+def first_effort(tries: int, visits: int, refines: bool) -> Effort:
     """The search of the first parts, which have at most so many visits: with few tries it begins by insertion, which
     leaves fewest out."""
-    if tries >= MANY * visits:
-        return search_of(0, tries)
-    return replace(search_of(2, tries), first=First.PARALLEL_CHEAPEST_INSERTION)
+    if refines or tries >= MANY * visits:
+        return effort_of(0, tries, refines)
+    return Effort(replace(effort_of(2, tries, False).search, first=First.PARALLEL_CHEAPEST_INSERTION))
 
 
-def search_of(number: int, tries: int) -> Search:
-    """The search of a round: another weight of penalties from round to round."""
-    return Search(
+def effort_of(number: int, tries: int, refines: bool) -> Effort:
+    """The search of a round: another weight of penalties, or other random numbers, from round to round."""
+    if refines:
+        search = Search(first=First.PARALLEL_CHEAPEST_INSERTION, tries=-(-tries // MOVES_OF_A_STEP))
+        return Effort(search, Refine(seed=number))
+    return Effort(Search(
         first=First.PATH_CHEAPEST_ARC, improve=Improve.GUIDED_LOCAL_SEARCH, tries=tries,
         lambda_=LAMBDAS[number % len(LAMBDAS)],
-    )
-
-
-def begun(model: PartModel, lists: Optional[Lists]) -> Model:
-    """The model that a part is solved by, and the routes that its vans have so far; None for the first parts.
-
-    The program begins with its own construction, so the routes are not handed over. A program that can begin from
-    routes gets them here.
-    """
-    return model.asked
+    ))
 
 
 def groups_of(

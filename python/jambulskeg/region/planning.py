@@ -15,7 +15,7 @@ from ..solution import Solution
 from .crew import Crew
 from .cutting import MOST_VISITS, cut
 from .day import Part, PartModel, Region
-from .mending import Shape, Standing, applied, first_search, groups_of, search_of
+from .mending import Shape, Standing, applied, effort_of, first_effort, groups_of
 from .near import nearest
 from .store import Store
 from .tasks import Round, solve_parts
@@ -167,13 +167,13 @@ class Run:
         self, region: Region, asked: Asked, crew: Crew, store: Store, program: ProgramLike, progress: Progress
     ) -> None:
         self._region, self._asked, self._crew, self._store = region, asked, crew, store
-        self._program, self._progress = program, progress
+        self._program, self._progress, self._refines = program, progress, crew.searcher.refines
         self._began, self._before = time.monotonic(), 0.0
         self._near: Dict[int, List[int]] = {}
 
     def found(self, resume: bool) -> Optional[Planned]:
         """The state that the folder has, None where it has none. Raises `RunDiffers`."""
-        head = {"digest": digest_of(self._region, self._asked)}
+        head = {"digest": digest_of(self._region, self._asked, self._refines)}
         old, state = self._store.read("asked.json"), self._store.read("state.json")
         if old is not None and not resume and not (state or {}).get("ended"):
             raise RunDiffers(
@@ -181,7 +181,10 @@ class Run:
                 "another --folder begins anew"
             )
         if old is not None and resume and old != head:
-            raise RunDiffers(f"the run in the folder {self._store.folder} has other tables, or was asked otherwise")
+            raise RunDiffers(
+                f"the run in the folder {self._store.folder} has other tables, was asked otherwise, or its parts were "
+                "searched by another program"
+            )
         if resume and state is not None:
             found = Planned.of(state)
             self._before = found.journal[-1].seconds
@@ -202,7 +205,7 @@ class Run:
         parts = [part for part in cut(self._region, self._asked.most) if part.vans]
         share = CUTTING_SHARE if self._asked.seams else 1.0
         tries = max(1, min(MOST_TRIES, int(self._asked.budget() * share) // max(1, len(parts))))
-        search = first_search(tries, max((len(part.visits) for part in parts), default=0))
+        effort = first_effort(tries, max((len(part.visits) for part in parts), default=0), self._refines)
 
         def judge(at: int, model: PartModel, solution: Optional[Solution]) -> Outcome:
             if solution is None:
@@ -210,7 +213,7 @@ class Run:
             return Outcome(model.lists(solution), solution.cost - solution.parts.penalty)
 
         outcomes = solve_parts(
-            Round(self._region, 0, parts, search), self._crew, self._store, judge, self._program
+            Round(self._region, 0, parts, effort), self._crew, self._store, judge, self._program
         )
         standing = Standing(((),) * len(self._region.vans))
         for at, (part, outcome) in enumerate(zip(parts, outcomes)):
@@ -271,8 +274,9 @@ class Run:
         def judge(at: int, model: PartModel, solution: Optional[Solution]) -> Outcome:
             return gain(model, solution, lists[at])
 
+        effort = effort_of(number, tries, self._refines)
         outcomes = solve_parts(
-            Round(region, number, parts, search_of(number, tries), lists), self._crew, self._store, judge, self._program
+            Round(region, number, parts, effort, lists), self._crew, self._store, judge, self._program
         )
         mended = set(state.mended)
         for at, (part, outcome) in enumerate(zip(parts, outcomes)):
@@ -317,7 +321,7 @@ def gain(model: PartModel, solution: Optional[Solution], lists: Sequence[Sequenc
     return Outcome(model.lists(solution), solution.cost - before.cost - missing * model.duty, missing)
 
 
-def digest_of(region: Region, asked: Asked) -> str:
+def digest_of(region: Region, asked: Asked, refines: bool) -> str:
     """A digest of the tables and of all that a plan depends on."""
-    what = region, asked.budget(), asked.most, asked.shape, asked.seams
+    what = region, asked.budget(), asked.most, asked.shape, asked.seams, refines
     return hashlib.sha256(repr(what).encode("utf-8", "surrogatepass")).hexdigest()

@@ -14,8 +14,7 @@ import time
 from typing import Dict, Sequence, Set
 
 from ..engines import Answer, EngineFailed, answer_of, last_of, results, started, work_of
-from ..model import Model
-from .crew import Answers, ModelOf
+from .crew import Answers, Searcher, TextOf
 
 __all__ = ["SlurmCrew"]
 
@@ -56,17 +55,18 @@ done
 class SlurmCrew:
     """A job array of `jobs` workers, begun with the first parts and ended by `close`.
 
-    `folder`, new or empty, is one that every node sees at the same path, and `program` too; `options` are further words
-    of sbatch.
+    `folder`, new or empty, is one that every node sees at the same path, and the searcher too; `options` are further
+    words of sbatch.
     """
 
-    def __init__(self, jobs: int, program: str, options: Sequence[str], folder: str) -> None:
-        self._jobs, self._program, self._options = max(1, jobs), program, list(options)
+    def __init__(self, jobs: int, searcher: Searcher, options: Sequence[str], folder: str) -> None:
+        self.searcher = searcher
+        self._jobs, self._options = max(1, jobs), list(options)
         self._folder = os.path.abspath(folder)
         self._job, self._starts, self._given = "", 0, 0
 
-    def each(self, count: int, model_of: ModelOf) -> Answers:
-        """The number of each model and its answer, as they come. Raises `EngineFailed` where Slurm keeps no worker."""
+    def each(self, count: int, text_of: TextOf) -> Answers:
+        """The number of each part and its answer, as they come. Raises `EngineFailed` where Slurm keeps no worker."""
         for name in ("open", "taken", "done", "new"):
             os.makedirs(os.path.join(self._folder, name), exist_ok=True)
         first = self._given
@@ -74,7 +74,7 @@ class SlurmCrew:
         waiting: Dict[str, int] = {}
         for at in range(count):
             waiting[f"{first + at:08}"] = at
-            self._give(f"{first + at:08}", model_of(at))
+            self._give(f"{first + at:08}", text_of(at))
         asked = time.monotonic() if self._job else 0.0
         while waiting:
             came = sorted(waiting.keys() & set(os.listdir(self._path("done"))))
@@ -97,10 +97,10 @@ class SlurmCrew:
     def _path(self, *names: str) -> str:
         return os.path.join(self._folder, *names)
 
-    def _give(self, name: str, model: Model) -> None:
+    def _give(self, name: str, text: str) -> None:
         """Gives out a part: it is there as a whole or not at all."""
         with open(self._path("new", name), "w", encoding="utf-8") as file:
-            file.write(model.text())
+            file.write(text)
         os.replace(self._path("new", name), self._path("open", name))
 
     def _answer(self, name: str) -> Answer:
@@ -146,7 +146,7 @@ class SlurmCrew:
 
     def _script(self) -> str:
         """The script of a worker."""
-        work = work_of(self._program, '"$((1$name - 100000000))"')
+        work = work_of(self.searcher.path, '"$((1$name - 100000000))"')
         return WORKER.format(
             jobs=self._jobs, folder=shlex.quote(self._folder), rests=int(IDLE / LOOK), look=LOOK, work=work
         )

@@ -12,10 +12,10 @@ from ..engines import Answer, EngineFailed
 from ..errors import JambulskegError, NoFirstSolution, Refused
 from ..model import Model, Solution, meets
 from ..program import Program, ProgramLike, program_of
-from ..records import Search
+from ..refine import Question
 from .crew import Crew
 from .day import Lists, Part, PartModel, Region, model_of_part
-from .mending import begun
+from .mending import Effort
 from .store import Store
 
 __all__ = ["NotSolved", "Round", "solve_parts"]
@@ -46,13 +46,13 @@ class NotSolved(JambulskegError):
 
 @dataclass(frozen=True)
 class Round:
-    """The parts that are solved side by side, and the search of each; the number names their answers. `lists` are the
+    """The parts that are solved side by side, and how each is searched; the number names their answers. `lists` are the
     routes that the vans of each part have so far."""
 
     region: Region
     number: int
     parts: Sequence[Part]
-    search: Search
+    effort: Effort
     lists: Optional[Sequence[Lists]] = None
 
     def name(self, at: int) -> str:
@@ -64,18 +64,22 @@ class PartModels:
     """The models of the parts of a round by their numbers; the latest are kept."""
 
     def __init__(self, asked: Round) -> None:
-        self._lists = asked.lists
+        self._lists, self._refine = asked.lists, asked.effort.refine
         self.make = lru_cache(maxsize=KEPT)(
-            lambda at: model_of_part(asked.region, asked.parts[at], asked.search)
+            lambda at: model_of_part(asked.region, asked.parts[at], asked.effort.search)
         )
 
     def __call__(self, at: int) -> PartModel:
         """The model of a part."""
         return self.make(at)
 
-    def begun(self, at: int) -> Model:
-        """The model that a part is solved by."""
-        return begun(self.make(at), None if self._lists is None else self._lists[at])
+    def text(self, at: int) -> str:
+        """What the searcher is given: the model, and if it refines, the routes that the vans have so far."""
+        model = self.make(at)
+        if self._refine is None:
+            return model.asked.text()
+        routes = None if self._lists is None else model.own(self._lists[at])
+        return Question(model.asked, routes, self._refine).text()
 
 
 def solve_parts(
@@ -92,7 +96,7 @@ def solve_parts(
     problems: Dict[int, JambulskegError] = {}
 
     def take(at: int, answer: Answer, *, keep: bool) -> None:
-        solution = checked(models.begun(at), answer, found)
+        solution = checked(models(at).asked, answer, found)
         if isinstance(solution, JambulskegError):
             problems[at] = solution
             return
@@ -109,7 +113,7 @@ def solve_parts(
         if not left:
             break
         try:
-            with closing(crew.each(len(left), lambda place: models.begun(left[place]))) as answers:
+            with closing(crew.each(len(left), lambda place: models.text(left[place]))) as answers:
                 for place, answer in answers:
                     take(left[place], answer, keep=True)
         except EngineFailed as problem:
