@@ -12,7 +12,7 @@ import time
 from dataclasses import dataclass, replace
 from enum import Enum
 from threading import Event
-from typing import Callable, List, Optional, Sequence, Tuple
+from typing import Callable, Iterable, List, Optional, Sequence, Tuple
 
 from .arguments import A_LIMIT, A_MODEL, asks, either, number
 from .errors import NoFirstSolution, Refused
@@ -223,7 +223,12 @@ def relax(model: Model) -> Tuple[Model, int]:
 def missing(model: Model, solution: Solution) -> List[int]:
     """The required visits that a solution of the relaxed model leaves out; of a group that makes fewer than it must,
     those that it leaves out."""
-    dropped = set(solution.dropped)
+    return missing_of(model, solution.dropped)
+
+
+def missing_of(model: Model, left_out: Iterable[int]) -> List[int]:
+    """Of visits that are left out, those that `missing` tells."""
+    dropped = set(left_out)
     left = dropped.intersection(required_visits(model))
     for group in model.groups:
         outside = dropped.intersection(group.nodes)

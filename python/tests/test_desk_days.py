@@ -13,7 +13,7 @@ from dataclasses import replace
 from typing import Any, Callable, Dict, List, Optional, Set, Tuple
 from unittest import mock
 
-from jambulskeg.complete import complete
+from jambulskeg.complete import CannotBeDriven, complete
 from jambulskeg.desk import Answer, Asker, BadChange, Edits, Folder, FolderInUse, OpenDay, State, Verdict, change_of
 from jambulskeg.desk.asking import lenient, merged
 from jambulskeg.desk.changes import Move, Within
@@ -30,6 +30,7 @@ from jambulskeg.errors import JambulskegError, NotJson, NotMet, ProgramFailed, R
 from jambulskeg.model import check, first, read_model, solve
 from jambulskeg.program import Program
 from jambulskeg.records import Allowed, Model
+from jambulskeg.refine import find as find_refine
 from jambulskeg.rounds import with_search
 from jambulskeg.view.day import Names
 
@@ -397,12 +398,34 @@ class AskingTests(unittest.TestCase):
             self.assertEqual(found.solution, complete(model, lists))
             self.assertEqual(check(model, found.solution).cost, found.solution.cost)
 
+    def test_both_programs_find_the_same(self) -> None:
+        rng, refining = random.Random(5), Program(find_refine())
+        for name in ("service-day", "pickups", "optional-pairs", "breaks-day"):
+            model = merged(model_named(name))
+            askers = Asker(model, PROGRAM), Asker(model, PROGRAM)
+            askers[0].refining, askers[1].refining = refining, None
+            lists = solve(model).lists()
+            for _ in range(6):
+                found = [self.found(asker, tupled(lists)) for asker in askers]
+                self.assertEqual(found[0], found[1], (name, lists))
+                for visits in lists:
+                    rng.shuffle(visits) if rng.random() < 0.2 else visits.pop() if visits else None
+
+    def found(self, asker: Asker, lists: Lists) -> Any:
+        """What an asker finds, or the exception that it raises."""
+        try:
+            return asker.judged(lists)
+        except NotMet as problem:
+            return problem.rule, problem.vehicle, problem.place
+        except CannotBeDriven as problem:
+            return problem.vehicle, problem.stop, problem.dimension
+
     def test_a_day_that_is_not_finished(self) -> None:
         model = model_named("savings")
         empty: Tuple[Tuple[int, ...], ...] = tuple(() for _ in model.vehicles)
         found = Asker(model, PROGRAM).judged(empty)
         self.assertEqual((found.is_fine, len(found.missing)), (False, len(model.visits())))
-        self.assertRaises(NotMet, Asker(model, PROGRAM).judged, ((1, 1), *empty[1:]))
+        self.assertRaises((NotMet, Refused), Asker(model, PROGRAM).judged, ((1, 1), *empty[1:]))
         self.assertFalse(any(group.penalty is None for group in lenient(model).groups))
 
     def test_random_days_are_judged_as_the_whole_is(self) -> None:

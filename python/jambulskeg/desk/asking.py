@@ -1,7 +1,7 @@
 """What lists of visits cost, asked of the program: `Asker.judged` is the one place that a changed day goes through.
 
-The schedules of routes are completed here and kept while the model stays as it is, so a change completes the routes
-that it changes alone. Then the program checks the whole day. A later program may serve in place of `check` here.
+vr_refine prices the lists. Where it is not at hand, the schedules of routes are completed here, and kept while the
+model stays as it is, so a change completes the routes that it changes alone; then vr_cli checks the whole day.
 """
 
 from __future__ import annotations
@@ -17,11 +17,13 @@ from dataclasses import dataclass, replace
 from typing import Dict, List, Optional, Sequence, Tuple
 
 from ..complete import route_of, solution_of_routes
-from ..errors import ProgramFailed
+from ..errors import NotMet, ProgramFailed
 from ..kinds import Matrix
+from ..model import solution_of
 from ..program import Program, answer, tree_of
 from ..records import Group, Model
-from ..rescue import missing, required_visits
+from ..refine import at_hand
+from ..rescue import missing, missing_of, required_visits
 from ..solution import Route, Solution
 from .states import Lists
 
@@ -93,14 +95,14 @@ class Texts:
 
 
 class Held:
-    """A model in a file without a name, which the program reads together with the solution that is checked; so what
-    never changes is handed over once."""
+    """A model in a file without a name, which the program reads together with what it is asked about; so what never
+    changes is handed over once."""
 
     def __init__(self, text: str) -> None:
         self._file, path = tempfile.mkstemp()
         os.unlink(path)
         weakref.finalize(self, os.close, self._file)
-        self._length = self._written(f'{{"model":{text},"solution":', 0)
+        self._length = self._written(f'{{"model":{text},', 0)
         self._lock = threading.Lock()
 
     def _written(self, text: str, place: int) -> int:
@@ -114,10 +116,18 @@ class Held:
 
     def check(self, program: Program, solution: Solution) -> None:
         """Asks whether a solution meets the model. Raises `NotMet`, and as `Program.run` does."""
+        self._asked(program, "check", f'"solution":{solution.text()}')
+
+    def price(self, program: Program, lists: Lists) -> Solution:
+        """What lists cost, by vr_refine. Raises `NotMet`, and as `Program.run` does."""
+        return solution_of(self._asked(program, "price", f'"routes":{json.dumps(lists)}'))
+
+    def _asked(self, program: Program, word: str, field: str) -> object:
+        """What a program answers about the model and a further field."""
         with self._lock:
-            self._written(f"{solution.text()}}}", self._length)
+            self._written(f"{field}}}", self._length)
             os.lseek(self._file, 0, os.SEEK_SET)
-            tree_of(run_on(program, ["check"], self._file))
+            return tree_of(run_on(program, [word], self._file))
 
 
 def run_on(program: Program, words: Sequence[str], file: int) -> str:
@@ -132,10 +142,10 @@ def run_on(program: Program, words: Sequence[str], file: int) -> str:
 
 
 class Asker:
-    """Asks the program about days of one model, for one thread at a time."""
+    """Asks the program about days of one model, for one thread at a time; `refining` is the vr_refine beside it."""
 
     def __init__(self, model: Model, program: Program, texts: Optional[Texts] = None) -> None:
-        self.model, self.program = model, program
+        self.model, self.program, self.refining = model, program, at_hand(program)
         self._texts = texts or Texts()
         self._lock = threading.Lock()
         self._routes: "OrderedDict[Tuple[int, Tuple[int, ...]], Route]" = OrderedDict()
@@ -155,9 +165,21 @@ class Asker:
         Raises `CannotBeDriven` where a list has no schedule, `NotMet` with the rule that is broken otherwise, and what
         `Program.run` raises.
         """
+        if self.refining is not None:
+            return self.priced(lists, self.refining)
         found = self.reckoned(lists)
         self.check(found)
         return found
+
+    def priced(self, lists: Lists, refining: Program) -> Verdict:
+        """The same by vr_refine. Raises as `judged` does."""
+        made = {node for visits in lists for node in visits}
+        left = tuple(missing_of(self.model, (node for node in self.model.visits() if node not in made)))
+        try:
+            return Verdict(self._held_for(bool(left)).price(refining, lists), left)
+        except NotMet:
+            self.reckoned(lists)  # where a route cannot be driven, this raises at the stop
+            raise
 
     def reckoned(self, lists: Lists) -> Verdict:
         """The same, without asking the program. Raises `CannotBeDriven`."""
@@ -176,8 +198,11 @@ class Asker:
 
     def check(self, found: Verdict) -> None:
         """Asks whether what was reckoned is so; any thread may. Raises `NotMet`, and as `Program.run` does."""
-        is_lenient = bool(found.missing)
+        self._held_for(bool(found.missing)).check(self.program, found.solution)
+
+    def _held_for(self, is_lenient: bool) -> Held:
+        """The model as the program reads it, or the one in which all visits may be left out."""
         with self._lock:
             if is_lenient not in self._held:
                 self._held[is_lenient] = Held(self._texts.of(lenient(self.model) if is_lenient else self.model))
-        self._held[is_lenient].check(self.program, found.solution)
+            return self._held[is_lenient]

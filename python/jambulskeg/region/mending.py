@@ -16,16 +16,18 @@ from collections import Counter
 from dataclasses import dataclass, replace
 from typing import Dict, FrozenSet, List, Mapping, Optional, Sequence, Set, Tuple
 
-from ..records import First, Improve, Refine, Search
+from ..records import First, Improve, Model, Refine, Search
 from .day import Part, Region
 from .near import Links, links_of
 
-__all__ = ["Effort", "Shape", "Standing", "applied", "effort_of", "first_effort", "groups_of"]
+__all__ = ["Effort", "Shape", "Standing", "applied", "effort_of", "first_effort", "groups_of", "warmed"]
 
 LAMBDAS = ((1, 5), (1, 20), (1, 10), (1, 3))
 """The weights of penalties, which change from round to round."""
 MOVES_OF_A_STEP = 300
 """A step of ruin and recreate takes about as long as so many moves."""
+WARMTH = 0.1
+"""How much dearer a search may make routes at first, from which it goes on, as a share of their mean arc."""
 MANY = 50_000
 """So many tries for each visit are many."""
 OF_ONE_PART = 0.3
@@ -86,6 +88,15 @@ def effort_of(number: int, tries: int, refines: bool) -> Effort:
         first=First.PATH_CHEAPEST_ARC, improve=Improve.GUIDED_LOCAL_SEARCH, tries=tries,
         lambda_=LAMBDAS[number % len(LAMBDAS)],
     ))
+
+
+def warmed(refine: Refine, model: Model, routes: Sequence[Sequence[int]]) -> Refine:
+    """What is asked of a search that goes on from routes, with the heat for them."""
+    arcs = [
+        model.arc_cost(vehicle, tail, head) for vehicle, visits in enumerate(routes) if visits
+        for tail, head in zip([model.vehicles[vehicle].start, *visits], [*visits, model.vehicles[vehicle].end])
+    ]
+    return replace(refine, heat=int(WARMTH * sum(arcs) / max(1, len(arcs))))
 
 
 def groups_of(

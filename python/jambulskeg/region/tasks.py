@@ -15,7 +15,7 @@ from ..program import Program, ProgramLike, program_of
 from ..refine import Question
 from .crew import Crew
 from .day import Lists, Part, PartModel, Region, model_of_part
-from .mending import Effort
+from .mending import Effort, warmed
 from .store import Store
 
 __all__ = ["NotSolved", "Round", "solve_parts"]
@@ -78,8 +78,10 @@ class PartModels:
         model = self.make(at)
         if self._refine is None:
             return model.asked.text()
-        routes = None if self._lists is None else model.own(self._lists[at])
-        return Question(model.asked, routes, self._refine).text()
+        if self._lists is None:
+            return Question(model.asked, refine=self._refine).text()
+        routes = model.own(self._lists[at])
+        return Question(model.asked, routes, warmed(self._refine, model.asked, routes)).text()
 
 
 def solve_parts(
