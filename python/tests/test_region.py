@@ -14,14 +14,15 @@ import sys
 import tempfile
 import unittest
 from dataclasses import replace
-from typing import Callable, Iterator, List, Optional, Sequence, Tuple
+from typing import Any, Callable, Dict, Iterator, List, Optional, Sequence, Tuple
 from unittest import mock
 
 from jambulskeg.__main__ import main
 from jambulskeg.engines import Answer, EngineFailed
-from jambulskeg.errors import NoMemory, Refused
+from jambulskeg.errors import NoFirstSolution, NoMemory, Refused
 from jambulskeg.model import check
 from jambulskeg.places import BadTable, Place, Roads, Van
+from jambulskeg.program import find
 from jambulskeg.records import Model
 from jambulskeg.region import (
     Asked, BadRoads, Checked, CheckedPart, Crew, Entry, FolderTaken, NotSolved, OwnCrew, ParallelCrew, Part, PartModel,
@@ -30,8 +31,9 @@ from jambulskeg.region import (
 )
 from jambulskeg.region.checking import once
 from jambulskeg.region.crew import Answers, TextOf
-from jambulskeg.region.mending import groups_of
+from jambulskeg.region.mending import WARMTH, effort_of, first_effort, groups_of
 from jambulskeg.region.near import links_of, nearest
+from jambulskeg.region.tasks import Round, solve_parts
 from jambulskeg.solution import Solution
 
 from .region_support import ROAD_WORDS, made_region, write_tables
@@ -391,6 +393,9 @@ class ResumeTests(unittest.TestCase):
                 plan(self.region, SMALL, OwnCrew(2), store)
             with self.assertRaisesRegex(RunDiffers, "other tables"):
                 plan(self.region, replace(SMALL, most=50), OwnCrew(2), store, resume=True)
+            other = OwnCrew(2, Searcher("vr", not Searcher.found().refines))
+            with self.assertRaisesRegex(RunDiffers, "searched by another program"):
+                plan(self.region, SMALL, other, store, resume=True)
             done = plan(self.region, SMALL, OwnCrew(2), store, resume=True)
             again = plan(self.region, SMALL, Backwards(stop), store, resume=True)
             self.assertEqual(again, done)
@@ -454,6 +459,40 @@ class CrewTests(unittest.TestCase):
         with engine_on_path("sbatch", "import sys; sys.stderr.write('no such partition\\n')"):
             with self.assertRaisesRegex(NotSolved, "sbatch took no job; it said: no such partition"):
                 planned(made_region(60), SMALL, SlurmCrew(1, Searcher("vr_cli"), [], "crew"))
+
+
+class RefiningTests(unittest.TestCase):
+    def test_what_the_searcher_is_given(self) -> None:
+        region = made_region(40)
+        part, lists = Part(tuple(region.visits), (0, 1)), ((5, 9, 2), ())
+        texts: List[Dict[str, Any]] = []
+
+        class Reads(Backwards):
+            """A crew that reads what it is given, and has no answer."""
+
+            def each(self, count: int, text_of: TextOf) -> Answers:
+                texts.append(json.loads(text_of(0)))
+                yield 0, NoFirstSolution("none")
+
+        for effort, routes in ((first_effort(9000, 40, True), None), (effort_of(7, 9000, True), [lists]),
+                               (effort_of(7, 9000, False), [lists])):
+            with kept() as store:
+                solve_parts(Round(region, 0, [part], effort, routes), Reads(), store, lambda at, model, found: at)
+        first, seam, anew = texts
+        self.assertEqual((first["refine"], "routes" in first), ({}, False))
+        self.assertEqual((seam["refine"]["seed"], seam["routes"]), (7, [[5, 9, 2], []]))
+        self.assertEqual(seam["model"]["search"]["tries"], 18)
+        ways = [0, *lists[0], 0]
+        mean = sum(round(math.dist(region.points[one], region.points[other])) for one, other in zip(ways, ways[1:])) / 4
+        self.assertAlmostEqual(seam["refine"]["heat"], WARMTH * mean, delta=2)
+        self.assertEqual((set(anew) & {"model", "routes", "refine"}, anew["search"]["tries"]), (set(), 9000))
+
+    @unittest.skipUnless(Searcher.found().refines, "the vr_refine at hand does not know ruin and recreate")
+    def test_going_on_is_cheaper(self) -> None:
+        region = made_region(150)
+        found = planned(region, SMALL)
+        anew = planned(region, replace(SMALL, shape=Shape.usual(False)), OwnCrew(2, Searcher(find())))
+        self.assertLess(found.journal[-1].cost, anew.journal[-1].cost)
 
 
 class RoadTests(unittest.TestCase):

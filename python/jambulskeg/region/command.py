@@ -46,10 +46,11 @@ def add_amounts(command: argparse.ArgumentParser) -> None:
                          help="moves tried in all, in place of what the seconds allow; no clock ends the plan then")
     command.add_argument("--most", type=jobs_of, default=MOST_VISITS, metavar="N",
                          help=f"visits of a part at most; {MOST_VISITS}")
-    shape = Shape()
+    own, refined = Shape.usual(False), Shape.usual(True)
     command.add_argument(
-        "--seam", type=jobs_of, nargs=2, default=(shape.routes, shape.visits), metavar=("ROUTES", "VISITS"),
-        help=f"routes and visits of a seam at most; {shape.routes} and {shape.visits}",
+        "--seam", type=jobs_of, nargs=2, metavar=("ROUTES", "VISITS"),
+        help=f"routes and visits of a seam at most; {refined.routes} and {refined.visits}, without vr_refine "
+        f"{own.routes} and {own.visits}",
     )
     command.add_argument("--no-seams", action="store_true", help="the parts alone")
 
@@ -122,7 +123,8 @@ def run_of(asked: argparse.Namespace, tables: RegionTables) -> Tuple[Planned, Ch
 
 def amounts_of(asked: argparse.Namespace) -> Asked:
     """What is asked of the plan."""
-    return Asked(asked.seconds, asked.jobs, asked.tries, asked.most, Shape(*asked.seam), not asked.no_seams)
+    shape = Shape(*asked.seam) if asked.seam else None
+    return Asked(asked.seconds, asked.jobs, asked.tries, asked.most, shape, not asked.no_seams)
 
 
 def crew_of(asked: argparse.Namespace, store: Store) -> Crew:

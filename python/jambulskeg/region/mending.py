@@ -24,10 +24,11 @@ __all__ = ["Effort", "Shape", "Standing", "applied", "effort_of", "first_effort"
 
 LAMBDAS = ((1, 5), (1, 20), (1, 10), (1, 3))
 """The weights of penalties, which change from round to round."""
-MOVES_OF_A_STEP = 300
+MOVES_OF_A_STEP = 500
 """A step of ruin and recreate takes about as long as so many moves."""
-WARMTH = 0.1
-"""How much dearer a search may make routes at first, from which it goes on, as a share of their mean arc."""
+WARMTH = 0.3
+"""How much dearer a search may make routes at first, from which it goes on, as a share of their mean arc. With 600
+visits a third and a tenth of that came out 1 percent dearer."""
 MANY = 50_000
 """So many tries for each visit are many."""
 OF_ONE_PART = 0.3
@@ -40,8 +41,13 @@ MOST_LEFT = 20
 class Shape:
     """How large a part of routes is: the most routes, and the most visits."""
 
-    routes: int = 3
-    visits: int = 75
+    routes: int
+    visits: int
+
+    @classmethod
+    def usual(cls, refines: bool) -> "Shape":
+        """The shape where nothing else is asked for: larger if the search goes on from the routes as they are."""
+        return cls(6, 120) if refines else cls(3, 75)
 
 
 @dataclass(frozen=True)

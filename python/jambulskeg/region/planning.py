@@ -57,14 +57,15 @@ class RunDiffers(JambulskegError, ValueError):
 @dataclass(frozen=True)
 class Asked:
     """What is asked of a plan: the seconds for all of it and the processes at a time, from which follow the moves that
-    are tried in all, or these moves (`tries`; no clock ends the plan then); how large parts and seams are at most.
+    are tried in all, or these moves (`tries`; no clock ends the plan then); how large parts and seams are at most. By
+    itself a seam has the usual shape for the program that searches it.
     """
 
     seconds: float = 60
     jobs: int = 1
     tries: Optional[int] = None
     most: int = MOST_VISITS
-    shape: Shape = Shape()
+    shape: Optional[Shape] = None
     seams: bool = True
 
     def budget(self) -> int:
@@ -168,12 +169,13 @@ class Run:
     ) -> None:
         self._region, self._asked, self._crew, self._store = region, asked, crew, store
         self._program, self._progress, self._refines = program, progress, crew.searcher.refines
+        self._shape = asked.shape or Shape.usual(self._refines)
         self._began, self._before = time.monotonic(), 0.0
         self._near: Dict[int, List[int]] = {}
 
     def found(self, resume: bool) -> Optional[Planned]:
         """The state that the folder has, None where it has none. Raises `RunDiffers`."""
-        head = {"digest": digest_of(self._region, self._asked, self._refines)}
+        head = {"digest": digest_of(self._region, self._asked, self._shape, self._refines)}
         old, state = self._store.read("asked.json"), self._store.read("state.json")
         if old is not None and not resume and not (state or {}).get("ended"):
             raise RunDiffers(
@@ -251,7 +253,7 @@ class Run:
 
     def _tries(self, state: Planned) -> int:
         """The tries of a seam."""
-        seams = max(1, len(state.standing.used()) // self._asked.shape.routes)
+        seams = max(1, len(state.standing.used()) // self._shape.routes)
         first = int(self._asked.budget() * (1 - CUTTING_SHARE)) // (PASSES * seams)
         return min(MOST_TRIES, max(FEWEST_TRIES, min(FIRST_TRIES, first)) * LEVELS[min(state.level, len(LEVELS) - 1)])
 
@@ -264,7 +266,7 @@ class Run:
         parts = []
         if len(standing.awake.intersection(used)) > RESTED * len(used):
             parts = groups_of(
-                region, standing, self._near, number, self._asked.shape, seams_alone=state.level < ALL_FROM
+                region, standing, self._near, number, self._shape, seams_alone=state.level < ALL_FROM
             )
         if not parts:
             return replace(state, level=state.level + 1, standing=replace(standing, awake=frozenset(used)))
@@ -321,7 +323,7 @@ def gain(model: PartModel, solution: Optional[Solution], lists: Sequence[Sequenc
     return Outcome(model.lists(solution), solution.cost - before.cost - missing * model.duty, missing)
 
 
-def digest_of(region: Region, asked: Asked, refines: bool) -> str:
+def digest_of(region: Region, asked: Asked, shape: Shape, refines: bool) -> str:
     """A digest of the tables and of all that a plan depends on."""
-    what = region, asked.budget(), asked.most, asked.shape, asked.seams, refines
+    what = region, asked.budget(), asked.most, shape, asked.seams, refines
     return hashlib.sha256(repr(what).encode("utf-8", "surrogatepass")).hexdigest()
