@@ -1,8 +1,9 @@
 """python3 tests/measure_region.py [VISITS ..], by hand: seconds, memory and cost of regions by region_support's rule.
 
 Each region gets the tries of 60 seconds on four processors for 10,000 visits, in proportion to its visits. With the
-word `alone` the parts get all tries and no seams; with `once`, up to 999 visits are one run of the program with as many
-tries as a model may ask for. README.md has what it printed; `picture` reads such rows and writes their drawing.
+word `alone` the parts get all tries and no seams; with `anew` vr_cli searches all parts, also if vr_refine is at hand;
+with `once`, up to 999 visits are one run of vr_cli with as many tries as a model may ask for. README.md has what it
+printed; `picture` reads such rows and writes their drawing.
 """
 
 from __future__ import annotations
@@ -20,8 +21,9 @@ sys.path.insert(0, os.path.dirname(os.path.dirname(os.path.abspath(__file__))))
 
 from jambulskeg.model import solve
 from jambulskeg.places import model_of
+from jambulskeg.program import find
 from jambulskeg.records import MOST_TRIES, First, Improve, Search
-from jambulskeg.region import Asked, OwnCrew, RegionTables, Store, check_plan, plan, region_page
+from jambulskeg.region import Asked, OwnCrew, RegionTables, Searcher, Store, check_plan, plan, region_page
 from tests.region_support import made_region
 
 JOBS = 4
@@ -35,19 +37,20 @@ def used() -> float:
     return sum(entry.ru_utime + entry.ru_stime for entry in found)
 
 
-def measured(visits: int, seams: bool) -> None:
+def measured(visits: int, seams: bool, searcher: Searcher) -> None:
     """Plans a region and prints what it took."""
     region, began, before = made_region(visits), time.monotonic(), used()
     tables = RegionTables.of(region)
     with tempfile.TemporaryDirectory() as folder, contextlib.closing(Store(folder)) as store:
         asked = Asked(jobs=JOBS, tries=WHOLE * visits // 10000, seams=seams)
-        found = plan(region, asked, OwnCrew(JOBS), store)
+        found = plan(region, asked, OwnCrew(JOBS, searcher), store)
         whole = check_plan(tables, found.standing, jobs=JOBS, store=store, sheets=True)
         page = region_page(tables, whole, found, "A region", "")
     seconds, first = used() - before, found.journal[0]
     most = resource.getrusage(resource.RUSAGE_SELF).ru_maxrss // 1024
+    words = ("" if seams else ", parts alone") + ("" if searcher.refines else ", anew")
     print(
-        f"| {visits:,}{'' if seams else ', parts alone'} | {time.monotonic() - began:.0f} | {seconds:.0f} | "
+        f"| {visits:,}{words} | {time.monotonic() - began:.0f} | {seconds:.0f} | "
         f"{seconds / JOBS:.0f} | {most} | {len(found.parts)} | {first.cost:,} | {whole.cost:,} | "
         f"{100 - 100 * whole.cost / first.cost:.1f} % | {len(whole.days())} | {len(whole.missing)} | "
         f"{len(page.encode()) // 1024} KB | {os.getloadavg()[0]:.0f} |", flush=True
@@ -99,21 +102,16 @@ def rows_of(lines: Sequence[str]) -> List[Tuple[int, float, float]]:
     return [(int(row[0]), float(row[2]), float(row[7])) for row in cells if row[0].isdigit()]
 
 
-def words_of(words: Sequence[str]) -> Tuple[List[int], bool, bool]:
-    """The sizes, whether parts are alone, and whether one run is beside them."""
-    sizes = [int(word) for word in words if word.isdigit()]
-    return sizes or [1000, 2000, 5000], "alone" in words, "once" in words
-
-
 def main() -> None:
     """Measures what is asked for."""
     if sys.argv[1:] == ["picture"]:
         print(picture(rows_of(sys.stdin.readlines())))
         return
-    sizes, is_alone, is_once = words_of(sys.argv[1:])
-    for visits in sizes:
-        measured(visits, not is_alone)
-        if is_once:
+    words = sys.argv[1:]
+    searcher = Searcher(os.path.abspath(find())) if "anew" in words else Searcher.found()
+    for visits in [int(word) for word in words if word.isdigit()] or [1000, 2000, 5000]:
+        measured(visits, "alone" not in words, searcher)
+        if "once" in words:
             once(visits)
 
 

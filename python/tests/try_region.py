@@ -125,10 +125,10 @@ def strike(kind: str, process: "subprocess.Popen[str]", moment: float) -> str:
 
 
 def child_of(parent: int) -> Optional[int]:
-    """A program vr_cli that a process has started."""
+    """A search that a process has started."""
     lines = run("ps", "-eo", "pid,ppid,comm").stdout.splitlines()[1:]
     rows = [line.split() for line in lines]
-    return next((int(pid) for pid, owner, name, *_ in rows if int(owner) == parent and name == "vr_cli"), None)
+    return next((int(pid) for pid, owner, name, *_ in rows if int(owner) == parent and name.startswith("vr_")), None)
 
 
 def main(words: Sequence[str]) -> None:
