@@ -87,9 +87,10 @@ def plan_day(
 ) -> Planned:
     """The plan of a day, searched for about `seconds`, by `jobs` searches at a time.
 
-    One of them is `rescue`, the others are those of portfolios; `progress` is told of each cheaper solution. Once the event `stop` is set, the best plan so far is the answer. Each driver leaves as late as the plan
-    lets him, if that is no dearer. Raises `Refused` if the model has a fault, `NoFirstSolution` if nothing is found,
-    `Stopped`, and what the program raises.
+    One of them is `rescue`, the others are those of portfolios; `progress` is told of each cheaper solution. Once the
+    event `stop` is set, the best plan so far is the answer. Each driver leaves as late as the plan lets him, if that is
+    no dearer. Raises `Refused` if the model has a fault, `NoFirstSolution` if nothing is found, `Stopped`, and what the
+    program raises.
     """
     model = model_of_day(tables, roads, GUIDED)
     looks = (*tables.doubts, *(named(tables, doubt.sentence) for doubt in doubts(model)))

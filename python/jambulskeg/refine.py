@@ -27,8 +27,8 @@ from .records import Model, Refine, Search, Vehicle
 from .solution import Solution
 
 __all__ = [
-    "BESIDE", "QUESTIONS", "Question", "Refine", "Routes", "at_hand", "begin", "belonging", "find", "price", "program_of", "refines",
-    "solve",
+    "BESIDE", "QUESTIONS", "Question", "Refine", "Routes", "at_hand", "begin", "belonging", "find", "price",
+    "program_of", "refines", "solve",
 ]
 
 NAME = "vr_refine"

@@ -339,6 +339,19 @@ class LargeDayTests(DayTests):
         self.awaited(day)
         self.assertEqual(self.again(day.identity).step.is_fine, False)
 
+    def test_a_day_that_is_opened_again_is_asked_about_soon(self) -> None:
+        day = self.three_vans()
+        self.assertTrue(self.move(day, "Ada", 0).is_made)
+        seen = told(day)
+        for check in (mock.DEFAULT, ProgramFailed("it was killed")):
+            again = self.again(day.identity)
+            entries = len(again.journal.entries)
+            with mock.patch.object(Asker, "check", side_effect=[check]):
+                first = told(again)
+                self.awaited(again)
+            self.assertEqual((first["cost"], first["status"]), (seen["cost"], "checking"))
+            self.assertEqual((told(again)["status"], len(again.journal.entries)), ("unfinished", entries))
+
     def test_what_the_whole_day_breaks_is_undone(self) -> None:
         day = self.three_vans()
         day.verdict()

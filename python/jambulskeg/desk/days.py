@@ -170,10 +170,22 @@ class OpenDay:
             return self._verdicts[key]
 
     def known(self, number: Optional[int] = None) -> Verdict:
-        """The same, where the program was perhaps asked about the vans alone that the step touches."""
+        """The same, where the program was perhaps asked about the vans alone that the step touches. Of a large day that
+        was opened again, a step that the program was asked about before is reckoned first, and asked about soon."""
         with self.lock:
-            draft = self._drafts.get(self.at if number is None else number)
+            key = self.at if number is None else number
+            is_new = key not in self._verdicts and key not in self._drafts
+            if is_new and self.basis.model.nodes >= LARGE and self.steps[key].is_fine is not None:
+                state = self.steps[key].state
+                self.keep_draft(key, self.asker(state.edits).reckoned(state.lists))
+                self.check_soon()
+            draft = self._drafts.get(key)
             return self.verdict(number) if draft is None else draft
+
+    def keep_draft(self, number: int, verdict: Verdict) -> None:
+        """Keeps what was reckoned of a step, until the program was asked about the whole of it."""
+        self._drafts[number] = verdict
+        self._drafts = dict(list(self._drafts.items())[-MOST_VERDICTS:])
 
     @property
     def is_draft(self) -> bool:
@@ -230,8 +242,7 @@ class OpenDay:
         if is_whole:
             self.keep(number, verdict)
         else:
-            self._drafts[number] = verdict
-            self._drafts = dict(list(self._drafts.items())[-MOST_VERDICTS:])
+            self.keep_draft(number, verdict)
             self.check_soon()
         return Answer(True, number, capital(words), before=before)
 
@@ -277,10 +288,13 @@ class OpenDay:
         self._drafts.pop(number, None)
         if problem is None:
             self.keep(number, draft)
-            self.steps[number] = replace(self.steps[number], is_fine=draft.is_fine)
-            self.journal.append({"do": "checked", "number": number, "fine": draft.is_fine})
+            if self.steps[number].is_fine != draft.is_fine:
+                self.steps[number] = replace(self.steps[number], is_fine=draft.is_fine)
+                self.journal.append({"do": "checked", "number": number, "fine": draft.is_fine})
         if not isinstance(problem, NotMet):
-            return  # after an accident the program is asked once more when the step is told
+            if problem is not None:  # after an accident the program is asked once more when the step is told
+                self.steps[number] = replace(self.steps[number], is_fine=None)
+            return
         state = self.steps[number].state
         self.notice = f"Undone: {sentence_of(problem, state.lists, self.within_of(state))}"
         if self.at == number:

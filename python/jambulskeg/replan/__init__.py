@@ -4,7 +4,7 @@
     found = rescue(rest.model, solver=timed_solver(10))
     whole = glue(rest.day, rest, found.solution)
 
-or, from the routes of the morning and with their plan as a second candidate, `solve_rest(rest, from_morning(10)).whole`.
+or, from the routes of the morning, with their plan as a second candidate, `solve_rest(rest, from_morning(10)).whole`.
 """
 
 from .answering import Replanned, RestSolver, from_morning, going_on, searched, solve_rest
