@@ -5,7 +5,7 @@ from __future__ import annotations
 import argparse
 import json
 import sys
-from typing import Any, Iterator, List, Optional
+from typing import Any, Iterator, List, Optional, Tuple
 
 from ..errors import NotMet, ProgramMissing, Refused
 from ..findings import PARTS
@@ -114,7 +114,7 @@ def run_refine(asked: argparse.Namespace) -> int:
     return stop.status
 
 
-def looked_at(asked: argparse.Namespace, model: Model, lists: Any) -> "tuple[Optional[Solution], List[str]]":
+def looked_at(asked: argparse.Namespace, model: Model, lists: Any) -> Tuple[Optional[Solution], List[str]]:
     """The solution of a plan, or why there is none, in a line."""
     try:
         return priced(asked, model, lists), []
