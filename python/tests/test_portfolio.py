@@ -146,13 +146,14 @@ class PortfolioTests(unittest.TestCase):
         self.assertFalse(Outcome(model.search, found[0].solution).is_accident)
 
     def test_each_search_that_has_ended_is_told(self) -> None:
-        model, watched = small(), []
+        model, own = small(), OwnProcesses(2)
+        watched: List[Ended] = []
         watch: Callable[[Ended], None] = watched.append
-        engine: TellingEngine = OwnProcesses(2)
+        engine: TellingEngine = own
         told: Told = lambda number, answered: None
         tasks: List[Task] = [model]
         self.assertEqual(engine.run_all(tasks, None, told), [solve(model)])
-        found = portfolio(model, engine, progress=watch)
+        found = portfolio(model, own, progress=watch)
         count = len(found.outcomes)
         ended = [(entry.ended, entry.searches) for entry in watched]
         self.assertEqual(ended, [(number, count) for number in range(1, count + 1)])
