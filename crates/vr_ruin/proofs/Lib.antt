@@ -14,3 +14,9 @@ pub mod CuttingLemmas
 pub mod SearchLemmas
 pub mod AdvanceLemmas
 pub mod BeginLemmas
+pub mod IncreaseLemmas
+pub mod TimelessLemmas
+pub mod CarryingLemmas
+pub mod InsertedLemmas
+pub mod KnownLemmas
+pub mod RoomLemmas

@@ -64,7 +64,7 @@ two-all : (q : ℕ → Bool) (xs ms zs : List ℕ) (p d : ℕ) → q p ≡ true 
 two-all q xs ms zs p d e f h =
     one-all q xs (ms ++ d ∷ zs) p e (ap (list_all q) (sym (append_assoc xs ms (d ∷ zs))) ∙ one-all q (xs ++ ms) zs d f (ap (list_all q) (append_assoc xs ms zs) ∙ h))
 
-split-three : (list : List ℕ) (s t : ℕ) → s ≤ t → take s list ++ (slice_range list s t ++ drop t list) ≡ list
+pub split-three : (list : List ℕ) (s t : ℕ) → s ≤ t → take s list ++ (slice_range list s t ++ drop t list) ≡ list
 split-three list s t h = ap (λ rest. take s list ++ rest) (sym (drop_split list s t h)) ∙ take-append-drop s list
 
 -- ---- an item put into a list

@@ -13,3 +13,7 @@ pub mod Cuttings
 pub mod Steppers
 pub mod Searching
 pub mod Answers
+pub mod Increases
+pub mod Timeless
+pub mod Carrying
+pub mod Known

@@ -1,54 +1,126 @@
 //! The best place of an item in one route.
 
-ghost use Rattle.std.specs.Prelude.{◌≡◌, ◌<◌, ◌≤◌, IfOk, IsTrue, None, length, map, suc};
-ghost use Rattle.std.specs.List.{list_all};
+ghost use Rattle.std.specs.Prelude.{◌≡◌, ◌<◌, ◌≤◌, ◌≤ℤ◌, ◌^◌, IfOk, IsTrue, None, length, map, pos, suc};
+ghost use Rattle.std.specs.Prelude.{◌&&◌};
+ghost use Rattle.std.specs.List.{list_all, list_any};
 ghost use Rattle.vr_model.specs.routes.Costs.{assigned, parts_at};
 ghost use Rattle.vr_model.specs.routes.Routes.{is_distinct};
 ghost use Rattle.vr_model.specs.tables.Numbers.{from_to};
-ghost use Rattle.vr_model.specs.tables.Tables.{is_visit};
+ghost use Rattle.vr_model.specs.tables.Tables.{dimension_at, is_visit, vehicle_at};
 ghost use Rattle.vr_model.specs.tables.WellFormed.{IsWellFormed};
 ghost use Rattle.vr_rules.specs.Placing.{fits_beside, item_nodes, AreBuilt};
 ghost use Rattle.vr_rules.specs.Totals.{AreInRange};
-ghost use Rattle.vr_model.specs.routes.Rules.{is_route_open};
+ghost use Rattle.vr_lists.specs.Pairs.{keeps_pairs as keeps_pairs_of};
+ghost use Rattle.vr_model.specs.routes.Rules.{allows_vehicle, is_grouped as is_grouped_of, is_route_open};
 ghost use Rattle.vr_ruin.specs.Placings.{best_of, item_in, offer_for, placed, placings_of, weigh as weigh_of};
+ghost use Rattle.vr_ruin.specs.Carrying.{carries_all, AreLoads};
+ghost use Rattle.vr_ruin.specs.Known.{shared_of, IsEndWithin, IsKnownList, IsReady};
 ghost use Rattle.vr_ruin.specs.Placings.{AreWithin, MayHold};
+ghost use Rattle.vr_ruin.specs.Timeless.{costs_no_time as costs_no_time_in, is_timeless as is_timeless_of};
 ghost use Rattle.vr_ruin.specs.declared.placing.Placing.TheVariants.{Two};
 ghost use Rattle.vr_rules.specs.declared.items.Item.TheVariants.{PickupAndDelivery, Visit};
 
+use crate::carrying::Carrier;
+use crate::increase::{Driven, increase_of};
+use crate::known::{Changed, KnownRoute, goes_in_each};
 use crate::placing::{Offer, Placing, improves, write_placed};
 use std::alloc::Global;
 use std::marker::Model;
-use vr_lists::NodeTables;
+use vr_lists::{NodeTables, PairPlaces, keeps_pairs};
 use vr_model::{NoMemory, Parts, Seq};
 use vr_plan::Lookups;
+use vr_reach::{Stretch, Walk};
 use vr_routes::Routes;
-use vr_rules::{Item, Rules, active_marks, arcs_of_route, groups_have_room};
+use vr_rules::{Item, Rules, active_marks, groups_have_room};
 
 /// What is asked of one route after another. Contracts see the model.
 #[derive(Drop)]
 pub(crate) struct Asker<'m> {
     lookups: Lookups<'m>,
     rules: Rules<'m>,
-    // a list with an item placed in it; it is written over
+    carrier: Carrier,
+    // whether no schedules cost anything
+    timeless: bool,
+    // a list with an item placed in it, and what is written over where it is tested
     longer: Seq<u32>,
+    walk: Walk,
+    pairs: PairPlaces,
 }
 
 impl<'m> Model for Asker<'m> {
-    ghost use Rattle.std.specs.Prelude.{◌≡◌};
     ghost use Rattle.vr_model.specs.declared.records.Model.{Model as Defined};
+    ghost use Rattle.vr_ruin.specs.Timeless.{IsAsker};
 
     ghost Value = { Defined };
 
     ghost view = { λ a. a.lookups.closed.model.now };
 
-    ghost invariant = { λ a. a.rules ≡ a.lookups.closed.model.now };
+    ghost invariant = { λ a. IsAsker a.lookups.closed.model.now a.rules a.carrier a.timeless };
 }
 
-/// The list of a vehicle.
+/// The list of a vehicle, the rows of which are known.
 #[derive(Clone, Copy)]
-pub(crate) struct VehicleList<'l> {
+pub(crate) struct VehicleList<'l, 'k> {
     pub(crate) vehicle: u32,
     pub(crate) nodes: &'l [u32],
+    pub(crate) known: &'k KnownRoute,
+}
+
+// How many nodes a list of `n` nodes shares at its ends with one that has an item placed in it.
+fn shared_with(n: usize, placing: Placing) -> Stretch
+    requires n { n ≤ 1000 }
+    requires within { IsEndWithin n placing }
+    ensures { result ≡ shared_of n placing }
+{
+    match placing {
+        Placing::One(_, t) => Stretch {
+            front: t as usize,
+            back: n - t as usize,
+        },
+        Placing::Two(_, _, s, t) => Stretch {
+            front: s as usize,
+            back: n - t as usize,
+        },
+    }
+}
+
+// Whether a list serves each pair in order and as the policy of vehicle `v` asks, and `v` may visit each of its nodes.
+fn keeps_rest(lookups: &Lookups<'_>, v: u32, list: &[u32], pairs: &mut PairPlaces) -> bool
+    requires vehicle { v < length lookups.now.closed.model.now.vehicles }
+    requires visits { IsTrue (list_all (is_visit lookups.now.closed.model.now) list.now) }
+    requires distinct { IsTrue (is_distinct list.now) }
+    ensures { result ≡ (keeps_pairs_of lookups.now.closed.model.now v list.now
+        && list_all (allows_vehicle lookups.now.closed.model.now v) list.now) }
+{
+    if !keeps_pairs(lookups.closed.model, v, list, pairs) {
+        return false;
+    }
+    lookups.nodes().allows_each(v, list)
+}
+
+// Whether no schedules cost anything.
+fn is_timeless(lookups: &Lookups<'_>) -> bool
+    ensures { result ≡ is_timeless_of lookups.now.closed.model.now }
+{
+    let model = lookups.closed.model;
+    for d in 0..model.dimensions.len() {
+        if !costs_no_time(lookups, d as u32) {
+            return false;
+        }
+    }
+    true
+}
+
+// Whether no schedules cost anything in a dimension.
+fn costs_no_time(lookups: &Lookups<'_>, d: u32) -> bool
+    requires { d < length lookups.now.closed.model.now.dimensions }
+    ensures { result ≡ costs_no_time_in (dimension_at lookups.now.closed.model.now d) }
+{
+    let model = lookups.closed.model;
+    if model.dimensions.get(d as usize).global_span_cost != 0 {
+        return false;
+    }
+    lookups.table(d).is_free
 }
 
 impl<'m> Asker<'m> {
@@ -59,8 +131,26 @@ impl<'m> Asker<'m> {
         Ok(Asker {
             lookups: lookups.share()?,
             rules: Rules::over(alloc, lookups)?,
+            carrier: Carrier::open(alloc, lookups.closed)?,
+            timeless: is_timeless(lookups),
             longer: Seq::new(alloc),
+            walk: Walk::new(alloc),
+            pairs: PairPlaces::new(),
         })
+    }
+
+    /// What was looked up of the model.
+    pub(crate) fn lookups(&self) -> &Lookups<'m>
+        ensures { result.now.closed.model.now ≡ self.now }
+    {
+        &self.lookups
+    }
+
+    /// For each dimension whether it is a load.
+    pub(crate) fn loads(&self) -> &[bool]
+        ensures { AreLoads self.now result.now }
+    {
+        &self.carrier.loads
     }
 
     /// The model is well formed. It does nothing.
@@ -98,9 +188,25 @@ impl<'m> Asker<'m> {
         requires { AreBuilt self.now routes.now.lists }
         ensures { IfOk result (λ room. room ≡ fits_beside self.now routes.now.lists (item_nodes item)) }
     {
+        if !self.is_grouped(item) {
+            return Ok(true);
+        }
         let lookups = &self.lookups;
         let marks = active_marks(alloc, lookups.closed.model, routes)?;
         Ok(groups_have_room(lookups, &marks, item))
+    }
+
+    // Whether a node of an item is in a group.
+    fn is_grouped(&self, item: Item) -> bool
+        ensures { result ≡ list_any (is_grouped_of self.now) (item_nodes item) }
+    {
+        let nodes = self.lookups.nodes();
+        match item {
+            Item::Visit(node) => nodes.is_grouped(node),
+            Item::PickupAndDelivery(pickup, delivery) => {
+                nodes.is_grouped(pickup) || nodes.is_grouped(delivery)
+            }
+        }
     }
 
     /// What open routes cost, also where visits are missing that must be served.
@@ -113,55 +219,90 @@ impl<'m> Asker<'m> {
         self.rules.cost_where_open(routes)
     }
 
-    // What an item at its places adds to the arc costs of a list.
-    fn offer(&mut self, list: VehicleList<'_>, placing: Placing) -> Result<Offer, NoMemory>
-        requires vehicle { list.vehicle < length self.old.vehicles }
+    // An item at its places, with what that adds to the arc costs of a list.
+    fn offer(&self, list: VehicleList<'_, '_>, placing: Placing) -> Offer
+        requires vehicle { list.vehicle < length self.now.vehicles }
         requires within { AreWithin list.nodes.now placing }
-        requires may { MayHold self.old list.nodes.now (item_in placing) }
-        ensures offer { IfOk result (λ offer. offer
-            ≡ offer_for self.old list.entry.vehicle list.entry.nodes.now placing) }
-        ensures model { self.new ≡ self.old }
+        requires may { MayHold self.now list.nodes.now (item_in placing) }
+        ensures { result ≡ offer_for self.now list.entry.vehicle list.entry.nodes.now placing }
     {
         let closed = self.lookups.closed;
-        write_placed(list.nodes, placing, &mut self.longer)?;
-        let after = arcs_of_route(closed, list.vehicle, self.longer.as_slice());
-        let before = arcs_of_route(closed, list.vehicle, list.nodes);
-        Ok(Offer {
+        let driven = Driven {
+            closed,
+            vehicle: list.vehicle,
+            nodes: list.nodes,
+        };
+        Offer {
             placing,
             vehicle: list.vehicle,
-            increase: after - before,
-        })
+            increase: increase_of(&driven, placing),
+        }
     }
 
-    // Whether the vehicle of a list may drive it with an item placed in it.
-    fn opens(&mut self, list: VehicleList<'_>, placing: Placing) -> Result<bool, NoMemory>
+    /// Whether no schedules cost anything.
+    pub(crate) fn is_timeless(&self) -> bool
+        ensures { result ≡ is_timeless_of self.now }
+    {
+        self.timeless
+    }
+
+    /// What the use of vehicle `v` costs.
+    pub(crate) fn fixed(&self, v: u32) -> i64
+        requires { v < length self.now.vehicles }
+        ensures value { result ≡ (vehicle_at self.now v).fixed }
+        ensures low { pos 0 ≤ℤ result }
+        ensures high { result ≤ℤ pos (2 ^ 40) }
+    {
+        let closed = self.lookups.closed;
+        closed.model.vehicles.get(v as usize).fixed
+    }
+
+    // Whether the vehicle of a list may drive it with an item placed in it, which it can carry. That is all of a plain
+    // model; else the list is walked through where it differs.
+    fn opens(&mut self, list: VehicleList<'_, '_>, placing: Placing) -> Result<bool, NoMemory>
         requires vehicle { list.vehicle < length self.old.vehicles }
         requires within { AreWithin list.nodes.now placing }
         requires may { MayHold self.old list.nodes.now (item_in placing) }
+        requires ready { IsReady self.old list.vehicle list.nodes.now list.known.now (item_in placing) }
         ensures open { IfOk result (λ opens. opens
             ≡ is_route_open self.old list.entry.vehicle (placed list.entry.nodes.now placing)) }
         ensures model { self.new ≡ self.old }
     {
+        if self.carrier.plain {
+            return Ok(true);
+        }
         write_placed(list.nodes, placing, &mut self.longer)?;
-        self.rules.route_open(list.vehicle, self.longer.as_slice())
+        let nodes = self.longer.as_slice();
+        let changed = Changed {
+            lookups: &self.lookups,
+            vehicle: list.vehicle,
+            known: list.known,
+            nodes,
+            shared: shared_with(list.nodes.len(), placing),
+        };
+        if !goes_in_each(&changed, &self.carrier.loads, &mut self.walk)? {
+            return Ok(false);
+        }
+        Ok(keeps_rest(&self.lookups, list.vehicle, nodes, &mut self.pairs))
     }
 
     // The better of the best so far and an item at its places, which counts only if the list stays open. That is asked
     // only if it would be the best.
     fn weigh(
         &mut self,
-        list: VehicleList<'_>,
+        list: VehicleList<'_, '_>,
         best: Option<Offer>,
         placing: Placing,
     ) -> Result<Option<Offer>, NoMemory>
         requires vehicle { list.vehicle < length self.old.vehicles }
         requires within { AreWithin list.nodes.now placing }
         requires may { MayHold self.old list.nodes.now (item_in placing) }
+        requires ready { IsReady self.old list.vehicle list.nodes.now list.known.now (item_in placing) }
         ensures best { IfOk result (λ better. better ≡ weigh_of self.old list.entry.nodes.now best
             (offer_for self.old list.entry.vehicle list.entry.nodes.now placing)) }
         ensures model { self.new ≡ self.old }
     {
-        let next = self.offer(list, placing)?;
+        let next = self.offer(list, placing);
         if !improves(best, next) {
             return Ok(best);
         }
@@ -173,9 +314,14 @@ impl<'m> Asker<'m> {
     }
 
     // The best place of a visit.
-    fn best_visit(&mut self, list: VehicleList<'_>, node: u32) -> Result<Option<Offer>, NoMemory>
+    fn best_visit(
+        &mut self,
+        list: VehicleList<'_, '_>,
+        node: u32,
+    ) -> Result<Option<Offer>, NoMemory>
         requires vehicle { list.vehicle < length self.old.vehicles }
         requires may { MayHold self.old list.nodes.now (Visit node) }
+        requires ready { IsReady self.old list.vehicle list.nodes.now list.known.now (Visit node) }
         ensures best { IfOk result (λ best. best ≡ best_of self.old list.entry.vehicle list.entry.nodes.now None
             (placings_of list.entry.nodes.now (Visit node))) }
         ensures model { self.new ≡ self.old }
@@ -190,7 +336,7 @@ impl<'m> Asker<'m> {
     // The best of the best so far and the places of a pair with the pickup at place `s`.
     fn best_delivery(
         &mut self,
-        list: VehicleList<'_>,
+        list: VehicleList<'_, '_>,
         pickup: u32,
         delivery: u32,
         s: usize,
@@ -199,6 +345,8 @@ impl<'m> Asker<'m> {
         requires vehicle { list.vehicle < length self.old.vehicles }
         requires place { s ≤ length list.nodes.now }
         requires may { MayHold self.old list.nodes.now (PickupAndDelivery pickup delivery) }
+        requires ready { IsReady self.old list.vehicle list.nodes.now list.known.now
+            (PickupAndDelivery pickup delivery) }
         ensures best { IfOk result (λ better. better ≡ best_of self.old list.entry.vehicle list.entry.nodes.now best
             (map (Two pickup delivery s) (from_to s (suc (length list.entry.nodes.now))))) }
         ensures model { self.new ≡ self.old }
@@ -214,12 +362,14 @@ impl<'m> Asker<'m> {
     // The best places of a pair.
     fn best_pair(
         &mut self,
-        list: VehicleList<'_>,
+        list: VehicleList<'_, '_>,
         pickup: u32,
         delivery: u32,
     ) -> Result<Option<Offer>, NoMemory>
         requires vehicle { list.vehicle < length self.old.vehicles }
         requires may { MayHold self.old list.nodes.now (PickupAndDelivery pickup delivery) }
+        requires ready { IsReady self.old list.vehicle list.nodes.now list.known.now
+            (PickupAndDelivery pickup delivery) }
         ensures best { IfOk result (λ best. best ≡ best_of self.old list.entry.vehicle list.entry.nodes.now None
             (placings_of list.entry.nodes.now (PickupAndDelivery pickup delivery))) }
         ensures model { self.new ≡ self.old }
@@ -235,11 +385,47 @@ impl<'m> Asker<'m> {
     /// it adds least to the arc costs, of these the first.
     pub(crate) fn best(
         &mut self,
-        list: VehicleList<'_>,
+        list: VehicleList<'_, '_>,
         item: Item,
     ) -> Result<Option<Offer>, NoMemory>
         requires vehicle { list.vehicle < length self.old.vehicles }
         requires may { MayHold self.old list.nodes.now item }
+        requires known { IsKnownList self.old list.vehicle list.nodes.now list.known.now }
+        ensures best { IfOk result (λ best. best ≡ best_of self.old list.entry.vehicle list.entry.nodes.now None
+            (placings_of list.entry.nodes.now item)) }
+        ensures model { self.new ≡ self.old }
+    {
+        self.know();
+        if !self.carries(list, item) {
+            return Ok(None);
+        }
+        self.best_carried(list, item)
+    }
+
+    // Whether the vehicle of a list can carry an item too.
+    fn carries(&self, list: VehicleList<'_, '_>, item: Item) -> bool
+        requires vehicle { list.vehicle < length self.now.vehicles }
+        requires may { MayHold self.now list.nodes.now item }
+        ensures { result ≡ carries_all self.now list.entry.vehicle list.entry.nodes.now (item_nodes item) }
+    {
+        let closed = self.lookups.closed;
+        let driven = Driven {
+            closed,
+            vehicle: list.vehicle,
+            nodes: list.nodes,
+        };
+        self.carrier.carries(&driven, item)
+    }
+
+    // The best places of an item that the vehicle of a list can carry too.
+    fn best_carried(
+        &mut self,
+        list: VehicleList<'_, '_>,
+        item: Item,
+    ) -> Result<Option<Offer>, NoMemory>
+        requires vehicle { list.vehicle < length self.old.vehicles }
+        requires may { MayHold self.old list.nodes.now item }
+        requires ready { IsReady self.old list.vehicle list.nodes.now list.known.now item }
         ensures best { IfOk result (λ best. best ≡ best_of self.old list.entry.vehicle list.entry.nodes.now None
             (placings_of list.entry.nodes.now item)) }
         ensures model { self.new ≡ self.old }

@@ -16,9 +16,13 @@
 //! The search: `beginning` begins it and answers, `searching` goes from step to step, `advancing` makes one step and
 //! `accepting` takes what comes out of it over. `stepping` makes routes anew: `cutting` takes strings out, `turning`
 //! puts the items back in their turns, by the offers that `making` writes in the order of `ranking`. They do so on
-//! routes on trial (`trial`), whose lists are always open, and which `asking` asks for the best place of an item in a
-//! list (`placing`). `judging` says which routes are better and which are accepted, by `lacking`, `paying` and
-//! `heating`.
+//! routes on trial (`trial`), whose lists are always open. `judging` says which routes are better and which are
+//! accepted, by `lacking`, `paying` and `heating`.
+//!
+//! Where an item goes in a list is asked of `asking`, place by place (`placing`). An item that the vehicle cannot carry
+//! goes nowhere (`carrying`). What it adds is told by the arcs at its places (`increase`), and only a place that would
+//! be the best is tested, by walks from the rows of the list (`known`), which are written when another list is asked.
+//! A price is arcs and a fixed cost where no schedule costs anything; else the schedules of all routes are asked.
 #![tactic(auto)]
 
 mod accepting;
@@ -26,9 +30,12 @@ mod advancing;
 mod answer;
 mod asking;
 mod beginning;
+mod carrying;
 mod cutting;
 mod heating;
+mod increase;
 mod judging;
+mod known;
 mod lacking;
 mod laws;
 mod making;

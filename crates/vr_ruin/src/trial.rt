@@ -1,6 +1,7 @@
 //! Routes on trial: what a step makes of the routes before it.
 
-ghost use Rattle.std.specs.Prelude.{◌≡◌, ◌<◌, ◌≤◌, ℕ, false, not, IfOk, IsTrue, OnErr, OnOk, length};
+ghost use Rattle.std.specs.Prelude.{◌≡◌, ◌<◌, ◌≤◌, ℕ, false, not, IfOk, IfSome, IsTrue, OnErr, OnOk};
+ghost use Rattle.std.specs.Prelude.{length};
 ghost use Rattle.std.specs.Option.{option_map};
 ghost use Rattle.vr_model.specs.routes.Costs.{cost};
 ghost use Rattle.vr_model.specs.routes.Routes.{holds, is_active, is_empty, route};
@@ -13,12 +14,16 @@ ghost use Rattle.vr_model.specs.first.CheapestInsertion.{inserted};
 ghost use Rattle.vr_rules.specs.Placing.{fits_beside, item_nodes, AreBuilt, IsItem};
 ghost use Rattle.vr_strings.specs.Strings.{list_after_string, IsStringIn};
 ghost use Rattle.vr_ruin.specs.Makings.{MayBeMade};
+ghost use Rattle.vr_model.specs.declared.records.Model.{Model as Defined};
+ghost use Rattle.vr_ruin.specs.Known.{AreKnownRoutes};
 ghost use Rattle.vr_ruin.specs.Lacking.{moving_cost};
 ghost use Rattle.vr_ruin.specs.Offers.{offer as offer_of, paid_cost, price_of};
 ghost use Rattle.vr_ruin.specs.Payments.{IsCost, IsPrice};
 ghost use Rattle.vr_ruin.specs.Placings.{insertion_of};
+ghost use Rattle.vr_ruin.specs.Timeless.{is_timeless, AddsToArcs, IsPaid};
 
 use crate::asking::{Asker, VehicleList};
+use crate::known::KnownRoute;
 use crate::paying::{moving_of, paid_of, total_of};
 use crate::placing::{Offer, write_placed};
 use std::alloc::Global;
@@ -27,7 +32,7 @@ use vr_lists::NodeTables;
 use vr_model::{NoMemory, Seq};
 use vr_plan::Lookups;
 use vr_routes::{Routes, Row};
-use vr_rules::Item;
+use vr_rules::{Item, empty_lists};
 use vr_strings::{StringPlaces, write_left};
 
 /// Open routes that a step makes, and what asks about them. Contracts see the model and the lists.
@@ -36,11 +41,15 @@ pub(crate) struct Trial<'m> {
     alloc: Global,
     asker: Asker<'m>,
     routes: Routes,
+    // of each vehicle, a list whose rows are known: the one of which an offer was last asked
+    known: Vec<KnownRoute>,
     // what an offer would make of them
     spare: Routes,
     // a list that is tried
     row: Box<Row>,
     longer: Seq<u32>,
+    // all lists, while one of them changes
+    room: Vec<Seq<u32>>,
 }
 
 impl<'m> Model for Trial<'m> {
@@ -50,7 +59,7 @@ impl<'m> Model for Trial<'m> {
 
     ghost view = { λ t. record { model = t.asker; lists = t.routes.lists } };
 
-    ghost invariant = { λ t. AreOnTrial t.asker t.routes t.spare };
+    ghost invariant = { λ t. AreOnTrial t.asker t.routes t.known.items t.spare t.room.items };
 }
 
 // The list of vehicle `w`, if that of vehicle `v` is another one.
@@ -61,35 +70,42 @@ fn list_beside<'r>(routes: &'r Routes, v: u32, list: &'r [u32], w: u32) -> &'r [
     if w == v { list } else { routes.list(w) }
 }
 
-// The same list.
-fn copied(alloc: Global, list: &[u32]) -> Result<Seq<u32>, NoMemory>
-    ensures { IfOk result (λ copy. copy ≡ list.now) }
+// Writes a list over another.
+fn write_list(list: &[u32], out: &mut Seq<u32>) -> Result<(), NoMemory>
+    ensures { OnOk result (out.new ≡ list.now) }
 {
-    let mut copy = Seq::with_capacity(alloc, list.len())?;
-    copy.extend_from_slice(list)?;
-    Ok(copy)
+    out.truncate(0);
+    out.extend_from_slice(list)?;
+    Ok(())
 }
 
-// The lists of routes, with another one for vehicle `v`.
-fn lists_with(
-    alloc: Global,
+// Writes the lists of routes over others, with another one for vehicle `v`.
+fn write_lists(
     routes: &Routes,
     v: u32,
     list: &[u32],
-) -> Result<Vec<Seq<u32>>, NoMemory>
-    requires { v < length routes.now.lists }
-    ensures { IfOk result (λ lists. lists.items ≡ with_route routes.now.lists v list.now) }
+    lists: &mut [Seq<u32>],
+) -> Result<(), NoMemory>
+    requires vehicle { v < length routes.now.lists }
+    requires many { length lists.old ≡ length routes.now.lists }
+    ensures many { length lists.new ≡ length lists.old }
+    ensures lists { OnOk result (lists.new ≡ with_route routes.now.lists v list.now) }
 {
-    let mut lists = Vec::with_capacity(alloc, routes.vehicles() as usize)?;
     for w in 0..routes.vehicles() {
-        let copy = copied(alloc, list_beside(routes, v, list, w))?;
-        lists.push(copy)?;
+        write_list(list_beside(routes, v, list, w), &mut lists[w as usize])?;
     }
-    Ok(lists)
+    Ok(())
 }
 
-// Gives vehicle `v` of routes another list. After want of memory the routes are as before.
-fn set_list(alloc: Global, routes: &mut Routes, v: u32, list: &[u32]) -> Result<(), NoMemory>
+// Gives vehicle `v` of routes another list, by way of room for all lists. After want of memory the routes are as
+// before.
+fn set_list(
+    routes: &mut Routes,
+    v: u32,
+    list: &[u32],
+    room: &mut [Seq<u32>],
+) -> Result<(), NoMemory>
+    requires room { length room.old ≡ length routes.old.lists }
     requires vehicle { v < length routes.old.lists }
     requires visits { (node : ℕ) → IsTrue (is_active (with_route routes.old.lists v list.now) node)
         → IsTrue (holds routes.old.visits node) }
@@ -97,22 +113,40 @@ fn set_list(alloc: Global, routes: &mut Routes, v: u32, list: &[u32]) -> Result<
     ensures lists { OnOk result (routes.new.lists ≡ with_route routes.old.lists v list.now) }
     ensures as_before { OnErr result (routes.new.lists ≡ routes.old.lists) }
     ensures visits { routes.new.visits ≡ routes.old.visits }
+    ensures room { length room.new ≡ length room.old }
 {
-    let lists = lists_with(alloc, routes, v, list)?;
-    routes.set_lists(&lists);
+    write_lists(routes, v, list, room)?;
+    routes.set_lists(room);
     Ok(())
+}
+
+// For each vehicle the empty list, of which nothing is known.
+fn known_routes(
+    alloc: Global,
+    vehicles: usize,
+    dimensions: usize,
+) -> Result<Vec<KnownRoute>, NoMemory>
+    ensures { IfOk result (λ routes. (model : Defined) → length model.vehicles ≡ vehicles
+        → length model.dimensions ≡ dimensions → AreKnownRoutes model routes.items) }
+{
+    let mut routes = Vec::with_capacity(alloc, vehicles)?;
+    for _v in 0..vehicles {
+        routes.push(KnownRoute::open(alloc, dimensions)?)?;
+    }
+    Ok(routes)
 }
 
 // Takes a string out of the list of vehicle `v`, and with each of its visits the other node of its pair, if what is
 // left is open. After want of memory the routes are as before.
 fn cut_list(
-    alloc: Global,
     asker: &mut Asker<'_>,
     routes: &mut Routes,
     v: u32,
     string: StringPlaces,
     row: &mut Row,
+    room: &mut [Seq<u32>],
 ) -> Result<(), NoMemory>
+    requires room { length room.old ≡ length routes.old.lists }
     requires visits { routes.old.visits ≡ visits asker.old }
     requires built { AreBuilt asker.old routes.old.lists }
     requires vehicle { v < length routes.old.lists }
@@ -122,12 +156,13 @@ fn cut_list(
         (list_after_string asker.old v (route routes.old.lists v) string)) }
     ensures built { AreBuilt asker.old routes.new.lists }
     ensures visits { routes.new.visits ≡ routes.old.visits }
+    ensures room { length room.new ≡ length room.old }
 {
     write_left(asker.nodes(), routes, v, string, row);
     if !asker.is_open(v, row.as_slice())? {
         return Ok(());
     }
-    set_list(alloc, routes, v, row.as_slice())
+    set_list(routes, v, row.as_slice(), room)
 }
 
 impl<'m> Trial<'m> {
@@ -138,14 +173,18 @@ impl<'m> Trial<'m> {
         let model = lookups.closed.model;
         let routes = Routes::empty(alloc, model)?;
         let spare = Routes::empty(alloc, model)?;
+        let known = known_routes(alloc, model.vehicles.len(), model.dimensions.len())?;
+        let room = empty_lists(alloc, model)?;
         let row = Box::new(alloc, Row::new())?;
         Ok(Trial {
             alloc,
             asker: Asker::open(alloc, lookups)?,
             routes,
+            known,
             spare,
             row,
             longer: Seq::new(alloc),
+            room,
         })
     }
 
@@ -169,12 +208,12 @@ impl<'m> Trial<'m> {
             (list_after_string self.old.model v (route self.old.lists v) string)) }
     {
         cut_list(
-            self.alloc,
             &mut self.asker,
             &mut self.routes,
             v,
             string,
             &mut self.row,
+            &mut self.room,
         )
     }
 
@@ -185,17 +224,40 @@ impl<'m> Trial<'m> {
         requires inactive { is_active self.old.lists (first_node (item_nodes item)) ≡ false }
         ensures offer { IfOk result (λ offer. option_map insertion_of offer
             ≡ offer_of self.old.model self.old.lists (item_nodes item) v) }
+        ensures adds { IfOk result (λ offer. IfSome offer (AddsToArcs self.old.model self.old.lists)) }
         ensures trial { self.new ≡ self.old }
     {
+        let nodes = self.routes.list(v);
+        let known = &mut self.known[v as usize];
+        known.take(
+            self.alloc,
+            self.asker.lookups(),
+            v,
+            nodes,
+            self.asker.loads(),
+        )?;
         let list = VehicleList {
             vehicle: v,
-            nodes: self.routes.list(v),
+            nodes,
+            known,
         };
         self.asker.best(list, item)
     }
 
-    /// What the routes cost without penalties.
-    pub(crate) fn paid(&mut self) -> Result<i64, NoMemory>
+    /// What the routes cost without penalties, `None` if no schedules cost anything: prices do not ask it then.
+    pub(crate) fn paid(&mut self) -> Result<Option<i64>, NoMemory>
+        ensures paid { IfOk result (IsPaid self.old.model self.old.lists) }
+        ensures trial { self.new ≡ self.old }
+    {
+        if self.asker.is_timeless() {
+            return Ok(None);
+        }
+        let paid = self.paid_by_schedules()?;
+        Ok(Some(paid))
+    }
+
+    // What the routes cost without penalties, by their schedules.
+    fn paid_by_schedules(&mut self) -> Result<i64, NoMemory>
         ensures value { IfOk result (λ paid. paid ≡ paid_cost self.old.model self.old.lists) }
         ensures range { IfOk result IsCost }
         ensures trial { self.new ≡ self.old }
@@ -224,7 +286,37 @@ impl<'m> Trial<'m> {
     }
 
     /// How much more the routes cost after an offer, without penalties, if they cost `paid` before it.
-    pub(crate) fn price(&mut self, offer: Offer, paid: i64) -> Result<i64, NoMemory>
+    pub(crate) fn price(&mut self, offer: Offer, paid: Option<i64>) -> Result<i64, NoMemory>
+        requires offer { MayBeMade self.old.model self.old.lists offer }
+        requires adds { AddsToArcs self.old.model self.old.lists offer }
+        requires paid { IsPaid self.old.model self.old.lists paid }
+        ensures price { IfOk result (λ price. price ≡ price_of self.old.model self.old.lists (insertion_of offer)) }
+        ensures price_range { IfOk result IsPrice }
+        ensures trial { self.new ≡ self.old }
+    {
+        match paid {
+            None => Ok(self.price_by_arcs(offer)),
+            Some(paid) => self.price_by_schedules(offer, paid),
+        }
+    }
+
+    // The same where no schedules cost anything.
+    fn price_by_arcs(&self, offer: Offer) -> i64
+        requires offer { MayBeMade self.now.model self.now.lists offer }
+        requires adds { AddsToArcs self.now.model self.now.lists offer }
+        requires timeless { IsTrue (is_timeless self.now.model) }
+        ensures price { result ≡ price_of self.now.model self.now.lists (insertion_of offer) }
+        ensures price_range { IsPrice result }
+    {
+        self.know();
+        if self.is_used(offer.vehicle) {
+            return offer.increase;
+        }
+        offer.increase + self.asker.fixed(offer.vehicle)
+    }
+
+    // The same by the schedules of all routes.
+    fn price_by_schedules(&mut self, offer: Offer, paid: i64) -> Result<i64, NoMemory>
         requires offer { MayBeMade self.old.model self.old.lists offer }
         requires paid { paid ≡ paid_cost self.old.model self.old.lists }
         requires range { IsCost paid }
@@ -239,10 +331,10 @@ impl<'m> Trial<'m> {
         )?;
         self.spare.assign(&self.routes);
         set_list(
-            self.alloc,
             &mut self.spare,
             offer.vehicle,
             self.longer.as_slice(),
+            &mut self.room,
         )?;
         let parts = self.asker.cost(&self.spare)?;
         Ok(paid_of(&parts) - paid)
@@ -260,10 +352,10 @@ impl<'m> Trial<'m> {
             &mut self.longer,
         )?;
         set_list(
-            self.alloc,
             &mut self.routes,
             offer.vehicle,
             self.longer.as_slice(),
+            &mut self.room,
         )
     }
 

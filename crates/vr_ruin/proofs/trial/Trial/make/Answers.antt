@@ -1,4 +1,4 @@
-use Rattle.std.proofs.Common.{◌≡◌, ◌∙◌, ap, sym, subst}
+use Rattle.std.proofs.Common.{◌≡◌, ◌∙◌, ap, length, sym, subst}
 use Rattle.std.specs.Prelude.{IsTrue}
 use Rattle.vr_model.specs.tables.Tables.{visits}
 use Rattle.vr_model.specs.routes.Routes.{is_active}
@@ -6,6 +6,7 @@ use Rattle.vr_model.specs.moves.Moves.{with_route}
 use Rattle.vr_model.specs.first.CheapestInsertion.{inserted}
 use Rattle.vr_routes.specs.Seats.{IsOnce}
 use Rattle.vr_ruin.specs.Placings.{insertion_of}
+use Rattle.vr_rules.proofs.PlacingLemmas.{built-count}
 use Rattle.vr_ruin.proofs.TrialLemmas.{may_write_once, may_write_visits, written_is}
 use Rattle.vr_ruin.proofs.trial.Trial.make.Goals.{After-as_slice}
 use Rattle.vr_ruin.proofs.trial.Trial.make.Goals as goal
@@ -25,3 +26,7 @@ pub set_list-requires-clause-once : goal.set_list-requires-clause-once
 set_list-requires-clause-once c =
     let at = (goal.at.set_list-requires-clause-once c).After-as_slice in
     subst IsOnce (sym (written at)) (may_write_once c.args.self.now.model (inserted c.args.self.now.lists (insertion_of c.args.offer)) c.requires.offer.built)
+
+pub set_list-requires-clause-room : goal.set_list-requires-clause-room
+set_list-requires-clause-room c =
+    ap length c.deref_mut.ensures.value ∙ c.self.invariant.room_many ∙ sym (built-count c.self.inside.asker c.self.inside.routes.lists c.self.invariant.built)

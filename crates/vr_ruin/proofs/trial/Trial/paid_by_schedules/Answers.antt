@@ -4,7 +4,7 @@ use Rattle.std.specs.Prelude.{◌-ℤ◌}
 use Rattle.vr_model.specs.routes.Costs.{assigned, parts_at, penalty_part, sum_of}
 use Rattle.vr_rules.proofs.TotalLemmas.{sum-is_cost}
 use Rattle.vr_ruin.specs.Offers.{paid_cost}
-use Rattle.vr_ruin.proofs.trial.Trial.paid.Goals as goal
+use Rattle.vr_ruin.proofs.trial.Trial.paid_by_schedules.Goals as goal
 
 pub returns-clause-value : goal.returns-clause-value
 returns-clause-value c =

@@ -1,0 +1,23 @@
+use Rattle.std.proofs.Common.{◌≡◌, ◌∙◌, ap, of_z, sym, w64, arith}
+use Rattle.std.proofs.lemmas.Bool.Decides.{Decides-int_eq}
+use Rattle.std.proofs.lemmas.Int.{ints}
+use Rattle.std.specs.Ordering.{int_eq}
+use Rattle.std.specs.Prelude.{pos, ◌&&◌}
+use Rattle.vr_model.specs.tables.Tables.{dimension_at, no_dimension}
+use Rattle.vr_model.proofs.tables.Tests.{fails}
+use Rattle.vr_plan.specs.Paying.{is_free}
+use Rattle.vr_ruin.proofs.asking.costs_no_time.Goals as goal
+
+pub returns-then-get-ne0 : goal.returns-then-get-ne0
+returns-then-get-ne0 c =
+    let dimension = dimension_at c.args.lookups.now.closed.model.now c.args.d in
+    let same = ap (λ x. x.global_span_cost) (sym (c.get.ensures.value no_dimension)) in
+    let some = fails (int_eq dimension.global_span_cost (pos 0)) (λ t. c.if-get-ne0.true (ap (of_z w64) (same ∙ (Decides-int_eq dimension.global_span_cost (pos 0)).0 t))) in
+    sym (ap (λ b. b && is_free dimension) some)
+
+pub returns : goal.returns
+returns c =
+    let dimension = dimension_at c.args.lookups.now.closed.model.now c.args.d in
+    let none : c.get.result.now.global_span_cost ≡ pos 0 = omega (arith, ints, c.if-get-ne0.false) in
+    let zero = (Decides-int_eq dimension.global_span_cost (pos 0)).1 (ap (λ x. x.global_span_cost) (c.get.ensures.value no_dimension) ∙ none) in
+    c.table.ensures.is_free ∙ sym (ap (λ b. b && is_free dimension) zero)

@@ -1,0 +1,159 @@
+//! Whether a vehicle can carry an item beside a list, in the dimensions that are loads: sums tell it, wherever in the
+//! list the item goes.
+
+ghost use Rattle.std.specs.Prelude.{◌≡◌, ◌<◌, ◌≤◌, ◌≤ℤ◌, ◌*◌, All, false, not, ◌||◌, IfOk, IsTrue, length, pos};
+ghost use Rattle.std.specs.List.{list_all};
+ghost use Rattle.vr_model.specs.tables.Numbers.{total_by};
+ghost use Rattle.vr_balance.specs.Sums.{IsUpTo};
+ghost use Rattle.vr_loads.specs.Loads.{HasLoad, is_load as is_load_of, load_of, taken as taken_of};
+ghost use Rattle.vr_rules.specs.Placing.{item_nodes};
+ghost use Rattle.vr_ruin.specs.Carrying.{carries as carries_of, carries_all as carries_all_of};
+ghost use Rattle.vr_ruin.specs.Carrying.{carries_in as carries_in_of, AreLoads, IsCarrier, IsPlain};
+
+use crate::increase::Driven;
+use std::alloc::Global;
+use vr_loads::is_load;
+use vr_model::{Closed, NoMemory};
+use vr_rules::Item;
+
+/// What is known of the loads of a model.
+#[derive(Drop)]
+pub(crate) struct Carrier {
+    // for each dimension whether it is a load
+    pub(crate) loads: Vec<bool>,
+    // whether nothing but loads says which lists are open
+    pub(crate) plain: bool,
+}
+
+impl Carrier {
+    /// The only refusal is want of memory.
+    pub(crate) fn open(alloc: Global, closed: Closed<'_>) -> Result<Carrier, NoMemory>
+        ensures { IfOk result (λ carrier. IsCarrier closed.entry.model.now carrier.loads.items carrier.plain) }
+    {
+        let loads = loads_of(alloc, closed)?;
+        let plain = is_plain(closed, &loads);
+        Ok(Carrier { loads, plain })
+    }
+
+    /// Whether the vehicle of a list can carry an item too, in each dimension that is a load. Else the list is open
+    /// with it at no places.
+    pub(crate) fn carries(&self, list: &Driven<'_, '_>, item: Item) -> bool
+        requires loads { AreLoads list.now.closed.model.now self.now.loads.items }
+        requires few { length list.now.nodes.now ≤ 1000 }
+        requires nodes { All (λ node. node < list.now.closed.model.now.nodes) (item_nodes item) }
+        ensures { result
+            ≡ carries_all_of list.now.closed.model.now list.now.vehicle list.now.nodes.now (item_nodes item) }
+    {
+        for d in 0..self.loads.len() {
+            if !carries_in(self.loads[d], list, d as u32, item) {
+                return false;
+            }
+        }
+        true
+    }
+}
+
+// For each dimension whether it is a load.
+fn loads_of(alloc: Global, closed: Closed<'_>) -> Result<Vec<bool>, NoMemory>
+    ensures { IfOk result (λ loads. AreLoads closed.entry.model.now loads.items) }
+{
+    let mut loads = Vec::with_capacity(alloc, closed.model.dimensions.len())?;
+    for d in 0..closed.model.dimensions.len() {
+        loads.push(is_load(closed.model, d as u32))?;
+    }
+    Ok(loads)
+}
+
+// Whether nothing but loads says which lists are open: each dimension is a load, no visit is in a pair, and none asks
+// for certain vehicles.
+fn is_plain(closed: Closed<'_>, loads: &[bool]) -> bool
+    requires { AreLoads closed.model.now loads.now }
+    ensures { IsTrue result → IsPlain closed.entry.model.now }
+{
+    if !closed.model.pairs.is_empty() {
+        return false;
+    }
+    if !closed.model.allowed.is_empty() {
+        return false;
+    }
+    are_all(loads)
+}
+
+// Whether all marks are set.
+fn are_all(marks: &[bool]) -> bool
+    ensures { result ≡ list_all (λ mark. mark) marks.now }
+{
+    marks.iter().all(|&mark| mark)
+}
+
+// Whether the vehicle of a list can carry an item too in a dimension, if that is a load.
+fn carries_in(is_load: bool, list: &Driven<'_, '_>, d: u32, item: Item) -> bool
+    requires load { is_load ≡ is_load_of list.now.closed.model.now d }
+    requires dimension { d < length list.now.closed.model.now.dimensions }
+    requires few { length list.now.nodes.now ≤ 1000 }
+    requires nodes { All (λ node. node < list.now.closed.model.now.nodes) (item_nodes item) }
+    ensures { result ≡ carries_in_of list.now.closed.model.now list.now.vehicle list.now.nodes.now (item_nodes item) d }
+{
+    if !is_load {
+        return true;
+    }
+    carries(list, d, item)
+}
+
+// Whether the vehicle of a list can carry an item too in a dimension that is a load.
+fn carries(list: &Driven<'_, '_>, d: u32, item: Item) -> bool
+    requires load { HasLoad list.now.closed.model.now d }
+    requires few { length list.now.nodes.now ≤ 1000 }
+    requires nodes { All (λ node. node < list.now.closed.model.now.nodes) (item_nodes item) }
+    ensures { result ≡ carries_of list.now.closed.model.now d list.now.vehicle list.now.nodes.now (item_nodes item) }
+{
+    let closed = list.closed;
+    let dimension = closed.model.dimensions.get(d as usize);
+    let capacity = *dimension.capacities.get(list.vehicle as usize);
+    load_along(list, d) + taken_by(list, d, item) <= capacity
+}
+
+// What the vehicle of a list takes at a node in a dimension that is a load.
+fn taken(list: &Driven<'_, '_>, d: u32, node: u32) -> i64
+    requires load { HasLoad list.now.closed.model.now d }
+    requires node { node < list.now.closed.model.now.nodes }
+    ensures value { result ≡ taken_of list.now.closed.model.now d list.now.vehicle node }
+    ensures range { IsUpTo 1 result }
+{
+    let closed = list.closed;
+    let dimension = closed.model.dimensions.get(d as usize);
+    let evaluator = *dimension.vehicle_evaluators.get(list.vehicle as usize);
+    dimension.evaluators.get(evaluator as usize).value(node)
+}
+
+// What it takes for an item.
+fn taken_by(list: &Driven<'_, '_>, d: u32, item: Item) -> i64
+    requires load { HasLoad list.now.closed.model.now d }
+    requires nodes { All (λ node. node < list.now.closed.model.now.nodes) (item_nodes item) }
+    ensures value { result ≡ total_by (taken_of list.now.closed.model.now d list.now.vehicle) (item_nodes item) }
+    ensures range { IsUpTo 2 result }
+{
+    match item {
+        Item::Visit(node) => taken(list, d, node),
+        Item::PickupAndDelivery(pickup, delivery) => {
+            taken(list, d, pickup) + taken(list, d, delivery)
+        }
+    }
+}
+
+// What it carries at its end with the list, where it takes nothing along to its start.
+fn load_along(list: &Driven<'_, '_>, d: u32) -> i64
+    requires load { HasLoad list.now.closed.model.now d }
+    requires few { length list.now.nodes.now ≤ 1000 }
+    ensures value { result ≡ load_of list.now.closed.model.now d list.now.vehicle list.now.nodes.now }
+    ensures range { IsUpTo 1001 result }
+{
+    let closed = list.closed;
+    let start = closed.model.vehicles.get(list.vehicle as usize).start;
+    let nodes = list.nodes;
+    let mut load = taken(list, d, start);
+    for k in 0..nodes.len() {
+        load += taken(list, d, nodes[k]);
+    }
+    load
+}

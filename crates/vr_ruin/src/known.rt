@@ -1,0 +1,215 @@
+//! Lists whose rows are known: what each reaches at its stops in each dimension. A list with an item put in is tested
+//! by walks through what differs.
+
+ghost use Rattle.std.specs.Prelude.{◌≡◌, ◌<◌, ◌≤◌, [], IfOk, IsTrue, OnOk, false, length, true};
+ghost use Rattle.vr_model.specs.schedules.Choices.{is_feasible};
+ghost use Rattle.vr_model.specs.schedules.Lines.{line};
+ghost use Rattle.vr_reach.specs.Lists.{IsTour};
+ghost use Rattle.vr_rules.specs.RoutesOpen.{is_feasible_in_each};
+ghost use Rattle.vr_loads.specs.Loads.{is_load as is_load_of};
+ghost use Rattle.vr_ruin.specs.Carrying.{AreLoads};
+ghost use Rattle.vr_ruin.specs.Known.{AreRowsIn, IsCarriedBy, IsKnownRoute, MayGo};
+ghost use Rattle.vr_reach.specs.KnownRows.{AreRowsIfUsed};
+
+use std::alloc::Global;
+use vr_model::NoMemory;
+use vr_plan::Lookups;
+use vr_reach::{KnownList, Rows, StopsFor, Stretch, Walk, goes_between, write_rows};
+use vr_routes::Row;
+
+/// A list of a vehicle, with its rows in each dimension. Of the empty list nothing is known.
+#[derive(Drop)]
+pub(crate) struct KnownRoute {
+    pub(crate) nodes: Row,
+    pub(crate) rows: Vec<Rows>,
+}
+
+impl KnownRoute {
+    /// The empty list. The only refusal is want of memory, as of each call.
+    pub(crate) fn open(alloc: Global, dimensions: usize) -> Result<KnownRoute, NoMemory>
+        ensures nodes { IfOk result (λ route. route.nodes ≡ []) }
+        ensures rows { IfOk result (λ route. length route.rows.items ≡ dimensions) }
+    {
+        let mut rows = Vec::with_capacity(alloc, dimensions)?;
+        for _d in 0..dimensions {
+            rows.push(Rows::new(alloc))?;
+        }
+        Ok(KnownRoute {
+            nodes: Row::new(),
+            rows,
+        })
+    }
+
+    /// Makes it another list of vehicle `v`. Its rows are written only if it is another one, and none of loads. After
+    /// want of memory it may be the empty list.
+    pub(crate) fn take(
+        &mut self,
+        alloc: Global,
+        lookups: &Lookups<'_>,
+        v: u32,
+        list: &[u32],
+        loads: &[bool],
+    ) -> Result<(), NoMemory>
+        requires vehicle { v < length lookups.now.closed.model.now.vehicles }
+        requires tour { IsTour lookups.now.closed.model.now list.now }
+        requires loads { AreLoads lookups.now.closed.model.now loads.now }
+        requires few { length list.now ≤ 1000 }
+        requires known { IsKnownRoute lookups.now.closed.model.now v self.old }
+        ensures known { IsKnownRoute lookups.now.closed.model.now v self.new }
+        ensures taken { OnOk result (self.new.nodes ≡ list.now) }
+    {
+        if is_same(self.nodes.as_slice(), list) {
+            return Ok(());
+        }
+        // of the empty list nothing is known, whatever stands in the rows
+        self.nodes.clear();
+        write_each(alloc, lookups, v, list, loads, &mut self.rows)?;
+        write_nodes(list, &mut self.nodes);
+        Ok(())
+    }
+}
+
+// Whether two lists have the same nodes in the same order.
+fn is_same(one: &[u32], other: &[u32]) -> bool
+    ensures { IsTrue result → one.now ≡ other.now }
+{
+    one == other
+}
+
+// Writes a list over an empty one.
+fn write_nodes(list: &[u32], out: &mut Row)
+    requires empty { out.old ≡ [] }
+    requires few { length list.now ≤ 1000 }
+    ensures { out.new ≡ list.now }
+{
+    for k in 0..list.len() {
+        out.push(list[k]);
+    }
+}
+
+// Writes the rows of a list of vehicle `v` in each dimension that is no load.
+fn write_each(
+    alloc: Global,
+    lookups: &Lookups<'_>,
+    v: u32,
+    list: &[u32],
+    loads: &[bool],
+    rows: &mut [Rows],
+) -> Result<(), NoMemory>
+    requires vehicle { v < length lookups.now.closed.model.now.vehicles }
+    requires tour { IsTour lookups.now.closed.model.now list.now }
+    requires loads { AreLoads lookups.now.closed.model.now loads.now }
+    requires many { length rows.old ≡ length lookups.now.closed.model.now.dimensions }
+    ensures many { length rows.new ≡ length rows.old }
+    ensures rows { OnOk result (AreRowsIn lookups.now.closed.model.now v list.now rows.new) }
+{
+    for d in 0..loads.len() {
+        write_in(alloc, lookups, d as u32, v, list, loads[d], &mut rows[d])?;
+    }
+    Ok(())
+}
+
+// The same in one dimension.
+fn write_in(
+    alloc: Global,
+    lookups: &Lookups<'_>,
+    d: u32,
+    v: u32,
+    list: &[u32],
+    is_load: bool,
+    rows: &mut Rows,
+) -> Result<(), NoMemory>
+    requires vehicle { v < length lookups.now.closed.model.now.vehicles }
+    requires dimension { d < length lookups.now.closed.model.now.dimensions }
+    requires tour { IsTour lookups.now.closed.model.now list.now }
+    ensures { OnOk result
+        (is_load ≡ false → AreRowsIfUsed lookups.now.closed.model.now d v list.now rows.new) }
+{
+    if is_load {
+        return Ok(());
+    }
+    let table = lookups.table(d);
+    let stops = StopsFor {
+        closed: lookups.closed,
+        d,
+        v,
+        of_dimension: &table.stops,
+    };
+    write_rows(alloc, &stops, list, rows)
+}
+
+/// A list of a vehicle that shares nodes at its ends with one whose rows are known.
+#[derive(Clone, Copy)]
+pub(crate) struct Changed<'l, 'm, 'k, 'n> {
+    pub(crate) lookups: &'l Lookups<'m>,
+    pub(crate) vehicle: u32,
+    pub(crate) known: &'k KnownRoute,
+    pub(crate) nodes: &'n [u32],
+    pub(crate) shared: Stretch,
+}
+
+// Whether the line of a list is feasible in a dimension.
+fn goes_in(changed: &Changed<'_, '_, '_, '_>, d: u32, walk: &mut Walk) -> Result<bool, NoMemory>
+    requires may { MayGo changed.now }
+    requires dimension { d < length changed.now.lookups.now.closed.model.now.dimensions }
+    requires no_load { is_load_of changed.now.lookups.now.closed.model.now d ≡ false }
+    ensures { IfOk result (λ goes. goes
+        ≡ is_feasible (line changed.now.lookups.now.closed.model.now d changed.now.vehicle changed.now.nodes.now)) }
+{
+    let table = changed.lookups.table(d);
+    let known = changed.known;
+    let rows = &known.rows[d as usize];
+    let stops = StopsFor {
+        closed: changed.lookups.closed,
+        d,
+        v: changed.vehicle,
+        of_dimension: &table.stops,
+    };
+    let list = KnownList {
+        list: known.nodes.as_slice(),
+        rows,
+    };
+    goes_between(&stops, &list, changed.nodes, changed.shared, walk)
+}
+
+// The same, if it is known to be feasible in a load.
+fn goes_unless(
+    changed: &Changed<'_, '_, '_, '_>,
+    d: u32,
+    is_load: bool,
+    walk: &mut Walk,
+) -> Result<bool, NoMemory>
+    requires may { MayGo changed.now }
+    requires dimension { d < length changed.now.lookups.now.closed.model.now.dimensions }
+    requires is { is_load ≡ is_load_of changed.now.lookups.now.closed.model.now d }
+    requires carried { is_load_of changed.now.lookups.now.closed.model.now d ≡ true → is_feasible
+        (line changed.now.lookups.now.closed.model.now d changed.now.vehicle changed.now.nodes.now) ≡ true }
+    ensures { IfOk result (λ goes. goes
+        ≡ is_feasible (line changed.now.lookups.now.closed.model.now d changed.now.vehicle changed.now.nodes.now)) }
+{
+    if is_load {
+        return Ok(true);
+    }
+    goes_in(changed, d, walk)
+}
+
+/// Whether the line of a list is feasible in each dimension, if it is in those that are loads: found by walks through
+/// what differs in the others.
+pub(crate) fn goes_in_each(
+    changed: &Changed<'_, '_, '_, '_>,
+    loads: &[bool],
+    walk: &mut Walk,
+) -> Result<bool, NoMemory>
+    requires may { MayGo changed.now }
+    requires loads { AreLoads changed.now.lookups.now.closed.model.now loads.now }
+    requires carried { IsCarriedBy changed.now.lookups.now.closed.model.now changed.now.vehicle changed.now.nodes.now }
+    ensures { IfOk result (λ goes. goes
+        ≡ is_feasible_in_each changed.now.lookups.now.closed.model.now changed.now.vehicle changed.now.nodes.now) }
+{
+    for d in 0..loads.len() {
+        if !goes_unless(changed, d as u32, loads[d], walk)? {
+            return Ok(false);
+        }
+    }
+    Ok(true)
+}
