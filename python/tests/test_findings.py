@@ -77,7 +77,7 @@ class FindingTests(unittest.TestCase):
     def test_every_rule_has_a_sentence(self) -> None:
         solution = solve(DAY)
         self.assertIn("costs 1338", explain(check(DAY, solution), solution))
-        self.assertEqual(len(SENTENCES), 16)
+        self.assertEqual(len(SENTENCES), 17)
         for rule in SENTENCES:
             for vehicle, place in ((-1, -1), (0, 0), (1, 99), (99, 1)):
                 self.assertTrue(explain(Finding(None, rule, vehicle, place), solution))

@@ -257,7 +257,7 @@ class EngineTests(unittest.TestCase):
             self.assertEqual(told(portfolio(model, Slurm(2, folder="kept"))), want)
             self.assertIn("0.result", os.listdir("kept"))
             with open(os.path.join("kept", "job-0.sh"), encoding="utf-8") as file:
-                self.assertIn(f"--array=0-{len(variants(model)) - 1}%2\n", file.read())
+                self.assertIn(f"--array=0-{len(portfolio(model).outcomes) - 1}%2\n", file.read())
             with self.assertRaisesRegex(EngineFailed, "not empty"):
                 Slurm(2, folder="kept").run([model])
             with mock.patch("jambulskeg.engines.MOST_TASKS", 4):

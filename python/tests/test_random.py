@@ -128,7 +128,7 @@ class RandomTests(unittest.TestCase):
         self.assertIsNot(found.way, Way.AS_ASKED)
         self.assertEqual(found.solution is None, bool(found.left_out))
         if found.solution is not None:
-            self.assertTrue(check(model, found.solution).meets)
+            self.assertTrue(check(found.model, found.solution).meets)
 
 
 class FormTests(unittest.TestCase):

@@ -89,8 +89,11 @@ class RoundTests(unittest.TestCase):
             found = solve_for(with_search(DAY, improve=improve), 1.0)
             self.assertEqual(found.again(), found.solution)
         poor = with_search(DAY, improve=Improve.GREEDY_DESCENT)
-        with mock.patch("jambulskeg.rounds.FIRST_TRIES", 1):
-            found = solve_for(poor, 1.0)
+        for seconds in (1.0, 2.0, 4.0, 8.0):  # A busy machine may want more of them.
+            with mock.patch("jambulskeg.rounds.FIRST_TRIES", 1):
+                found = solve_for(poor, seconds)
+            if found.routes is not None:
+                break
         self.assertIsNotNone(found.routes)
         self.assertEqual(found.again(), found.solution)
         self.assertNotEqual(found.solution, solve_anew(found.model))

@@ -177,12 +177,12 @@ class OpenDay:
             is_new = key not in self._verdicts and key not in self._drafts
             if is_new and self.basis.model.nodes >= LARGE and self.steps[key].is_fine is not None:
                 state = self.steps[key].state
-                self.keep_draft(key, self.asker(state.edits).reckoned(state.lists))
+                self._keep_draft(key, self.asker(state.edits).reckoned(state.lists))
                 self.check_soon()
             draft = self._drafts.get(key)
             return self.verdict(number) if draft is None else draft
 
-    def keep_draft(self, number: int, verdict: Verdict) -> None:
+    def _keep_draft(self, number: int, verdict: Verdict) -> None:
         """Keeps what was reckoned of a step, until the program was asked about the whole of it."""
         self._drafts[number] = verdict
         self._drafts = dict(list(self._drafts.items())[-MOST_VERDICTS:])
@@ -242,7 +242,7 @@ class OpenDay:
         if is_whole:
             self.keep(number, verdict)
         else:
-            self.keep_draft(number, verdict)
+            self._keep_draft(number, verdict)
             self.check_soon()
         return Answer(True, number, capital(words), before=before)
 
