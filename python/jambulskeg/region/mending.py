@@ -24,7 +24,7 @@ __all__ = ["Effort", "Shape", "Standing", "applied", "effort_of", "first_effort"
 
 LAMBDAS = ((1, 5), (1, 20), (1, 10), (1, 3))
 """The weights of penalties, which change from round to round."""
-MOVES_OF_A_STEP = 500
+MOVES_OF_A_STEP = 1500
 """A step of ruin and recreate takes about as long as so many moves."""
 WARMTH = 0.3
 """How much dearer a search may make routes at first, from which it goes on, as a share of their mean arc. With 600
