@@ -55,12 +55,15 @@ Ends written faults P failed old new status =
     ⊎ (IsSilent all.ReadFault old new status × failed)
     ⊎ IsSilent all.NoMemory old new status
 
--- a run of a program ends so: the source has this left before and after it, and failed so often
+-- a run of a program ends so: the source has this left before and after it, and failed so often; source and sink failed
+-- nowhere, unless it ends with that
 pub record RanBy {K : Type 0} (written : K → Option (List ℕ)) (faults : K → ℕ) (program : Program)
     (unknown asking : Type 0) (words : List (List ℕ)) (left_before left_after : Option (List ℕ))
     (read_faults_before read_faults_after : ℕ) (old new : K) (status : ℕ) : Type 0 where
   pub ends : Ends written faults (RespondsBy program unknown asking words left_before left_after)
       (Rose read_faults_before read_faults_after × (program.is_read words ≡ true)) old new status
+  pub source_quiet : status ≢ 2 → read_faults_after ≡ read_faults_before
+  pub sink_quiet : status ≢ 3 → faults new ≡ faults old
 
 -- the same of the program whose watchers report so; its status is one of an answer to what the words ask for, unless
 -- something failed

@@ -88,11 +88,14 @@ pub record IsCompleteBy (program : Program) (run : Run) : Type 0 where
   pub unread : ReadsNone program run → (Rose run.write_faults_before run.write_faults_after → ⊥) → (bytes : List ℕ)
       → (run.status ≡ 7) ⊎ RepliesAs program run bytes
 
--- 2 comes only where the source failed, of words that read; 3 only where the sink failed.
+-- 2 comes exactly where the source failed, of words that read, and 3 exactly where the sink failed: else their counts
+-- of failures stay as they are.
 pub record HasFailedOf (reads_input : Type 0) (run : Run) : Type 0 where
   pub read_fault : run.status ≡ 2 → Rose run.read_faults_before run.read_faults_after
   pub reads : run.status ≡ 2 → reads_input
   pub write_fault : run.status ≡ 3 → Rose run.write_faults_before run.write_faults_after
+  pub read_fault_only : run.status ≢ 2 → run.read_faults_after ≡ run.read_faults_before
+  pub write_fault_only : run.status ≢ 3 → run.write_faults_after ≡ run.write_faults_before
 
 -- Where the input is read, it is read to its end on every status but 2, 7 and 8; on 3 where the reply is not 8.
 abbrev pub IsEmptiedBy : Program → Run → Type 0

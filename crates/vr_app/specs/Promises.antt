@@ -92,7 +92,7 @@ pub record HasCause (run : Run) : Type 0 where
   pub usage_only : run.status ≡ 1 → IsNotAccepted run.words
   pub numbered : IsStatusOfAnswer run.status → ReadsNothing run.words → IsNotAccepted run.words ⊎ (run.status ≡ 0)
 
--- 2 and 3 come of failures alone
+-- 2 and 3 come of failures alone, and of each failure
 abbrev pub HasFailed : Run → Type 0
 HasFailed run = HasFailedOf (ReadsInput run.words) run
 

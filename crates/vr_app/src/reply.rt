@@ -63,6 +63,7 @@ fn respond_to_input<S: Source>(
     ensures of_task { IfOk result (λ a. IsOfTask task a.status) }
     ensures untold { task ≢ Task.Find Mode.Log → watch.new ≡ watch.old }
     ensures fault { IsErrOf result Stop.ReadFault → Rose (S.faults source.old) (S.faults source.new) }
+    ensures quiet { result ≢ Err Stop.ReadFault → S.faults source.new ≡ S.faults source.old }
 {
     match read_all(alloc, source, MOST_INPUT_BYTES) {
         Ok(bytes) => Ok(answer_input(alloc, task, bytes, watch)?),
@@ -82,6 +83,7 @@ fn respond_to_file<S: Source>(alloc: Global, vehicles: u32, source: &mut S) -> R
         → WhereKnown (S.left source.old) (λ bytes. S.left source.new ≡ Some [])) }
     ensures status { IfOk result (λ a. IsOfFile a.status ⊎ (a.status ≡ Status.TooLong)) }
     ensures fault { IsErrOf result Stop.ReadFault → Rose (S.faults source.old) (S.faults source.new) }
+    ensures quiet { result ≢ Err Stop.ReadFault → S.faults source.new ≡ S.faults source.old }
 {
     match read_all(alloc, source, MOST_INPUT_BYTES) {
         Ok(bytes) => Ok(answer_file(alloc, vehicles, bytes)?),
@@ -111,6 +113,7 @@ fn respond<S: Source>(
         → WhereKnown (S.left source.old) (λ bytes. S.left source.new ≡ Some [])) }
     ensures status { IfOk result (λ a. IsOfAnswer a.status) }
     ensures fault { IsErrOf result Stop.ReadFault → Rose (S.faults source.old) (S.faults source.new) }
+    ensures quiet { result ≢ Err Stop.ReadFault → S.faults source.new ≡ S.faults source.old }
     ensures reads { IsErrOf result Stop.ReadFault → ReadsInput (bytes_of words.now) }
 {
     match request_of(words) {
@@ -128,6 +131,8 @@ pub fn deliver<K: Sink>(reply: Result<Answer, Stop>, sink: &mut K) -> u8
     ensures status { IsStatus result }
     ensures ends { Ends (λ k. K.written k) (λ k. K.faults k) (λ answer. reply ≡ Ok answer) (reply ≡ Err Stop.ReadFault)
         sink.old sink.new result }
+    ensures stopped { reply ≡ Err Stop.ReadFault → result ≡ 2 }
+    ensures quiet { result ≢ 3 → K.faults sink.new ≡ K.faults sink.old }
 {
     match reply {
         Ok(answer) => match write_all(sink, answer.text.as_slice()) {
@@ -181,8 +186,8 @@ fn run_lent<S: Source, K: Sink>(
 /// |---|---|---|
 /// | 0 | exactly where the input is what the words ask for; of `generate` and `demo` always | as above |
 /// | 1 | exactly where the words are not accepted; nothing is read | `{"status":"USAGE"}` |
-/// | 2 | only where the source failed in this call | nothing |
-/// | 3 | only where the sink failed in this call; it stands in place of the status of the text | a front of the text |
+/// | 2 | exactly where the source failed in this call | nothing |
+/// | 3 | exactly where the sink failed in this call; it stands in place of the text's status | a front of the text |
 /// | 4 | of all but `import`, exactly where the input is no JSON | `{"status":"NOT_JSON"}` |
 /// | 5 | exactly where reading finds a fault | `{"code":C,"path":"P","status":"ROUTING_INVALID"}` |
 /// | 6 | of `first` and `solve`, exactly where the model has no first solution | `{"status":"ROUTING_FAIL"}` |
@@ -240,7 +245,7 @@ pub fn run<S: Source, K: Sink>(
         (S.left source.old) (S.left source.new) (S.faults source.old) (S.faults source.new)
         (K.written sink.old) (K.written sink.new) (K.faults sink.old) (K.faults sink.new) result) }
 
-    // Only failures of source and sink give 2 and 3. On 2 and 7 nothing is written.
+    // Failures of source and sink give 2 and 3, and nothing else does. On 2 and 7 nothing is written.
     ensures failed { HasFailed (program_run (bytes_of words.now)
         (S.left source.old) (S.left source.new) (S.faults source.old) (S.faults source.new)
         (K.written sink.old) (K.written sink.new) (K.faults sink.old) (K.faults sink.new) result) }

@@ -1,6 +1,6 @@
 //! The traits of what gives bytes and what takes them.
 
-ghost use Rattle.std.specs.Prelude.{◌≡◌, ◌≤◌, ◌<◌, List, ℕ, [], Option, length, take, Ok, IfOk, OnErr};
+ghost use Rattle.std.specs.Prelude.{◌≡◌, ◌≤◌, ◌<◌, List, ℕ, [], Option, length, take, Ok, IfOk, OnErr, OnOk};
 ghost use Rattle.vr_io.specs.Edges.{Rose, Gave, EndsAtEnd, Took};
 
 /// The device failed in this call.
@@ -16,14 +16,15 @@ pub trait Source {
     ghost faults: { Self → ℕ };
 
     /// Puts some of the bytes to come at the front of `buf` and gives their number. Zero on a `buf` that is not empty
-    /// is the end of input. `Failed` comes only where the device failed in this call; of bytes that are known to come
-    /// none is lost then.
+    /// is the end of input. `Failed` comes exactly where the device failed in this call; of bytes that are known to
+    /// come none is lost then.
     fn read(&mut self, buf: &mut [u8]) -> Result<usize, Failed>
         ensures bound { IfOk result (λ n. n ≤ length buf.new) }
         ensures gives { IfOk result (λ n. Gave (left self.old) (left self.new) (take n buf.new)) }
         ensures ends { IfOk result (λ n. EndsAtEnd (left self.old) (length buf.new) n) }
         ensures kept { OnErr result (left self.new ≡ left self.old) }
         ensures grows { faults self.old ≤ faults self.new }
+        ensures quiet { OnOk result (faults self.new ≡ faults self.old) }
         ensures cause { OnErr result (Rose (faults self.old) (faults self.new)) };
 }
 
@@ -36,7 +37,7 @@ pub trait Sink {
     ghost faults: { Self → ℕ };
 
     /// Takes some bytes of the front of `piece`, at least one where there is one, and gives their number. `Failed`
-    /// comes only where the device failed in this call. A sink whose bytes are known has taken none then; of another
+    /// comes exactly where the device failed in this call. A sink whose bytes are known has taken none then; of another
     /// one the front of `piece` may have gone out.
     fn write(&mut self, piece: &[u8]) -> Result<usize, Failed>
         ensures bound { IfOk result (λ n. n ≤ length piece.now) }
@@ -45,5 +46,6 @@ pub trait Sink {
         ensures takes { IfOk result (λ n. Took (written self.old) (written self.new) (take n piece.now)) }
         ensures kept { OnErr result (written self.new ≡ written self.old) }
         ensures grows { faults self.old ≤ faults self.new }
+        ensures quiet { OnOk result (faults self.new ≡ faults self.old) }
         ensures cause { OnErr result (Rose (faults self.old) (faults self.new)) };
 }

@@ -1,7 +1,7 @@
 //! A source and a sink in memory that move bytes in small pieces and fail at the calls that a script names: for tests
 //! of what a caller does when a device fails.
 
-ghost use Rattle.std.specs.Prelude.{◌≡◌, ◌≤◌, ◌<◌, ◌^◌, [], is_err, length, take, min, Some, IfOk, OnErr};
+ghost use Rattle.std.specs.Prelude.{◌≡◌, ◌≤◌, ◌<◌, ◌^◌, [], is_err, length, take, min, Some, IfOk, OnErr, OnOk};
 ghost use Rattle.vr_io.specs.Edges.{Rose, Gave, EndsAtEnd, Took};
 ghost use Rattle.vr_io.specs.Script.{unused, fails_next, after_call, to_take, refuses, writing};
 
@@ -60,6 +60,7 @@ impl Source for MemSource {
         ensures ends { IfOk result (λ n. EndsAtEnd (Some self.old.left) (length buf.new) n) }
         ensures kept { OnErr result (self.new.left ≡ self.old.left) }
         ensures grows { self.old.script.failed ≤ self.new.script.failed }
+        ensures quiet { OnOk result (self.new.script.failed ≡ self.old.script.failed) }
         ensures counts { self.new.script ≡ after_call (fails_next self.old.script) self.old.script }
     {
         let fails = self.script.fails_next();
@@ -144,6 +145,7 @@ impl Sink for MemSink {
         ensures number { IfOk result (λ n. n ≡ to_take self.old (length piece.now)) }
         ensures some { IfOk result (λ n. 0 < length piece.now → 0 < n) }
         ensures grows { self.old.script.failed ≤ self.new.script.failed }
+        ensures quiet { OnOk result (self.new.script.failed ≡ self.old.script.failed) }
         ensures takes { IfOk result (λ n. Took (Some self.old.bytes) (Some self.new.bytes) (take n piece.now)) }
         ensures writes { self.new ≡ writing piece.now self.old }
     {

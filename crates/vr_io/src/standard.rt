@@ -9,7 +9,7 @@ use crate::{Failed, Sink, Source};
 use std::io::{Read, Write};
 use std::marker::Model;
 
-/// A reader of std as a source: each error of the reader is a fault.
+/// A reader of std as a source, which is read once a call: an error of the reader is a fault.
 pub type StdSource<R> = StdDevice<R>;
 
 /// A writer of std as a sink, which is flushed after each write, as nobody does it later: each error of the writer or
@@ -55,7 +55,8 @@ impl<R: Read> Source for StdDevice<R> {
 
     ghost faults = { λ s. s.1 };
 
-    /// As the trait says. Each error of the reader is a fault, and takes no byte that the reader is known to have.
+    /// As the trait says. An error of the reader is a fault, and takes no byte that the reader is known to have. No
+    /// clause says that no error is passed over by reading once more, since a reader of std counts none; tests do.
     fn read(&mut self, buf: &mut [u8]) -> Result<usize, Failed>
         ensures bound { IfOk result (λ n. n ≤ length buf.new) }
         ensures gives { IfOk result (λ n. Consumes (R.remaining self.old.0) (R.remaining self.new.0) (take n buf.new)) }

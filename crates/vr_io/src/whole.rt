@@ -2,7 +2,7 @@
 
 ghost use Rattle.std.specs.Prelude.{◌≡◌, ◌≢◌, ◌↔◌, ◌≤◌, ◌<◌, List, ℕ, Some, Err, length, IfOk, OnOk, OnErr, IsErrOf};
 ghost use Rattle.vr_io.specs.Edges.{Rose, Took};
-ghost use Rattle.vr_io.specs.Whole.{GaveAll, GaveFront, GaveMore, TookFront};
+ghost use Rattle.vr_io.specs.Whole.{GaveAll, GaveFront, GaveMore, TookFront, UnlessFault};
 
 use crate::{Sink, Source};
 use std::alloc::Global;
@@ -35,7 +35,8 @@ const PIECE: usize = 1 << 16;
 /// All bytes up to the end of input, of which there are at most `max`.
 ///
 /// `TooLong` comes exactly where more came before the end; then more than `max` bytes were taken. `ReadFault` comes
-/// only where the source failed in this call. After any error some bytes of the front may be gone.
+/// exactly where the source failed in this call: no read that failed is tried again. After any error some bytes of the
+/// front may be gone.
 pub fn read_all<S: Source>(alloc: Global, source: &mut S, max: u64) -> Result<Vec<u8>, ReadError>
     ensures ok { IfOk result (λ bytes. GaveAll (S.left source.old) (S.left source.new) bytes.items) }
     ensures short { IfOk result (λ bytes. length bytes.items ≤ max) }
@@ -46,6 +47,7 @@ pub fn read_all<S: Source>(alloc: Global, source: &mut S, max: u64) -> Result<Ve
         → (result ≡ Err ReadError.TooLong) ↔ (max < length bytes) }
 
     ensures fault { IsErrOf result ReadError.ReadFault → Rose (S.faults source.old) (S.faults source.new) }
+    ensures quiet { UnlessFault result (S.faults source.new ≡ S.faults source.old) }
     ensures grows { S.faults source.old ≤ S.faults source.new }
     ensures front { OnErr result (GaveFront (S.left source.old) (S.left source.new)) }
 {
@@ -69,12 +71,13 @@ pub fn read_all<S: Source>(alloc: Global, source: &mut S, max: u64) -> Result<Ve
     }
 }
 
-/// Writes all these bytes, and takes no memory. `WriteFault` comes only where the sink failed in this call; a front of
-/// the bytes was taken then.
+/// Writes all these bytes, and takes no memory. `WriteFault` comes exactly where the sink failed in this call: no write
+/// that failed is tried again. A front of the bytes was taken then.
 pub fn write_all<K: Sink>(sink: &mut K, bytes: &[u8]) -> Result<(), WriteFault>
     ensures ok { OnOk result (Took (K.written sink.old) (K.written sink.new) bytes.now) }
     ensures err { OnErr result (TookFront (K.written sink.old) (K.written sink.new) bytes.now) }
     ensures fault { OnErr result (Rose (K.faults sink.old) (K.faults sink.new)) }
+    ensures quiet { OnOk result (K.faults sink.new ≡ K.faults sink.old) }
     ensures grows { K.faults sink.old ≤ K.faults sink.new }
 {
     let mut at = 0;

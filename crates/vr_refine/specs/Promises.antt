@@ -82,7 +82,7 @@ IsReply reports run = IsReplyOf (program_of reports) run
 abbrev pub IsComplete : (List Event → List ℕ) → Run → Type 0
 IsComplete reports run = IsCompleteBy (program_of reports) run
 
--- 2 and 3 come of failures alone
+-- 2 and 3 come of failures alone, and of each failure
 abbrev pub HasFailed : Run → Type 0
 HasFailed run = HasFailedOf (ReadsInput run.words) run
 

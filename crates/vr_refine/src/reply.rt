@@ -1,6 +1,6 @@
 //! What the program does with the source and the sink.
 
-ghost use Rattle.std.specs.Prelude.{◌≡◌, ◌≢◌, ◌⊎◌, List, ℕ, [], Some, IfOk, IsErrOf, false};
+ghost use Rattle.std.specs.Prelude.{◌≡◌, ◌≢◌, ◌⊎◌, List, ℕ, [], Err, Some, IfOk, IsErrOf, false};
 ghost use Rattle.vr_io.specs.Edges.{Rose};
 ghost use Rattle.vr_app.specs.Answers.{AnswersReply, IsOfAnswer, IsOfInput};
 ghost use Rattle.vr_app.specs.Programs.{program_run};
@@ -37,6 +37,7 @@ fn respond_to_input<S: Source>(
     ensures status { IfOk result (λ a. IsOfInput a.status) }
     ensures not_met_only { IfOk result (λ a. a.status ≡ Status.NotMet → request ≡ Request.Price) }
     ensures fault { IsErrOf result Stop.ReadFault → Rose (S.faults source.old) (S.faults source.new) }
+    ensures quiet { result ≢ Err Stop.ReadFault → S.faults source.new ≡ S.faults source.old }
 {
     match read_all(alloc, source, MOST_INPUT_BYTES) {
         Ok(bytes) => Ok(answer_input(alloc, request, bytes, watch)?),
@@ -66,6 +67,7 @@ fn respond<S: Source>(
         → WhereKnown (S.left source.old) (λ bytes. S.left source.new ≡ Some [])) }
     ensures status { IfOk result (λ a. IsOfAnswer a.status) }
     ensures fault { IsErrOf result Stop.ReadFault → Rose (S.faults source.old) (S.faults source.new) }
+    ensures quiet { result ≢ Err Stop.ReadFault → S.faults source.new ≡ S.faults source.old }
     ensures reads { IsErrOf result Stop.ReadFault → ReadsInput (bytes_of words.now) }
 {
     match request_of(words) {

@@ -17,6 +17,8 @@ returns-clause-ran g c =
           emptied = of_ok _ is.emptied answer e;
           settled = of_ok _ is.status answer e;
         }) (λ e. (is.fault (of_err e), is.reads (of_err e))) c.deliver.ensures.ends;
+        source_quiet = λ other. is.quiet (λ e. other (c.deliver.ensures.stopped e));
+        sink_quiet = c.deliver.ensures.quiet;
       };
       settles = λ settled. let it = end-written g.K.Sink.written g.K.Sink.faults _ _ _ _ _ c.deliver.ensures.ends settled in
           (it.answer.status, it.status_is, of_ok _ is.of_words it.answer it.responds);

@@ -7,6 +7,7 @@ invariant-loop-n g l = record {
   gave : Gave (g.S.Source.left l.initial.source) (g.S.Source.left l.source) l.all.items;
   room : length l.all.items + l.room ≡ l.max;
   grows : g.S.Source.faults l.initial.source ≤ g.S.Source.faults l.source;
+  quiet : g.S.Source.faults l.source ≡ g.S.Source.faults l.initial.source;
 }
 
 abbrev pub decreases-loop-n : goal.decreases-loop-n

@@ -50,6 +50,8 @@ returns-clause-failed g c = let ran = c.run_lent.ensures.ran in record {
   read_fault = λ e. (ending.is_failed ran.by e).1.0;
   reads = λ e. (ending.is_failed ran.by e).1.1;
   write_fault = ending.write_fault ran.by;
+  read_fault_only = ran.by.source_quiet;
+  write_fault_only = ran.by.sink_quiet;
 }
 
 pub returns-clause-unwritten : goal.returns-clause-unwritten

@@ -14,5 +14,7 @@ returns-clause-ran g c =
           emptied = of_ok _ is.emptied answer e;
           settled = of_ok _ is.status answer e;
         }) (λ e. (is.fault (of_err e), is.reads (of_err e))) c.deliver.ensures.ends;
+        source_quiet = λ other. is.quiet (λ e. other (c.deliver.ensures.stopped e));
+        sink_quiet = c.deliver.ensures.quiet;
       };
     }
