@@ -100,7 +100,7 @@ class DeskTests(unittest.TestCase):
 
     def planned(self, day: str, rounds: int = 5) -> Any:
         """The day after a search of some rounds."""
-        self.post(f"{day}/plan", {"seconds": 60})
+        self.post(f"{day}/plan", {"seconds": 5})
         while True:
             found = self.get(f"{day}/search")
             if found["status"] not in ("waiting", "searching"):
