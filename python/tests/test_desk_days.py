@@ -295,6 +295,14 @@ class DayTests(unittest.TestCase):
         self.assertEqual(self.folder.identities(), ["monday"])
         self.assertRaises(FolderInUse, Folder, self.folder.path)
 
+    def test_a_folder_is_left_while_a_program_begins(self) -> None:
+        with tempfile.TemporaryDirectory() as path:
+            folder = Folder(path)
+            of_program = os.dup(folder._lock.fileno())
+            self.addCleanup(os.close, of_program)
+            folder.close()
+            Folder(path).close()
+
     def test_files_that_are_no_models(self) -> None:
         self.assertRaises(NotJson, basis_of_model, ("a", b"\xff"), PROGRAM)
         with self.assertRaises(Refused) as refused:

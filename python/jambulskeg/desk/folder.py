@@ -133,7 +133,9 @@ class Folder:
                 without_part(os.path.join(self.path, name))
 
     def close(self) -> None:
-        """Leaves the folder to others."""
+        """Leaves the folder to others, also while a program begins, which has the open lock until it runs."""
+        if fcntl is not None:
+            fcntl.flock(self._lock, fcntl.LOCK_UN)
         self._lock.close()
 
     def identities(self) -> List[str]:
