@@ -276,7 +276,7 @@ class DayTests(unittest.TestCase):
         self.assertEqual(state.delta(earlier), {"routes": [[0, [1]], [1, [2]]]})
         self.assertEqual((state.vehicle_of(2), state.vehicle_of(3)), (1, None))
         self.assertEqual([step.number for step in day.path_to(2, 2)], [2, 1])
-        self.assertIs(day.within_of(state).model, day.asker(Edits()).of_model(day.within.model).model)
+        self.assertIs(day.within_of(state).model, day.basis.model)
         self.assertTrue(self.folder.is_day("monday"))
 
     def test_names_of_days(self) -> None:
@@ -388,7 +388,7 @@ class LargeDayTests(DayTests):
                 nodes = rng.sample(model.visits(), rng.randint(1, 2))
                 move = Move(tuple(nodes), rng.choice([None, *range(len(model.vehicles))]))
                 after = move.applied(state, Within(model, Names()))
-                whole = self.outcome(lambda: asker.judged(after.lists))
+                whole = self.outcome(lambda: Asker(model, PROGRAM).judged(after.lists))
                 part = self.outcome(lambda: self.touched(asker, state, after))
                 self.assertEqual(whole, part, (name, nodes, after.lists))
                 state = after if isinstance(whole, int) else state

@@ -21,6 +21,7 @@ from typing import Any, Dict, List, Tuple
 from unittest import mock
 
 from jambulskeg.__main__ import main
+from jambulskeg.complete import route_of
 from jambulskeg.desk import Folder, FolderInUse, OpenDay
 from jambulskeg.desk.command import Opener
 from jambulskeg.desk.guard import MOST_BYTES
@@ -132,6 +133,29 @@ class PageTests(DeskTests):
             while self.get(f"{day}/checked")["status"] == "checking":
                 time.sleep(0.01)
         self.assertEqual(self.get(f"{day}/checked"), {"step": 2, "status": "unfinished", "notice": ""})
+
+    def test_a_change_completes_the_routes_that_it_changes_alone(self) -> None:
+        day = self.made(**{"from": "example", "example": "service-day"})
+        with mock.patch("jambulskeg.desk.days.LARGE", 1), mock.patch("jambulskeg.desk.days.MOST_TOUCHED", 1):
+            self.planned(day)
+            self.change_three(day, 1)
+            self.end()
+            self.begin()
+            self.change_three(day, 2)
+
+    def change_three(self, day: str, number: int) -> None:
+        """Makes three changes, by each of which one route becomes another, and sees which were completed for them."""
+        seen = self.get(day)
+        one, other = [van["visits"] for van in seen["vehicles"] if len(van["visits"]) > 1][:2]
+        changes: List[Dict[str, Any]] = [
+            {"kind": "move", "nodes": [one[0]], "vehicle": None},
+            {"kind": "edit", "node": other[0], "window": [0, 400 + number]},
+            {"kind": "edit", "node": other[-1], "demand": number},
+        ]
+        with mock.patch("jambulskeg.desk.asking.route_of", wraps=route_of) as completed:
+            for step, change in enumerate(changes, seen["step"]):
+                self.assertTrue(self.post(f"{day}/change", {"step": step, "change": change})["answer"]["made"])
+        self.assertEqual([list(call[0][2]) for call in completed.call_args_list], [one[1:], other, other])
 
     def test_a_model_with_a_clock(self) -> None:
         day = self.made(**{"from": "example", "example": "service-day", "clock": "8:00"})

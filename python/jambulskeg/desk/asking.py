@@ -1,7 +1,7 @@
 """What lists of visits cost, asked of the program: `Asker.judged` is the one place that a changed day goes through.
 
-vr_refine prices the lists. Where it is not at hand, the schedules of routes are completed here, and kept while the
-model stays as it is, so a change completes the routes that it changes alone; then vr_cli checks the whole day.
+vr_refine prices the lists. Where it is not at hand, the schedules of routes are completed here, and vr_cli checks the
+whole day. Schedules are kept, whoever found them, so a change completes the routes that it changes alone.
 """
 
 from __future__ import annotations
@@ -14,7 +14,7 @@ import threading
 import weakref
 from collections import OrderedDict
 from dataclasses import dataclass, replace
-from typing import Dict, List, Optional, Sequence, Tuple
+from typing import AbstractSet, Dict, List, Optional, Sequence, Tuple
 
 from ..complete import route_of, solution_of_routes
 from ..errors import NotMet, ProgramFailed
@@ -30,7 +30,9 @@ from .states import Lists
 __all__ = ["Asker", "Verdict", "lenient", "merged"]
 
 MOST_ROUTES = 5000
-"""As many completed routes are kept."""
+"""As many routes with their schedules are kept."""
+Routes = Dict[Tuple[int, Tuple[int, ...]], Route]
+"""Routes by their vehicles and visits, those asked for of late at the end."""
 
 
 @dataclass(frozen=True)
@@ -144,20 +146,24 @@ def run_on(program: Program, words: Sequence[str], file: int) -> str:
 class Asker:
     """Asks the program about days of one model, for one thread at a time; `refining` is the vr_refine beside it."""
 
-    def __init__(self, model: Model, program: Program, texts: Optional[Texts] = None) -> None:
+    def __init__(
+        self, model: Model, program: Program, texts: Optional[Texts] = None, routes: Optional[Routes] = None
+    ) -> None:
         self.model, self.program, self.refining = model, program, at_hand(program)
         self._texts = texts or Texts()
         self._lock = threading.Lock()
-        self._routes: "OrderedDict[Tuple[int, Tuple[int, ...]], Route]" = OrderedDict()
+        self._routes = OrderedDict(routes or {})
         self._held: Dict[bool, Held] = {}
 
-    def of_model(self, model: Model) -> "Asker":
-        """An asker about another model, mostly of the same matrices."""
-        return self if model is self.model else Asker(model, self.program, self._texts)
+    def of_model(self, model: Model, changed: AbstractSet[int]) -> "Asker":
+        """An asker about another model, mostly of the same matrices, in which some visits ask for something else; the
+        schedules of routes without these are kept."""
+        kept = {key: route for key, route in self._routes.items() if changed.isdisjoint(key[1])}
+        return Asker(model, self.program, self._texts, kept)
 
     def apart(self) -> "Asker":
         """An asker about the same model for another thread."""
-        return Asker(self.model, self.program, self._texts)
+        return Asker(self.model, self.program, self._texts, self._routes)
 
     def judged(self, lists: Lists) -> Verdict:
         """What the program finds of these lists, with the schedules that it would choose.
@@ -176,10 +182,13 @@ class Asker:
         made = {node for visits in lists for node in visits}
         left = tuple(missing_of(self.model, (node for node in self.model.visits() if node not in made)))
         try:
-            return Verdict(self._held_for(bool(left)).price(refining, lists), left)
+            solution = self._held_for(bool(left)).price(refining, lists)
         except NotMet:
             self.reckoned(lists)  # where a route cannot be driven, this raises at the stop
             raise
+        for vehicle, visits in enumerate(lists):
+            self._keep((vehicle, visits), solution.routes[vehicle])
+        return Verdict(solution, left)
 
     def reckoned(self, lists: Lists) -> Verdict:
         """The same, without asking the program. Raises `CannotBeDriven`."""
@@ -189,12 +198,16 @@ class Asker:
     def route(self, vehicle: int, visits: Tuple[int, ...]) -> Route:
         """The route of a vehicle with its schedules. Raises `CannotBeDriven`."""
         key = vehicle, visits
-        if key not in self._routes:
-            self._routes[key] = route_of(self.model, vehicle, visits)
-            if len(self._routes) > MOST_ROUTES:
-                self._routes.popitem(last=False)
+        known = self._routes.get(key)
+        return self._keep(key, route_of(self.model, vehicle, visits) if known is None else known)
+
+    def _keep(self, key: Tuple[int, Tuple[int, ...]], route: Route) -> Route:
+        """Keeps a route, which is handed back."""
+        self._routes[key] = route
         self._routes.move_to_end(key)
-        return self._routes[key]
+        if len(self._routes) > MOST_ROUTES:
+            self._routes.popitem(last=False)
+        return route
 
     def check(self, found: Verdict) -> None:
         """Asks whether what was reckoned is so; any thread may. Raises `NotMet`, and as `Program.run` does."""

@@ -146,9 +146,13 @@ class OpenDay:
         key = repr(edits.tree())
         if key not in self._askers:
             try:
-                self._askers[key] = self._first.of_model(edited(self.basis.model, edits))
+                model = edited(self.basis.model, edits)
             except Refused as refused:
                 raise BadChange(f"the model does not take this: {refused.sentence}") from None
+            present = self.step.state.edits
+            near = self._askers.get(repr(present.tree()))
+            changed = edits.other_than(Edits() if near is None else present)
+            self._askers[key] = (near or self._first).of_model(model, changed)
             if len(self._askers) > MOST_ASKERS:
                 self._askers.popitem(last=False)
         self._askers.move_to_end(key)

@@ -7,7 +7,7 @@ its list is empty, and no search is given it.
 from __future__ import annotations
 
 from dataclasses import dataclass, field, replace
-from typing import Any, Dict, FrozenSet, Mapping, Optional, Sequence, Tuple
+from typing import Any, Dict, FrozenSet, Mapping, Optional, Sequence, Set, Tuple
 
 from ..errors import JambulskegError
 from ..records import Dimension, Evaluator, Group, Model, NodeRow
@@ -53,6 +53,12 @@ class Edits:
             {**earlier.windows, **self.windows}, {**earlier.demands, **self.demands},
             {**earlier.penalties, **self.penalties},
         )
+
+    def other_than(self, earlier: "Edits") -> Set[int]:
+        """The visits that ask for another window or demand than after earlier edits."""
+        kinds = (self.windows, earlier.windows), (self.demands, earlier.demands)
+        return {node for now, was in kinds for node in {*now, *was}
+                if (node in now, now.get(node)) != (node in was, was.get(node))}
 
     def __bool__(self) -> bool:
         return bool(self.windows or self.demands or self.penalties)

@@ -38,9 +38,7 @@ def listed_rules(model: Model, lists: Lists) -> None:
 
 def touched_by(state: State, after: State) -> List[int]:
     """The vans whose routes, or what their visits ask, are other in a state than in the one before it."""
-    nodes = {node for kind, earlier in (
-        (after.edits.windows, state.edits.windows), (after.edits.demands, state.edits.demands)
-    ) for node in {*kind, *earlier} if (node in kind, kind.get(node)) != (node in earlier, earlier.get(node))}
+    nodes = after.edits.other_than(state.edits)
     return [
         vehicle for vehicle, visits in enumerate(after.lists)
         if visits != state.lists[vehicle] or not nodes.isdisjoint(visits)
