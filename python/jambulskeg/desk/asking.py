@@ -30,7 +30,7 @@ from .states import Lists
 __all__ = ["Asker", "Verdict", "lenient", "merged"]
 
 MOST_ROUTES = 5000
-"""As many routes with their schedules are kept."""
+"""How many routes with their schedules are kept."""
 Routes = Dict[Tuple[int, Tuple[int, ...]], Route]
 """Routes by their vehicles and visits, those asked for of late at the end."""
 
