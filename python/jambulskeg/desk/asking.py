@@ -30,7 +30,7 @@ from .states import Lists
 __all__ = ["Asker", "Verdict", "lenient", "merged"]
 
 MOST_ROUTES = 5000
-"""How many completed routes are kept."""
+"""As many completed routes are kept."""
 
 
 @dataclass(frozen=True)
