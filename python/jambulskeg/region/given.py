@@ -23,7 +23,7 @@ class Given:
     """A part as its searcher gets it: the text of its model, and if it refines, the `routes` that its vans have so far.
 
     `nodes[i]` is the place of node i. The nodes `required` must be made; to leave one out costs `duty`. `cost` is that
-    of the routes so far, of which `left` leave out so many required ones.
+    of the routes so far, which leave out `left` of the required ones.
     """
 
     nodes: Tuple[int, ...]

@@ -20,15 +20,15 @@ from .mending import effort_of
 __all__ = ["USUAL_SPEED", "Pace"]
 
 USUAL_SPEED = 20_000_000
-"""About as many moves a processor tries in a second, in parts of about 100 visits, with all that is done for it."""
+"""About how many moves a processor tries in a second, in parts of about 100 visits, with all that is done for it."""
 PROBED = 0.01
 """The share of the seconds in which a machine of usual speed is measured."""
 MOST_PROBED = 5_000_000
 """The most tries of a part by which it is measured."""
 FINISH = 3.5
-"""The check of the whole plan and its pages take about so many times as long as the models of all visits."""
+"""How many times as long as the models of all visits the check of the whole plan and its pages take."""
 WRITING = 0.3
-"""So many seconds are kept for the beginning and the end of a process."""
+"""How many seconds are kept for the beginning and the end of a process."""
 
 
 class Pace:

@@ -52,7 +52,7 @@ class RunDiffers(JambulskegError, ValueError):
 
 @dataclass(frozen=True)
 class Asked:
-    """What is asked of a plan: the seconds for all of it with so many processes at a time, or the moves that are tried
+    """What is asked of a plan: the seconds for all of it with `jobs` processes at a time, or the moves that are tried
     in all (`tries`; no clock is looked at then); how large parts and seams are at most. By itself a seam has the usual
     shape for the program that searches it.
     """

@@ -24,13 +24,13 @@ from .store import Store
 __all__ = ["NotSolved", "Round", "agreed", "beside", "solve_parts"]
 
 TRIALS = 3
-"""So often a part is given out before the run ends without it."""
+"""How often a part is given out before the run ends without it."""
 NONE = {"status": "NONE"}
 """What is kept of a part whose construction finds no first solution."""
 KEPT = 32
-"""What is given out of so many parts is kept at a time."""
+"""Of how many parts what is given out is kept at a time."""
 CHECKS = 2
-"""So many answers are checked at a time."""
+"""How many answers are checked at a time."""
 
 T = TypeVar("T")
 Judge = Callable[[int, Given, Optional[Solution]], T]
