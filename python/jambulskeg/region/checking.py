@@ -6,23 +6,24 @@ visit is in two parts, and that what is in none is told as left out, is counted 
 
 from __future__ import annotations
 
-from concurrent.futures import ThreadPoolExecutor
-from dataclasses import dataclass
+from dataclasses import dataclass, replace
 from typing import Dict, Iterator, List, Optional, Sequence, Tuple
 
-from ..complete import leave_later
+from ..complete import complete
 from ..costs import parts_of
 from ..errors import JambulskegError
 from ..exports import day_of_tables, plan_rows
-from ..model import beside, meets
 from ..program import ProgramLike, program_of
+from ..records import Model, ScheduleRule
 from ..solution import Route, Solution
 from ..view import Day
 from ..view.sheets import sheet
-from .day import Part, PartModel, Region, model_of_part
+from .ahead import ahead
+from .day import Lists, Part, PartModel, Region, model_of_part
 from .mending import Standing
 from .reading import RegionTables
 from .store import Store
+from .tasks import agreed, beside
 
 __all__ = ["Checked", "CheckedPart", "SharedTwice", "VanDay", "check_plan"]
 
@@ -95,14 +96,15 @@ def check_plan(
     def one(number: int) -> CheckedPart:
         part = pieces[number]
         model = model_of_part(region, part)
-        solution = model.solution([standing.routes[van] for van in part.vans], model.strict)
-        solution = meets(model.strict, leave_later(model.strict, solution, checked=False), found)
+        solution = late_starts(model.strict, model.own([standing.routes[van] for van in part.vans]))
+        text = beside(model.strict.text(), solution)
+        agreed(text, solution, found)
         if store is not None:
-            store.write(f"checked/{number:04}.json", beside(model.strict, solution))
+            store.write(f"checked/{number:04}.json", text)
         return checked_part(tables, model, solution, sheets)
 
-    with ThreadPoolExecutor(max_workers=max(1, jobs)) as pool:
-        parts = tuple(pool.map(one, range(len(pieces))))
+    with ahead(one, len(pieces), jobs) as checked:
+        parts = tuple(map(checked, range(len(pieces))))
     left = left_out(region, parts)
     penalties = [region.places[visit].penalty for visit in left]
     return Checked(
@@ -110,6 +112,13 @@ def check_plan(
         tuple(visit for visit, penalty in zip(left, penalties) if penalty is not None),
         tuple(visit for visit, penalty in zip(left, penalties) if penalty is None),
     )
+
+
+def late_starts(model: Model, lists: Lists) -> Solution:
+    """The solution of given visits, each day ending as early as it can and beginning as late as that allows. Schedules
+    cost nothing in a model of a region. Raises `CannotBeDriven`."""
+    vehicles = [replace(vehicle, schedule=ScheduleRule.TIGHT) for vehicle in model.vehicles]
+    return complete(replace(model, format=2, vehicles=vehicles), lists, checked=False)
 
 
 def pieces_of(standing: Standing) -> Iterator[Part]:

@@ -31,7 +31,8 @@ LOCAL = 0.6
 MOST_IN_A_MODEL = 800
 """More visits are in no part, however few vans there are."""
 
-Units = List[Tuple[int, ...]]
+Unit = Tuple[int, ...]
+Units = List[Unit]
 """Visits that stay in one part: pairs, and single ones."""
 
 
@@ -69,8 +70,9 @@ def cut(region: Region, most: int = MOST_VISITS) -> List[Part]:
     sites = sites_of(region, most)
     parts: List[Part] = []
     for site, units in zip(sites, shared_among(region, sites)):
-        pieces = divided(region, site, units, most) if units else [[]]
-        parts += with_vans(region, site, [[visit for unit in piece for visit in unit] for piece in pieces])
+        needs = {unit: need_of_unit(region, site, unit) for unit in units}
+        pieces = divided(region, site, needs, most) if units else [[]]
+        parts += with_vans(region, site, pieces, needs)
     return [part for part in parts if part.visits]
 
 
@@ -128,6 +130,11 @@ def need_of(region: Region, site: Site, visit: int) -> Need:
     return Need(abs(place.demand), place.service + drive * pace * unit_of(region))
 
 
+def need_of_unit(region: Region, site: Site, unit: Sequence[int]) -> Need:
+    """What visits that stay together need."""
+    return sum((need_of(region, site, visit) for visit in unit), NOTHING)
+
+
 def unit_of(region: Region) -> float:
     """How many units of distance a unit of the plane has: metres where places are in degrees."""
     return math.radians(EARTH) if region.roads.measure is Measure.GREAT_CIRCLE else 1.0
@@ -137,17 +144,19 @@ def shared_among(region: Region, sites: Sequence[Site]) -> List[Units]:
     """The units of each site: first those for which the second nearest site is much further than the nearest."""
     points, out, used = region.points, [[] for _ in sites], [NOTHING for _ in sites]  # type: ignore[var-annotated]
 
-    def ways(unit: Tuple[int, ...]) -> List[Tuple[float, int]]:
+    def ways(unit: Unit) -> List[Tuple[float, int]]:
         x, y = points[unit[0]]
         return sorted((math.hypot(x - site.at[0], y - site.at[1]), at) for at, site in enumerate(sites))[:4]
+
+    def with_unit(unit: Unit, at: int) -> Need:
+        return used[at] + need_of_unit(region, sites[at], unit)
 
     near = {unit: ways(unit) for unit in units_of(region)}
     ordered = sorted(near, key=lambda unit: (near[unit][0][0] - near[unit][-1 if len(near[unit]) < 2 else 1][0], unit))
     for unit in ordered:
         able = [at for _, at in near[unit] if can_site(region, sites[at], unit)] or [near[unit][0][1]]
-        needs = {at: sum((need_of(region, sites[at], visit) for visit in unit), NOTHING) for at in able}
-        at = next((at for at in able if (used[at] + needs[at]).of(sites[at].supply) <= FULL), able[0])
-        used[at] = used[at] + needs[at]
+        at = next((at for at in able if with_unit(unit, at).of(sites[at].supply) <= FULL), able[0])
+        used[at] = with_unit(unit, at)
         out[at].append(unit)
     return out
 
@@ -159,11 +168,12 @@ def can_site(region: Region, site: Site, unit: Sequence[int]) -> bool:
     return any(region.can_make(van, unit[0]) for van in site.vans)
 
 
-def divided(region: Region, site: Site, units: Units, most: int) -> List[Units]:
+def divided(region: Region, site: Site, needs: Dict[Unit, Need], most: int) -> List[Units]:
     """The units of a site in pieces of at most `most` visits, as long as each has a van."""
+    units = list(needs)
     pieces = pieces_of(site, units, most)
     while True:
-        found = halved(region, site, units, pieces, len(site.vans))
+        found = halved(region, site, units, pieces, len(site.vans), needs)
         largest = max(sum(map(len, piece)) for piece in found)
         if largest <= most or pieces >= len(site.vans):
             return found
@@ -178,14 +188,16 @@ def pieces_of(site: Site, units: Units, most: int) -> int:
     return max(min(wanted, len(site.vans)), math.ceil(visits / MOST_IN_A_MODEL))
 
 
-def halved(region: Region, site: Site, units: Units, pieces: int, vans: int) -> List[Units]:
+def halved(
+    region: Region, site: Site, units: Units, pieces: int, vans: int, needs: Dict[Unit, Need]
+) -> List[Units]:
     """The units cut into this many pieces by halves, each with the loads and hours for whole vans."""
     if pieces <= 1 or len(units) < 2:
         return [units]
     ordered = sorted(units, key=key_across(region, site, units))
     left = pieces // 2
     left_vans = max(left, min(vans - (pieces - left), round(vans * left / pieces)))
-    weights = [sum((need_of(region, site, visit) for visit in unit), NOTHING).of(site.supply) for unit in ordered]
+    weights = [needs[unit].of(site.supply) for unit in ordered]
     if not any(weights):
         weights = [len(unit) for unit in ordered]
     share, done, at = sum(weights) * left_vans / max(1, vans), 0.0, 0
@@ -194,14 +206,14 @@ def halved(region: Region, site: Site, units: Units, pieces: int, vans: int) -> 
         at += 1
     at = max(1, at)
     return [
-        *halved(region, site, ordered[:at], left, left_vans),
-        *halved(region, site, ordered[at:], pieces - left, vans - left_vans),
+        *halved(region, site, ordered[:at], left, left_vans, needs),
+        *halved(region, site, ordered[at:], pieces - left, vans - left_vans, needs),
     ]
 
 
 def key_across(
     region: Region, site: Site, units: Units
-) -> Callable[[Tuple[int, ...]], Tuple[float, Tuple[int, ...]]]:
+) -> Callable[[Unit], Tuple[float, Unit]]:
     """By what units are ordered to be halved: the direction from the site, or the distance."""
     ways = {unit: way_of(region, site, unit) for unit in units}
     begin, span = gap_of([angle for angle, _ in ways.values()])
@@ -229,9 +241,10 @@ def gap_of(angles: Sequence[float]) -> Tuple[float, float]:
     return begin, 2 * math.pi - gap
 
 
-def with_vans(region: Region, site: Site, pieces: Sequence[Sequence[int]]) -> List[Part]:
+def with_vans(region: Region, site: Site, divisions: Sequence[Units], needs: Dict[Unit, Need]) -> List[Part]:
     """Parts of the pieces of a site, its vans shared out by need, those with rare skills first."""
-    wants = [sum((need_of(region, site, visit) for visit in piece), NOTHING) for piece in pieces]
+    pieces = [[visit for unit in units for visit in unit] for units in divisions]
+    wants = [sum((needs[unit] for unit in units), NOTHING) for units in divisions]
     given: List[List[int]] = [[] for _ in pieces]
     supplies = [NOTHING for _ in pieces]
     asked = [skills_of(region, piece) for piece in pieces]

@@ -7,11 +7,9 @@ from dataclasses import dataclass, field, replace
 from functools import cached_property
 from typing import Dict, FrozenSet, List, Optional, Sequence, Tuple
 
-from ..complete import complete
 from ..places import Measure, Place, Roads, Van, model_of
 from ..records import Allowed, Model, Pair, Search
-from ..rescue import missing, relax
-from ..solution import Solution
+from ..rescue import relax
 from .roads import RoadTable
 
 __all__ = ["Part", "PartModel", "Region", "model_of_part"]
@@ -108,34 +106,23 @@ class Part:
 @dataclass(frozen=True)
 class PartModel:
     """A part as a model. `nodes[i]` is the place of node i, vehicle k is the van `part.vans[k]`. Visits that none of
-    its vans may make are no nodes.
-
-    `strict` asks for every visit that must be made; in `asked` each of them may be left out for `duty`, more than any
-    day of the part costs, so that a search always finds something.
+    its vans may make are no nodes. `strict` asks for every visit that must be made.
     """
 
     part: Part
     nodes: Tuple[int, ...]
     strict: Model
-    asked: Model
-    duty: int
 
-    def lists(self, solution: Solution) -> List[List[int]]:
-        """The visits of each van, by their numbers in the region."""
-        return [[self.nodes[node] for node in route.visits] for route in solution.routes]
+    @cached_property
+    def relaxed(self) -> Tuple[Model, int]:
+        """The model in which each visit may be left out, so that a search always finds something, and what it costs to
+        leave out one that must be made: more than any day of the part."""
+        return relax(self.strict)
 
     def own(self, lists: Lists) -> List[List[int]]:
         """The visits of each van, by their nodes in the part."""
         node_of = {place: node for node, place in enumerate(self.nodes)}
         return [[node_of[place] for place in visits] for visits in lists]
-
-    def solution(self, lists: Lists, model: Optional[Model] = None) -> Solution:
-        """The solution of given visits, with its schedules. Raises `CannotBeDriven`."""
-        return complete(model or self.asked, self.own(lists), checked=False)
-
-    def missing(self, solution: Solution) -> int:
-        """How many visits that must be made a solution leaves out."""
-        return len(missing(self.strict, solution))
 
 
 def model_of_part(region: Region, part: Part, search: Search = Search()) -> PartModel:
@@ -145,9 +132,7 @@ def model_of_part(region: Region, part: Part, search: Search = Search()) -> Part
     model = model_of(
         [region.places[place] for place in nodes], [region.vans[van] for van in part.vans], region.roads, search
     )
-    strict = with_rules(region, part, nodes, model)
-    asked, duty = relax(strict)
-    return PartModel(part, nodes, strict, asked, duty)
+    return PartModel(part, nodes, with_rules(region, part, nodes, model))
 
 
 def with_rules(region: Region, part: Part, nodes: Sequence[int], model: Model) -> Model:

@@ -14,11 +14,11 @@ import math
 import random
 from collections import Counter
 from dataclasses import dataclass, replace
-from typing import Dict, FrozenSet, List, Mapping, Optional, Sequence, Set, Tuple
+from typing import Callable, Dict, FrozenSet, List, Mapping, Optional, Sequence, Set, Tuple
 
 from ..records import First, Improve, Model, Refine, Search
 from .day import Part, Region
-from .near import Links, links_of
+from .near import Near
 
 __all__ = ["Effort", "Shape", "Standing", "applied", "effort_of", "first_effort", "groups_of", "warmed"]
 
@@ -106,20 +106,26 @@ def warmed(refine: Refine, model: Model, routes: Sequence[Sequence[int]]) -> Ref
 
 
 def groups_of(
-    region: Region, standing: Standing, near: Mapping[int, Sequence[int]], number: int, shape: Shape, *,
-    seams_alone: bool = False
+    region: Region, standing: Standing, near: Near, number: int, shape: Shape, *, seams_alone: bool = False,
+    most: Optional[int] = None,
 ) -> List[Part]:
-    """The parts of a round, none of which share a van or a visit; each begins from a route that is awake.
+    """The parts of a round, `most` at most, none of which share a van or a visit; each begins from a route that is
+    awake.
 
     Visits that no van makes go with the route that is nearest. `seams_alone` leaves out routes that come from one part.
     """
     van_of = standing.van_of()
-    links = links_of(near, van_of)
+
+    def links(van: int) -> "Counter[int]":
+        return near.links(van_of, standing.routes[van])
+
     left = left_of(region, van_of, near)
     free = set(standing.used())
     idle = [van for van, visits in enumerate(standing.routes) if not visits]
-    parts = []
+    parts: List[Part] = []
     for seed in seeds_of(standing, left, number):
+        if len(parts) == most:
+            break
         vans = grown(standing, links, free, seed, shape) if seed in free else []
         extra = [visit for van in vans for visit in left.get(van, ())]
         origins = {standing.origins[van] for van in vans} if seams_alone else set()
@@ -140,10 +146,13 @@ def seeds_of(standing: Standing, left: Mapping[int, Sequence[int]], number: int)
     return sorted(awake, key=lambda van: van not in left)
 
 
-def grown(standing: Standing, links: Links, free: Set[int], seed: int, shape: Shape) -> List[int]:
-    """A route and its nearest neighbours among those that are free, rather those from other parts."""
+def grown(
+    standing: Standing, links: Callable[[int], "Counter[int]"], free: Set[int], seed: int, shape: Shape
+) -> List[int]:
+    """A route and its nearest neighbours among those that are free, rather those from other parts. `links` tells how
+    near other vans are to one."""
     vans, size = [seed], len(standing.routes[seed])
-    ties: "Counter[int]" = Counter(links[seed])
+    ties = links(seed)
     while len(vans) < shape.routes:
         known = {standing.origins[van] for van in vans} if standing.origins else set()
         able = [
@@ -156,18 +165,18 @@ def grown(standing: Standing, links: Links, free: Set[int], seed: int, shape: Sh
         best = -max(able)[1]
         vans.append(best)
         size += len(standing.routes[best])
-        ties.update(links[best])
+        ties.update(links(best))
     return vans
 
 
-def left_of(
-    region: Region, van_of: Mapping[int, int], near: Mapping[int, Sequence[int]]
-) -> Dict[int, List[int]]:
+def left_of(region: Region, van_of: Mapping[int, int], near: Near) -> Dict[int, List[int]]:
     """The visits that nobody makes, by the vans whose routes are nearest, some for each; pairs go together."""
     out: Dict[int, List[int]] = {}
     for visit in region.visits:
+        if visit in van_of:
+            continue
         both = region.together(visit)
-        if visit in van_of or visit != both[0]:
+        if visit != both[0]:
             continue
         vans = Counter(van_of[other] for one in both for other in near[one] if other in van_of)
         able = [van for van in vans if len(out.get(van, ())) < MOST_LEFT]

@@ -4,13 +4,14 @@ from __future__ import annotations
 
 import math
 from collections import Counter
-from typing import Dict, Iterator, List, Mapping, Sequence, Tuple
+from functools import cached_property
+from itertools import chain
+from typing import Dict, Iterable, Iterator, List, Mapping, Sequence, Tuple
 
 from .day import Point
 
-__all__ = ["links_of", "nearest"]
+__all__ = ["Near", "nearest"]
 
-Links = Dict[int, "Counter[int]"]
 A_CELL = 3
 """About how many visits lie in a cell of the grid."""
 
@@ -59,22 +60,27 @@ class Grid:
                 yield from self._cells.get((column + across, row + up), ())
 
 
-def nearest(points: Sequence[Point], visits: Sequence[int], count: int) -> Dict[int, List[int]]:
+class Near(Dict[int, List[int]]):
+    """The nearest other visits of each visit, the nearest first."""
+
+    @cached_property
+    def around(self) -> Dict[int, List[int]]:
+        """For each visit those that are near to it, and those that it is near to: twice, where it is both."""
+        out = {visit: list(others) for visit, others in self.items()}
+        for visit, others in self.items():
+            for other in others:
+                out[other].append(visit)
+        return out
+
+    def links(self, van_of: Mapping[int, int], visits: Iterable[int]) -> "Counter[int]":
+        """For each van how often one of its visits lies near one of these, both ways."""
+        others = chain.from_iterable(map(self.around.__getitem__, visits))
+        return Counter(van_of[other] for other in others if other in van_of)
+
+
+def nearest(points: Sequence[Point], visits: Sequence[int], count: int) -> Near:
     """The nearest other visits of each visit."""
     if not visits:
-        return {}
+        return Near()
     grid = Grid(points, visits)
-    return {visit: grid.near(visit, count) for visit in visits}
-
-
-def links_of(near: Mapping[int, Sequence[int]], van_of: Mapping[int, int]) -> Links:
-    """For each van how often a near visit of one of its own is another van's, both ways."""
-    links: Links = {van: Counter() for van in van_of.values()}
-    for visit, others in near.items():
-        van = van_of.get(visit)
-        for other in others if van is not None else ():
-            there = van_of.get(other, van)
-            if there != van:
-                links[van][there] += 1  # type: ignore[index]
-                links[there][van] += 1  # type: ignore[index]
-    return links
+    return Near((visit, grid.near(visit, count)) for visit in visits)

@@ -14,20 +14,16 @@ from ..records import MOST_TRIES
 from ..solution import Solution
 from .crew import Crew
 from .cutting import MOST_VISITS, cut
-from .day import Part, PartModel, Region
+from .day import Part, Region
+from .given import Given
 from .mending import Shape, Standing, applied, effort_of, first_effort, groups_of
-from .near import nearest
+from .near import Near, nearest
+from .pace import Pace
 from .store import Store
 from .tasks import Round, solve_parts
 
 __all__ = ["Asked", "Entry", "Planned", "Progress", "RunDiffers", "plan"]
 
-TRIES_A_SECOND = 33_000_000
-"""About how many moves a processor tries in a second, in parts of about 100 visits."""
-SEARCHING = 0.6
-"""The share of the seconds that is meant for searches; the rest is for models, checks, and waiting for each other."""
-ROUNDS_END = 0.9
-"""After this share of the seconds no round is begun; the rest is for the check of the whole, and for writing."""
 CUTTING_SHARE = 0.4
 """The share of the tries that the first parts get."""
 LEVELS = (1, 3, 10, 30)
@@ -43,7 +39,7 @@ PASSES = 12
 RESTED = 0.15
 """The next tries are begun when no larger share of the routes is awake."""
 ROUNDS = 16
-"""A round has about this part of the tries at most, so that the seconds end a run soon after they are over."""
+"""A round has about this part of the tries at most, so that a run that is ended has lost little."""
 LEAST_PARTS = 16
 """A round has as many parts at least, so that few processors wait for the last one."""
 NEAR = 10
@@ -56,9 +52,9 @@ class RunDiffers(JambulskegError, ValueError):
 
 @dataclass(frozen=True)
 class Asked:
-    """What is asked of a plan: the seconds for all of it and the processes at a time, from which follow the moves that
-    are tried in all, or these moves (`tries`; no clock ends the plan then); how large parts and seams are at most. By
-    itself a seam has the usual shape for the program that searches it.
+    """What is asked of a plan: the seconds for all of it with `jobs` processes at a time, or the moves that are tried
+    in all (`tries`; no clock is looked at then); how large parts and seams are at most. By itself a seam has the usual
+    shape for the program that searches it.
     """
 
     seconds: float = 60
@@ -67,10 +63,6 @@ class Asked:
     most: int = MOST_VISITS
     shape: Optional[Shape] = None
     seams: bool = True
-
-    def budget(self) -> int:
-        """The moves that are tried in all."""
-        return self.tries or max(1, int(self.seconds * self.jobs * SEARCHING * TRIES_A_SECOND))
 
 
 @dataclass(frozen=True)
@@ -146,14 +138,14 @@ class Outcome:
 
 def plan(
     region: Region, asked: Asked, crew: Crew, store: Store, program: ProgramLike = None,
-    progress: Optional[Progress] = None, *, resume: bool = False,
+    progress: Optional[Progress] = None, *, resume: bool = False, began: Optional[float] = None,
 ) -> Planned:
     """The plan of a region, by as many rounds as the tries or the seconds allow.
 
-    Its rounds depend on the region and on what is asked alone, not on the crew: only the clock may end them earlier.
-    Raises `RunDiffers`, `NotSolved`, `EngineFailed`, `Refused`, `OSError`; what was solved is kept then.
+    With `tries` its rounds depend on the region and on what is asked alone, not on the crew or the machine; with
+    seconds, on the speed of these too. `began` is when the seconds began, as `time.monotonic` tells it. Raises `RunDiffers`, `NotSolved`, `EngineFailed`, `Refused`, `OSError`; what was solved is kept then.
     """
-    run = Run(region, asked, crew, store, program, progress or (lambda entry: None))
+    run = Run(region, asked, crew, store, program, progress or (lambda entry: None), began)
     state = run.found(resume) or run.first_parts()
     while not state.ended:
         why = run.why_ended(state)
@@ -165,13 +157,16 @@ class Run:
     """A run in a folder."""
 
     def __init__(
-        self, region: Region, asked: Asked, crew: Crew, store: Store, program: ProgramLike, progress: Progress
+        self, region: Region, asked: Asked, crew: Crew, store: Store, program: ProgramLike, progress: Progress,
+        began: Optional[float],
     ) -> None:
         self._region, self._asked, self._crew, self._store = region, asked, crew, store
         self._program, self._progress, self._refines = program, progress, crew.searcher.refines
         self._shape = asked.shape or Shape.usual(self._refines)
-        self._began, self._before = time.monotonic(), 0.0
-        self._near: Dict[int, List[int]] = {}
+        self._began, self._before = time.monotonic() if began is None else began, 0.0
+        self._pace, self._budget = Pace(asked.seconds, asked.jobs, self.elapsed), asked.tries or 0
+        self._head: Dict[str, Any] = {}
+        self._near = Near()
 
     def found(self, resume: bool) -> Optional[Planned]:
         """The state that the folder has, None where it has none. Raises `RunDiffers`."""
@@ -182,7 +177,7 @@ class Run:
                 f"the folder {self._store.folder} has a run that is not at its end; --resume goes on with it, and "
                 "another --folder begins anew"
             )
-        if old is not None and resume and old != head:
+        if old is not None and resume and old.get("digest") != head["digest"]:
             raise RunDiffers(
                 f"the run in the folder {self._store.folder} has other tables, was asked otherwise, or its parts were "
                 "searched by another program"
@@ -190,39 +185,65 @@ class Run:
         if resume and state is not None:
             found = Planned.of(state)
             self._before = found.journal[-1].seconds
+            if not found.ended:
+                self._measure(found.parts)
             return found
         if not resume:
             for folder in ("answers", "checked"):
                 self._store.forget(folder)
             self._store.take_away("state.json")
-        self._store.write("asked.json", json.dumps(head), lasting=True)
+            old = None
+        self._head = {**head, **(old or {})}
+        self._store.write("asked.json", json.dumps(self._head), lasting=True)
         return None
 
-    def seconds(self) -> float:
+    def elapsed(self) -> float:
         """The seconds since the beginning, those of a run that was ended earlier included."""
-        return round(self._before + time.monotonic() - self._began, 1)
+        return self._before + time.monotonic() - self._began
+
+    def _measure(self, parts: Sequence[Part]) -> None:
+        """Finds how many moves are tried in all, if the seconds say it."""
+        if self._asked.tries is None:
+            self._pace.measure(self._region, parts, self._crew)
+            self._budget = max(1, self._pace.tries())
 
     def first_parts(self) -> Planned:
         """The parts that the region is cut into, solved; visits of a part without vans wait for a seam."""
         parts = [part for part in cut(self._region, self._asked.most) if part.vans]
-        share = CUTTING_SHARE if self._asked.seams else 1.0
-        tries = max(1, min(MOST_TRIES, int(self._asked.budget() * share) // max(1, len(parts))))
+        tries = self._first_tries(parts)
         effort = first_effort(tries, max((len(part.visits) for part in parts), default=0), self._refines)
 
-        def judge(at: int, model: PartModel, solution: Optional[Solution]) -> Outcome:
+        def judge(at: int, given: Given, solution: Optional[Solution]) -> Outcome:
             if solution is None:
                 return Outcome()
-            return Outcome(model.lists(solution), solution.cost - solution.parts.penalty)
+            return Outcome(given.lists(solution), solution.cost - solution.parts.penalty)
 
         outcomes = solve_parts(
-            Round(self._region, 0, parts, effort), self._crew, self._store, judge, self._program
+            Round(self._region, 0, parts, effort, jobs=self._asked.jobs), self._crew, self._store, judge, self._program
         )
+        self._pace.note(tries * len(parts), len(parts))
         standing = Standing(((),) * len(self._region.vans))
         for at, (part, outcome) in enumerate(zip(parts, outcomes)):
             standing = applied(standing, part, outcome.lists or [[] for _ in part.vans], at)
         entry = self._entry(0, standing, outcomes, tries, (self._penalties(standing), 0))
         entry = replace(entry, missing=self._missing(standing))
         return self.keep(Planned(standing, 0, tries * len(parts), tuple(parts), (), (entry,)))
+
+    def _first_tries(self, parts: Sequence[Part]) -> int:
+        """The tries of the first parts; those of a run that was ended before they were solved, so that its answers
+        hold."""
+        if "first" not in self._head:
+            self._measure(parts)
+            share, searched = CUTTING_SHARE if self._asked.seams else 1.0, len(parts)
+            if self._asked.tries is None:  # The last parts keep few processors busy.
+                searched += -searched % self._pace.jobs
+            tries = max(1, min(MOST_TRIES, int(self._budget * share) // max(1, searched)))
+            self._head["first"] = tries
+            self._store.write("asked.json", json.dumps(self._head), lasting=True)
+        else:
+            self._measure(parts)
+        first: int = self._head["first"]
+        return first
 
     def _penalties(self, standing: Standing) -> int:
         """The penalties of visits that have no van."""
@@ -242,44 +263,46 @@ class Run:
             return "seams were not asked for"
         if state.level >= len(LEVELS):
             return "no part gains"
-        if self._budget_left(state) < self._tries(state):
-            return "the tries are used up"
-        if self._asked.tries is None and self.seconds() >= ROUNDS_END * self._asked.seconds:
-            return "the seconds are over"
-        return ""
+        if self._asked.tries is None:
+            return "the seconds are over" if self._tries(state) < FEWEST_TRIES else ""
+        return "the tries are used up" if self._left(state) < self._tries(state) else ""
 
-    def _budget_left(self, state: Planned) -> int:
-        return self._asked.budget() - state.tried
+    def _left(self, state: Planned) -> int:
+        """The tries that are left."""
+        return self._pace.tries() if self._asked.tries is None else self._budget - state.tried
 
     def _tries(self, state: Planned) -> int:
-        """The tries of a seam."""
+        """The tries of a seam; no more than each process has left, if the clock ends the run."""
         seams = max(1, len(state.standing.used()) // self._shape.routes)
-        first = int(self._asked.budget() * (1 - CUTTING_SHARE)) // (PASSES * seams)
-        return min(MOST_TRIES, max(FEWEST_TRIES, min(FIRST_TRIES, first)) * LEVELS[min(state.level, len(LEVELS) - 1)])
+        first = int(self._budget * (1 - CUTTING_SHARE)) // (PASSES * seams)
+        tries = max(FEWEST_TRIES, min(FIRST_TRIES, first)) * LEVELS[min(state.level, len(LEVELS) - 1)]
+        return min(MOST_TRIES, tries, self._left(state) // self._pace.jobs if self._asked.tries is None else tries)
+
+    def _room(self, state: Planned, tries: int) -> int:
+        """How many parts the next round may have."""
+        left, jobs = self._left(state), self._pace.jobs if self._asked.tries is None else 1
+        return min(max(LEAST_PARTS, self._budget // ROUNDS // tries), max(1, left // (tries * jobs)) * jobs)
 
     def next_round(self, state: Planned) -> Planned:
         """The state after a round of seams, or after all routes were woken for more tries."""
         region, standing, used = self._region, state.standing, state.standing.used()
         self._near = self._near or nearest(region.points, region.visits, NEAR)
-        number, tries = len(state.journal), self._tries(state)
-        room = max(LEAST_PARTS, self._asked.budget() // ROUNDS // tries)
+        number, tries = len(state.journal), max(1, self._tries(state))
         parts = []
         if len(standing.awake.intersection(used)) > RESTED * len(used):
             parts = groups_of(
-                region, standing, self._near, number, self._shape, seams_alone=state.level < ALL_FROM
+                region, standing, self._near, number, self._shape, seams_alone=state.level < ALL_FROM,
+                most=self._room(state, tries),
             )
         if not parts:
             return replace(state, level=state.level + 1, standing=replace(standing, awake=frozenset(used)))
-        parts = parts[:min(room, self._budget_left(state) // tries)]
         lists = [[standing.routes[van] for van in part.vans] for part in parts]
-
-        def judge(at: int, model: PartModel, solution: Optional[Solution]) -> Outcome:
-            return gain(model, solution, lists[at])
 
         effort = effort_of(number, tries, self._refines)
         outcomes = solve_parts(
-            Round(region, number, parts, effort, lists), self._crew, self._store, judge, self._program
+            Round(region, number, parts, effort, lists, self._asked.jobs), self._crew, self._store, gain, self._program
         )
+        self._pace.note(tries * len(parts), len(parts))
         mended = set(state.mended)
         for at, (part, outcome) in enumerate(zip(parts, outcomes)):
             standing = applied(standing, part, outcome.lists, OF_A_ROUND * number + at)
@@ -298,7 +321,8 @@ class Run:
         return Entry(
             number, len(outcomes), sum(outcome.lists is not None for outcome in outcomes), tries,
             before[0] + sum(outcome.cost for outcome in outcomes),
-            before[1] + sum(outcome.missing for outcome in outcomes), len(standing.used()), self.seconds(),
+            before[1] + sum(outcome.missing for outcome in outcomes), len(standing.used()),
+            round(self.elapsed(), 1),
         )
 
     def keep(self, state: Planned) -> Planned:
@@ -312,18 +336,15 @@ class Run:
         return state
 
 
-def gain(model: PartModel, solution: Optional[Solution], lists: Sequence[Sequence[int]]) -> Outcome:
+def gain(_: int, given: Given, solution: Optional[Solution]) -> Outcome:
     """What a seam came to beside the routes as they were."""
-    if solution is None:
+    if solution is None or solution.cost >= given.cost:
         return Outcome()
-    before = model.solution(lists)
-    if solution.cost >= before.cost:
-        return Outcome()
-    missing = model.missing(solution) - model.missing(before)
-    return Outcome(model.lists(solution), solution.cost - before.cost - missing * model.duty, missing)
+    missing = given.missing(solution) - given.left
+    return Outcome(given.lists(solution), solution.cost - given.cost - missing * given.duty, missing)
 
 
 def digest_of(region: Region, asked: Asked, shape: Shape, refines: bool) -> str:
     """A digest of the tables and of all that a plan depends on."""
-    what = region, asked.budget(), asked.most, shape, asked.seams, refines
+    what = region, asked.tries or asked.seconds, asked.most, shape, asked.seams, refines
     return hashlib.sha256(repr(what).encode("utf-8", "surrogatepass")).hexdigest()

@@ -3,32 +3,37 @@
 from __future__ import annotations
 
 import json
+from concurrent.futures import Future, ThreadPoolExecutor
 from contextlib import closing
 from dataclasses import dataclass
 from functools import lru_cache
-from typing import Callable, Dict, List, Optional, Sequence, TypeVar, Union
+from typing import Callable, Dict, Generic, List, Optional, Sequence, TypeVar, Union
 
 from ..engines import Answer, EngineFailed
-from ..errors import JambulskegError, NoFirstSolution, Refused
-from ..model import Model, Solution, meets
+from ..errors import JambulskegError, NoFirstSolution, NotMet, ProgramFailed, Refused
+from ..findings import Finding, explain
 from ..program import Program, ProgramLike, program_of
-from ..refine import Question
+from ..solution import Solution
+from .ahead import ahead
 from .crew import Crew
-from .day import Lists, Part, PartModel, Region, model_of_part
-from .mending import Effort, warmed
+from .day import Lists, Part, Region
+from .given import Given, given_of
+from .mending import Effort
 from .store import Store
 
-__all__ = ["NotSolved", "Round", "solve_parts"]
+__all__ = ["NotSolved", "Round", "agreed", "beside", "solve_parts"]
 
 TRIALS = 3
-"""So often a part is given out before the run ends without it."""
+"""How often a part is given out before the run ends without it."""
 NONE = {"status": "NONE"}
 """What is kept of a part whose construction finds no first solution."""
 KEPT = 32
-"""How many models are kept at a time."""
+"""Of how many parts what is given out is kept at a time."""
+CHECKS = 2
+"""How many answers are checked at a time."""
 
 T = TypeVar("T")
-Judge = Callable[[int, PartModel, Optional[Solution]], T]
+Judge = Callable[[int, Given, Optional[Solution]], T]
 """What a checked solution of a part comes to, None where its construction finds none."""
 
 
@@ -47,41 +52,23 @@ class NotSolved(JambulskegError):
 @dataclass(frozen=True)
 class Round:
     """The parts that are solved side by side, and how each is searched; the number names their answers. `lists` are the
-    routes that the vans of each part have so far."""
+    routes that the vans of each part have so far. At most `jobs` processes of Python prepare them."""
 
     region: Region
     number: int
     parts: Sequence[Part]
     effort: Effort
     lists: Optional[Sequence[Lists]] = None
+    jobs: int = 1
+
+    def given(self, at: int) -> Given:
+        """What is given out of a part."""
+        lists = None if self.lists is None else self.lists[at]
+        return given_of(self.region, self.parts[at], self.effort, lists)
 
     def name(self, at: int) -> str:
         """What the answer of a part is called."""
         return f"{self.number:04}-{at:04}"
-
-
-class PartModels:
-    """The models of the parts of a round by their numbers; the latest are kept."""
-
-    def __init__(self, asked: Round) -> None:
-        self._lists, self._refine = asked.lists, asked.effort.refine
-        self.make = lru_cache(maxsize=KEPT)(
-            lambda at: model_of_part(asked.region, asked.parts[at], asked.effort.search)
-        )
-
-    def __call__(self, at: int) -> PartModel:
-        """The model of a part."""
-        return self.make(at)
-
-    def text(self, at: int) -> str:
-        """What the searcher is given: the model, and if it refines, the routes that the vans have so far."""
-        model = self.make(at)
-        if self._refine is None:
-            return model.asked.text()
-        if self._lists is None:
-            return Question(model.asked, refine=self._refine).text()
-        routes = model.own(self._lists[at])
-        return Question(model.asked, routes, warmed(self._refine, model.asked, routes)).text()
 
 
 def solve_parts(
@@ -93,37 +80,65 @@ def solve_parts(
     ended by an accident, or was refused by the check, is given out again. Raises `NotSolved`, `EngineFailed`,
     `Refused`, `OSError`.
     """
-    models, found = PartModels(asked), program_of(program)
-    outcomes: Dict[int, T] = {}
-    problems: Dict[int, JambulskegError] = {}
+    make = lru_cache(maxsize=KEPT)(asked.given)
+    with ahead(make, len(asked.parts), asked.jobs) as given:
+        taking = Taking(asked, store, judge, program_of(program), given)
+        for at in range(len(asked.parts)):
+            kept = answer_kept(store.read(f"answers/{asked.name(at)}.json"))
+            if kept is not None:
+                taking.take(at, kept, keep=False)
+        for _ in range(TRIALS):
+            if taking.left():
+                taking.give_out(crew)
+    left = taking.left()
+    if left:
+        raise NotSolved([asked.name(at) for at in left], taking.problems[left[0]])
+    return [taking.outcomes[at] for at in range(len(asked.parts))]
 
-    def take(at: int, answer: Answer, *, keep: bool) -> None:
-        solution = checked(models(at).asked, answer, found)
+
+class Taking(Generic[T]):
+    """What the parts of a round have come to so far, and what was wrong with the others."""
+
+    def __init__(
+        self, asked: Round, store: Store, judge: Judge[T], program: Program, given: Callable[[int], Given]
+    ) -> None:
+        self._asked, self._store, self._judge, self._program, self._given = asked, store, judge, program, given
+        self.outcomes: Dict[int, T] = {}
+        self.problems: Dict[int, JambulskegError] = {}
+
+    def left(self) -> List[int]:
+        """The parts without an answer that holds."""
+        return [at for at in range(len(self._asked.parts)) if at not in self.outcomes]
+
+    def take(self, at: int, answer: Answer, *, keep: bool = True) -> None:
+        """Checks an answer, and takes it if it holds."""
+        given = self._given(at)
+        solution = checked(given, answer, self._program)
         if isinstance(solution, JambulskegError):
-            problems[at] = solution
+            self.problems[at] = solution
             return
         if keep:
-            store.write(f"answers/{asked.name(at)}.json", text_kept(solution))
-        outcomes[at] = judge(at, models(at), solution)
+            self._store.write(f"answers/{self._asked.name(at)}.json", text_kept(solution))
+        self.outcomes[at] = self._judge(at, given, solution)
 
-    for at in range(len(asked.parts)):
-        kept = answer_kept(store.read(f"answers/{asked.name(at)}.json"))
-        if kept is not None:
-            take(at, kept, keep=False)
-    for _ in range(TRIALS):
-        left = [at for at in range(len(asked.parts)) if at not in outcomes]
-        if not left:
-            break
+    def give_out(self, crew: Crew) -> None:
+        """Gives out the parts that are left, and takes answers as they come, some at a time, since each waits for the
+        program that checks it."""
+        left, tasks = self.left(), []  # type: List[int], List[Future[None]]
         try:
-            with closing(crew.each(len(left), lambda place: models.text(left[place]))) as answers:
+            with ThreadPoolExecutor(max_workers=CHECKS) as pool, closing(
+                crew.each(len(left), lambda place: self._given(left[place]).question)
+            ) as answers:
                 for place, answer in answers:
-                    take(left[place], answer, keep=True)
+                    for task in tasks:
+                        if task.done():
+                            task.result()
+                    tasks = [task for task in tasks if not task.done()]
+                    tasks.append(pool.submit(self.take, left[place], answer))
         except EngineFailed as problem:
-            problems.update({at: problem for at in left if at not in outcomes})
-    left = [at for at in range(len(asked.parts)) if at not in outcomes]
-    if left:
-        raise NotSolved([asked.name(at) for at in left], problems[left[0]])
-    return [outcomes[at] for at in range(len(asked.parts))]
+            self.problems.update({at: problem for at in self.left()})
+        for task in tasks:
+            task.result()
 
 
 def answer_kept(kept: object) -> Optional[Answer]:
@@ -141,7 +156,7 @@ def text_kept(solution: Optional[Solution]) -> str:
     return json.dumps(NONE) if solution is None else solution.text()
 
 
-def checked(model: Model, answer: Answer, program: Program) -> Union[Solution, None, JambulskegError]:
+def checked(given: Given, answer: Answer, program: Program) -> Union[Solution, None, JambulskegError]:
     """A solution that the check finds to meet its model, None where the construction finds none, or what is wrong.
     Raises `Refused` where the model has a fault."""
     if isinstance(answer, Refused):
@@ -151,6 +166,23 @@ def checked(model: Model, answer: Answer, program: Program) -> Union[Solution, N
     if isinstance(answer, JambulskegError):
         return answer
     try:
-        return meets(model, answer, program)
+        return agreed(beside(given.model, answer), answer, program)
     except JambulskegError as problem:
         return problem
+
+
+def beside(model: str, solution: Solution) -> str:
+    """What `check` reads: the text of a model, and a solution of it."""
+    return f'{{"model":{model},"solution":{solution.text()}}}'
+
+
+def agreed(text: str, solution: Solution, program: Program) -> Solution:
+    """The solution itself, which stands in what `check` reads. Raises as `model.meets` does."""
+    try:
+        tree = program.ask(["check"], text)
+    except NotMet as broken:
+        finding = Finding(None, broken.rule, broken.vehicle, broken.place)
+        raise NotMet(broken.rule, broken.vehicle, broken.place, explain(finding, solution)) from None
+    if not isinstance(tree, dict) or tree.get("cost") != solution.cost:
+        raise ProgramFailed("the program wrote a finding that cannot be read")
+    return solution
