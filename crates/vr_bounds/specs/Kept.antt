@@ -63,7 +63,8 @@ no_puts = record { row = []; ages = []; clock = 0; bounds = [] }
 
 -- what is kept of each vehicle is of its list
 abbrev pub AreAllPuts : Model → List (List ℕ) → List Puts → Type 0
-AreAllPuts model lists puts = (v : ℕ) → v < length lists → IsPutsOf model v (route lists v) (slice_index_or puts v no_puts)
+AreAllPuts model lists puts = (v : ℕ) → v < length lists
+    → IsPutsOf model v (route lists v) (slice_index_or puts v no_puts)
 
 -- what contracts see of arc costs with their bounds
 pub record KeptBounded : Type 0 where

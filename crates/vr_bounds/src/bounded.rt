@@ -59,8 +59,8 @@ impl<'m> BoundedArcs<'m> {
     }
 
     /// Goes over a run of moves of the committed lists, which differ in their last number: those of the numbers from
-    /// `from` on, below `end`. Says from which number on some may add less than a bound, as `ArcCost::first_below` does.
-    /// Where the kept bounds tell that none does, no list is gone along.
+    /// `from` on, below `end`. Says from which number on some may add less than a bound, as `ArcCost::first_below`
+    /// does. Where the kept bounds tell that none does, no list is gone along.
     #[inline]
     pub fn first_below(
         &mut self,
