@@ -10,7 +10,7 @@ use Rattle.vr_model.specs.declared.records.Model.{Model}
 use Rattle.vr_routes.specs.Judging.{IsDifferenceBound}
 use Rattle.vr_routes.specs.Runs.{with_last}
 use Rattle.vr_routes.specs.Tours.{Tours}
-use Rattle.vr_arccosts.specs.Along.{KeptAlong, StandsAlong}
+use Rattle.vr_bounds.specs.Kept.{KeptBounded, StandsBounded}
 use Rattle.vr_arccosts.specs.ArcMoves.{arcs_added}
 use Rattle.vr_usecosts.specs.Fixed.{is_some_fixed, KeptFixed, StandsFixed}
 use Rattle.vr_costfilter.specs.GlobalCosts.{is_some_spanned, KeptSpans, StandsSpans}
@@ -55,7 +55,7 @@ pub record AreChangesInRange (arcs fixed groups plans spans : ℤ) : Type 0 wher
 -- what contracts see of the parts of the cost, and whether arcs and groups alone are paid
 pub record KeptCosts : Type 0 where
   pub model : Model
-  pub arcs : KeptAlong
+  pub arcs : KeptBounded
   pub fixed : KeptFixed
   pub groups : KeptGroups
   pub plans : KeptPlans
@@ -72,7 +72,7 @@ pub record StandsCosts (kept : KeptCosts) (tours : Tours) : Type 0 where
   pub plans_model : kept.plans.model ≡ kept.model
   pub spans_model : kept.spans.model ≡ kept.model
   pub earliest_model : kept.earliest.model ≡ kept.model
-  pub arcs : StandsAlong kept.arcs tours
+  pub arcs : StandsBounded kept.arcs tours
   pub fixed : StandsFixed kept.fixed tours
   pub groups : StandsGroups kept.groups tours
   pub plans : StandsPlans kept.plans tours

@@ -18,7 +18,7 @@ ghost use Rattle.vr_judge.specs.Costs.{is_least_by_arcs, pays_arcs_and_groups, A
 use crate::try_both::try_both;
 use std::alloc::Global;
 use std::marker::Model;
-use vr_arccosts::ArcCost;
+use vr_bounds::BoundedArcs;
 use vr_costfilter::{GlobalSpan, PlanCost};
 use vr_earliest::{Earlies, Earliest};
 use vr_model::{Model as RoutingModel, Move, NoMemory};
@@ -31,7 +31,7 @@ use vr_usecosts::{FixedCost, GroupCost};
 #[derive(Drop)]
 pub(crate) struct Costs<'m> {
     model: &'m RoutingModel,
-    arcs: ArcCost<'m>,
+    arcs: BoundedArcs<'m>,
     fixed: FixedCost<'m>,
     groups: GroupCost<'m>,
     // soft upper bounds and the spans of lists
@@ -119,7 +119,7 @@ impl<'m> Costs<'m> {
         ensures stands { IfOk result (λ costs. StandsCosts costs routes.now) }
     {
         let model = lookups.closed.model;
-        let arcs = ArcCost::open(alloc, model, routes);
+        let arcs = BoundedArcs::open(alloc, model, routes);
         let groups = GroupCost::open(alloc, model, routes);
         let plans = PlanCost::over(alloc, lookups, routes);
         let spans = GlobalSpan::over(alloc, lookups, routes);
@@ -173,19 +173,21 @@ impl<'m> Costs<'m> {
     /// the bound and what is saved together do not fit an `i64`.
     #[inline(always)]
     pub fn first_below(
-        &self,
+        &mut self,
         routes: &Routes,
         mv: Move,
         from: u32,
         end: u32,
         bound: i64,
     ) -> Option<u32>
-        requires stands { StandsCosts self.now routes.now }
+        requires stands { StandsCosts self.old routes.now }
         requires order { from ≤ end }
         ensures from { IfSome result (λ first. from ≤ first) }
         ensures within { IfSome result (λ first. first ≤ end) }
         ensures no_less { IfSome result (λ first. (k : ℕ) → from ≤ k → k < first
-            → IsNoLess self.now.model routes.now.lists (with_last mv k) bound) }
+            → IsNoLess self.old.model routes.now.lists (with_last mv k) bound) }
+        ensures stands { StandsCosts self.new routes.now }
+        ensures model { self.new.model ≡ self.old.model }
     {
         let saved = self.saved_by_run(routes, mv)?;
         let enough = bound.checked_add(saved)?;

@@ -1,7 +1,7 @@
 use Rattle.std.proofs.Common.{◌≡◌, ◌∙◌, Ok, ap, subst}
 use Rattle.vr_model.specs.declared.records.Model.{Model}
 use Rattle.vr_judge.proofs.BothLemmas.{of_value}
-use Rattle.vr_arccosts.specs.Along.{StandsAlong}
+use Rattle.vr_bounds.specs.Kept.{StandsBounded}
 use Rattle.vr_costfilter.specs.GlobalCosts.{StandsSpans}
 use Rattle.vr_usecosts.specs.Groups.{StandsGroups}
 use Rattle.vr_costfilter.specs.PlanCosts.{StandsPlans}
@@ -31,7 +31,7 @@ returns-clause-stands c =
       plans_model = of_value (λ k. k.model ≡ model) _ _ plans c.over-plans.ensures.model;
       spans_model = of_value (λ k. k.model ≡ model) _ _ spans c.over-spans.ensures.model;
       earliest_model = of_value (λ k. k.model ≡ model) _ _ earliest c.open-earliest.ensures.model;
-      arcs = of_value (λ k. StandsAlong k tours) _ _ arcs c.open-arcs.ensures.stands;
+      arcs = of_value (λ k. StandsBounded k tours) _ _ arcs c.open-arcs.ensures.stands;
       fixed = c.of-fixed.ensures.stands tours c.requires.of_model c.requires.valid;
       groups = of_value (λ k. StandsGroups k tours) _ _ groups c.open-groups.ensures.stands;
       plans = of_value (λ k. StandsPlans k tours) _ _ plans c.over-plans.ensures.stands;
