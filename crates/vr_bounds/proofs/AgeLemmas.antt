@@ -1,7 +1,7 @@
 -- Ages of gaps, and which bounds are no younger.
-use Rattle.std.proofs.Common.{◌≡◌, ◌∙◌, ℕ, ◌+◌, ◌-◌, ◌^◌, ◌<◌, ◌≤◌, List, length, sym, subst, arith, inl, inr, ◌⊎◌}
-use Rattle.std.specs.Prelude.{ℤ, ◌≤ℤ◌, min, slice_index_or}
-use Rattle.std.proofs.Math.Nat.{min-eq_left, min-eq_right, min-le_left, min-le_right, le-min}
+use Rattle.std.proofs.Common.{◌≡◌, ℕ, ◌+◌, ◌-◌, ◌^◌, ◌<◌, ◌≤◌, List, length, sym, subst, arith, inl, inr}
+use Rattle.std.specs.Prelude.{◌≤ℤ◌, min}
+use Rattle.std.proofs.Math.Nat.{min-eq_left, min-eq_right, min-le_right, le-min}
 use Rattle.std.proofs.lemmas.Bool.{cases_lt}
 use Rattle.vr_model.specs.declared.records.Model.{Model}
 use Rattle.vr_arccosts.specs.Runs.{gap_added}

@@ -1,13 +1,13 @@
 -- What is kept of vehicles, and stays so where one bound or one list is another.
-use Rattle.std.proofs.Common.{◌≡◌, ◌≢◌, ◌∙◌, ℕ, ◌+◌, ◌<◌, ◌≤◌, ◌⊎◌, inl, inr, zero, suc, List, [], ◌∷◌, length, length-set, refl, ap, sym, subst, arith}
-use Rattle.std.specs.Prelude.{All, ℤ, slice_index_or, slice_set}
+use Rattle.std.proofs.Common.{◌≡◌, ◌≢◌, ◌∙◌, ℕ, ◌+◌, ◌<◌, ◌≤◌, ◌⊎◌, inl, inr, zero, suc, List, [], ◌∷◌, length, length-set, refl, sym, subst, arith}
+use Rattle.std.specs.Prelude.{All, slice_index_or, slice_set}
 use Rattle.std.proofs.lemmas.List.{get_or-set_same, get_or-set_other, get_or_default}
 use Rattle.vr_model.specs.declared.records.Model.{Model}
 use Rattle.vr_model.specs.routes.Routes.{route}
 use Rattle.vr_parts.proofs.RowLemmas.{same-or-not}
 use Rattle.vr_bounds.specs.declared.puts.Bound.{Bound}
 use Rattle.vr_bounds.specs.declared.puts.Puts.{Puts}
-use Rattle.vr_bounds.specs.Kept.{age_at, bound_at, next_age, no_puts, unknown, AreAllPuts, ArePuts, IsLeast, IsPutsOf, IsUpTo, MayStand}
+use Rattle.vr_bounds.specs.Kept.{next_age, no_puts, unknown, AreAllPuts, ArePuts, IsLeast, IsPutsOf, IsUpTo, MayStand}
 use Rattle.vr_bounds.proofs.AgeLemmas.{next-further}
 
 -- what holds of each entry holds where one is another of which it holds

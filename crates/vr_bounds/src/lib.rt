@@ -12,8 +12,8 @@
 //! bound; of all else it asks the arc costs. `drivers` says what stands beside a gap and what a node adds there.
 //!
 //! What is kept is of the committed lists (`StandsBounded`), and each kept number is at most what each gap adds that is
-//! no younger than its stamp (`ArePuts`). Bounds are of plain arc costs, so they hold whatever is penalised. Nothing asks
-//! it yet: `vr_judge` has the arc costs alone.
+//! no younger than its stamp (`ArePuts`). Bounds are of plain arc costs, so they hold whatever is penalised.
+//! `vr_judge` has the arc costs so.
 #![tactic(auto)]
 
 mod ages;

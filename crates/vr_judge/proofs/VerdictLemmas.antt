@@ -1,5 +1,5 @@
 -- Verdicts on moves, by the test of the lists after them.
-use Rattle.std.proofs.Common.{◌≡◌, ◌∙◌, ℕ, Bool, true, false, cond, List, sym, ap, subst}
+use Rattle.std.proofs.Common.{◌≡◌, ◌∙◌, ℕ, true, false, cond, List, sym, ap, subst}
 use Rattle.std.specs.Prelude.{ℤ, ◌-ℤ◌, IsTrue}
 use Rattle.vr_model.specs.moves.Moves.{apply}
 use Rattle.vr_model.specs.moves.MoveTests.{is_move}

@@ -1,5 +1,5 @@
-use Rattle.std.proofs.Common.{◌≡◌, ◌∙◌, true, false, cond, sym, ap, arith, w64, to_z, of_z}
-use Rattle.std.specs.Prelude.{◌-ℤ◌, IsTrue}
+use Rattle.std.proofs.Common.{◌≡◌, ◌∙◌, true, sym, arith, w64, to_z, of_z}
+use Rattle.std.specs.Prelude.{◌-ℤ◌}
 use Rattle.std.proofs.lemmas.Int.{ints}
 use Rattle.vr_model.specs.routes.Costs.{cost}
 use Rattle.vr_model.specs.routes.Rules.{is_valid}

@@ -2,7 +2,7 @@ use Rattle.std.proofs.Common.{◌≡◌, ◌∙◌, ◌<◌, ℕ, List, length, 
 use Rattle.std.proofs.lemmas.Int.{ints}
 use Rattle.vr_model.specs.declared.records.Model.{Model}
 use Rattle.vr_model.specs.routes.Routes.{route}
-use Rattle.vr_bounds.specs.Kept.{IsPutsOf, IsUpTo, StandsBounded}
+use Rattle.vr_bounds.specs.Kept.{IsUpTo, StandsBounded}
 use Rattle.vr_bounds.proofs.KeptLemmas.{puts-at, puts-set}
 use Rattle.vr_bounds.proofs.bounded.BoundedArcs.gaps_add_no_less.Goals as goal
 

@@ -1,5 +1,5 @@
 use Rattle.std.proofs.Common.{◌≡◌, ◌∙◌, ◌<◌, ◌≤◌, ◌+◌, ℕ, List, length, length-set, take, add-one, ap, sym, subst, arith}
-use Rattle.std.specs.Prelude.{All, slice_set, IsTrue}
+use Rattle.std.specs.Prelude.{All, slice_set}
 use Rattle.vr_model.specs.declared.records.Model.{Model}
 use Rattle.vr_model.specs.moves.Moves.{with_route}
 use Rattle.vr_model.specs.tables.WellFormed.{IsWellFormed}

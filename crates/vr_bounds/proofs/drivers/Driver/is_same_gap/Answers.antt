@@ -1,6 +1,5 @@
-use Rattle.std.proofs.Common.{rules, ◌≡◌, ◌∙◌, ◌<◌, ◌≤◌, ℕ, length, sym, arith}
+use Rattle.std.proofs.Common.{rules, ◌≡◌, ◌∙◌, ◌<◌, length, sym, arith}
 use Rattle.std.proofs.lemmas.Bool.{eqb-true}
-use Rattle.vr_arccosts.specs.Runs.{at_place, before_place}
 use Rattle.vr_model.specs.declared.records.Model.{Model}
 use Rattle.vr_bounds.proofs.GapLemmas.{same-gap}
 use Rattle.vr_bounds.proofs.drivers.Driver.is_same_gap.Goals as goal

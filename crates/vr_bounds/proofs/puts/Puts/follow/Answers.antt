@@ -1,9 +1,7 @@
-use Rattle.std.proofs.Common.{◌≡◌, ◌∙◌, ℕ, List, [], ◌∷◌, ◌+◌, ◌≤◌, length, length-append, ap, sym, subst, arith}
-use Rattle.std.specs.Prelude.{slice_index_or}
+use Rattle.std.proofs.Common.{◌∙◌, [], ◌∷◌, ◌+◌, length, length-append, ap, subst}
 use Rattle.vr_model.specs.declared.records.Model.{Model}
 use Rattle.vr_parts.proofs.RowLemmas.{rows-push}
 use Rattle.vr_bounds.specs.Kept.{MayStand}
-use Rattle.vr_bounds.proofs.KeptLemmas.{followed}
 use Rattle.vr_bounds.proofs.puts.Puts.follow.Goals as goal
 
 pub loop-place-preserved : goal.loop-place-preserved

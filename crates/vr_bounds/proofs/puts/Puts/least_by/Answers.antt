@@ -1,6 +1,5 @@
 use Rattle.std.proofs.Common.{◌≡◌, ◌-◌, w64, to_z, of_z, sym, subst, arith}
 use Rattle.std.proofs.lemmas.Int.{ints}
-use Rattle.std.specs.Prelude.{◌≤ℤ◌}
 use Rattle.vr_model.specs.declared.records.Model.{Model}
 use Rattle.vr_bounds.specs.declared.puts.Bound.{Bound}
 use Rattle.vr_bounds.specs.Kept.{ArePuts}

@@ -1,4 +1,4 @@
-use Rattle.std.proofs.Common.{ℕ, w64, to_z, of_z, ◌≡◌, ◌<◌, ◌≤◌, length, inl, inr, sym, subst, arith}
+use Rattle.std.proofs.Common.{ℕ, w64, to_z, of_z, ◌≡◌, ◌≤◌, length, inl, inr, subst, arith}
 use Rattle.std.proofs.lemmas.Bool.{cases_lt}
 use Rattle.std.proofs.lemmas.Int.{ints}
 use Rattle.std.specs.Prelude.{ℤ, ◌≤ℤ◌}

@@ -1,5 +1,5 @@
-use Rattle.std.proofs.Common.{◌≡◌, ◌∙◌, ◌<◌, ℕ, List, [], ◌∷◌, ◌++◌, ◌+◌, length, length-append, refl, ap, sym, subst, arith}
-use Rattle.std.specs.Prelude.{pos, slice_index_or}
+use Rattle.std.proofs.Common.{◌≡◌, ◌∙◌, ℕ, List, [], ◌∷◌, ◌++◌, ◌+◌, length, length-append, refl, ap, sym, subst, arith}
+use Rattle.std.specs.Prelude.{pos}
 use Rattle.vr_model.specs.declared.records.Model.{Model}
 use Rattle.vr_parts.proofs.RowLemmas.{rows-push}
 use Rattle.vr_bounds.specs.declared.puts.Bound.{Bound}
