@@ -32,6 +32,7 @@ use Rattle.vr_first_insert.specs.declared.choice.Placing.{Placing}
 use Rattle.vr_first_insert.specs.declared.choice.Placing.TheVariants.{One, Two}
 use Rattle.vr_first_insert.specs.declared.choice.InsertionChoice.{InsertionChoice}
 use Rattle.vr_first_insert.specs.Placings.{item_in, placed, insertion_of, key_of, tail_key, visit_choice, pair_choice, choices_in, best_in, best_in_lists, may_be_placed, best_beside, places_in, AreWithin, MayBeInserted, MayHold}
+use Rattle.vr_first_insert.specs.Waiting.{unplaced_of}
 use Rattle.vr_first_insert.proofs.PlacedLemmas.{IsAdded-placed, MayHold-inactive}
 use Rattle.vr_first_insert.proofs.IncreaseLemmas.{increase_of, increase-is}
 
@@ -245,12 +246,11 @@ best-more model lists marks candidates i candidate best chosen well_formed built
         (subst (IsBestOf model lists (best_beside model lists marks candidate best)) all
         (best-free model lists well_formed built marks are candidate valid free best (each (seen lists candidates i) (insertions_of lists)) before marked))
 
--- after all candidates
-pub best-end : (model : Model) (lists : List (List ℕ)) (candidates : List Candidate) (i : ℕ) (best : Option InsertionChoice) → AreCandidates model candidates → length candidates ≤ i → IsBestSoFar model lists candidates i best
-    → option_map insertion_of best ≡ next_inserted model lists
+-- after all candidates, where those of them that stand in no list are all items that do
+pub best-end : (model : Model) (lists : List (List ℕ)) (candidates : List Candidate) (i : ℕ) (best : Option InsertionChoice) → unplaced_of lists candidates ≡ unplaced model lists → length candidates ≤ i
+    → IsBestSoFar model lists candidates i best → option_map insertion_of best ≡ next_inserted model lists
 best-end model lists candidates i best all high before =
-    let whole : seen lists candidates i ≡ unplaced model lists = ap (λ cs. filter (λ item. not (is_active lists (first_node item))) (map (λ candidate. item_nodes candidate.item) cs)) (take_all i candidates high)
-    ∙ ap (filter (λ item. not (is_active lists (first_node item)))) all.all in
+    let whole : seen lists candidates i ≡ unplaced model lists = ap (unplaced_of lists) (take_all i candidates high) ∙ all in
     before.least ∙ ap (λ items. least_by (insertion_key model lists) (filter (λ insertion. is_open model (inserted lists insertion)) (each items (insertions_of lists)))) whole
 
 -- an item whose first node is not marked may be put into each list

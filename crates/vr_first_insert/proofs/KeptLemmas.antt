@@ -42,7 +42,7 @@ item-closed model v list candidate best stands = by candidate.item
         let b = of_from_to s (suc (length list)) t t_in in let from = b.0 in let high = b.1 in
         ap (λ c. is_route_open model c.vehicle (placed list c.placing)) is ∙ closed-by_vehicle model v list (Two pickup delivery s t) (omega (arith, from), omega (arith, high)) stands h)))
 
-no-better : (b : Bool) → not b ≡ true → b ≡ false
+pub no-better : (b : Bool) → not b ≡ true → b ≡ false
 no-better false h = refl
 no-better true h = absurd (clash false h refl)
 

@@ -42,7 +42,7 @@ choice-class v list model class (PickupAndDelivery pickup delivery) choice there
     from_each (λ s. map (pair_choice model v list class pickup delivery s) (from_to s (suc (length list)))) (gaps list) choice there (λ s s_in inner.
     from_map (pair_choice model v list class pickup delivery s) (from_to s (suc (length list))) choice inner (λ t t_in is. ap (λ c. c.class) is))
 
-best-class : (model : Model) (v : ℕ) (list : List ℕ) (candidate : Candidate) → IfSome (best_in model v list candidate None) (λ choice. choice.class ≡ candidate.class)
+pub best-class : (model : Model) (v : ℕ) (list : List ℕ) (candidate : Candidate) → IfSome (best_in model v list candidate None) (λ choice. choice.class ≡ candidate.class)
 best-class model v list candidate =
     best-has model list (λ choice. choice.class ≡ candidate.class) None (choices_in model v list candidate.class candidate.item) tt (choice-class v list model candidate.class candidate.item)
 
@@ -73,7 +73,7 @@ best-merged model v list candidate found best e =
     best_of-merged found best ∙ ap (merged_best key_of best) e
     ∙ sym (weighed-merged key_of (λ next. is_route_open model next.vehicle (placed list next.placing)) best (choices_in model v list candidate.class candidate.item))
 
-in-merged : (model : Model) (v : ℕ) (list : List ℕ) (candidate : Candidate) (best : Option InsertionChoice) → best_in model v list candidate best ≡ merged_best key_of best (best_in model v list candidate None)
+pub in-merged : (model : Model) (v : ℕ) (list : List ℕ) (candidate : Candidate) (best : Option InsertionChoice) → best_in model v list candidate best ≡ merged_best key_of best (best_in model v list candidate None)
 in-merged model v list candidate best = sym (best-merged model v list candidate (best_in model v list candidate None) best refl) ∙ best_of-merged (best_in model v list candidate None) best
 
 -- an item whose bound is not better than the best so far
@@ -87,7 +87,7 @@ bound-passed_over model v list candidate best least adds h = by (best_in model v
 
 -- ---- what a search tells
 
-less-self : (best : InsertionChoice) → is_lex_less (key_of best) (key_of best) ≡ false
+pub less-self : (best : InsertionChoice) → is_lex_less (key_of best) (key_of best) ≡ false
 less-self best = by (is_lex_less (key_of best) (key_of best)) refl
   where
     by : (b : Bool) → is_lex_less (key_of best) (key_of best) ≡ b → b ≡ false

@@ -1,6 +1,6 @@
 -- What is put into lists, and the lists that are asked.
 use Rattle.std.specs.Prelude.{◌≡◌, ℕ, ◌<◌, true, Bool, List, Option, IsTrue, length}
-use Rattle.std.specs.List.{list_all}
+use Rattle.std.specs.List.{All, list_all}
 use Rattle.vr_model.specs.first.Items.{first_node}
 use Rattle.vr_model.specs.routes.Routes.{route}
 use Rattle.vr_model.specs.declared.records.Model.{Model}
@@ -9,12 +9,14 @@ use Rattle.vr_rules.specs.Placing.{fits_by, item_nodes, AreBuilt, AreCandidates,
 use Rattle.vr_first_insert.specs.declared.choice.InsertionChoice.{InsertionChoice}
 use Rattle.vr_first_insert.specs.declared.list_rows.ListRows.{ListRows}
 use Rattle.vr_first_insert.specs.declared.known.KnownItem.{KnownItem}
-use Rattle.vr_first_insert.specs.declared.search.Items.{Items}
-use Rattle.vr_first_insert.specs.declared.search.AskedLists.{AskedLists}
+use Rattle.vr_first_insert.specs.declared.asked.Items.{Items}
+use Rattle.vr_first_insert.specs.declared.asked.AskedLists.{AskedLists}
 use Rattle.vr_first_insert.specs.Kept.{candidate_at, AreCandidatesKnown, AreKnownRows}
 use Rattle.vr_first_insert.specs.KeptRows.{AreKeptRows}
 use Rattle.vr_first_insert.specs.Placings.{best_in, best_in_lists, may_be_placed, MayHold}
 use Rattle.vr_first_insert.specs.Ready.{AreReady}
+use Rattle.vr_first_insert.specs.declared.waiting.WaitingItem.{WaitingItem}
+use Rattle.vr_first_insert.specs.Waiting.{waiting_at, IsWaiting, IsWaitingElsewhere}
 
 -- the model whose items they are
 abbrev pub items_model : Items → Model
@@ -73,16 +75,50 @@ pub record MayCount (items : Items) (marked : List Bool) (candidate : Candidate)
   pub fit : IsTrue (list_all (fits_by marked) (items_model items).groups)
   pub first : first_node (item_nodes candidate.item) < (items_model items).nodes
 
--- the best so far may be set beside candidate i: each list may be asked for it where it counts
-pub record MayWeigh (on : AskedLists) (marked : List Bool) (i : ℕ) (known : List (List KnownItem)) : Type 0 where
+-- waiting item k
+abbrev pub waiting_candidate : AskedLists → List WaitingItem → ℕ → Candidate
+waiting_candidate on waiting k = candidate_at on.items.candidates.now (waiting_at waiting k).number
+
+-- what is known of the waiting items is so
+abbrev pub AreWaitingFor : AskedLists → List WaitingItem → Type 0
+AreWaitingFor on = All (IsWaiting (items_model on.items) on.lists.now on.items.candidates.now)
+
+-- the best so far may be set beside waiting item k: each list may be asked for it where it counts
+pub record MayWeigh (on : AskedLists) (marked : List Bool) (k : ℕ) (known : List (List KnownItem))
+    (waiting : List WaitingItem) : Type 0 where
   pub asked : AreAsked on
   pub marks : length marked ≡ (items_model on.items).nodes
   pub fit : IsTrue (list_all (fits_by marked) (items_model on.items).groups)
-  pub candidate : i < length on.items.candidates.now
-  pub first : first_node (item_nodes (candidate_at on.items.candidates.now i).item) < (items_model on.items).nodes
-  pub may_hold : may_be_placed (items_model on.items) marked (candidate_at on.items.candidates.now i) ≡ true
-      → MayBeHeld on i
+  pub place : k < length waiting
+  pub first : first_node (item_nodes (waiting_candidate on waiting k).item) < (items_model on.items).nodes
+  pub may_hold : may_be_placed (items_model on.items) marked (waiting_candidate on waiting k) ≡ true
+      → MayBeHeld on (waiting_at waiting k).number
   pub rows : AreKnownInEach on known
+  pub waits : AreWaitingFor on waiting
+
+-- lists that are open, with the marks of their nodes, may be asked for each item that stands in none
+pub record MayAskUnplaced (on : AskedLists) (marked : List Bool) : Type 0 where
+  pub asked : AreAsked on
+  pub items_are : AreItems on.items
+  pub built : AreBuilt (items_model on.items) on.lists.now
+  pub marks : AreMarks (items_model on.items).nodes on.lists.now marked
+
+-- the list of vehicle v, which has changed, may be asked for what a waiting item adds at least
+pub record MayLower (on : AskedLists) (marked : List Bool) (v : ℕ) (item : WaitingItem) : Type 0 where
+  pub may_ask : MayAskUnplaced on marked
+  pub there : v < length on.lists.now
+  pub waits : IsWaitingElsewhere (items_model on.items) on.lists.now v on.items.candidates.now item
+
+-- the list of vehicle v may be asked for what each waiting item adds at least: it has changed, the lists are open, and
+-- their rows and the marks of their nodes are those of the lists
+pub record MayLowerEach (items : Items) (list_rows : List ListRows) (marked : List Bool) (lists : List (List ℕ))
+    (v : ℕ) (waiting : List WaitingItem) : Type 0 where
+  pub items_are : AreItems items
+  pub kept : AreKeptRows (items_model items) lists list_rows
+  pub built : AreBuilt (items_model items) lists
+  pub marks : AreMarks (items_model items).nodes lists marked
+  pub there : v < length lists
+  pub waits : All (IsWaitingElsewhere (items_model items) lists v items.candidates.now) waiting
 
 -- items may be inserted into lists: the lists are open, and their rows, the marks of their nodes and what is known of
 -- the items in them are those of the lists

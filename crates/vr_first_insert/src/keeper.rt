@@ -11,11 +11,12 @@ ghost use Rattle.vr_first_insert.specs.KeptRows.{list_model, AreKeptRows};
 ghost use Rattle.vr_first_insert.specs.Keeping.{IsKeeper};
 ghost use Rattle.vr_first_insert.specs.Kept.{AreKnownRows};
 
+use crate::asked::Items;
 use crate::known::{forget, nothing_known};
 use crate::known_items::KnownItems;
 use crate::list_rows::{ListRows, change_list, keep_each};
 use crate::scratch::InsertScratch;
-use crate::search::{Items, insert_all};
+use crate::search::insert_all;
 use crate::vehicle_list::LookedUpList;
 use std::alloc::Global;
 use vr_model::{NoMemory, Seq};

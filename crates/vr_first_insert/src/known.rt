@@ -69,8 +69,8 @@ fn better(best: Option<InsertionChoice>, next: InsertionChoice) -> Option<Insert
     }
 }
 
-// What a candidate adds at least to a list.
-fn least_in(of: &CandidateIn<'_, '_, '_>) -> i64
+/// What a candidate adds at least to a list, by the arcs at its places.
+pub(crate) fn least_in(of: &CandidateIn<'_, '_, '_>) -> i64
     ensures { AddsAtLeast (list_model of.now.list) of.now.list.vehicle of.now.list.nodes.now
         of.now.candidate.item result }
 {

@@ -5,146 +5,69 @@ ghost use Rattle.vr_model.specs.first.CheapestInsertion.{next_inserted, rebuilt}
 ghost use Rattle.vr_model.specs.first.Items.{items as items_of};
 ghost use Rattle.vr_rules.specs.Placing.{AreBuilt, AreMarks};
 ghost use Rattle.vr_first_insert.specs.KeptRows.{AreKeptRows};
-ghost use Rattle.vr_first_insert.specs.Kept.{candidate_at, AreKnownRows};
+ghost use Rattle.vr_first_insert.specs.Kept.{AreKnownRows};
 ghost use Rattle.vr_first_insert.specs.Placings.{best_beside, may_be_placed as counts_of, insertion_of, MayBeInserted};
-ghost use Rattle.vr_first_insert.specs.Asking.{best_asked, best_asked_of_each, items_model, AreKnownIn, AreKnownInEach};
-ghost use Rattle.vr_first_insert.specs.Asking.{MayAsk, MayAskEach, MayCount, MayInsert, MayWeigh};
+ghost use Rattle.vr_first_insert.specs.Asking.{items_model, waiting_candidate, AreKnownInEach, AreWaitingFor};
+ghost use Rattle.vr_first_insert.specs.Asking.{MayCount, MayInsert, MayWeigh};
+ghost use Rattle.vr_first_insert.specs.Waiting.{waiting_candidates, AreWaiting};
 
+use crate::asked::{AskedLists, Items, best_in_lists};
 use crate::choice::InsertionChoice;
-use crate::known::{better_of, find_out, forget, is_settled};
+use crate::known::forget;
 use crate::known_items::KnownItems;
 use crate::list_rows::ListRows;
 use crate::place::place_in;
 use crate::scratch::InsertScratch;
-use crate::vehicle_list::{CandidateIn, LookedUpList};
+use crate::waiting::{WaitingItem, is_marked, is_passed_over, least_told, lower, unmarked};
 use vr_model::{NoMemory, Seq};
-use vr_plan::Lookups;
 use vr_rules::{Candidate, groups_have_room, mark_item};
 
-/// What is put into lists: the items of a model, with what was looked up of it.
-#[derive(Clone, Copy)]
-pub(crate) struct Items<'l, 'm, 'c> {
-    pub(crate) lookups: &'l Lookups<'m>,
-    pub(crate) candidates: &'c [Candidate],
-}
-
-// Lists with what is kept of them, and what may be put into them.
-#[derive(Clone, Copy)]
-struct AskedLists<'l, 'm, 'c, 'k> {
-    items: Items<'l, 'm, 'c>,
-    list_rows: &'k [ListRows],
-    lists: &'k [Seq<u32>],
-}
-
-// The better of the best so far and the best insertion of candidate `i` into the list of vehicle `v`, of whose
-// candidates `known_here` has what is known.
-fn settle(
-    scratch: &mut InsertScratch,
-    on: &AskedLists<'_, '_, '_, '_>,
-    v: usize,
-    i: usize,
-    known_here: &mut KnownItems,
-    best: Option<InsertionChoice>,
-) -> Result<Option<InsertionChoice>, NoMemory>
-    requires { MayAsk on.now v i known_here.old }
-    ensures best { IfOk result (λ chosen. chosen ≡ best_asked on.now v i best) }
-    ensures known { OnOk result (AreKnownIn on.now v known_here.new) }
-{
-    let candidates = on.items.candidates;
-    let known = known_here.get(i);
-    if is_settled(&known, candidates[i].class, best) {
-        return Ok(better_of(best, &known));
-    }
-    ask(scratch, on, v, i, known_here, best)
-}
-
-// The same, where what is known does not tell: the list is asked, and what it says is written. It stands apart, so that
-// what it needs is no burden where nothing is asked.
-#[inline(never)]
-fn ask(
-    scratch: &mut InsertScratch,
-    on: &AskedLists<'_, '_, '_, '_>,
-    v: usize,
-    i: usize,
-    known_here: &mut KnownItems,
-    best: Option<InsertionChoice>,
-) -> Result<Option<InsertionChoice>, NoMemory>
-    requires { MayAsk on.now v i known_here.old }
-    ensures best { IfOk result (λ chosen. chosen ≡ best_asked on.now v i best) }
-    ensures known { OnOk result (AreKnownIn on.now v known_here.new) }
-{
-    let candidates = on.items.candidates;
-    let candidate = candidates[i];
-    let known = known_here.get(i);
-    let lists = on.lists;
-    let nodes = lists[v].as_slice();
-    let list = LookedUpList {
-        lookups: on.items.lookups,
-        vehicle: v as u32,
-        nodes,
-    };
-    let of = CandidateIn {
-        list,
-        list_rows: on.list_rows,
-        candidate,
-    };
-    let told = find_out(scratch, &of, known, best)?;
-    known_here.set(i, told);
-    Ok(better_of(best, &told))
-}
-
-// The better of the best so far and the best insertion of candidate `i` into any list, where `known_items` has what is
-// known of the candidates in each.
-fn best_in_lists(
-    scratch: &mut InsertScratch,
-    on: &AskedLists<'_, '_, '_, '_>,
-    i: usize,
-    known_items: &mut [KnownItems],
-    best: Option<InsertionChoice>,
-) -> Result<Option<InsertionChoice>, NoMemory>
-    requires { MayAskEach on.now i known_items.old }
-    ensures best { IfOk result (λ chosen. chosen ≡ best_asked_of_each on.now i best) }
-    ensures known { OnOk result (AreKnownInEach on.now known_items.new) }
-{
-    let mut best = best;
-    for v in 0..on.lists.len() {
-        let known_here = &mut known_items[v];
-        best = settle(scratch, on, v, i, known_here, best)?;
-    }
-    Ok(best)
-}
-
-// Whether an item may count: its first node is not marked, since a pair stands in a list with both nodes or in none,
-// and the groups have room for it.
+// Whether an item may count: it is not marked, and the groups have room for it.
 fn may_be_placed(items: &Items<'_, '_, '_>, marks: &[bool], candidate: Candidate) -> bool
     requires { MayCount items.now marks.now candidate }
     ensures { result ≡ counts_of (items_model items.now) marks.now candidate }
 {
-    if marks[candidate.item.number() as usize] {
+    if is_marked(marks, candidate) {
         false
     } else {
         groups_have_room(items.lookups, marks, candidate.item)
     }
 }
 
-// Takes the better of the best so far and the best of all insertions of candidate `i`.
+// Takes the better of the best so far and the best of all insertions of waiting item `k`. Where what is known of it
+// shows that none is better, no list is asked.
 fn beside(
     scratch: &mut InsertScratch,
     on: &AskedLists<'_, '_, '_, '_>,
     marks: &[bool],
-    i: usize,
+    k: usize,
     known_items: &mut [KnownItems],
+    waiting: &mut [WaitingItem],
     best: &mut Option<InsertionChoice>,
 ) -> Result<(), NoMemory>
-    requires { MayWeigh on.now marks.now i known_items.old }
+    requires { MayWeigh on.now marks.now k known_items.old waiting.old }
     ensures best { OnOk result (best.new ≡ best_beside (items_model on.now.items) on.now.lists.now marks.now
-        (candidate_at on.now.items.candidates.now i) best.old) }
+        (waiting_candidate on.now waiting.old k) best.old) }
     ensures known { OnOk result (AreKnownInEach on.now known_items.new) }
+    ensures waiting { OnOk result (AreWaitingFor on.now waiting.new) }
+    ensures same { OnOk result (waiting_candidates on.now.items.candidates.now waiting.new
+        ≡ waiting_candidates on.now.items.candidates.now waiting.old) }
 {
-    if !may_be_placed(&on.items, marks, on.items.candidates[i]) {
+    let item = waiting[k];
+    let candidate = on.items.candidates[item.number];
+    if is_passed_over(*best, candidate.class, item.least) {
         return Ok(());
     }
-    *best = best_in_lists(scratch, on, i, known_items, *best)?;
+    if !may_be_placed(&on.items, marks, candidate) {
+        return Ok(());
+    }
+    let next = best_in_lists(scratch, on, item.number, known_items, *best)?;
+    let least = least_told(next, candidate.class, item.least);
+    waiting[k] = WaitingItem {
+        number: item.number,
+        least,
+    };
+    *best = next;
     Ok(())
 }
 
@@ -156,13 +79,17 @@ fn next_insertion(
     marks: &[bool],
     lists: &[Seq<u32>],
     known_items: &mut [KnownItems],
+    waiting: &mut [WaitingItem],
 ) -> Result<Option<InsertionChoice>, NoMemory>
-    requires { MayInsert items.now list_rows.now marks.now lists.now known_items.old }
+    requires may { MayInsert items.now list_rows.now marks.now lists.now known_items.old }
+    requires waiting { AreWaiting (items_model items.now) lists.now items.now.candidates.now waiting.old }
     ensures next { IfOk result (λ next. option_map insertion_of next
         ≡ next_inserted (items_model items.now) lists.now) }
     ensures may { IfOk result (λ next. IfSome next (MayBeInserted (items_model items.now) lists.now)) }
     ensures known { OnOk result (AreKnownRows (items_model items.now) lists.now items.now.candidates.now
         known_items.new) }
+    ensures waiting { OnOk result (AreWaiting (items_model items.now) lists.now items.now.candidates.now
+        waiting.new) }
 {
     let on = AskedLists {
         items: *items,
@@ -170,10 +97,70 @@ fn next_insertion(
         lists,
     };
     let mut best: Option<InsertionChoice> = None;
-    for i in 0..items.candidates.len() {
-        beside(scratch, &on, marks, i, known_items, &mut best)?;
+    for k in 0..waiting.len() {
+        beside(scratch, &on, marks, k, known_items, waiting, &mut best)?;
     }
     Ok(best)
+}
+
+// Inserts waiting items into lists as long as one may be inserted: each time the insertion of the least class,
+// increase, item, vehicle and places.
+fn insert_waiting(
+    scratch: &mut InsertScratch,
+    items: &Items<'_, '_, '_>,
+    list_rows: &mut [ListRows],
+    lists: &mut [Seq<u32>],
+    marks: &mut [bool],
+    known_items: &mut [KnownItems],
+    waiting: &mut [WaitingItem],
+) -> Result<(), NoMemory>
+    requires may { MayInsert items.now list_rows.old marks.old lists.old known_items.old }
+    requires waiting { AreWaiting (items_model items.now) lists.old items.now.candidates.now waiting.old }
+    ensures rebuilt { OnOk result (lists.new
+        ≡ rebuilt (items_model items.now) (length (items_of (items_model items.now))) lists.old) }
+    ensures built { OnOk result (AreBuilt (items_model items.now) lists.new) }
+    ensures marked { OnOk result (AreMarks (items_model items.now).nodes lists.new marks.new) }
+    ensures kept { OnOk result (AreKeptRows (items_model items.now) lists.new list_rows.new) }
+    ensures known { OnOk result (AreKnownRows (items_model items.now) lists.new items.now.candidates.now
+        known_items.new) }
+{
+    // each step inserts an item, so that as many steps as there are items are enough
+    for _step in 0..items.candidates.len() {
+        let next = next_insertion(
+            scratch,
+            items,
+            list_rows,
+            marks,
+            lists,
+            known_items,
+            waiting,
+        )?;
+        match next {
+            Some(choice) => {
+                let longer = &mut scratch.trying.longer;
+                place_in(
+                    longer,
+                    scratch.alloc,
+                    items.lookups,
+                    list_rows,
+                    lists,
+                    choice,
+                )?;
+                mark_item(marks, choice.placing.item());
+                forget(known_items, choice.vehicle);
+                lower(
+                    items,
+                    list_rows,
+                    marks,
+                    lists,
+                    choice.vehicle as usize,
+                    waiting,
+                );
+            }
+            None => return Ok(()),
+        }
+    }
+    Ok(())
 }
 
 /// Inserts items into lists as long as one may be inserted: each time the insertion of the least class, increase, item,
@@ -197,24 +184,14 @@ pub(crate) fn insert_all(
     ensures known { OnOk result (AreKnownRows (items_model items.now) lists.new items.now.candidates.now
         known_items.new) }
 {
-    // each step inserts an item, so that as many steps as there are items are enough
-    for _step in 0..items.candidates.len() {
-        match next_insertion(scratch, items, list_rows, marks, lists, known_items)? {
-            Some(choice) => {
-                let longer = &mut scratch.trying.longer;
-                place_in(
-                    longer,
-                    scratch.alloc,
-                    items.lookups,
-                    list_rows,
-                    lists,
-                    choice,
-                )?;
-                mark_item(marks, choice.placing.item());
-                forget(known_items, choice.vehicle);
-            }
-            None => return Ok(()),
-        }
-    }
-    Ok(())
+    let mut waiting = unmarked(scratch.alloc, items, marks)?;
+    insert_waiting(
+        scratch,
+        items,
+        list_rows,
+        lists,
+        marks,
+        known_items,
+        &mut waiting,
+    )
 }
