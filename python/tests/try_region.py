@@ -1,8 +1,8 @@
 """python3 tests/try_region.py [VISITS [TRIES]], by hand and as root: one plan by own processes, GNU parallel and Slurm.
 
 It needs what try_engines.py needs but for ssh; Slurm is started for this machine alone, in a folder that goes at the
-end. `60s` in place of TRIES plans with `--seconds 60` first, and then with the tries that these seconds came to; last
-comes the plan of parts without seams. Up to 1000 visits the run is killed at ten moments (the parent, a worker, a
+end. `60s` in place of TRIES plans with `--seconds 60` first, and then with four fifths of the tries that these came to;
+last comes the plan of parts without seams. Up to 1000 visits the run is killed at ten moments (the parent, a worker, a
 worker's job, a full disk), and goes on each time. README.md has what it printed.
 """
 
@@ -72,12 +72,12 @@ def planned(folder: str, name: str, tries: int, *more: str) -> str:
 
 
 def tries_of(folder: str, seconds: str) -> int:
-    """The tries that a plan of these seconds came to."""
+    """Four fifths of the tries that a plan of these seconds came to, since other engines begin more slowly."""
     planned(folder, "timed", 0, "--with", "own", "--seconds", seconds)
     with open(os.path.join(folder, "timed.csv.region", "state.json"), encoding="utf-8") as file:
         tried: int = json.load(file)["tried"]
     print(f"tries of {seconds} seconds: {tried:,}", flush=True)
-    return tried
+    return tried * 4 // 5
 
 
 def killed(folder: str, tries: int, known: str) -> None:
