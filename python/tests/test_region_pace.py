@@ -101,7 +101,7 @@ class PaceTests(unittest.TestCase):
 
     def test_rounds_say_how_fast_the_machine_is(self) -> None:
         spent = 0.0
-        pace = Pace(10.3, 2, lambda: spent)
+        pace = Pace(10.6, 2, lambda: spent)
         self.assertEqual(pace.tries(), 2 * USUAL_SPEED * 10)
         spent = 4.0
         pace.note(4000, 4)
