@@ -1,9 +1,9 @@
 """python3 tests/measure_region.py [VISITS ..], by hand: seconds, memory and cost of regions by region_support's rule.
 
-Each region gets the tries of 60 seconds on four processors for 10,000 visits, in proportion to its visits. With the
-word `alone` the parts get all tries and no seams; with `anew` vr_cli searches all parts, also if vr_refine is at hand;
-with `once`, up to 999 visits are one run of vr_cli with as many tries as a model may ask for. README.md has what it
-printed; `picture` reads such rows and writes their drawing.
+Each visit gets 240,000 tries, about as many as four processors of a slow machine manage in 60 seconds for 10,000. With
+the word `alone` the parts get all tries and no seams; with `anew` vr_cli searches all parts, also if vr_refine is at
+hand; with `once`, up to 999 visits are also one run of vr_refine with all tries, and one of vr_cli with as many tries
+as a model may ask for. README.md has what it printed; `picture` reads such rows and writes their drawing.
 """
 
 from __future__ import annotations
@@ -15,6 +15,7 @@ import resource
 import sys
 import tempfile
 import time
+from dataclasses import replace
 from typing import List, Sequence, Tuple
 
 sys.path.insert(0, os.path.dirname(os.path.dirname(os.path.abspath(__file__))))
@@ -22,13 +23,15 @@ sys.path.insert(0, os.path.dirname(os.path.dirname(os.path.abspath(__file__))))
 from jambulskeg.model import solve
 from jambulskeg.places import model_of
 from jambulskeg.program import find
-from jambulskeg.records import MOST_TRIES, First, Improve, Search
+from jambulskeg.records import MOST_TRIES, First, Improve, Refine, Search
+from jambulskeg.refine import solve as refined
 from jambulskeg.region import Asked, OwnCrew, RegionTables, Searcher, Store, check_plan, plan, region_page
+from jambulskeg.region.mending import MOVES_OF_A_STEP
 from tests.region_support import made_region
 
 JOBS = 4
-WHOLE = Asked(seconds=60, jobs=JOBS).budget()
-"""The tries for 10,000 visits."""
+OF_A_VISIT = 240_000
+"""The tries for each visit."""
 
 
 def used() -> float:
@@ -42,7 +45,7 @@ def measured(visits: int, seams: bool, searcher: Searcher) -> None:
     region, began, before = made_region(visits), time.monotonic(), used()
     tables = RegionTables.of(region)
     with tempfile.TemporaryDirectory() as folder, contextlib.closing(Store(folder)) as store:
-        asked = Asked(jobs=JOBS, tries=WHOLE * visits // 10000, seams=seams)
+        asked = Asked(jobs=JOBS, tries=OF_A_VISIT * visits, seams=seams)
         found = plan(region, asked, OwnCrew(JOBS, searcher), store)
         whole = check_plan(tables, found.standing, jobs=JOBS, store=store, sheets=True)
         page = region_page(tables, whole, found, "A region", "")
@@ -58,11 +61,15 @@ def measured(visits: int, seams: bool, searcher: Searcher) -> None:
 
 
 def once(visits: int) -> None:
-    """One run of the program on the whole region."""
+    """One run of each program on the whole region."""
     region, before = made_region(visits), used()
     search = Search(First.PARALLEL_CHEAPEST_INSERTION, Improve.GUIDED_LOCAL_SEARCH, MOST_TRIES)
-    found = solve(model_of(region.places, region.vans, region.roads, search))
+    model = model_of(region.places, region.vans, region.roads, search)
+    found = solve(model)
     print(f"one run of {visits} visits: {used() - before:.0f} processor seconds, cost {found.cost:,}", flush=True)
+    before, steps = used(), OF_A_VISIT * visits // MOVES_OF_A_STEP
+    found = refined(replace(model, search=replace(search, tries=steps)), refine=Refine())
+    print(f"one run of vr_refine: {used() - before:.0f} processor seconds, cost {found.cost:,}", flush=True)
 
 
 def picture(rows: Sequence[Tuple[int, float, float]]) -> str:

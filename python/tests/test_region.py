@@ -166,7 +166,7 @@ class NearTests(unittest.TestCase):
 
     def test_links_go_both_ways(self) -> None:
         near, vans = Near({1: [2, 3], 2: [1], 3: [4], 4: [3]}), {1: 0, 2: 0, 3: 1}
-        self.assertEqual((near.links(vans, [1, 2])[1], near.links(vans, [3])), (1, {0: 1}))
+        self.assertEqual((near.links(vans, [1, 2])[1], near.links(vans, [3])), (1, {0: 1, None: 2}))
 
     def test_groups_share_nothing(self) -> None:
         region = made_region(600)

@@ -1,13 +1,16 @@
 """python3 tests/try_region.py [VISITS [TRIES]], by hand and as root: one plan by own processes, GNU parallel and Slurm.
 
 It needs what try_engines.py needs but for ssh; Slurm is started for this machine alone, in a folder that goes at the
-end. Then the run is killed at ten moments (the parent, a worker, a worker's job, a full disk), and goes on each time.
-README.md has what it printed.
+end. `60s` in place of TRIES plans with `--seconds 60` first, and then with four fifths of the tries that these came to;
+last comes the plan of parts without seams. Up to 1000 visits the run is killed at ten moments (the parent, a worker, a
+worker's job, a full disk), and goes on each time. README.md has what it printed.
 """
 
 from __future__ import annotations
 
+import contextlib
 import hashlib
+import json
 import os
 import random
 import resource
@@ -31,11 +34,11 @@ ENGINES = (["--with", "own"], ["--with", "parallel"], ["--with", "slurm", "--opt
 
 
 def words_of(folder: str, name: str, tries: int, *more: str) -> List[str]:
-    """The command that plans the region of the folder."""
+    """The command that plans the region of the folder; without `tries`, by the seconds among `more`."""
     return [
         sys.executable, "-m", "jambulskeg", "region", os.path.join(folder, "places.csv"),
-        os.path.join(folder, "vans.csv"), *ROAD_WORDS, "--jobs", JOBS, "--tries", str(tries), "-o",
-        os.path.join(folder, f"{name}.csv"), "--page", os.path.join(folder, f"{name}.html"), *more,
+        os.path.join(folder, "vans.csv"), *ROAD_WORDS, "--jobs", JOBS, *(["--tries", str(tries)] if tries else []),
+        "-o", os.path.join(folder, f"{name}.csv"), "--page", os.path.join(folder, f"{name}.html"), *more,
     ]
 
 
@@ -47,21 +50,34 @@ def mark(path: str) -> str:
 
 def compare_engines(folder: str, tries: int) -> str:
     """The plan by each engine; all are the same bytes, whose mark is given back."""
-    marks = []
-    for number, engine in enumerate(ENGINES):
-        before, began = resource.getrusage(resource.RUSAGE_CHILDREN), time.monotonic()
-        ran = subprocess.run(words_of(folder, f"plan{number}", tries, *engine), stdout=subprocess.PIPE,
-                             stderr=subprocess.PIPE, text=True, check=False)
-        after = resource.getrusage(resource.RUSAGE_CHILDREN)
-        marks.append(mark(os.path.join(folder, f"plan{number}.csv")) if not ran.returncode else ran.stderr[-300:])
-        used = after.ru_utime + after.ru_stime - before.ru_utime - before.ru_stime
-        print(
-            f"{' '.join(engine)}: status {ran.returncode}, {time.monotonic() - began:.1f} s, {used:.1f} s of "
-            f"processors (without those of Slurm's workers), {after.ru_maxrss // 1024} MB at most, others at work: "
-            f"{os.getloadavg()[0]:.0f}; {marks[-1]}; {ran.stdout.strip()}", flush=True
-        )
+    marks = [planned(folder, f"plan{number}", tries, *engine) for number, engine in enumerate(ENGINES)]
     print(f"plans that differ: {len(set(marks)) - 1}")
     return marks[0]
+
+
+def planned(folder: str, name: str, tries: int, *more: str) -> str:
+    """Plans the region of the folder, and tells what it took; the mark of the plan, or what was wrong."""
+    before, began, load = resource.getrusage(resource.RUSAGE_CHILDREN), time.monotonic(), os.getloadavg()[0]
+    ran = subprocess.run(words_of(folder, name, tries, *more), stdout=subprocess.PIPE, stderr=subprocess.PIPE,
+                         text=True, check=False)
+    seconds, after = time.monotonic() - began, resource.getrusage(resource.RUSAGE_CHILDREN)
+    found = mark(os.path.join(folder, f"{name}.csv")) if not ran.returncode else ran.stderr[-300:]
+    used = after.ru_utime + after.ru_stime - before.ru_utime - before.ru_stime
+    print(
+        f"{' '.join(more)}: status {ran.returncode}, {seconds:.1f} s, {used:.1f} s of processors (without those of "
+        f"Slurm's workers), {after.ru_maxrss // 1024} MB at most, at work before: {load:.0f}; {found}; "
+        f"{ran.stdout.strip()}", flush=True
+    )
+    return found
+
+
+def tries_of(folder: str, seconds: str) -> int:
+    """Four fifths of the tries that a plan of these seconds came to, since other engines begin more slowly."""
+    planned(folder, "timed", 0, "--with", "own", "--seconds", seconds)
+    with open(os.path.join(folder, "timed.csv.region", "state.json"), encoding="utf-8") as file:
+        tried: int = json.load(file)["tried"]
+    print(f"tries of {seconds} seconds: {tried:,}", flush=True)
+    return tried * 4 // 5
 
 
 def killed(folder: str, tries: int, known: str) -> None:
@@ -109,7 +125,8 @@ def strike(kind: str, process: "subprocess.Popen[str]", moment: float) -> str:
         for _ in range(200):
             found = child_of(process.pid)
             if found:
-                os.kill(found, signal.SIGKILL)
+                with contextlib.suppress(ProcessLookupError):  # It has just ended.
+                    os.kill(found, signal.SIGKILL)
                 break
             time.sleep(0.02)
     elif kind == "job":
@@ -133,15 +150,16 @@ def child_of(parent: int) -> Optional[int]:
 
 def main(words: Sequence[str]) -> None:
     """Tries all, and ends what it started."""
-    visits = int(words[0]) if words else 600
-    tries = int(float(words[1])) if len(words) > 1 else 300_000_000
+    visits, amount = int(words[0]) if words else 600, words[1] if len(words) > 1 else "3e8"
     os.environ["PYTHONPATH"] = TOP
     os.environ["VR_CLI"] = os.path.abspath(find())
     with tempfile.TemporaryDirectory() as folder:
         write_tables(made_region(visits), os.path.join(folder, "places.csv"), os.path.join(folder, "vans.csv"))
         try:
             start_slurm(folder)
+            tries = tries_of(folder, amount[:-1]) if amount.endswith("s") else int(float(amount))
             known = compare_engines(folder, tries)
+            planned(folder, "alone", tries, "--with", "own", "--no-seams")
             if visits <= 1000:
                 killed(folder, tries, known)
             write(os.path.join(folder, "end"), "")

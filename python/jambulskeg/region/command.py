@@ -41,9 +41,9 @@ def add_region(command: argparse.ArgumentParser) -> None:
 
 def add_amounts(command: argparse.ArgumentParser) -> None:
     """The words that say how long is searched, and how large parts are."""
-    command.add_argument("--seconds", type=seconds_of, default=60.0, metavar="S", help="for all of the plan; 60")
+    command.add_argument("--seconds", type=seconds_of, default=60.0, metavar="S", help="for all of the command; 60")
     command.add_argument("--tries", type=jobs_of, metavar="N",
-                         help="moves tried in all, in place of what the seconds allow; no clock ends the plan then")
+                         help="moves tried in all, in place of what the seconds allow; the same plan everywhere")
     command.add_argument("--most", type=jobs_of, default=MOST_VISITS, metavar="N",
                          help=f"visits of a part at most; {MOST_VISITS}")
     own, refined = Shape.usual(False), Shape.usual(True)
@@ -162,7 +162,7 @@ def told(asked: argparse.Namespace, tables: RegionTables, planned: Planned, chec
     made = len(tables.region.visits) - len(checked.left) - len(checked.missing)
     print(
         f"{made} of {len(tables.region.visits)} visits, {len(checked.days())} of {len(tables.region.vans)} vans, cost "
-        f"{checked.cost}; {len(checked.parts)} parts meet their models; {planned.ended}"
+        f"{checked.cost}; {len(checked.parts)} parts meet their models; {planned.tried} tries; {planned.ended}"
     )
     if checked.missing:
         names = ", ".join(tables.region.places[visit].name for visit in checked.missing[:5])

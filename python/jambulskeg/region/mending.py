@@ -14,6 +14,7 @@ import math
 import random
 from collections import Counter
 from dataclasses import dataclass, replace
+from functools import lru_cache
 from typing import Callable, Dict, FrozenSet, List, Mapping, Optional, Sequence, Set, Tuple
 
 from ..records import First, Improve, Model, Refine, Search
@@ -116,7 +117,8 @@ def groups_of(
     """
     van_of = standing.van_of()
 
-    def links(van: int) -> "Counter[int]":
+    @lru_cache(maxsize=None)
+    def links(van: int) -> "Counter[Optional[int]]":
         return near.links(van_of, standing.routes[van])
 
     left = left_of(region, van_of, near)
@@ -147,18 +149,18 @@ def seeds_of(standing: Standing, left: Mapping[int, Sequence[int]], number: int)
 
 
 def grown(
-    standing: Standing, links: Callable[[int], "Counter[int]"], free: Set[int], seed: int, shape: Shape
+    standing: Standing, links: Callable[[int], "Counter[Optional[int]]"], free: Set[int], seed: int, shape: Shape
 ) -> List[int]:
     """A route and its nearest neighbours among those that are free, rather those from other parts. `links` tells how
     near other vans are to one."""
     vans, size = [seed], len(standing.routes[seed])
-    ties = links(seed)
+    ties = Counter(links(seed))
     while len(vans) < shape.routes:
         known = {standing.origins[van] for van in vans} if standing.origins else set()
         able = [
             (count if not known or standing.origins[van] not in known else count * OF_ONE_PART, -van)
             for van, count in ties.items()
-            if van in free and van not in vans and size + len(standing.routes[van]) <= shape.visits
+            if van is not None and van in free and van not in vans and size + len(standing.routes[van]) <= shape.visits
         ]
         if not able:
             break

@@ -6,7 +6,7 @@ import math
 from collections import Counter
 from functools import cached_property
 from itertools import chain
-from typing import Dict, Iterable, Iterator, List, Mapping, Sequence, Tuple
+from typing import Dict, Iterable, Iterator, List, Mapping, Optional, Sequence, Tuple
 
 from .day import Point
 
@@ -72,10 +72,10 @@ class Near(Dict[int, List[int]]):
                 out[other].append(visit)
         return out
 
-    def links(self, van_of: Mapping[int, int], visits: Iterable[int]) -> "Counter[int]":
-        """For each van how often one of its visits lies near one of these, both ways."""
-        others = chain.from_iterable(map(self.around.__getitem__, visits))
-        return Counter(van_of[other] for other in others if other in van_of)
+    def links(self, van_of: Mapping[int, int], visits: Iterable[int]) -> "Counter[Optional[int]]":
+        """For each van how often one of its visits lies near one of these, both ways; None stands for visits that no van
+        makes."""
+        return Counter(map(van_of.get, chain.from_iterable(map(self.around.__getitem__, visits))))
 
 
 def nearest(points: Sequence[Point], visits: Sequence[int], count: int) -> Near:

@@ -25,9 +25,9 @@ PROBED = 0.01
 """The share of the seconds in which a machine of usual speed is measured."""
 MOST_PROBED = 5_000_000
 """The most tries of a part by which it is measured."""
-FINISH = 3.5
+FINISH = 5
 """How many times as long as the models of all visits the check of the whole plan and its pages take."""
-WRITING = 0.3
+WRITING = 0.6
 """How many seconds are kept for the beginning and the end of a process."""
 
 

@@ -26,15 +26,15 @@ __all__ = ["Asked", "Entry", "Planned", "Progress", "RunDiffers", "plan"]
 
 CUTTING_SHARE = 0.4
 """The share of the tries that the first parts get."""
-LEVELS = (1, 3, 10, 30)
+LEVELS = (1, 3, 10)
 """How many times the first tries a seam gets, the next when few routes can be mended by the present ones."""
-ALL_FROM = 2
+ALL_FROM = 1
 """From this place in `LEVELS` on routes that come from one part are solved anew too, since the tries are more then."""
 OF_A_ROUND = 10**6
 """The numbers that the parts of a round have for themselves."""
-FEWEST_TRIES, FIRST_TRIES = 30_000, 1_000_000
+FEWEST_TRIES, FIRST_TRIES = 30_000, 3_000_000
 """The first tries of a seam, at least and at most."""
-PASSES = 12
+PASSES = 6
 """The tries are enough for as many rounds over all routes with the first tries of a seam."""
 RESTED = 0.15
 """The next tries are begun when no larger share of the routes is awake."""
