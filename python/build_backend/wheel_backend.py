@@ -68,5 +68,5 @@ def build_wheel(wheel_directory, config_settings=None, metadata_directory=None):
 
 
 def build_editable(wheel_directory, config_settings=None, metadata_directory=None):
-    """The hook that pip calls for an install of the folder as it stands (`pip install -e`)."""
+    """The hook that pip calls for an install of the folder as it is (`pip install -e`)."""
     return write_wheel(wheel_directory, {f"{PACKAGE}.pth": f"{TOP}\n"})

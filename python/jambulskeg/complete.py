@@ -200,7 +200,7 @@ def route_faults(model: Model, tree: Mapping[str, Any]) -> Iterator[Fault]:
     for place, route in enumerate(tree["routes"][:len(model.vehicles)]):
         path = f"/routes/{place}"
         if route["vehicle"] != place:
-            yield Fault(14, f"{path}/vehicle", f"the routes stand in the order of the vehicles, here {place}")
+            yield Fault(14, f"{path}/vehicle", f"the routes are in the order of the vehicles, here {place}")
         for at, node in enumerate(route["nodes"]):
             if not 0 <= node < model.nodes:
                 yield Fault(14, f"{path}/nodes/{at}", f"the model has no node {node}")

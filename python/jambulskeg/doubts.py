@@ -1,7 +1,7 @@
 """What a model may say and what looks wrong all the same: `for doubt in doubts(model): print(doubt.sentence)`.
 
 Nothing here is a fault: the program solves such models, and tells neither that a visit can never be made nor that
-seconds stand beside minutes. A doubt says where to look, and may be unfounded.
+seconds are beside minutes. A doubt says where to look, and may be unfounded.
 """
 
 from __future__ import annotations
@@ -228,7 +228,7 @@ LOOKS: Tuple[Look, ...] = (loads, windows, breaks, short_ways, units, paid_twice
 
 
 def group_of(model: Model, node: int) -> Optional[int]:
-    """The number of the group in which a node stands."""
+    """The number of the group in which a node is."""
     return next((number for number, group in enumerate(model.groups) if node in group.nodes), None)
 
 
@@ -240,13 +240,13 @@ def pair_doubts(model: Model) -> Iterator[Doubt]:
         if one is not None and one == other and model.groups[one].max == 1:
             yield Doubt(
                 DoubtKind.PAIR_IN_ONE_GROUP, f"/groups/{one}/max",
-                f"pair {number} stands in one group of which one visit alone is made, so it is never made: let 'max' "
+                f"pair {number} is in one group of which one visit alone is made, so it is never made: let 'max' "
                 "be 2, or give each node a group of its own",
             )
         elif (one is None) != (other is None):
             yield Doubt(
                 DoubtKind.PAIR_HALF_OPTIONAL, f"/pairs/{number}",
-                f"of pair {number} one node stands in a group and the other in none, so both must be made: give the "
+                f"of pair {number} one node is in a group and the other in none, so both must be made: give the "
                 "other a group with the penalty 0",
             )
 

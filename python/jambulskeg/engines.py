@@ -38,11 +38,11 @@ Task = Union[Model, Question]
 Told = Callable[[int, Answer], None]
 """What is told of each search that has ended: its place in the list, and its answer. It may be called by any thread."""
 LOOKS = 1.0
-"""So many seconds pass between two looks at which tasks of another program have ended."""
+"""How many seconds pass between two looks at which tasks of another program have ended."""
 MOST_TASKS = 1000
 """The most tasks of one job array; Slurm takes 1001 where its operator says nothing else."""
 LATE_FILES = 30.0
-"""So many seconds results may come after their job, as on file systems of a network."""
+"""How many seconds results may come after their job, as on file systems of a network."""
 Results = Dict[int, Tuple[int, str]]
 """The status and the text of tasks by their numbers."""
 RESULT = re.compile(r"^(.*)\n*\nstatus (\d+) (\d+)$", re.MULTILINE)
@@ -195,7 +195,7 @@ class GnuParallel:
             return text, errors
 
     def words(self, longest: int, questions: Sequence[int] = ()) -> List[str]:
-        """The call, for tasks whose texts have at most so many characters; the numbers of those for vr_refine."""
+        """The call, for tasks whose texts have at most this many characters; the numbers of those for vr_refine."""
         logins = [word for login in self.sshlogins for word in ("--sshlogin", login)]
         block = str(max(longest + 1, 2**20))
         return [

@@ -14,7 +14,7 @@ SENTENCES = {
             "between them",
     "once": "{vehicle} makes {node} at {place} of its nodes, and it is made earlier too",
     "dropped": "'dropped' is not the list of the visits that no route makes, ascending",
-    "required": "visit {number} stands in no group, and nobody makes it",
+    "required": "visit {number} is not made, and must be: it is in no group",
     "group": "group {number} has more visits than it may have, or without a penalty other than as many as it asks",
     "pair": "of pair {number} one is made alone, by another vehicle, or the delivery first",
     "policy": "{vehicle} does not deliver in the order of its policy",
@@ -22,7 +22,7 @@ SENTENCES = {
     "schedule": "{vehicle} has no schedule in dimension {number} that keeps its rules",
     "cumul": "{vehicle} has at stop {number}, {node}, a cumul outside its capacity or window, in a forbidden interval, "
              "or not 0 at a fixed start",
-    "slack": "{vehicle} has behind stop {number}, {node}, a slack that its cumuls do not leave, or above slack_max: "
+    "slack": "{vehicle} has after stop {number}, {node}, a slack that its cumuls do not leave, or above slack_max: "
              "the way takes another time than the model says",
     "break": "{vehicle} has in dimension {number} a break out of its range, before the one before it ends, during a "
              "visit or a drive that leaves no room for it",

@@ -194,7 +194,7 @@ class Span(Kind):
         found = list(Row(Whole(0, self.most), 2, 2).faults(value, path))
         yield from found
         if not found and value[0] > value[1]:
-            yield Fault(19, path, f"{value[0]} is behind {value[1]}")
+            yield Fault(19, path, f"{value[0]} is after {value[1]}")
 
     def taken(self, value: Any) -> Tuple[int, int]:
         return operator.index(value[0]), operator.index(value[1])
@@ -225,7 +225,7 @@ class Either(Kind):
 
 @dataclasses.dataclass(frozen=True)
 class Maybe(Kind):
-    """A value of a kind, or None, which stands for an absent field."""
+    """A value of a kind, or None, which means an absent field."""
 
     kind: Kind
 
@@ -346,6 +346,6 @@ def field_faults(cls: "Type[Record]", field: Any, tree: Mapping[str, Any], path:
         if field.default is dataclasses.MISSING:
             yield Fault(10, path)
     elif tree[key] is None:
-        yield Fault(11, path, "null stands for nothing here; leave the field out")
+        yield Fault(11, path, "null means nothing here; leave the field out")
     else:
         yield from kinds_of(cls)[field.name].faults(tree[key], path)

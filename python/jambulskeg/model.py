@@ -184,7 +184,7 @@ def import_tsplib(
     """The model of a TSPLIB file of type CVRP, given by its path or as its bytes, with 1 to 100 vehicles.
 
     Raises `Refused` at the first faulty line, whose number is the path (`/8`; `/0` where the file ends too early or the
-    depot has a demand), and where there may not be so many vehicles; `OSError` where the file cannot be read.
+    depot has a demand), and where there may not be this many vehicles; `OSError` where the file cannot be read.
     """
     for fault in Whole(1, MOST_VEHICLES).faults(vehicles, "/vehicles"):
         raise Refused(fault, "the import")

@@ -2,7 +2,7 @@
 
 A portfolio runs constructions times searches, guided ones with several lambdas, and ruin and recreate with several
 seeds if there is a vr_refine, each a process of its own, on an engine of `engines`. All are run to their ends, and
-among equal costs the one that stands first is kept: the same arguments give the same answer, whatever the order in
+among equal costs the one that comes first is kept: the same arguments give the same answer, whatever the order in
 which they end.
 
     found = portfolio(model, OwnProcesses(4))
@@ -169,7 +169,7 @@ class Tally:
 
 @asks(model=A_MODEL, tries=either(number(0)), seeds=WHOLE_NUMBERS)
 def refinings(model: Model, tries: Optional[int] = None, seeds: Sequence[int] = SEEDS) -> List[Refining]:
-    """Ruin and recreate with each seed, from the model's construction, of so many steps that it takes about as long as
+    """Ruin and recreate with each seed, from the model's construction, of as many steps as take about as long as
     the searches of `variants`."""
     own = model.search if tries is None else replace(model.search, tries=tries)
     search = replace(own, tries=steps_for(moves_of(own)))
@@ -182,7 +182,7 @@ def variants(
 ) -> List[Search]:
     """The searches of a portfolio: the model's own first, then each construction with a descent, with a guided search
     of each lambda, with path LNS and with tabu search. `tries` takes the place of the model's; path LNS, whose tries
-    are cuts, gets so many that it takes about as long as the others."""
+    are cuts, gets as many as take about as long as the others."""
     own = model.search if tries is None else replace(model.search, tries=tries)
     moves = moves_of(own)
     out = [own]

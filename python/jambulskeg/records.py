@@ -29,7 +29,7 @@ GREATEST_TRANSIT = 2**30
 GREATEST_COEFFICIENT = 10000
 MOST_TRIES = 10**9
 MOVES_OF_A_CUT = 1000
-"""A cut of path LNS, or a step of ruin and recreate, takes about as long as so many moves, on large days longer."""
+"""A cut of path LNS, or a step of ruin and recreate, takes about as long as this many moves, on large days longer."""
 
 NODE = Whole(0, MOST_NODES - 1)
 VEHICLE = Whole(0, MOST_VEHICLES - 1)
@@ -89,7 +89,7 @@ class Neighbourhood(Enum):
 
 
 def repeated(entries: Sequence[int], path: str) -> Iterator[Fault]:
-    """A fault of code 16 at each entry that stands at an earlier place too."""
+    """A fault of code 16 at each entry that is at an earlier place too."""
     seen: Set[int] = set()
     for place, entry in enumerate(entries):
         if entry in seen:
@@ -323,12 +323,12 @@ def moves_of(search: Search) -> int:
 
 
 def tries_for(improve: Improve, moves: int) -> int:
-    """The tries with which a search takes about as long as one that tries so many moves."""
+    """The tries with which a search takes about as long as one that tries this many moves."""
     return steps_for(moves) if improve is Improve.PATH_LNS else moves
 
 
 def steps_for(moves: int) -> int:
-    """The steps of ruin and recreate, or the cuts of path LNS, that take about as long as so many moves."""
+    """The steps of ruin and recreate, or the cuts of path LNS, that take about as long as this many moves."""
     return -(-moves // MOVES_OF_A_CUT)
 
 
@@ -336,7 +336,7 @@ def steps_for(moves: int) -> int:
 class Model(Record):
     """A model: nodes, matrices, vehicles, and what is asked of routes. `Model.of(tree)` reads one, `tree` writes it.
 
-    A node where some vehicle starts or ends is no visit; every other node is one, and must be made unless it stands in
+    A node where some vehicle starts or ends is no visit; every other node is one, and must be made unless it is in
     a group. Raises `Refused` at the first faulty field; negative costs and transits are left to the program. A vehicle
     with a `schedule` of its own asks for `format=2`.
     """

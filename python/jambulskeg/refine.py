@@ -150,7 +150,7 @@ QUESTIONS: Rule = questions
 def price(
     model: Model, routes: Routes, program: ProgramLike = None, *, checked: bool = True, seconds: Optional[float] = None
 ) -> Solution:
-    """The solution of routes as they stand, with the schedules that the model's rules choose: what they cost.
+    """The solution of routes as they are, with the schedules that the model's rules choose: what they cost.
 
     `program` is vr_refine, here and below; `seconds` is the most that each run may take. Raises `NotMet` with the first
     rule that the routes break and a sentence that says where, `Refused` if they are no routes of the model, with the

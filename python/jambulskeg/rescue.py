@@ -205,7 +205,7 @@ def greatest_cost(model: Model) -> int:
 
 
 def required_visits(model: Model) -> List[int]:
-    """The visits that stand in no group."""
+    """The visits that are in no group."""
     grouped = {node for group in model.groups for node in group.nodes}
     return [node for node in model.visits() if node not in grouped]
 

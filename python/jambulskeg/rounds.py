@@ -147,7 +147,7 @@ def solve_for(
     """The cheapest solution of rounds within `time_limit` seconds; with 0 seconds, that of the first round.
 
     If a vr_refine belongs to `program`, which is vr_cli, later rounds go on from the best so far, unless the model asks
-    for no search (`NONE`), or for so many solutions. Then `begin` are routes that the first round takes as they are, or
+    for no search (`NONE`), or limits its solutions. Then `begin` are routes that the first round takes as they are, or
     filled up by insertion; if that cannot be, rounds begin with the constructions.
 
     No round is ended before there is a solution. Ends early if no search has anything left to do, or if `stop` is set:

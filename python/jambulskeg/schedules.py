@@ -20,14 +20,14 @@ __all__ = ["Line", "chosen", "earliest", "line_of", "ranges", "tight"]
 Levels = List[Numbers]
 """For each number of breaks a set of cumuls."""
 EARLY, LATE = -(2**62), 2**62
-"""Before and behind every cumul."""
+"""Before and after every cumul."""
 
 
 @dataclass(frozen=True)
 class Line:
     """A list of visits of a vehicle in a dimension.
 
-    `allowed[k]` are the cumuls that stop k allows, `transits[k]` and `visits[k]` the transit of the arc behind it and
+    `allowed[k]` are the cumuls that stop k allows, `transits[k]` and `visits[k]` the transit of the arc after it and
     the time that the visit takes there, `slack_max` the greatest slack, `breaks` the vehicle's breaks.
     """
 
@@ -74,7 +74,7 @@ def line_of(model: Model, number: int, vehicle: int, nodes: Sequence[int]) -> Li
 @dataclass(frozen=True)
 class Chain:
     """Breaks that follow one another at once: they can begin at `latest` at the latest, last `length` together, and
-    end `length` behind their begin, or at `end` where they have to wait for their ranges."""
+    end `length` after their begin, or at `end` where they have to wait for their ranges."""
 
     latest: int
     length: int
@@ -104,7 +104,7 @@ class Crossing:
     end: int
 
     def from_one(self, cumul: int) -> Interval:
-        """The cumuls behind the arc that one cumul leads to, as an interval that may be empty."""
+        """The cumuls after the arc that one cumul leads to, as an interval that may be empty."""
         if cumul > self.latest:
             return (0, -1)
         return max(cumul + self.least, self.end), cumul + self.most
@@ -140,7 +140,7 @@ def crossing(line: Line, arc: int, breaks: Sequence[Break]) -> Optional[Crossing
 
 
 def crossings(line: Line, arc: int) -> List[Tuple[int, int, Crossing]]:
-    """Each way to cross an arc: how many breaks were taken before it, how many behind it, and where it leads."""
+    """Each way to cross an arc: how many breaks were taken before it, how many after it, and where it leads."""
     out = []
     for taken in range(len(line.breaks) + 1):
         for after in range(taken, len(line.breaks) + 1):
@@ -187,7 +187,7 @@ def start_levels(line: Line) -> Levels:
 
 
 def end_levels(line: Line) -> Levels:
-    """For each number of breaks the cumuls of the end behind which the others can begin."""
+    """For each number of breaks the cumuls of the end after which the others can begin."""
     chains = [chain_of(line.breaks[number:]) for number in range(len(line.breaks) + 1)]
     return [common(line.allowed[-1], [(EARLY, chain.latest)]) if chain else [] for chain in chains]
 
@@ -216,20 +216,20 @@ def earliest(line: Line) -> Optional[Plan]:
 
 
 def next_least(reach: Reach, arc: int, cumul: int, levels: Set[int]) -> Tuple[int, Set[int]]:
-    """The least cumul behind an arc from which the rest can be kept, and with how many breaks taken."""
+    """The least cumul after an arc from which the rest can be kept, and with how many breaks taken."""
     found = []
     for taken, after, way in reach.ways[arc]:
         low, high = way.from_one(cumul)
-        behind = common([(low, high)], reach.both(arc + 1, after)) if taken in levels and low <= high else []
-        if behind:
-            found.append((behind[0][0], after))
+        ahead = common([(low, high)], reach.both(arc + 1, after)) if taken in levels and low <= high else []
+        if ahead:
+            found.append((ahead[0][0], after))
     least = min(found)[0]
     return least, {after for number, after in found if number == least}
 
 
 def break_starts(line: Line, cumuls: Sequence[int], slacks: Sequence[int]) -> List[int]:
     """The earliest starts of the breaks at these cumuls, which have room for them: each in the first place where it
-    fits, since one that is taken earlier leaves no less room for those behind it."""
+    fits, since one that is taken earlier leaves no less room for those after it."""
     starts: List[int] = []
     place, room, done = -1, LATE, EARLY
     for entry in line.breaks:

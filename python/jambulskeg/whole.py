@@ -41,7 +41,7 @@ def model_faults(model: "Model") -> Iterator[Fault]:
 
 
 def sized(values: Any, length: int, path: str, of_what: str) -> Iterator[Fault]:
-    """A fault where a list has not an entry for each node, or vehicle; one value and None stand for all."""
+    """A fault where a list has not an entry for each node, or vehicle; one value and None are for all."""
     if is_list(values) and len(values) != length:
         yield Fault(15, path, f"there are {len(values)} entries for {length} {of_what}")
 
@@ -66,16 +66,16 @@ class Visits:
 
 
 class Unlike:
-    """Entries of which each may stand once."""
+    """Entries of which each may be there once."""
 
     def __init__(self, what: str) -> None:
         self._what = what
         self._earlier: Set[object] = set()
 
     def faults(self, entry: object, path: str) -> Iterator[Fault]:
-        """A fault where an entry stands in an earlier place; notes it."""
+        """A fault where an entry is in an earlier place; notes it."""
         if entry in self._earlier:
-            yield Fault(16, path, f"{entry!r} stands in an earlier {self._what}")
+            yield Fault(16, path, f"{entry!r} is in an earlier {self._what}")
         self._earlier.add(entry)
 
 

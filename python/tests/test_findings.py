@@ -34,7 +34,7 @@ class FindingTests(unittest.TestCase):
             return model, complete(model, lists, checked=False)
 
         self.broken("once", "vehicle 0 makes node 1 at place 2", *day([[1, 1], [], [], []]))
-        self.broken("required", "visit 1 stands in no group", *day([[], [], [], []], groups=[]))
+        self.broken("required", "visit 1 is not made, and must be", *day([[], [], [], []], groups=[]))
         self.broken("group", "group 0 has more visits", *day(LISTS, groups=[Group([1, 2])]))
         self.broken("pair", "of pair 0", *day(LISTS, pairs=[Pair(1, 4)]))
         self.broken("allowed", "vehicle 1 makes node 4 at place 1", *day(LISTS, allowed=[Allowed(4, [0])]))
@@ -56,7 +56,7 @@ class FindingTests(unittest.TestCase):
         plan = solution.routes[1].dimensions[0]
         late = [plan.cumuls[0], 500, *plan.cumuls[2:]]
         self.broken("cumul", "vehicle 1 has at stop 1, node 4", DAY, with_plan(1, cumuls=late))
-        self.broken("slack", "behind stop 0, node 0", DAY, with_plan(1, slacks=[61, *plan.slacks[1:]]))
+        self.broken("slack", "after stop 0, node 0", DAY, with_plan(1, slacks=[61, *plan.slacks[1:]]))
         home = complete(DAY, [[1, 9, 4, 12], [], [], []])
         broken = replace(home.routes[0].dimensions[0], breaks=[61, 200])
         route = replace(home.routes[0], dimensions=[broken, home.routes[0].dimensions[1]])

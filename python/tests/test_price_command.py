@@ -41,7 +41,7 @@ class PriceTests(CommandCase):
             (model, "[[1,0]]", "plan.json: /routes/0/1: the node is a start or an end"),
             (model, "[[1,2],[]]", "plan.json: /routes: "), (model, "[[1,7]]", "plan.json: /routes/0/1: "),
             (model, "[[1,1]]", "plan.json: /routes/0/1: "), (model, "7", "price: routes is 7"),
-            (model, "{", "plan.json is no JSON text"), (model, "[[1]]", "plan.json: visit 2 stands in no group"),
+            (model, "{", "plan.json is no JSON text"), (model, "[[1]]", "plan.json: visit 2 is not made, and must be"),
             (model, '{"cost":1}', "a required field"), (self.at("none.json"), "[[1,2]]", "none.json: No such file"),
             (rules, "[[1,2],[3,4,5]]", "plan.json: vehicle 1 makes node 5 at place 3"),
             (rules, "[[1,3,4,2,5],[]]", "plan.json: vehicle 0 cannot drive its list in the dimension 'time'"),

@@ -97,7 +97,7 @@ class PriceTests(unittest.TestCase):
 
     def test_each_broken_rule_has_its_sentence(self) -> None:
         rows = (
-            ([[1, 2], [5]], "required", -1, 3, "visit 3 stands in no group, and nobody makes it"),
+            ([[1, 2], [5]], "required", -1, 3, "visit 3 is not made, and must be: it is in no group"),
             ([[1, 2], [3, 4]], "group", -1, 0, "group 0 has"),
             ([[1, 2, 5], [4, 3]], "pair", -1, 1, "pair 1"),
             ([[1, 3, 2, 4, 5], []], "policy", 0, -1, "vehicle 0 does not deliver in the order"),

@@ -49,7 +49,7 @@ class RefineTests(CommandCase):
         words = ["--seconds", "0", "-o", self.at("out.json")]
         status, _, told = called("refine", SERVICE, self.write("plan.json", str([lists[0][1:], *lists[1:]])), *words)
         self.assertEqual(status, 0)
-        self.assertRegex(told, r"^cost \d+, \d+ before; |^look at: .*plan.json: visit \d+ stands in no group.*\ncost \d+\n")
+        self.assertRegex(told, r"^cost \d+, \d+ before; |^look at: .*plan.json: visit \d+ is not made.*\ncost \d+\n")
         self.assertTrue(check(DAY, read_solution(self.at("out.json"))).meets)
         for text, sentence in (("[[1]]", "plan.json: /routes: "), ("[[0],[],[],[]]", "plan.json: /routes/0/0: ")):
             status, out, told = called("refine", SERVICE, self.write("plan.json", text), *words)

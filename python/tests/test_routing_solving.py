@@ -194,7 +194,7 @@ class SolvingTests(RoutingTest):
         routing.AddDimension(number, 0, 40, True, "way")
         known = routing.ReadAssignmentFromRoutes([[1, 3], [2]], True)
         self.assertEqual((known.ObjectiveValue(), known.solution.lists()), (34, [[1, 3], [2]]))
-        rows = ([[1]], NotMet, "visit 2 stands in no group"), ([[1, 3, 2]] * 2, NotMet, "node 1 at place 1")
+        rows = ([[1]], NotMet, "visit 2 is not made, and must be"), ([[1, 3, 2]] * 2, NotMet, "node 1 at place 1")
         for routes, kind, sentence in rows:
             with mock.patch("sys.stderr", new=io.StringIO()) as stderr:
                 self.assertIsNone(routing.ReadAssignmentFromRoutes(routes, True))

@@ -47,7 +47,7 @@ def is_alive(pid: int) -> bool:
 
 class StoppedCommandTests(CommandCase):
     def stopped(self, number: int, words: List[str], seen: int) -> Tuple[int, str, str]:
-        """Runs a command, stops its process alone by a signal once so many guided searches run, and finds that none is
+        """Runs a command, stops its process alone by a signal once `seen` guided searches run, and finds that none is
         left soon after. Its status, and what it wrote to its outputs."""
         pids = self.at("pids")
         os.makedirs(pids, exist_ok=True)

@@ -160,7 +160,7 @@ def drag_and_undo(planner: Planner) -> None:
     planner.picture("desk-refused-drag")
     planner.drag("Ada", "Hana")
     held("a visit is dragged within its van", "Cleo Ada Hana" in planner.routes())
-    held("the new cost stands beside the old one", "before" in planner.text("#costs thead"))
+    held("the new cost is beside the old one", "before" in planner.text("#costs thead"))
     planner.page.click("#undo")
     planner.page.wait("document.querySelector('#said').textContent.startsWith('Undone')")
     held("undo brings it back", planner.routes() == before)

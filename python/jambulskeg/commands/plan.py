@@ -22,7 +22,7 @@ from ..view import page, sheet_page
 __all__ = ["LEFT_OUT", "add_plan", "run_plan"]
 
 FEW = 20
-"""As many of the visits that are left out are told."""
+"""How many of the visits that are left out are told."""
 LEFT_OUT = 3
 """The exit status of a plan that leaves out visits that must be made."""
 SHEET = re.compile(r"\d{2,3}(?:-.*)?\.html")

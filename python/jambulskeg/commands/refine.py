@@ -54,7 +54,7 @@ def read_lists(path: str) -> Any:
 
 
 def priced(asked: argparse.Namespace, model: Model, lists: Any) -> Solution:
-    """The solution of the lists of a file as they stand. Raises `ValueError` with the file and the place."""
+    """The solution of the lists of a file as they are. Raises `ValueError` with the file and the place."""
     try:
         return price(model, lists)
     except Refused as fault:

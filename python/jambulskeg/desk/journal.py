@@ -67,7 +67,7 @@ def synced_folder(path: str) -> None:
 
 
 def write_whole(path: str, data: bytes) -> None:
-    """Writes a file so that its name stands either for all of the data or for what it stood for before."""
+    """Writes a file so that its name has either all of the data or what it had before."""
     part = f"{path}.part"
     with open(part, "wb") as file:
         file.write(data)

@@ -20,7 +20,7 @@ from .words import sentence_of
 __all__ = ["offers"]
 
 MOST_PLACES = 12
-"""As many places of a route are tried, those with the cheapest arcs first."""
+"""How many places of a route are tried, those with the cheapest arcs first."""
 
 
 @dataclass(frozen=True)

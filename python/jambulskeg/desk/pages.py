@@ -31,7 +31,7 @@ SECONDS = 0.4
 MOST_REASONS = 20
 """Of as many visits that is measured."""
 MOST_STEPS = 60
-"""As many of the latest steps are told at a time."""
+"""How many of the latest steps are told at a time."""
 
 
 def told(day: OpenDay) -> Dict[str, Any]:
@@ -146,7 +146,7 @@ def nodes_of(day: Day) -> List[List[Any]]:
 
 
 def penalties_of(model: Model) -> Tuple[Dict[int, Optional[int]], Dict[int, int]]:
-    """The penalty of each visit that stands in a group of its own, and the groups of those that are choices."""
+    """The penalty of each visit that is in a group of its own, and the groups of those that are choices."""
     penalties: Dict[int, Optional[int]] = {}
     choices: Dict[int, int] = {}
     for number, group in enumerate(model.groups):
@@ -208,7 +208,7 @@ def beside(days: Tuple[OpenDay, OpenDay], steps: Tuple[Optional[int], Optional[i
     )
     is_alike = names_of(drawn[0]) == names_of(drawn[1])
     table = changes_table(drawn, (one, other)).replace(' id="visits"', "", 1) if is_alike else (
-        "<p>The two days have other visits, so only their costs and routes stand beside each other.</p>"
+        "<p>The two days have other visits, so only their costs and routes are beside each other.</p>"
     )
     return {"html": inert(f'{costs_beside(drawn, (one, other))}<div class="beside">{columns}</div>{table}')}
 

@@ -19,7 +19,7 @@ __all__ = ["Search", "Searches"]
 
 LEAST_SECONDS = 1
 LOOK = 0.05
-"""So many seconds pass between two looks whether a waiting search was stopped."""
+"""How many seconds pass between two looks whether a waiting search was stopped."""
 
 
 class Search(threading.Thread):
@@ -91,7 +91,7 @@ class Search(threading.Thread):
 
 
 class Searches:
-    """The latest search of each day, at most so many at a time."""
+    """The latest search of each day, at most this many at a time."""
 
     def __init__(self, jobs: int) -> None:
         self._turn = threading.BoundedSemaphore(jobs)

@@ -18,9 +18,9 @@ __all__ = ["DeskServer", "serve"]
 
 HOST = "127.0.0.1"
 MOST_AT_ONCE = 64
-"""As many requests are worked at; others wait."""
+"""How many requests are worked at; others wait."""
 PATIENCE = 20
-"""So many seconds a request may take to come in."""
+"""How many seconds a request may take to come in."""
 
 
 class DeskServer(ThreadingMixIn, HTTPServer):

@@ -30,7 +30,7 @@ from .states import BadChange
 __all__ = ["Reply", "Service"]
 
 MOST_OPEN = 6
-"""As many days are kept open."""
+"""How many days are kept open."""
 DAY = 1440
 FAR = 10**6
 """The greatest number of a form."""
@@ -103,7 +103,7 @@ class Service:
             return Reply.of({"error": f"the folder of days: {problem.strerror}"}, 507)
 
     def got(self, parts: List[str]) -> Reply:
-        """The answer to a path behind `api`."""
+        """The answer to a path after `api`."""
         if parts == ["days"]:
             return Reply.of({
                 "days": [self.folder.told(identity) for identity in self.folder.identities()],
@@ -172,7 +172,7 @@ class Service:
         return {"status": "none"} if search is None else search.tree()
 
     def posted(self, parts: List[str], tree: Mapping[str, Any]) -> Reply:
-        """The answer to a change behind `api`."""
+        """The answer to a change after `api`."""
         if parts == ["days"]:
             return Reply.of({"id": self.made(tree)})
         if parts[:1] != ["day"] or len(parts) != 3:

@@ -30,7 +30,7 @@ class RoadTable:
 def read_osrm(
     path: str, seconds: float = 60, metres: float = 1, rounding: Rounding = Rounding.UP
 ) -> RoadTable:
-    """The matrices of a reply: durations in units of so many `seconds` (60: minutes), distances in units of so many
+    """The matrices of a reply: durations in units of this many `seconds` (60: minutes), distances in units of this many
     `metres`, rounded once. Rounding up, the default, keeps the triangle inequality.
 
     Raises `BadFile` if the reply is none, says no `Ok`, or has no square matrix; `OSError`.

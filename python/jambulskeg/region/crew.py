@@ -1,7 +1,7 @@
 """Who solves the parts of a round: processes of this machine, GNU parallel, or workers that Slurm has started.
 
 All of them run one program, the searcher. A crew hands out each answer as it comes, so that it is kept at once;
-`engines`, which it stands on, waits for all.
+`engines`, which it uses, waits for all.
 """
 
 from __future__ import annotations
@@ -50,7 +50,7 @@ class Crew(Protocol):
         """The program that the crew runs."""
 
     def each(self, count: int, text_of: TextOf) -> Answers:
-        """The number of each of so many parts and its answer, as they come. Raises `EngineFailed` where the crew
+        """The number of each of `count` parts and its answer, as they come. Raises `EngineFailed` where the crew
         itself fails; the answers before that hold."""
 
     def close(self) -> None:

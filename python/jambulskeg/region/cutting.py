@@ -63,7 +63,7 @@ class Site:
 
 
 def cut(region: Region, most: int = MOST_VISITS) -> List[Part]:
-    """Parts of at most so many visits, in which each visit and each van is once; a van that no part needs is in none.
+    """Parts of at most `most` visits, in which each visit and each van is once; a van that no part needs is in none.
     Where vans are fewer than such parts, parts are larger. The same region gives the same parts.
     """
     sites = sites_of(region, most)
@@ -160,7 +160,7 @@ def can_site(region: Region, site: Site, unit: Sequence[int]) -> bool:
 
 
 def divided(region: Region, site: Site, units: Units, most: int) -> List[Units]:
-    """The units of a site in pieces of at most so many visits, as long as each has a van."""
+    """The units of a site in pieces of at most `most` visits, as long as each has a van."""
     pieces = pieces_of(site, units, most)
     while True:
         found = halved(region, site, units, pieces, len(site.vans))
@@ -179,7 +179,7 @@ def pieces_of(site: Site, units: Units, most: int) -> int:
 
 
 def halved(region: Region, site: Site, units: Units, pieces: int, vans: int) -> List[Units]:
-    """The units cut into so many pieces by halves, each with the loads and hours for whole vans."""
+    """The units cut into this many pieces by halves, each with the loads and hours for whole vans."""
     if pieces <= 1 or len(units) < 2:
         return [units]
     ordered = sorted(units, key=key_across(region, site, units))

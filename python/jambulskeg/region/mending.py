@@ -4,7 +4,7 @@ This is POPMUSIC (Taillard and Voss, 2002): parts that share no route are solved
 and its routes are tried again with their new neighbours; what is not rests until the search is longer. Which parts are
 solved depends on the plan and on the number of the round alone, not on the order in which answers come.
 
-Where the searcher is vr_refine, a part goes on from its routes as they stand, by ruin and recreate; else it is solved
+Where the searcher is vr_refine, a part goes on from its routes as they are, by ruin and recreate; else it is solved
 from nothing.
 """
 
@@ -25,16 +25,16 @@ __all__ = ["Effort", "Shape", "Standing", "applied", "effort_of", "first_effort"
 LAMBDAS = ((1, 5), (1, 20), (1, 10), (1, 3))
 """The weights of penalties, which change from round to round."""
 MOVES_OF_A_STEP = 1500
-"""A step of ruin and recreate takes about as long as so many moves."""
+"""A step of ruin and recreate takes about as long as this many moves."""
 WARMTH = 0.3
 """How much dearer a search may make routes at first, from which it goes on, as a share of their mean arc. With 600
 visits a third and a tenth of that came out 1 percent dearer."""
 MANY = 50_000
-"""So many tries for each visit are many."""
+"""How many tries for each visit are many."""
 OF_ONE_PART = 0.3
 """How near routes count that were solved together before, beside others."""
 MOST_LEFT = 20
-"""So many visits that nobody makes go with a route at most."""
+"""How many visits that nobody makes go with a route at most."""
 
 
 @dataclass(frozen=True)
@@ -78,7 +78,7 @@ class Effort:
 
 
 def first_effort(tries: int, visits: int, refines: bool) -> Effort:
-    """The search of the first parts, which have at most so many visits: with few tries it begins by insertion, which
+    """The search of the first parts, which have at most this many visits: with few tries it begins by insertion, which
     leaves fewest out."""
     if refines or tries >= MANY * visits:
         return effort_of(0, tries, refines)

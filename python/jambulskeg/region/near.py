@@ -12,7 +12,7 @@ __all__ = ["links_of", "nearest"]
 
 Links = Dict[int, "Counter[int]"]
 A_CELL = 3
-"""About as many visits lie in a cell of the grid."""
+"""About how many visits lie in a cell of the grid."""
 
 
 class Grid:
@@ -51,7 +51,7 @@ class Grid:
         return [other for _, other in sorted(found)[:count]]
 
     def _ring(self, middle: Tuple[int, int], ring: int) -> Iterator[int]:
-        """The visits of the cells that lie so many cells away from one."""
+        """The visits of the cells that lie this many cells away from one."""
         column, row = middle
         for across in range(-ring, ring + 1):
             steps = range(-ring, ring + 1) if abs(across) == ring else (-ring, ring)

@@ -23,7 +23,7 @@ from .tasks import Round, solve_parts
 __all__ = ["Asked", "Entry", "Planned", "Progress", "RunDiffers", "plan"]
 
 TRIES_A_SECOND = 33_000_000
-"""About as many moves a processor tries in a second, in parts of about 100 visits."""
+"""About how many moves a processor tries in a second, in parts of about 100 visits."""
 SEARCHING = 0.6
 """The share of the seconds that is meant for searches; the rest is for models, checks, and waiting for each other."""
 ROUNDS_END = 0.9

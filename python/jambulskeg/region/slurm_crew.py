@@ -19,11 +19,11 @@ from .crew import Answers, Searcher, TextOf
 __all__ = ["SlurmCrew"]
 
 IDLE = 60
-"""After so many seconds without work a worker ends."""
+"""After this many seconds without work a worker ends."""
 LOOK = 0.1
-"""So many seconds pass between two looks into the folder."""
+"""How many seconds pass between two looks into the folder."""
 ASK = 5.0
-"""So many seconds pass between two questions to Slurm which workers are at work."""
+"""How many seconds pass between two questions to Slurm which workers are at work."""
 STARTS = 3
 """How often workers are asked for where all of them are gone."""
 WORKER = """#!/bin/sh

@@ -25,7 +25,7 @@ TRIALS = 3
 NONE = {"status": "NONE"}
 """What is kept of a part whose construction finds no first solution."""
 KEPT = 32
-"""So many models are kept at a time."""
+"""How many models are kept at a time."""
 
 T = TypeVar("T")
 Judge = Callable[[int, PartModel, Optional[Solution]], T]

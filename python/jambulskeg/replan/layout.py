@@ -62,20 +62,20 @@ def layout_of(day: Model, vans: Sequence[Van], morning: Solution, still_open: Se
     """The nodes of the rest: starts, ends, chains and open visits in the order of the day, then the starts on the road.
     Raises `CannotBeReplanned` if they are too many."""
     road = [van for van in vans if van.where is Where.ROAD]
-    stands = {van.vehicle: morning.routes[van.vehicle].nodes[van.stop] for van in road}
-    chains = {van.vehicle: (*van.on_board, stands[van.vehicle]) for van in road}
+    present = {van.vehicle: morning.routes[van.vehicle].nodes[van.stop] for van in road}
+    chains = {van.vehicle: (*van.on_board, present[van.vehicle]) for van in road}
     kept: Set[int] = {*still_open, *(node for chain in chains.values() for node in chain)}
     kept |= {vehicle.end for vehicle in day.vehicles}
-    kept |= {vehicle.start for number, vehicle in enumerate(day.vehicles) if number not in stands}
+    kept |= {vehicle.start for number, vehicle in enumerate(day.vehicles) if number not in present}
     nodes = sorted(kept)
     if len(nodes) + len(road) > MOST_NODES:
         raise CannotBeReplanned(f"the rest has {len(nodes) + len(road)} nodes, and not 1 to {MOST_NODES}")
     number = {node: at for at, node in enumerate(nodes)}
-    place_of = {node: stands[vehicle] for vehicle, chain in chains.items() for node in chain}
+    place_of = {node: present[vehicle] for vehicle, chain in chains.items() for node in chain}
     return Layout(
-        (*nodes, *stands.values()),
-        (*(place_of.get(node, node) for node in nodes), *stands.values()),
-        {vehicle: len(nodes) + at for at, vehicle in enumerate(stands)},
+        (*nodes, *present.values()),
+        (*(place_of.get(node, node) for node in nodes), *present.values()),
+        {vehicle: len(nodes) + at for at, vehicle in enumerate(present)},
         {vehicle: tuple(number[node] for node in chain) for vehicle, chain in chains.items()},
     )
 

@@ -52,7 +52,7 @@ class Duration(Named):
             raise unknown("Duration", name)
         found = as_whole(value, f"Duration.{name}")
         if found < 0:
-            raise refuse(f"Duration.{name} = {found}", "a length of time is 0 or more; 0 stands for no limit")
+            raise refuse(f"Duration.{name} = {found}", "a length of time is 0 or more; 0 means no limit")
         self.__dict__[name] = found
 
     def CopyFrom(self, other: "Duration") -> None:
@@ -68,7 +68,7 @@ class Duration(Named):
         self.seconds, self.nanos = milliseconds // 1000, milliseconds % 1000 * 1000000
 
     def total(self) -> Optional[float]:
-        """The length in seconds; None where it is 0, which stands for no limit."""
+        """The length in seconds; None where it is 0, which means no limit."""
         return self.seconds + self.nanos / 1e9 or None
 
 

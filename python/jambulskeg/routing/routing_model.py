@@ -228,7 +228,7 @@ class RoutingModel(Named):
         self, call: str, evaluators: Sequence[int], slack_max: int, capacities: Sequence[int], fix_start: bool,
         name: str,
     ) -> bool:
-        """Adds a dimension; lists of one value stand for all vehicles."""
+        """Adds a dimension; a list of one value is for all vehicles."""
         title, vehicles = f"RoutingModel.{call}", self.vehicles()
         if name in self._said.dimensions:
             return False

@@ -170,7 +170,7 @@ class Day:
         ]
 
     def pieces(self, route: Route) -> List[Piece]:
-        """What a vehicle does from its start to its end, in order, and its breaks, also those before and behind."""
+        """What a vehicle does from its start to its end, in order, and its breaks, also those before and after."""
         stops, breaks = self.stops(route), self.breaks(route)
         out = [piece for piece in breaks if piece.high <= stops[0]]
         for arc in range(len(stops) - 1):

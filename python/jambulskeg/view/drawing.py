@@ -19,7 +19,7 @@ __all__ = ["drawing"]
 MARGIN = 20
 HEADING = 34
 FEW = 20
-"""So many of the visits that are left out are named."""
+"""How many of the visits that are left out are named."""
 
 
 def drawing(days: Sequence[Day], titles: Sequence[str], in_degrees: bool = False, note: str = "") -> str:

@@ -16,7 +16,7 @@ __all__ = ["levels_of", "loads"]
 ROW = 44
 ROOM = 4
 FAR = 3
-"""A capacity above so many times the greatest load is not drawn."""
+"""A capacity above this many times the greatest load is not drawn."""
 
 
 def levels_of(day: Day, number: int, route: Route) -> List[Tuple[int, int]]:

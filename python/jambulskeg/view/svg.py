@@ -24,7 +24,7 @@ def script_json(tree: Any) -> str:
 
 
 def shortened(text: str, most: int) -> str:
-    """A text of at most so many characters."""
+    """A text of at most this many characters."""
     return text if len(text) <= most else text[:most - 1] + "…"
 
 

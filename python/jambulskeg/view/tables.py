@@ -49,7 +49,7 @@ def table(
     caption: str, heads: Sequence[str], bodies: Iterable[str], identity: str = "", shape: str = ""
 ) -> str:
     """A table of bodies that are HTML already; the first column has the names of the rows. A head that begins with #
-    stands over numbers. Shapes are `wide` (as wide as the page) and `sorts` (sorted by its heads, wide too)."""
+    is over numbers. Shapes are `wide` (as wide as the page) and `sorts` (sorted by its heads, wide too)."""
     cells = "".join(
         f'<th scope="col" class="number">{escaped(head[1:])}</th>' if head.startswith("#") else
         f'<th scope="col">{escaped(head)}</th>' for head in heads
@@ -63,7 +63,7 @@ def table(
 
 
 def row(cells: Sequence[Any], marks: str = "", key: str = "", heads: Sequence[str] = ()) -> str:
-    """A row; numbers are set to the right, and a key of a colour stands before the first cell. With `heads` each cell
+    """A row; numbers are set to the right, and a key of a colour is before the first cell. With `heads` each cell
     knows its own, for screens on which the row is no row any more."""
     first, *rest = cells
     colour = f'<i class="key {key}"></i>' if key else ""
@@ -221,7 +221,7 @@ def stop_rows(day: Day, route: Route, loads: Sequence[int]) -> Iterator[str]:
 
 
 def pieces_text(day: Day, route: Route) -> Dict[int, str]:
-    """For each stop what the vehicle does behind it, in words."""
+    """For each stop what the vehicle does after it, in words."""
     words = {"travel": "drives", "wait": "waits", "break": "break"}
     out: Dict[int, List[str]] = {}
     for piece in day.pieces(route):

@@ -31,7 +31,7 @@ GAP = 8
 IDLE = 20
 """The height of the row of a vehicle that is not used."""
 EVERY = 12
-"""After so many vehicles the axis is written again."""
+"""After this many vehicles the axis is written again."""
 LETTER = 6.4
 """The width of a letter of a visit's name, rather too much."""
 SPARE = 3
