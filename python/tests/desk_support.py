@@ -98,7 +98,7 @@ class DeskTests(unittest.TestCase):
         tree = words or {"from": "example", "example": THREE_VANS, "name": "Monday"}
         return f"day/{self.post('days', tree)['id']}"
 
-    def planned(self, day: str, rounds: int = 5) -> Any:
+    def planned(self, day: str, rounds: int = 3) -> Any:
         """The day after a search of some rounds."""
         self.post(f"{day}/plan", {"seconds": 5})
         while True:

@@ -6,6 +6,7 @@ import importlib
 import json
 import os
 import random
+import re
 import stat
 import subprocess
 import sys
@@ -41,8 +42,21 @@ def need_searches() -> None:
             raise unittest.SkipTest(f"the program at hand does not know {improve}: {find()}")
 
 
+PYTHON = f"#!{sys.executable} -IS\n"
+"""The first line of a program in Python that starts quickly."""
+AS_REAL = """
+handle = os.memfd_create("text")
+os.write(handle, text.encode())
+os.lseek(handle, 0, 0)
+os.dup2(handle, 0)
+os.execv(REAL, [REAL, *sys.argv[1:]])
+"""
+"""How a `Fake` goes on as the real program, at what was its input."""
+
+
 class Fake:
-    """A program in Python: `with Fake("sys.exit(3)") as path`. The real one is `REAL`, the input is `text`."""
+    """A program in Python: `with Fake("sys.exit(3)") as path`. The real one is `REAL`, the input is `text`. The body may
+    name the modules json, os, subprocess, sys and time."""
 
     def __init__(self, body: str, mode: int = stat.S_IRWXU) -> None:
         self._body, self._mode = body, mode
@@ -50,11 +64,10 @@ class Fake:
 
     def __enter__(self) -> str:
         path = os.path.join(self._folder.name, "vr_cli")
+        body = f"REAL = {find()!r}\ntext = sys.stdin.read()\n{self._body}\n"
+        modules = sorted(set(re.findall(r"\b(json|os|subprocess|sys|time)\.", body)))
         with open(path, "w", encoding="utf-8") as file:
-            file.write(
-                f"#!{sys.executable}\nimport json, os, subprocess, sys, time\nREAL = {find()!r}\n"
-                f"text = sys.stdin.read()\n{self._body}\n"
-            )
+            file.write(f"{PYTHON}import {', '.join(modules)}\n{body}")
         os.chmod(path, self._mode)
         return path
 

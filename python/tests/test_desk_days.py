@@ -13,7 +13,7 @@ from dataclasses import replace
 from typing import Any, Callable, Dict, List, Optional, Set, Tuple
 from unittest import mock
 
-from jambulskeg.complete import CannotBeDriven, complete
+from jambulskeg.complete import CannotBeDriven, complete, route_of
 from jambulskeg.desk import Answer, Asker, BadChange, Edits, Folder, FolderInUse, OpenDay, State, Verdict, change_of
 from jambulskeg.desk.asking import lenient, merged
 from jambulskeg.desk.changes import Move, Within
@@ -410,6 +410,17 @@ class LargeDayTests(DayTests):
 
 
 class AskingTests(unittest.TestCase):
+    def test_routes_without_a_changed_visit_are_kept(self) -> None:
+        model, lists = merged(model_named("service-day")), ((1, 6, 11), (2, 7), (), (13, 5))
+        asker, edits = Asker(model, PROGRAM), Edits({7: None, 1: None}, {5: 1}, {11: 3})
+        asker.judged(lists)
+        changed = edits.other_than(Edits({1: None, 2: None}))
+        self.assertEqual(changed, {2, 7, 5})
+        with mock.patch("jambulskeg.desk.asking.route_of", wraps=route_of) as completed:
+            found = asker.of_model(edited(model, edits), changed).reckoned(lists)
+        self.assertEqual([call[0][1] for call in completed.call_args_list], [1, 3])
+        self.assertEqual(found.solution.routes[0], complete(model, lists, checked=False).routes[0])
+
     def test_the_program_is_asked_about_each_day(self) -> None:
         for name in ("service-day", "pickups", "windows-day", "shifts-tight"):
             model = model_named(name)

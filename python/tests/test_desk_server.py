@@ -137,7 +137,7 @@ class PageTests(DeskTests):
     def test_a_change_completes_the_routes_that_it_changes_alone(self) -> None:
         day = self.made(**{"from": "example", "example": "service-day"})
         with mock.patch("jambulskeg.desk.days.LARGE", 1), mock.patch("jambulskeg.desk.days.MOST_TOUCHED", 1):
-            self.planned(day)
+            self.planned(day, rounds=1)
             self.change_three(day, 1)
             self.end()
             self.begin()

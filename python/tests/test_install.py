@@ -44,7 +44,8 @@ class InstallTests(unittest.TestCase):
     def test_it_is_installed(self) -> None:
         target = os.path.join(self.folder, "site")
         subprocess.run(
-            [sys.executable, "-m", "pip", "install", "--no-index", "--quiet", "--target", target, FOLDER],
+            [sys.executable, "-m", "pip", "install", "--no-index", "--no-compile", "--quiet", "--target", target,
+             FOLDER],
             check=True, env=environment(PIP_DISABLE_PIP_VERSION_CHECK="1", PYTHONPATH=None),
             stdout=subprocess.PIPE, stderr=subprocess.PIPE,
         )

@@ -20,7 +20,7 @@ from jambulskeg.model import check, read_model, read_solution
 from jambulskeg.places import Roads, read_day
 from jambulskeg.plan import SECONDS, Planned, plan_day
 
-from .support import EXAMPLES, Fake, environment
+from .support import AS_REAL, EXAMPLES, Fake, environment
 
 TOP = os.path.dirname(os.path.dirname(os.path.abspath(__file__)))
 FILES = os.path.join(TOP, "examples")
@@ -226,11 +226,7 @@ class FaultTests(PlanCase):
         self.assertEqual(os.listdir(self.folder), ["pid"])
 
     def test_it_is_stopped_and_writes_the_best_so_far(self) -> None:
-        body = (
-            "print(file=open(os.environ['RUNS'], 'a'), flush=True)\n"
-            "sys.exit(subprocess.run([REAL, *sys.argv[1:]], input=text, text=True).returncode)"
-        )
-        with Fake(body) as path:
+        with Fake(f"print(file=open(os.environ['RUNS'], 'a'), flush=True)\n{AS_REAL}") as path:
             process = subprocess.Popen(
                 [sys.executable, "-m", "jambulskeg", "plan", PLACES, VANS, "--seconds", "120", *self.words], cwd=TOP,
                 env=environment(VR_CLI=path, RUNS=self.at("runs")), stderr=subprocess.PIPE,

@@ -9,7 +9,6 @@ import io
 import math
 import os
 import stat
-import sys
 import tempfile
 import unittest
 from contextlib import contextmanager
@@ -32,10 +31,9 @@ from jambulskeg.portfolio import (
 )
 from jambulskeg.program import find
 
-from .support import EXAMPLES, THREE, Fake, need_searches
+from .support import AS_REAL, EXAMPLES, PYTHON, THREE, Fake, need_searches
 
 KILLS = "if '\"lambda\":[1,5]' in text: os.kill(os.getpid(), 9)\n"
-RUNS = "sys.exit(subprocess.run([REAL, *sys.argv[1:]], input=text.encode()).returncode)"
 PARALLEL = """
 import subprocess, sys
 records = sys.stdin.read().splitlines(True)
@@ -87,7 +85,7 @@ def engine_on_path(name: str, body: str, lost: int = -1) -> Iterator[str]:
     with tempfile.TemporaryDirectory() as folder:
         path = os.path.join(folder, name)
         with open(path, "w", encoding="utf-8") as file:
-            file.write(f"#!{sys.executable}\nLOST = {lost}\n{body}")
+            file.write(f"{PYTHON}LOST = {lost}\n{body}")
         os.chmod(path, stat.S_IRWXU)
         program = os.path.abspath(find())
         words = {"PATH": folder + os.pathsep + os.environ["PATH"], "VR_CLI": program}
@@ -190,7 +188,7 @@ class PortfolioTests(unittest.TestCase):
 
     def test_accidents_are_told(self) -> None:
         model = small()
-        with Fake(KILLS + RUNS) as path:
+        with Fake(KILLS + AS_REAL) as path:
             with self.assertRaises(Incomplete) as caught:
                 portfolio(model, OwnProcesses(2, path))
             self.assertTrue(all(outcome.is_accident for outcome in caught.exception.outcomes))
@@ -287,7 +285,7 @@ class EngineTests(unittest.TestCase):
     def test_programs_that_fail_where_they_are_run(self) -> None:
         model = small()
         for name, body in (("parallel", PARALLEL), ("sbatch", SBATCH)):
-            with engine_on_path(name, body), Fake(KILLS + RUNS) as path:
+            with engine_on_path(name, body), Fake(KILLS + AS_REAL) as path:
                 for program, kind in ((path, ProgramKilled), ("/no/such/program", ProgramFailed)):
                     engines: Dict[str, Engine] = {"parallel": GnuParallel(1, program), "sbatch": Slurm(1, program)}
                     with self.assertRaises(Incomplete) as caught:

@@ -12,7 +12,7 @@ from typing import Any, Dict, List, Tuple
 from jambulskeg.complete import complete, leave_later, shape_faults
 from jambulskeg.doubts import doubts
 from jambulskeg.errors import NoFirstSolution, Refused
-from jambulskeg.model import Model, ScheduleRule, check, first, solve, solve_with_log
+from jambulskeg.model import Model, ScheduleRule, Solution, check, first, solve, solve_with_log
 from jambulskeg.rescue import Way, rescue
 from jambulskeg.routing import pywrapcp
 
@@ -56,10 +56,11 @@ class RandomTests(unittest.TestCase):
                 self.rescued(model)
                 continue
             solved += 1
-            self.assertEqual(solve(model).text() + "\n", line, number)
+            solution = solve(model)
+            self.assertEqual(solution.text() + "\n", line, number)
             self.assertEqual(first(model).text() + "\n", ask("first", text)[1], number)
-            self.assertEqual(solve_with_log(model)[0], solve(model))
-            self.by_hand(model)
+            self.assertEqual(solve_with_log(model)[0], solution)
+            self.by_hand(model, solution)
         self.assertGreater(solved, MODELS // 4)
 
     def test_path_lns_and_tabu_search_answer_as_the_program(self) -> None:
@@ -76,8 +77,9 @@ class RandomTests(unittest.TestCase):
                 self.assertEqual(refusal(tree), (14, f"/search/{word}"), number)
             elif status == 0:
                 model = Model.of(tree)
-                self.assertEqual(solve(model).text() + "\n", line, number)
-                self.assertEqual(solve_with_log(model)[0], solve(model))
+                solution = solve(model)
+                self.assertEqual(solution.text() + "\n", line, number)
+                self.assertEqual(solve_with_log(model)[0], solution)
                 solved += 1
         self.assertGreater(solved, MODELS // 4)
 
@@ -111,9 +113,8 @@ class RandomTests(unittest.TestCase):
             told = json.loads(ask("first", json.dumps(tree))[1])
             self.assertEqual(refusal(tree), (told["code"], told["path"]), number)
 
-    def by_hand(self, model: Model) -> None:
+    def by_hand(self, model: Model, solution: Solution) -> None:
         """The program's lists have the program's schedules and costs, and drivers can leave later."""
-        solution = solve(model)
         plan = complete(model, solution.lists())
         self.assertEqual(plan, replace(solution, first_cost=solution.cost, solutions=1, tries=0, stop="first"))
         self.assertLessEqual(leave_later(model, solution).cost, solution.cost)
@@ -138,10 +139,13 @@ class FormTests(unittest.TestCase):
             rng = random.Random(2000 + number)
             tree = random_tree(rng)
             status, line = ask("solve", json.dumps(tree))
-            for _ in range(10 if status == 0 else 0):
+            if status != 0:
+                continue
+            model = Model.of(tree)
+            for _ in range(10):
                 changed = mutated(rng, json.loads(line))
                 told = json.loads(ask("check", json.dumps({"model": tree, "solution": changed}))[1])
-                faults = shape_faults(Model.of(tree), changed)
+                faults = shape_faults(model, changed)
                 self.assertEqual(bool(faults), told.get("rule") == "shape", (number, faults, told))
                 found, asked = found + bool(faults), asked + 1
         self.assertLess(asked // 4, found)

@@ -15,12 +15,12 @@ import unittest
 from unittest import mock
 
 from jambulskeg.model import Improve, check, first, read_model, read_solution
-from jambulskeg.refine import find, refines
+from jambulskeg.refine import refines
 from jambulskeg.rounds import with_search
 
 from .support import EXAMPLES, Fake
 from .test_command import TOP, CommandCase, called
-from .test_refining import FORWARDS, RUNS
+from .test_refining import as_refiner
 
 SERVICE = os.path.join(EXAMPLES, "service-day.json")
 DAY = read_model(SERVICE)
@@ -33,7 +33,7 @@ class RefineTests(CommandCase):
         plan, out = self.write("plan.json", begun.text()), self.at("out.json")
         for improve in (Improve.GUIDED_LOCAL_SEARCH, Improve.NONE):
             model = self.write("day.json", with_search(DAY, improve=improve, tries=100).text())
-            for limit in ("0.5", "5", "15"):  # On a busy machine few rounds are over sooner.
+            for limit in ("0.3", "1", "5", "15"):  # On a busy machine few rounds are over sooner.
                 status, said, told = called("refine", model, plan, "--seconds", limit, "-o", out)
                 self.assertEqual((status, said), (0, ""))
                 self.assertRegex(told, rf"^cost \d+, {begun.cost} before; \d+ of 16 visits changed vehicle\n$")
@@ -60,7 +60,7 @@ class RefineTests(CommandCase):
         words = ["refine", SERVICE, self.write("plan.json", first(DAY).text()), "--seconds", "20"]
         self.assertIn("/dev/full: No space left", called(*words[:-1], "0", "-o", "/dev/full")[2])
         kills = "if len(text) > 1000 and sys.argv[1] == 'solve': os.kill(os.getpid(), 9)\n"
-        with Fake(f"{kills}{RUNS.format(find())}{FORWARDS}") as path, mock.patch.dict(os.environ, {"VR_REFINE": path}):
+        with Fake(f"{kills}{as_refiner()}") as path, mock.patch.dict(os.environ, {"VR_REFINE": path}):
             status, out, told = called(*words, "-o", self.write("out.json", "old"))
         self.assertEqual((status, out), (1, ""))
         self.assertIn("ended by the signal SIGKILL", told)

@@ -26,7 +26,7 @@ from jambulskeg.replan import from_morning, replan, solve_rest
 from jambulskeg.rescue import RESCUE_STEPS, Rescue, Solved, Way, rescue, timed_solver, with_search
 from jambulskeg.rounds import FIRST_STEPS, FIRST_TRIES, On, solve_for
 
-from .support import EXAMPLES, Fake, environment, example, tree_with
+from .support import AS_REAL, EXAMPLES, Fake, environment, example, tree_with
 from .test_portfolio import PARALLEL, SBATCH, engine_on_path
 
 DAY = read_model(os.path.join(EXAMPLES, "service-day.json"))
@@ -39,8 +39,11 @@ LOADED: Any = {
     }],
 }
 """A day that no construction finds: all vehicles are full."""
-RUNS = "ran = subprocess.run([{!r}, *sys.argv[1:]], input=text, stdout=subprocess.PIPE, text=True)\n"
-FORWARDS = "sys.stdout.write(ran.stdout); sys.exit(ran.returncode)"
+
+
+def as_refiner() -> str:
+    """How a `Fake` goes on as the real vr_refine."""
+    return f"REAL = {find()!r}\n{AS_REAL}"
 
 
 @unittest.skipUnless(refines(), "the vr_refine at hand does not know ruin and recreate")
@@ -51,13 +54,13 @@ class RefiningTests(unittest.TestCase):
             found = solve(fewer, routes, Refine())
             self.assertEqual((found.cost, found.stop, found.tries), (11, Stop.TRIES, 7))
         begun = first(DAY)
-        found = solve(with_search(DAY, tries=3000), begun, Refine())
+        found = solve(with_search(DAY, tries=300), begun, Refine())
         self.assertEqual(found.first_cost, begun.cost)
         self.assertLess(found.cost, begun.cost)
-        self.assertTrue(check(with_search(DAY, tries=3000), found).meets)
-        self.assertEqual(found, solve(with_search(DAY, tries=3000), begun.lists(), Refine(0, 10, 10)))
+        self.assertTrue(check(with_search(DAY, tries=300), found).meets)
+        self.assertEqual(found, solve(with_search(DAY, tries=300), begun.lists(), Refine(0, 10, 10)))
         other = Refine(seed=1, removed=3, string=2, heat=0)
-        self.assertNotEqual(found, solve(with_search(DAY, tries=3000), begun, other))
+        self.assertNotEqual(found, solve(with_search(DAY, tries=300), begun, other))
 
     def test_a_day_that_no_construction_finds(self) -> None:
         model = Model.of(LOADED)
@@ -71,10 +74,10 @@ class RefiningTests(unittest.TestCase):
 @unittest.skipUnless(refines(), "the vr_refine at hand does not know ruin and recreate")
 class RoundTests(unittest.TestCase):
     def test_rounds_go_on_from_the_best_so_far(self) -> None:
-        for limit in (1.5, 5.0, 15.0):  # On a busy machine few rounds are over sooner.
+        for limit in (0.5, 1.5, 5.0, 15.0):  # On a busy machine few rounds are over sooner.
             found = solve_for(DAY, limit)
             ways = [entry.on for entry in found.rounds]
-            if On.OWN in ways:
+            if On.OWN in ways and found.solution.cost == 1338:
                 break
         self.assertEqual(ways[:4], [None, None, None, On.RUIN])
         self.assertIn(On.OWN, ways)
@@ -86,10 +89,10 @@ class RoundTests(unittest.TestCase):
 
     def test_a_round_gives_its_answer_again(self) -> None:
         for improve in (Improve.GREEDY_DESCENT, Improve.GUIDED_LOCAL_SEARCH):
-            found = solve_for(with_search(DAY, improve=improve), 1.0)
+            found = solve_for(with_search(DAY, improve=improve), 0.4)
             self.assertEqual(found.again(), found.solution)
         poor = with_search(DAY, improve=Improve.GREEDY_DESCENT)
-        for seconds in (1.0, 2.0, 4.0, 8.0):  # A busy machine may want more of them.
+        for seconds in (0.3, 1.0, 2.0, 4.0, 8.0):  # A busy machine may want more of them.
             with mock.patch("jambulskeg.rounds.FIRST_TRIES", 1):
                 found = solve_for(poor, seconds)
             if found.routes is not None:
@@ -100,14 +103,14 @@ class RoundTests(unittest.TestCase):
 
     def test_where_it_does_not_go_on(self) -> None:
         for fields in ({"improve": Improve.NONE}, {"solutions": 2}):
-            rounds = solve_for(with_search(DAY, **fields), 0.5).rounds
+            rounds = solve_for(with_search(DAY, **fields), 0.2).rounds
             self.assertEqual({entry.on for entry in rounds}, {None})
         self.assertEqual(len(solve_for(DAY, 0).rounds), 1)
 
     def test_little_of_a_limit_is_lost(self) -> None:
         model, ends = read_model(os.path.join(EXAMPLES, "hundred-customers.json")), []
-        for _ in range(4):  # A busy machine may miss it.
-            ends.append(solve_for(model, 2.0).rounds[-1].seconds / 2)
+        for _ in range(8):  # A busy machine may miss it.
+            ends.append(solve_for(model, 1.0).rounds[-1].seconds)
             if 0.9 < ends[-1] < 1.1:
                 break
         self.assertTrue(0.9 < ends[-1] < 1.1, ends)
@@ -128,7 +131,7 @@ class RoundTests(unittest.TestCase):
         found = solve_for(DAY, 0, begin=poor)
         self.assertEqual([(entry.on, entry.cost) for entry in found.rounds], [(On.GIVEN, poor.cost)])
         self.assertEqual(found.again(), found.solution)
-        begun = rescue(DAY, solver=timed_solver(0.5, begin=poor.lists()))
+        begun = rescue(DAY, solver=timed_solver(0.2, begin=poor.lists()))
         self.assertEqual((begun.way, begun.sentence), (Way.GIVEN, "by the routes that it began with"))
         self.assertNotIn(None, {entry.on for entry in begun.solved.rounds})
         lists = poor.lists()
@@ -144,29 +147,28 @@ class RoundTests(unittest.TestCase):
 
         def progress(seconds: float, cost: int) -> None:
             told.append(cost)
-            threading.Timer(1.0, stop.set).start()
+            threading.Timer(0.3, stop.set).start()
 
         found = solve_for(DAY, 600, progress=progress, stop=stop)
         self.assertLess(found.rounds[-1].seconds, 60)
         self.assertEqual(found.solution.cost, told[-1])
 
     def test_a_refiner_that_is_killed_slow_or_stopped(self) -> None:
-        runs = RUNS.format(find())
-        with Fake(f"if len(text) > 1000: os.kill(os.getpid(), 9)\n{runs}{FORWARDS}") as path:
+        with Fake(f"if len(text) > 1000: os.kill(os.getpid(), 9)\n{as_refiner()}") as path:
             with mock.patch.dict(os.environ, environment(VR_REFINE=path)):
                 self.assertRaises(ProgramKilled, lambda: solve_for(DAY, 60.0))
-        with Fake(f"if len(text) > 1000: time.sleep(60)\n{runs}{FORWARDS}") as path:
+        with Fake(f"if len(text) > 1000: time.sleep(60)\n{as_refiner()}") as path:
             with mock.patch.dict(os.environ, environment(VR_REFINE=path)):
                 began = time.monotonic()
-                self.assertEqual({entry.on for entry in solve_for(DAY, 1.0).rounds}, {None})
+                self.assertEqual({entry.on for entry in solve_for(DAY, 0.5).rounds}, {None})
                 stop = threading.Event()
-                threading.Timer(0.5, stop.set).start()
+                threading.Timer(0.2, stop.set).start()
                 self.assertRaises(Stopped, lambda: solve(DAY, None, Refine(), stop=stop))
                 self.assertLess(time.monotonic() - began, 20)
 
     def test_the_days_of_the_guides(self) -> None:
         def by_refining(model: Model, *_: object, **__: object) -> Rescue:
-            asked = with_search(model, tries=20000)
+            asked = with_search(model, tries=2000)
             found = solve(asked, None, Refine())
             return Rescue(Way.RUIN, asked, Solved(asked, found, refine=Refine()), found)
 

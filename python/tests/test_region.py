@@ -39,7 +39,7 @@ from jambulskeg.solution import Solution
 from .region_support import ROAD_WORDS, made_region, write_tables
 from .test_portfolio import PARALLEL, engine_on_path
 
-SMALL = Asked(tries=2_000_000, most=60, shape=Shape(3, 60))
+SMALL = Asked(tries=600_000, most=60, shape=Shape(3, 60))
 """What is asked where the plan itself does not matter."""
 
 
@@ -195,8 +195,8 @@ class PlanTests(unittest.TestCase):
 
     @classmethod
     def setUpClass(cls) -> None:
-        cls.region = made_region(600)
-        cls.asked = Asked(tries=30_000_000)
+        cls.region = made_region(240)
+        cls.asked = Asked(tries=4_000_000, most=80)
         cls.found = planned(cls.region, cls.asked)
         cls.whole = checked(cls.region, cls.found)
 
@@ -230,7 +230,7 @@ class PlanTests(unittest.TestCase):
         whole = check_plan(tables, self.found.standing, sheets=True, jobs=2)
         rows = plan_table(tables, whole).splitlines()
         self.assertEqual(rows[0], "\ufeffvan,stop,name,arrival,begins,departure,load")
-        self.assertEqual(len(rows), 1 + 600 + 2 * len(whole.days()))
+        self.assertEqual(len(rows), 1 + 240 + 2 * len(whole.days()))
         files = dict(sheet_files(tables, whole, "Monday"))
         self.assertEqual(len(files), len(whole.days()) + 1)
         self.assertEqual(files["all.html"].count("<section>"), len(whole.days()))
@@ -289,7 +289,7 @@ class RulesTests(unittest.TestCase):
                 self.assertLess(where[one][1], where[other][1])
 
     def test_skills_are_kept(self) -> None:
-        region = with_skills(made_region(200))
+        region = with_skills(made_region(120))
         whole = checked(region, planned(region))
         self.assertTrue(any(region.needs[visit] for day in whole.days() for visit in day.visits))
         for day in whole.days():
@@ -311,7 +311,7 @@ class ResumeTests(unittest.TestCase):
 
     @classmethod
     def setUpClass(cls) -> None:
-        cls.region, crew = made_region(200), Backwards()
+        cls.region, crew = made_region(120), Backwards()
         cls.found = planned(cls.region, SMALL, crew)
         cls.count = crew.count
 
@@ -430,27 +430,29 @@ SQUEUE = "import sys\nprint('2-1' if sys.argv[-1] == '2' else '')\n"
 
 
 class CrewTests(unittest.TestCase):
+    asked = replace(SMALL, tries=300_000)
+
     def test_gnu_parallel_finds_the_same_plan(self) -> None:
         region = made_region(120)
-        known = planned(region)
+        known = planned(region, self.asked)
         for lost in (-1, 2):
             with engine_on_path("parallel", PARALLEL, lost):
-                found = planned(region, SMALL, ParallelCrew(2, Searcher.found()))
+                found = planned(region, self.asked, ParallelCrew(2, Searcher.found()))
             self.assertEqual(found.standing, known.standing)
         with engine_on_path("parallel", "sys = __import__('sys'); sys.exit(sys.stderr.write('no machine\\n'))"):
             with self.assertRaisesRegex(NotSolved, "3 of 3 parts have no result; GNU parallel said: no machine"):
-                planned(region, SMALL, ParallelCrew(2, Searcher.found()))
+                planned(region, self.asked, ParallelCrew(2, Searcher.found()))
 
     def test_workers_of_slurm_find_the_same_plan(self) -> None:
         region = made_region(120)
-        known = planned(region)
+        known = planned(region, self.asked)
         with engine_on_path("sbatch", SBATCH) as folder, mock.patch("jambulskeg.region.slurm_crew.ASK", 0.2):
             for name, body in (("squeue", SQUEUE), ("scancel", "")):
                 with open(name, "w", encoding="utf-8") as file:
                     file.write(f"#!{sys.executable}\n{body}")
                 os.chmod(name, 0o755)
             crew = SlurmCrew(1, Searcher.found(), ["--partition=long"], os.path.join(folder, "crew"))
-            found = planned(region, SMALL, crew)
+            found = planned(region, self.asked, crew)
             crew.close()
             self.assertTrue(os.path.exists("crew/job2") and os.path.exists("crew/end"))
         self.assertEqual(found.standing, known.standing)
@@ -564,11 +566,11 @@ class CommandTests(unittest.TestCase):
         return status, out.getvalue(), errors.getvalue()
 
     def test_from_tables_to_sheets(self) -> None:
-        write_tables(made_region(150), "places.csv", "vans.csv")
-        words = ("--tries", "2000000", "--most", "50", "-o", "plan.csv", "--page", "r.html", "--sheets", "sheets")
+        write_tables(made_region(100), "places.csv", "vans.csv")
+        words = ("--tries", "600000", "--most", "40", "-o", "plan.csv", "--page", "r.html", "--sheets", "sheets")
         status, out, errors = self.run_words(*words)
         self.assertEqual(status, 0)
-        self.assertRegex(out, r"^150 of 150 visits, \d+ of \d+ vans, cost \d+; \d+ parts meet their models; ")
+        self.assertRegex(out, r"^100 of 100 visits, \d+ of \d+ vans, cost \d+; \d+ parts meet their models; ")
         self.assertRegex(errors, r"parts: \d of [\d,]+ tries; cost [\d,]+, \d+ vans\n.* seams, round 1: ")
         with open("plan.csv", encoding="utf-8") as file:
             first = file.read()

@@ -13,7 +13,7 @@ from jambulskeg.output import Output
 from jambulskeg.places import Roads, model_from_csv
 from jambulskeg.replan import replan
 
-from .support import EXAMPLES, Fake
+from .support import AS_REAL, EXAMPLES, Fake
 from .test_command import CommandCase, called
 
 DAY = [os.path.join(EXAMPLES, f"service-day.{end}") for end in ("json", "solved.json")]
@@ -122,9 +122,7 @@ class ReplanCommandTests(CommandCase):
 
     def test_a_killed_program(self) -> None:
         words = ["replan", *DAY, "--now", "100", "-o", self.write("whole.json", "old"), "--seconds", "0"]
-        body = ("if 'check' not in sys.argv: os.kill(os.getpid(), 9)\n"
-                "ran = subprocess.run([REAL, *sys.argv[1:]], input=text, stdout=subprocess.PIPE, text=True)\n"
-                "sys.stdout.write(ran.stdout); sys.exit(ran.returncode)")
+        body = f"if 'check' not in sys.argv: os.kill(os.getpid(), 9)\n{AS_REAL}"
         with Fake(body) as path, mock.patch.dict(os.environ, {"VR_CLI": path}):
             status, out, told = called(*words)
         self.assertEqual((status, out), (1, ""))

@@ -24,7 +24,7 @@ from jambulskeg.rescue import (
 )
 from jambulskeg.rounds import ALIKE, constructions, numbers_of, teller, to_terminal
 
-from .support import EXAMPLES, THREE, Fake, example, need_searches
+from .support import AS_REAL, EXAMPLES, THREE, Fake, example, need_searches
 
 DAY = read_model(os.path.join(EXAMPLES, "service-day.json"))
 
@@ -189,7 +189,7 @@ class RoundTests(WithoutRefining):
     def test_rounds_turn_through_constructions_and_numbers(self) -> None:
         told: List[Tuple[float, int]] = []
         progress: Progress = lambda seconds, cost: told.append((seconds, cost))
-        for limit in (1.5, 5.0, 15.0):  # On a busy machine few rounds are over sooner.
+        for limit in (0.5, 1.5, 5.0, 15.0):  # On a busy machine few rounds are over sooner.
             told.clear()
             found = solve_for(with_search(DAY, tries=1), limit, progress=progress)
             if len({tuple(entry.search.lambda_) for entry in found.rounds}) > 1:
@@ -207,17 +207,20 @@ class RoundTests(WithoutRefining):
         self.assertEqual(sorted(seconds for seconds, _ in told), [seconds for seconds, _ in told])
 
     def test_the_first_rounds_are_short(self) -> None:
-        stop = Event()
-        threading.Timer(2, stop.set).start()
-        rounds = solve_for(with_search(DAY, tries=1), 100, stop=stop).rounds
+        for seconds in (0.4, 2, 10):  # A busy machine may want more of them.
+            stop = Event()
+            threading.Timer(seconds, stop.set).start()
+            rounds = solve_for(with_search(DAY, tries=1), 100, stop=stop).rounds
+            if len(rounds) >= 3:
+                break
         self.assertEqual([entry.search.first for entry in rounds[:3]], constructions(DAY.search))
         self.assertEqual({entry.search.tries for entry in rounds[:3]}, {FIRST_TRIES})
 
     def test_little_of_a_limit_is_left(self) -> None:
-        for name, limit in (("service-day", 1.5), ("hundred-customers", 2.0)):
+        for name in ("service-day", "hundred-customers"):
             model, ends = read_model(os.path.join(EXAMPLES, f"{name}.json")), []
-            for _ in range(4):  # A busy machine may miss it.
-                ends.append(solve_for(model, limit).rounds[-1].seconds / limit)
+            for _ in range(8):  # A busy machine may miss it.
+                ends.append(solve_for(model, 1.0).rounds[-1].seconds)
                 if 0.6 < ends[-1] < 1.1:
                     break
             self.assertTrue(0.6 < ends[-1] < 1.1, ends)
@@ -260,15 +263,10 @@ class RoundTests(WithoutRefining):
         self.assertRaises(Refused, lambda: solve_for(with_search(unlike, first=First.SAVINGS), 0.3))
 
     def test_a_round_that_the_limit_ends_gives_nothing(self) -> None:
-        body = (
-            "if b'\"tries\"' not in text.encode() or b'SAVINGS' in text.encode(): time.sleep(60)\n"
-            "ran = subprocess.run([REAL, *sys.argv[1:]], input=text, stdout=subprocess.PIPE, text=True)\n"
-            "sys.stdout.write(ran.stdout); sys.exit(ran.returncode)"
-        )
-        with Fake(body) as path:
+        with Fake(f"if '\"tries\"' not in text or 'SAVINGS' in text: time.sleep(60)\n{AS_REAL}") as path:
             begin = time.monotonic()
-            found = solve_for(DAY, 2.0, path)
-            self.assertLess(time.monotonic() - begin, 3.0)
+            found = solve_for(DAY, 1.0, path)
+            self.assertLess(time.monotonic() - begin, 2.0)
             self.assertNotIn(First.SAVINGS, {entry.search.first for entry in found.rounds})
             self.assertRaises(ProgramSlow, lambda: rescue(with_search(DAY, tries=100000), path, seconds=0.3))
 

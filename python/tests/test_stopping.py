@@ -22,16 +22,13 @@ from jambulskeg.portfolio import Portfolio, collected, portfolio, variants
 from jambulskeg.program import Program, find, outputs_of
 from jambulskeg.stopping import Stop, stopping
 
-from .support import EXAMPLES, THREE, Fake, environment
+from .support import AS_REAL, EXAMPLES, THREE, Fake, environment
 from .test_command import TOP, CommandCase, called
 from .test_portfolio import engine_on_path, small
 
 ENDLESS = (
-    "import pathlib; here = pathlib.Path(os.environ['PIDS']) / str(os.getpid())\n"
     "if 'solve' in sys.argv and 'GUIDED_LOCAL_SEARCH' in text:\n"
-    "    here.write_text(''); time.sleep(600)\n"
-    "ran = subprocess.run([REAL, *sys.argv[1:]], input=text, stdout=subprocess.PIPE, text=True)\n"
-    "sys.stdout.write(ran.stdout); sys.exit(ran.returncode)"
+    "    open(os.path.join(os.environ['PIDS'], str(os.getpid())), 'w').close(); time.sleep(600)\n" + AS_REAL
 )
 """A program whose guided searches never end; each leaves a file with the number of its process."""
 
