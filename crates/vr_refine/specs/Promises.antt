@@ -32,6 +32,10 @@ AsksPrice words = request_of words ≡ Some Price
 abbrev pub IsAskedFor : Mode → List (List ℕ) → Type 0
 IsAskedFor asked words = request_of words ≡ Some (Find asked)
 
+-- the words ask for a solution
+abbrev pub IsSolutionAsked : List (List ℕ) → Type 0
+IsSolutionAsked words = (asked : Mode) × IsAskedFor asked words
+
 -- Of `price`, 0 comes exactly if the given routes are valid; what is written is their line, with their cost. 9 comes of
 -- this word alone, exactly if they break a rule; the text says the first. 5 comes exactly if the input is refused; the
 -- text says code and path.
@@ -50,9 +54,10 @@ pub record IsPricing (run : Run) : Type 0 where
       (fault : Fault) → HasFault priced_of bytes fault → Wrote run (text_line (refused_tree fault)))
 
 -- Of words that ask for a solution, 0 comes exactly if one is found, 6 exactly if none is: there are no lists to begin
--- with, or the best ones of ruin and recreate lack something. What is written is a solution, which meets a check: valid
--- lists with their chosen schedules and their cost, no dearer than the lists of the first cost; with `--log` the
--- watchers' reports follow. 5 comes exactly if the input is refused; the text says code and path.
+-- with, or the best ones of ruin and recreate lack something. 6 comes of no other words. What is written is a solution,
+-- which meets a check: valid lists with their chosen schedules and their cost, no dearer than the lists of the first
+-- cost; with `--log` the watchers' reports follow. 5 comes exactly if the input is refused; the text says code and
+-- path.
 pub record IsSearching (reports : List Event → List ℕ) (run : Run) : Type 0 where
   pub done : (asked : Mode) → WhereSettled (IsAskedFor asked run.words) run.left_before run.status
       (λ bytes. (run.status ≡ 0) ↔ Finds asked bytes)
@@ -60,18 +65,22 @@ pub record IsSearching (reports : List Event → List ℕ) (run : Run) : Type 0 
       (text : List ℕ) × IsFoundBy asked reports bytes text × Wrote run text)
   pub none_found : (asked : Mode) → WhereSettled (IsAskedFor asked run.words) run.left_before run.status
       (λ bytes. (run.status ≡ 6) ↔ FindsNone asked bytes)
+  pub none_found_only : run.status ≡ 6 → IsSolutionAsked run.words
   pub refused : (asked : Mode) → WhereSettled (IsAskedFor asked run.words) run.left_before run.status
       (λ bytes. (run.status ≡ 5) ↔ IsRefusedInput given_of bytes)
   pub refusal : run.status ≡ 5 → (asked : Mode) → IsAskedFor asked run.words → WhereKnown run.left_before (λ bytes.
       (fault : Fault) → HasFault given_of bytes fault → Wrote run (text_line (refused_tree fault)))
 
--- Of accepted words, 8 comes exactly if the input is too long, and 4 exactly if it is no JSON. 1 comes exactly if the
--- words are not accepted.
+-- Of accepted words, 8 comes exactly if the input is too long, and 4 exactly if it is no JSON. 4, 5 and 8 come of no
+-- other words. 1 comes exactly if the words are not accepted.
 pub record HasCause (run : Run) : Type 0 where
   pub too_long : WhereSettled (ReadsInput run.words) run.left_before run.status
       (λ bytes. (run.status ≡ 8) ↔ IsTooLong bytes)
   pub not_json : WhereSettled (ReadsInput run.words) run.left_before run.status
       (λ bytes. (run.status ≡ 4) ↔ IsNotJson bytes)
+  pub too_long_only : run.status ≡ 8 → ReadsInput run.words
+  pub not_json_only : run.status ≡ 4 → ReadsInput run.words
+  pub refused_only : run.status ≡ 5 → ReadsInput run.words
   pub usage : IsStatusOfAnswer run.status → IsNotAccepted run.words → run.status ≡ 1
   pub usage_only : run.status ≡ 1 → IsNotAccepted run.words
 

@@ -1,6 +1,6 @@
 //! The answers to the input.
 
-ghost use Rattle.std.specs.Prelude.{◌≡◌, ◌≤◌, IfOk, IsTrue, length};
+ghost use Rattle.std.specs.Prelude.{◌≡◌, ◌≢◌, ◌≤◌, IfOk, IsTrue, length};
 ghost use Rattle.serde_json.specs.View.{view};
 ghost use Rattle.vr_model.specs.routes.Routes.{are_lists};
 ghost use Rattle.vr_model.specs.tables.WellFormed.{WherePresent};
@@ -54,6 +54,7 @@ fn answer_own(
         IfOk result (AnswersReply
         (shared.reply_to_found mode reports model (found_with mode model (begin_lists model routes.now)))) }
     ensures status { IfOk result (λ a. IsOfModel a.status) }
+    ensures untold { mode ≢ Mode.Log → watch.new ≡ watch.old }
 {
     let first = begin_routes(alloc, lookups, routes)?;
     answer_from(alloc, mode, lookups, first, watch)
@@ -75,6 +76,7 @@ fn answer_wished(
         let found = wishes.refined_with model wish (ruin_begin model routes.now) in
         IfOk result (AnswersReply (shared.reply_to_found mode reports model found)) }
     ensures status { IfOk result (λ a. IsOfModel a.status) }
+    ensures untold { mode ≢ Mode.Log → watch.new ≡ watch.old }
 {
     let first = ruin_routes(alloc, lookups, routes)?;
     answer_refined(alloc, mode, lookups, first, wish, watch)
@@ -96,6 +98,7 @@ fn answer_over(
         let found = wishes.found_by mode model routes.now wish in
         IfOk result (AnswersReply (shared.reply_to_found mode reports model found)) }
     ensures status { IfOk result (λ a. IsOfModel a.status) }
+    ensures untold { mode ≢ Mode.Log → watch.new ≡ watch.old }
 {
     match wish {
         None => answer_own(alloc, mode, lookups, routes, watch),
@@ -115,6 +118,7 @@ fn answer_given(
         let found = wishes.found_of mode given.now in
         IfOk result (AnswersReply (shared.reply_to_found mode reports given.now.model found)) }
     ensures status { IfOk result (λ a. IsOfModel a.status) }
+    ensures untold { mode ≢ Mode.Log → watch.new ≡ watch.old }
 {
     let closed = Closed {
         model: &given.model,
@@ -134,6 +138,7 @@ fn answer_found(
     ensures reply { let reports = joined_reports (λ w later. after w later) watch.old.items in
         IfOk result (AnswersReply (replies.reply_to_given mode reports (given_of (view value)))) }
     ensures status { IfOk result (λ a. IsOfSolving a.status) }
+    ensures untold { mode ≢ Mode.Log → watch.new ≡ watch.old }
 {
     match read_begun(alloc, value) {
         Ok(given) => answer_given(alloc, mode, &given, watch),
@@ -153,9 +158,11 @@ fn answer_value(
         IfOk result (AnswersReply (replies.reply_to_tree request reports (view value))) }
     ensures status { IfOk result (λ a. IsOfShort a.status) }
     ensures not_met_only { IfOk result (λ a. a.status ≡ Status.NotMet → request ≡ Request.Price) }
+    ensures none_found_only { IfOk result (λ a. a.status ≡ Status.NoneFound → request ≢ Request.Price) }
+    ensures untold { request ≢ Request.Find Mode.Log → watch.new ≡ watch.old }
 {
     match request {
-        Request::Price => answer_priced(alloc, value, watch),
+        Request::Price => answer_priced(alloc, value),
         Request::Find(mode) => answer_found(alloc, mode, value, watch),
     }
 }
@@ -173,6 +180,8 @@ pub fn answer_input(
         → IfOk result (AnswersReply (shared.reply_to_bytes (replies.reply_to_tree request reports) bytes.items)) }
     ensures status { IfOk result (λ a. IsOfShort a.status) }
     ensures not_met_only { IfOk result (λ a. a.status ≡ Status.NotMet → request ≡ Request.Price) }
+    ensures none_found_only { IfOk result (λ a. a.status ≡ Status.NoneFound → request ≢ Request.Price) }
+    ensures untold { request ≢ Request.Find Mode.Log → watch.new ≡ watch.old }
 {
     match parse_owned(alloc, bytes)? {
         None => not_json(alloc),

@@ -1,6 +1,6 @@
 //! What ruin and recreate finds from routes.
 
-ghost use Rattle.std.specs.Prelude.{◌≡◌, IfOk, IfSome, OnOk, Some, option_map};
+ghost use Rattle.std.specs.Prelude.{◌≡◌, ◌≢◌, IfOk, IfSome, OnOk, Some, option_map};
 ghost use Rattle.vr_rules.specs.Placing.{lists_in};
 ghost use Rattle.vr_watch.specs.Told.{Reported};
 ghost use Rattle.vr_app.specs.Answers.{AnswersReply, IsOfModel};
@@ -83,6 +83,7 @@ fn line_watched(
     ensures told { let end_of = wishes.ruin_end lookups.now.closed.model.now wish routes.old.lists in
         mode ≡ Mode.Log → OnOk result (Reported (λ w later. after w later) watch.old.items watch.new.items
         end_of.outcome.events) }
+    ensures untold { mode ≢ Mode.Log → watch.new ≡ watch.old }
 {
     match mode {
         Mode::Log => line_refined(alloc, lookups, routes, wish, watch),
@@ -109,6 +110,7 @@ fn answer_from(
         let found = wishes.refined_with model wish (Some routes.old.lists) in
         IfOk result (AnswersReply (shared.reply_to_found mode reports model found)) }
     ensures status { IfOk result (λ a. IsOfModel a.status) }
+    ensures untold { mode ≢ Mode.Log → watch.new ≡ watch.old }
 {
     match line_watched(alloc, mode, lookups, routes, wish, watch)? {
         Some(line) => done(mode, line, watch),
@@ -136,6 +138,7 @@ pub fn answer_refined(
         let found = wishes.refined_with model wish (lists_in first) in
         IfOk result (AnswersReply (shared.reply_to_found mode reports model found)) }
     ensures status { IfOk result (λ a. IsOfModel a.status) }
+    ensures untold { mode ≢ Mode.Log → watch.new ≡ watch.old }
 {
     match first {
         None => none_found(alloc),

@@ -9,15 +9,15 @@ ghost use Rattle.vr_app.specs.Reports.{joined_reports};
 ghost use Rattle.vr_app.specs.Runs.{bytes_of, WhereKnown};
 ghost use Rattle.vr_app.specs.Status.{IsStatus};
 ghost use Rattle.vr_refine.specs.Ended.{Ran};
-ghost use Rattle.vr_refine.specs.Promises.{AsksPrice, HasCause, HasFailed, IsComplete, IsEmptied, IsNotAccepted};
-ghost use Rattle.vr_refine.specs.Promises.{IsPricing, IsReply, IsSearching, ReadsInput};
+ghost use Rattle.vr_refine.specs.Promises.{AsksPrice, HasCause, HasFailed, IsAskedFor, IsComplete, IsEmptied};
+ghost use Rattle.vr_refine.specs.Promises.{IsNotAccepted, IsPricing, IsReply, IsSearching, IsSolutionAsked, ReadsInput};
 ghost use Rattle.vr_refine.specs.Reply as replies;
 ghost use Rattle.vr_refine.specs.Words.{is_read, request_of as request_in};
 
 use crate::answers::answer_input;
 use crate::words::{Request, request_of};
 use std::alloc::Global;
-use vr_app::{Answer, Status, Stop, Watchers, deliver, too_long, usage};
+use vr_app::{Answer, Mode, Status, Stop, Watchers, deliver, too_long, usage};
 use vr_io::{ReadError, Sink, Source, read_all};
 use vr_model::limits::MOST_INPUT_BYTES;
 use vr_watch::Watch;
@@ -36,6 +36,8 @@ fn respond_to_input<S: Source>(
         → WhereKnown (S.left source.old) (λ bytes. S.left source.new ≡ Some [])) }
     ensures status { IfOk result (λ a. IsOfInput a.status) }
     ensures not_met_only { IfOk result (λ a. a.status ≡ Status.NotMet → request ≡ Request.Price) }
+    ensures none_found_only { IfOk result (λ a. a.status ≡ Status.NoneFound → request ≢ Request.Price) }
+    ensures untold { request ≢ Request.Find Mode.Log → watch.new ≡ watch.old }
     ensures fault { IsErrOf result Stop.ReadFault → Rose (S.faults source.old) (S.faults source.new) }
     ensures quiet { result ≢ Err Stop.ReadFault → S.faults source.new ≡ S.faults source.old }
 {
@@ -62,6 +64,8 @@ fn respond<S: Source>(
         → AnswersReply (replies.reply reports (bytes_of words.now) bytes) a) }
     ensures usage_only { IfOk result (λ a. a.status ≡ Status.Usage → IsNotAccepted (bytes_of words.now)) }
     ensures not_met_only { IfOk result (λ a. a.status ≡ Status.NotMet → AsksPrice (bytes_of words.now)) }
+    ensures none_found_only { IfOk result (λ a. a.status ≡ Status.NoneFound → IsSolutionAsked (bytes_of words.now)) }
+    ensures untold { (IsAskedFor Mode.Log (bytes_of words.now) → ⊥) → watch.new ≡ watch.old }
     ensures untouched { IsNotAccepted (bytes_of words.now) → source.new ≡ source.old }
     ensures emptied { IfOk result (λ a. ReadsInput (bytes_of words.now) → a.status ≢ Status.TooLong
         → WhereKnown (S.left source.old) (λ bytes. S.left source.new ≡ Some [])) }
@@ -89,6 +93,7 @@ fn run_lent<S: Source, K: Sink>(
         Ran (λ k. K.written k) (λ k. K.faults k) reports (bytes_of words.now) (S.left source.old) (S.left source.new)
         (S.faults source.old) (S.faults source.new) sink.old sink.new result }
     ensures untouched { IsNotAccepted (bytes_of words.now) → source.new ≡ source.old }
+    ensures untold { (IsAskedFor Mode.Log (bytes_of words.now) → ⊥) → watch.new ≡ watch.old }
 {
     let reply = respond(alloc, words, source, watch);
     deliver(reply, sink)
@@ -130,7 +135,8 @@ fn run_lent<S: Source, K: Sink>(
 /// other faults. With 6 there are no routes to begin with, or the best routes of ruin and recreate lack something. With
 /// 9, R is the first rule (`vr_given::ListRule`) that is broken, with its vehicle V and place L, -1 where one does not
 /// apply. Of routes that are priced, both the cost and the first cost are theirs; of routes that are found, the first
-/// cost is that of the routes with which the search began, or of the first ones that it had which lack nothing.
+/// cost is that of the routes with which the search began, or of the first ones that it had which lack nothing. 4, 5
+/// and 8 come of accepted words alone, 6 and 9 of those alone that are named with them.
 ///
 /// Only with `--log` is an event of the search noted, to every watcher in order; a watcher that finds no memory for it
 /// ends the run with status 7. All watchers are dropped at the end.

@@ -53,7 +53,7 @@ const LACKING: &str =
     \"fix_start\":true}]},\"refine\":{}}";
 
 #[rattlefmt::skip]
-static ROWS: [Row<'static>; 18] = [
+static ROWS: [Row<'static>; 19] = [
     Row { words: "price", input: ROUND, stops: None, status: 0, text: PRICED },
     Row { words: "price", input: OPEN, stops: None, status: 9, text: MISSING },
     Row { words: "price", input: CLOSED, stops: None, status: 9, text: "{\"place\":0,\"rule\":\"pair\"," },
@@ -65,6 +65,7 @@ static ROWS: [Row<'static>; 18] = [
     Row { words: "solve", input: ROUND, stops: None, status: 0, text: "{\"cost\":4,\"dropped\":[],\"first_cost\":19," },
     Row { words: "solve --log", input: ROUND, stops: None, status: 0, text: "{\"cost\":4," },
     Row { words: "solve", input: WISHED, stops: None, status: 0, text: "{\"cost\":4,\"dropped\":[],\"first_cost\":1" },
+    Row { words: "solve", input: WISHED, stops: Some(0), status: 0, text: "{\"cost\":4," },
     Row { words: "solve --log", input: WISHED, stops: None, status: 0, text: "{\"cost\":4," },
     Row { words: "solve --log", input: WISHED, stops: Some(1), status: 7, text: "" },
     Row { words: "solve", input: LACKING, stops: None, status: 6, text: "{\"status\":\"ROUTING_FAIL\"}\n" },
@@ -139,6 +140,20 @@ fn each_reply_is_given(rt: HostRuntime) -> Result<(), Fail> {
         assert_row(&rt, rt.alloc(), row)?;
     }
     Ok(())
+}
+
+// One byte more than is read: 64 MiB of spaces, and another.
+#[test]
+fn a_long_input_is_refused(rt: HostRuntime) -> Result<(), Fail> {
+    let mut source = PureSource::new(Vec::from_elem(rt.alloc(), b' ', 67108865)?);
+    let row = Row {
+        words: "first",
+        input: "64 MiB and 1",
+        stops: None,
+        status: 8,
+        text: "{\"status\":\"TOO_LONG\"}\n",
+    };
+    assert_source(&rt, rt.alloc(), &mut source, row)
 }
 
 // Asserts the status of `price` if this call of the source fails, or this one of the sink, and how much is written. The

@@ -33,6 +33,7 @@ returns-clause-searching g c = let ran = c.run_lent.ensures.ran in record {
   done = λ asked settled asks bytes known. (run.classifies-found ran asked settled asks bytes known).done;
   solution = run.solution ran;
   none_found = λ asked settled asks bytes known. (run.classifies-found ran asked settled asks bytes known).undone;
+  none_found_only = ran.none_found_only;
   refused = λ asked settled asks bytes known. (run.classifies-found ran asked settled asks bytes known).refused;
   refusal = run.search_refusal ran;
 }
@@ -41,6 +42,9 @@ pub returns-clause-cause : goal.returns-clause-cause
 returns-clause-cause g c = let ran = c.run_lent.ensures.ran in record {
   too_long = λ settled reads bytes known. (run.classifies-text ran settled reads bytes known).too_long;
   not_json = λ settled reads bytes known. (run.classifies-text ran settled reads bytes known).not_json;
+  too_long_only = run.too_long_only ran;
+  not_json_only = run.not_json_only ran;
+  refused_only = run.refused_only ran;
   usage = run.usage ran;
   usage_only = ending.usage_only ran.by;
 }
