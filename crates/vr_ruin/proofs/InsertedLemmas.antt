@@ -21,7 +21,7 @@ taken list (suc u) zero x low le = absurd (omega (arith, low))
 taken [] (suc u) (suc t) x low le = absurd (omega (arith, le))
 taken (y ∷ ys) (suc u) (suc t) x low le = ap (λ l. y ∷ l) (taken ys u t x (omega (arith, low)) (omega (arith, le)))
 
--- what stands behind a place stands one place later if a node was put in there or before
+-- what stands after a place stands one place later if a node was put in there or before
 dropped : (list : List ℕ) (s t x : ℕ) → s ≤ t → t ≤ length list → drop t list ≡ drop (suc t) (insert list s x)
 dropped list zero t x order le = refl
 dropped list (suc s) zero x order le = absurd (omega (arith, order))

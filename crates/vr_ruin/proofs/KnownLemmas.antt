@@ -14,6 +14,8 @@ pub none-known : (model : Model) (v : ℕ) (route : KnownRoute) → length route
 none-known model v route many none = record {
   many = many;
   rows_are = λ d other low no_load used. absurd (clash (is_empty route.nodes) (ap is_empty none) used);
+  arcs_are = λ used. absurd (clash (is_empty route.nodes) (ap is_empty none) used);
+  sums_are = λ used. absurd (clash (is_empty route.nodes) (ap is_empty none) used);
 }
 
 -- another list of one vehicle

@@ -221,3 +221,11 @@ best-adds model lists v placings best is = by best (subst (λ o. IfSome o (IsOfP
     by : (best : Option Offer) → IfSome best (IsOfPlace model v (route lists v)) → IfSome best (AddsToArcs model lists)
     by None is = is
     by (Some offer) is = subst (AddsToArcs model lists) (sym is) refl
+
+-- and it is of this vehicle
+pub best-vehicle : (model : Model) (lists : List (List ℕ)) (v : ℕ) (placings : List Placing) (best : Option Offer) → best ≡ best_of model v (route lists v) None placings → IfSome best (λ offer. offer.vehicle ≡ v)
+best-vehicle model lists v placings best is = by best (subst (λ o. IfSome o (IsOfPlace model v (route lists v))) (sym is) (best-of-place model v (route lists v) placings None tt))
+  where
+    by : (best : Option Offer) → IfSome best (IsOfPlace model v (route lists v)) → IfSome best (λ offer. offer.vehicle ≡ v)
+    by None is = is
+    by (Some offer) is = ap (λ o. o.vehicle) is

@@ -1,0 +1,1 @@
+use Rattle.vr_ruin.proofs.carrying.kept_load.Goals as goal

@@ -1,0 +1,1 @@
+use Rattle.vr_ruin.proofs.cheapest.cheaper.Goals as goal

@@ -1,0 +1,1 @@
+use Rattle.vr_ruin.proofs.places.kept_arc.Goals as goal
