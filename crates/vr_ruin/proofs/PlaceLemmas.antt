@@ -1,13 +1,12 @@
 -- Places at which too much is added are passed over.
 use Rattle.std.proofs.Common.{◌≡◌, ◌∙◌, ◌<◌, ◌≤◌, ◌+◌, ◌-◌, ℕ, zero, suc, List, [], ◌∷◌, Bool, true, false, cond, Option, Some, None, inl, inr, refl, ap, ap₂, sym, subst, arith, length, map, ℤ, pos}
-use Rattle.std.specs.Prelude.{◌&&◌, ◌||◌, ◌^◌, ◌-ℤ◌, ◌≤ℤ◌, ◌<ℤ◌, int_le, int_lt}
+use Rattle.std.specs.Prelude.{◌&&◌, ◌||◌, ◌^◌, ◌≤ℤ◌, ◌<ℤ◌, int_le, int_lt}
 use Rattle.std.proofs.lemmas.Int.{ints}
 use Rattle.std.proofs.lemmas.Bool.Decides.{eqb_tells}
 use Rattle.vr_model.specs.declared.records.Model.{Model}
 use Rattle.vr_model.specs.tables.Numbers.{from_to, is_lex_less}
-use Rattle.vr_model.specs.routes.Routes.{is_empty, route_cost}
+use Rattle.vr_model.specs.routes.Routes.{is_empty}
 use Rattle.vr_model.specs.routes.Rules.{is_route_open}
-use Rattle.vr_model.specs.first.Choosing.{better}
 use Rattle.vr_model.proofs.tables.Ranges.{first_left}
 use Rattle.vr_ruin.specs.declared.placing.Offer.{Offer}
 use Rattle.vr_ruin.specs.declared.placing.Placing.{Placing}

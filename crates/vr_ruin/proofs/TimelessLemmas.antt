@@ -1,5 +1,5 @@
 -- Where no schedules cost anything, an insertion makes the cost more by arcs and a fixed cost alone.
-use Rattle.std.proofs.Common.{◌≡◌, ◌∙◌, ℕ, zero, suc, ◌+◌, ◌*◌, ◌<◌, ◌≤◌, ◌++◌, Bool, true, false, cond, List, [], ◌∷◌, length, refl, sym, ap, subst, arith, length-set}
+use Rattle.std.proofs.Common.{◌≡◌, ◌∙◌, ℕ, zero, suc, ◌+◌, ◌*◌, ◌<◌, ◌++◌, Bool, true, false, cond, List, [], ◌∷◌, length, refl, sym, ap, subst, arith, length-set}
 use Rattle.std.specs.Prelude.{ℤ, pos, neg_ℤ, ◌^◌, ◌+ℤ◌, ◌-ℤ◌, ◌*ℤ◌, ◌≤ℤ◌, All, IfSome, Option, Some, None}
 use Rattle.std.specs.List.{list_all}
 use Rattle.std.specs.Ordering.{int_eq}
@@ -14,7 +14,6 @@ use Rattle.vr_model.specs.tables.WellFormed.{IsWellFormed}
 use Rattle.vr_model.specs.routes.Routes.{arcs_from, cost_of_arc, is_empty, route, route_cost, used_vehicles}
 use Rattle.vr_model.specs.routes.Costs.{Assignment, arcs_part, assigned, cost, end_at, fixed_part, global_part, global_span, over_plans, penalty_part, plan_at, soft_costs, soft_part, span_part, start_at}
 use Rattle.vr_model.specs.routes.Rules.{is_route_open}
-use Rattle.vr_model.specs.moves.Moves.{with_route}
 use Rattle.vr_model.specs.first.Choosing.{better}
 use Rattle.vr_model.specs.first.CheapestInsertion.{inserted, inserted_in}
 use Rattle.vr_model.proofs.tables.Bounds.{arc_cost_in_range}

@@ -1,6 +1,6 @@
 -- Insertions of an item into one list, as code compares them.
-use Rattle.std.specs.Prelude.{◌≡◌, ℕ, suc, true, false, cond, List, [], ◌∷◌, map, fold, length, insert, ℤ, pos, ◌-ℤ◌, ◌<ℤ◌}
-use Rattle.std.specs.Prelude.{Option, Some, None, IsTrue, ◌≤◌, int_le}
+use Rattle.std.specs.Prelude.{◌≡◌, ℕ, suc, true, false, cond, List, [], ◌∷◌, map, fold, length, insert, ℤ, pos}
+use Rattle.std.specs.Prelude.{Option, Some, None, IsTrue, ◌≤◌, ◌-ℤ◌, ◌<ℤ◌, int_le}
 use Rattle.std.specs.List.{list_all}
 use Rattle.vr_model.specs.tables.Numbers.{from_to, each}
 use Rattle.vr_model.specs.tables.Tables.{is_visit}

@@ -16,7 +16,7 @@ ghost use Rattle.vr_ruin.specs.Increases.{visit_increase};
 ghost use Rattle.vr_ruin.specs.Placings.{best_of, item_in, no_more_than, offer_for, placed, placings_of};
 ghost use Rattle.vr_ruin.specs.Placings.{weigh as weigh_of, IsAbove};
 ghost use Rattle.vr_ruin.specs.Carrying.{carries_all, AreLoads};
-ghost use Rattle.vr_ruin.specs.Known.{shared_of, IsEndWithin, IsKnownList, IsReady};
+ghost use Rattle.vr_ruin.specs.Known.{IsKnownList, IsReady};
 ghost use Rattle.vr_ruin.specs.Placings.{AreWithin, MayHold};
 ghost use Rattle.vr_ruin.specs.Timeless.{costs_no_time as costs_no_time_in, is_timeless as is_timeless_of};
 ghost use Rattle.vr_ruin.specs.declared.placing.Placing.TheVariants.{Two};
@@ -25,7 +25,7 @@ ghost use Rattle.vr_rules.specs.declared.items.Item.TheVariants.{PickupAndDelive
 use crate::carrying::Carrier;
 use crate::columns::{MatrixColumns, arcs_to, columns_of};
 use crate::increase::{Driven, increase_of};
-use crate::known::{Changed, KnownRoute, goes_in_each};
+use crate::known::{Changed, KnownRoute, goes_in_each, shared_with};
 use crate::places::next_place;
 use crate::placing::{Offer, Placing, bound_of, improves, within_limit, write_placed};
 use std::alloc::Global;
@@ -33,7 +33,7 @@ use std::marker::Model;
 use vr_lists::{NodeTables, PairPlaces, keeps_pairs};
 use vr_model::{NoMemory, Parts, Seq};
 use vr_plan::Lookups;
-use vr_reach::{Stretch, Walk};
+use vr_reach::Walk;
 use vr_routes::Routes;
 use vr_rules::{Item, Rules, active_marks, groups_have_room};
 
@@ -70,24 +70,6 @@ pub(crate) struct VehicleList<'l, 'k> {
     pub(crate) vehicle: u32,
     pub(crate) nodes: &'l [u32],
     pub(crate) known: &'k KnownRoute,
-}
-
-// How many nodes a list of `n` nodes shares at its ends with one that has an item placed in it.
-fn shared_with(n: usize, placing: Placing) -> Stretch
-    requires n { n ≤ 1000 }
-    requires within { IsEndWithin n placing }
-    ensures { result ≡ shared_of n placing }
-{
-    match placing {
-        Placing::One(_, t) => Stretch {
-            front: t as usize,
-            back: n - t as usize,
-        },
-        Placing::Two(_, _, s, t) => Stretch {
-            front: s as usize,
-            back: n - t as usize,
-        },
-    }
 }
 
 // Whether a list serves each pair in order and as the policy of vehicle `v` asks, and `v` may visit each of its nodes.

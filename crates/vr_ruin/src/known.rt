@@ -8,19 +8,21 @@ ghost use Rattle.vr_reach.specs.Lists.{IsTour};
 ghost use Rattle.vr_rules.specs.RoutesOpen.{is_feasible_in_each};
 ghost use Rattle.vr_loads.specs.Loads.{is_load as is_load_of};
 ghost use Rattle.vr_ruin.specs.Carrying.{AreLoads};
-ghost use Rattle.vr_ruin.specs.Known.{AreRowsIn, IsCarriedBy, IsKnownRoute, MayGo};
+ghost use Rattle.vr_ruin.specs.Known.{shared_of, AreRowsIn, IsCarriedBy, IsEndWithin, IsKnownRoute, MayGo};
 ghost use Rattle.vr_reach.specs.KnownRows.{AreRowsIfUsed};
 
 use crate::carrying::write_sums;
 use crate::increase::Driven;
 use crate::places::write_arcs;
+use crate::placing::Placing;
 use std::alloc::Global;
 use vr_model::{NoMemory, Seq};
 use vr_plan::Lookups;
 use vr_reach::{KnownList, Rows, StopsFor, Stretch, Walk, goes_between, write_rows};
 use vr_routes::Row;
 
-/// A list of a vehicle, with its rows in each dimension, its arcs and what it takes. Of the empty list nothing is known.
+/// A list of a vehicle, with its rows in each dimension, its arcs and what it takes. Of the empty list nothing is
+/// known.
 #[derive(Drop)]
 pub(crate) struct KnownRoute {
     pub(crate) nodes: Row,
@@ -162,6 +164,24 @@ pub(crate) struct Changed<'l, 'm, 'k, 'n> {
     pub(crate) known: &'k KnownRoute,
     pub(crate) nodes: &'n [u32],
     pub(crate) shared: Stretch,
+}
+
+/// How many nodes a list of `n` nodes shares at its ends with one that has an item placed in it.
+pub(crate) fn shared_with(n: usize, placing: Placing) -> Stretch
+    requires n { n ≤ 1000 }
+    requires within { IsEndWithin n placing }
+    ensures { result ≡ shared_of n placing }
+{
+    match placing {
+        Placing::One(_, t) => Stretch {
+            front: t as usize,
+            back: n - t as usize,
+        },
+        Placing::Two(_, _, s, t) => Stretch {
+            front: s as usize,
+            back: n - t as usize,
+        },
+    }
 }
 
 // Whether the line of a list is feasible in a dimension.

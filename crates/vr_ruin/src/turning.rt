@@ -1,7 +1,7 @@
 //! An item in its turn, and all of them.
 
-ghost use Rattle.std.specs.Prelude.{◌≡◌, ◌<◌, ◌≤ℤ◌, ◌^◌, ◌||◌, ◌==◌, All, IfOk, IfSome, OnOk, false, int_lt, length, map};
-ghost use Rattle.std.specs.Prelude.{not, pos};
+ghost use Rattle.std.specs.Prelude.{◌≡◌, ◌<◌, ◌≤ℤ◌, ◌^◌, ◌||◌, ◌==◌, All, IfOk, IfSome, OnOk, false, int_lt};
+ghost use Rattle.std.specs.Prelude.{length, map, not, pos};
 ghost use Rattle.std.specs.Option.{option_map};
 ghost use Rattle.vr_model.specs.tables.Numbers.{total_by};
 ghost use Rattle.vr_model.specs.routes.Routes.{is_active};

@@ -1,1 +1,0 @@
-use Rattle.vr_ruin.proofs.carrying.kept_load.Goals as goal

@@ -1,1 +1,0 @@
-use Rattle.vr_ruin.proofs.cheapest.cheaper.Goals as goal

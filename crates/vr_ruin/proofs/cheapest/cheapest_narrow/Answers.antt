@@ -1,12 +1,11 @@
-use Rattle.std.proofs.Common.{◌≡◌, ◌∙◌, ◌++◌, List, [], Option, Some, None, false, true, refl, ap, subst}
-use Rattle.std.specs.Prelude.{filter, is_some}
+use Rattle.std.proofs.Common.{◌≡◌, ◌++◌, List, [], None, false, refl, subst}
+use Rattle.std.specs.Prelude.{filter}
 use Rattle.std.specs.Option.{option_map}
 use Rattle.std.proofs.lemmas.Result.{IfOk-weaker}
 use Rattle.vr_model.specs.routes.Routes.{used_vehicles, vehicles}
 use Rattle.vr_model.specs.first.CheapestInsertion.{Insertion}
 use Rattle.vr_rules.specs.Placing.{item_nodes}
 use Rattle.vr_strings.specs.Sorting.{sorted_by}
-use Rattle.vr_ruin.specs.declared.ranking.Priced.{Priced}
 use Rattle.vr_ruin.specs.Cheapest.{first_in}
 use Rattle.vr_ruin.specs.Makings.{is_asked}
 use Rattle.vr_ruin.specs.Offers.{empty_vehicles, offers_of, rank_key}

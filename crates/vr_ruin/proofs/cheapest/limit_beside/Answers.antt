@@ -1,1 +1,0 @@
-use Rattle.vr_ruin.proofs.cheapest.limit_beside.Goals as goal

@@ -1,10 +1,8 @@
 use Rattle.std.proofs.Common.{◌≡◌, ◌∙◌, ℕ, ℤ, ◌+◌, ◌*◌, ap, subst, sym, of_z, to_z, w64, arith, length}
-use Rattle.std.specs.Prelude.{pos}
 use Rattle.std.proofs.lemmas.Int.{ints}
 use Rattle.std.proofs.lemmas.List.{length-append}
 use Rattle.vr_model.specs.tables.Numbers.{number_at}
 use Rattle.vr_model.specs.tables.Tables.{entry, no_matrix}
-use Rattle.vr_model.specs.tables.WellFormed.{IsMatrix}
 use Rattle.vr_model.proofs.tables.Bounds.{entry_in_range}
 use Rattle.vr_reach.proofs.Tables.{each_push}
 use Rattle.vr_ruin.specs.Columns.{IsEntry}

@@ -1,1 +1,0 @@
-use Rattle.vr_ruin.proofs.places.kept_arc.Goals as goal

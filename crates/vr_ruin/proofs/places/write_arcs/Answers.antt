@@ -3,7 +3,6 @@ use Rattle.std.proofs.lemmas.Int.{ints}
 use Rattle.std.proofs.lemmas.List.{length-append}
 use Rattle.vr_reach.proofs.Tables.{each_push}
 use Rattle.vr_ruin.specs.Arcs.{IsArcAt}
-use Rattle.vr_ruin.specs.Increases.{arc_cost_at}
 use Rattle.vr_ruin.proofs.PlaceLemmas.{arc-at}
 use Rattle.vr_ruin.proofs.places.write_arcs.Goals as goal
 

@@ -1,4 +1,4 @@
-use Rattle.std.proofs.Common.{◌∙◌, ◌+◌, suc, refl, sym, ap, subst, arith, length, map}
+use Rattle.std.proofs.Common.{◌∙◌, ◌+◌, suc, refl, ap, subst, arith, length, map}
 use Rattle.std.specs.Prelude.{None}
 use Rattle.vr_model.specs.tables.Numbers.{from_to}
 use Rattle.vr_model.proofs.tables.Ranges.{walk_begins, walk_ends, walk_opens}

@@ -1,4 +1,4 @@
-use Rattle.std.proofs.Common.{◌∙◌, subst, sym}
+use Rattle.std.proofs.Common.{subst, sym}
 use Rattle.vr_ruin.specs.Carrying.{AreSumsIfUsed}
 use Rattle.vr_ruin.proofs.asking.Asker.carries.Goals as goal
 

@@ -1,6 +1,5 @@
 use Rattle.std.proofs.Common.{◌≡◌, arith, of_z, rules, subst, sym, to_z, w64}
 use Rattle.std.specs.Prelude.{◌<ℤ◌}
-use Rattle.std.proofs.lemmas.Int.{ints}
 use Rattle.vr_ruin.specs.Increases.{visit_increase}
 use Rattle.vr_ruin.specs.Placings.{IsAbove}
 use Rattle.vr_ruin.proofs.asking.Asker.next.Goals as goal

@@ -1,5 +1,4 @@
 use Rattle.vr_lists.proofs.VisitLists.{visits-below}
-use Rattle.vr_ruin.proofs.KnownLemmas.{none-known}
 use Rattle.vr_ruin.proofs.known.KnownRoute.take.Goals as goal
 
 pub invariant_of-driven : goal.invariant_of-driven

@@ -1,11 +1,10 @@
-use Rattle.std.proofs.Common.{◌≡◌, ◌∙◌, ◌<◌, Bool, true, false, cond, refl, sym, ap, subst, length, arith, of_z, to_z, w64}
+use Rattle.std.proofs.Common.{◌≡◌, ◌∙◌, ◌<◌, Bool, true, false, cond, refl, sym, ap, subst, length, arith}
 use Rattle.std.specs.Prelude.{not, pos}
 use Rattle.std.proofs.lemmas.Int.{ints}
 use Rattle.vr_model.specs.routes.Routes.{is_empty, route}
 use Rattle.vr_model.specs.tables.Tables.{vehicle_at}
 use Rattle.vr_model.proofs.tables.Tests.{fails_not}
 use Rattle.vr_rules.proofs.PlacingLemmas.{built-count}
-use Rattle.vr_ruin.specs.Cheapest.{fixed_beside}
 use Rattle.vr_ruin.proofs.trial.Trial.fixed_beside.Goals as goal
 
 passes : (b : Bool) → not b ≡ false → b ≡ true
