@@ -92,7 +92,7 @@ IsSought model routes None found = begin_lists model routes ≡ Some found.first
 IsSought model routes (Some wish) found = IsRefined model routes wish found
 
 -- it is a model from which something is found, the first cost being that of given valid routes; and the text is the
--- line of the solution that is asked for, and behind it the reports of the watchers if these are asked for
+-- line of the solution that is asked for, and after it the reports of the watchers if these are asked for
 pub record IsFoundBy (asked : Mode) (reports : List Event → List ℕ) (bytes text : List ℕ) : Type 0 where
   pub given : Given
   pub found : Found

@@ -34,8 +34,8 @@ fn priced_from(alloc: Global, given: Given, path: &Path) -> Result<Priced, ReadF
     }
 }
 
-/// What is priced, with a well-formed model and lists of it; the first fault of the input, or that it has no routes; or
-/// want of memory. The value is let go.
+/// What is priced, with a well-formed model and lists of it; the first fault of the input, or that it has no routes. It
+/// fails too if memory runs out. The value is let go.
 pub fn read_priced(alloc: Global, value: Value) -> Result<Priced, ReadFail>
     ensures found { Answers result (inputs.priced_of (view value)) }
     ensures well_formed { IfOk result (λ it. IsWellFormed it.model) }
@@ -47,7 +47,7 @@ pub fn read_priced(alloc: Global, value: Value) -> Result<Priced, ReadFail>
 }
 
 /// What a search begins with: a well-formed model, lists of it and what is asked of a search, if they are there; the
-/// first fault of the input; or want of memory. The value is let go.
+/// first fault of the input. It fails too if memory runs out. The value is let go.
 pub fn read_begun(alloc: Global, value: Value) -> Result<Given, ReadFail>
     ensures found { Answers result (given_of (view value)) }
     ensures sound { IfOk result IsGiven }

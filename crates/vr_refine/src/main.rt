@@ -93,7 +93,7 @@ fn run_with<S: Source, K: Sink>(
 }
 
 // Runs with a tally and a trace, which report in this order: what is written is the reply of the definition, with the
-// log of the search's events. The only refusal is want of memory for these watchers; then nothing is read or written.
+// log of the search's events. It fails only if memory for these watchers runs out; then nothing is read or written.
 fn run_watched<S: Source, K: Sink>(
     alloc: Global,
     words: &[String],

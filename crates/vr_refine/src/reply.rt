@@ -108,7 +108,7 @@ fn run_lent<S: Source, K: Sink>(
 /// | `price` | a model and routes | the line of these routes as they are |
 /// | `first` | a model, and routes or none | the line of the routes with which the model's search begins |
 /// | `solve` | the same | the line of the best routes that a search finds from there |
-/// | `solve --log` | the same | the same, and behind it what each watcher reports of the search, in order |
+/// | `solve --log` | the same | the same, and after it what each watcher reports of the search, in order |
 ///
 /// What is read is an object with the field `model`, and beside it `routes` and `refine`, if they are there
 /// (`vr_given::read_given`). A search begins with given valid routes as they are; with given open routes filled up by
@@ -127,7 +127,7 @@ fn run_lent<S: Source, K: Sink>(
 /// | 4 | exactly if the input is no JSON | `{"status":"NOT_JSON"}` |
 /// | 5 | exactly if reading finds a fault | `{"code":C,"path":"P","status":"ROUTING_INVALID"}` |
 /// | 6 | of `first` and `solve`, exactly if nothing is found | `{"status":"ROUTING_FAIL"}` |
-/// | 7 | want of memory; nothing in the contract ties it to a refused growth | nothing |
+/// | 7 | memory ran out; nothing in the contract ties it to a refused growth | nothing |
 /// | 8 | exactly if the input has more than 67108864 bytes | `{"status":"TOO_LONG"}` |
 /// | 9 | `price`: exactly if a rule is broken | `{"place":L,"rule":"R","status":"NOT_MET","vehicle":V}` |
 ///

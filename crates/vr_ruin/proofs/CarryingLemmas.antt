@@ -4,7 +4,7 @@ use Rattle.std.specs.Prelude.{ℤ, slice_index_or, IsTrue, ◌+ℤ◌, ◌&&◌,
 use Rattle.std.specs.List.{list_all}
 use Rattle.std.proofs.lemmas.Int.{ints}
 use Rattle.vr_model.specs.declared.records.Model.{Model}
-use Rattle.vr_model.specs.deciding.Testing.{and_left, and_right}
+use Rattle.vr_model.specs.deciding.Testing.{and_left}
 use Rattle.vr_model.specs.tables.Numbers.{below, from_to, number_at, total_by}
 use Rattle.vr_model.specs.tables.Tables.{dimension_at, evaluator_number}
 use Rattle.vr_model.specs.tables.WellFormed.{IsWellFormed}
@@ -17,7 +17,7 @@ use Rattle.vr_model.proofs.schedules.ChoiceLaws.{chosen_where_feasible}
 use Rattle.vr_model.proofs.tables.Members.{In, from_each, from_map, of_below, of_from_to}
 use Rattle.vr_model.proofs.tables.Tests.{clash, fails, list_all-true}
 use Rattle.vr_model.proofs.tables.Totals.{total_by-append}
-use Rattle.vr_loads.specs.Loads.{can_carry, is_load, load_of, taken, HasLoad}
+use Rattle.vr_loads.specs.Loads.{is_load, load_of, taken, HasLoad}
 use Rattle.vr_balance.specs.Sums.{IsUpTo}
 use Rattle.vr_loads.proofs.LoadLines.{decide, number_low, small}
 use Rattle.vr_loads.proofs.Totals.{so-far, total-next, AreSmall}
@@ -31,7 +31,7 @@ use Rattle.vr_lists.specs.Pairs.{keeps_pairs}
 use Rattle.vr_rules.specs.RoutesOpen.{is_feasible_in_each}
 use Rattle.vr_ruin.specs.Carrying.{carries, carries_all, carries_in, IsPlain}
 use Rattle.vr_ruin.specs.Known.{IsCarriedBy, IsEndWithin}
-use Rattle.vr_ruin.specs.Placings.{best_of, item_in, key_of, offer_for, placed, placings_of, weigh, AreWithin}
+use Rattle.vr_ruin.specs.Placings.{best_of, item_in, key_of, offer_for, placed, placings_of, AreWithin}
 use Rattle.vr_model.specs.first.Choosing.{better}
 use Rattle.vr_ruin.proofs.Placed.{split-three}
 use Rattle.vr_ruin.proofs.TimelessLemmas.{each_below, some-placed}

@@ -14,7 +14,7 @@ use Rattle.vr_model.specs.routes.Routes.{route_cost, arcs_from, cost_of_arc, is_
 use Rattle.vr_ruin.specs.declared.placing.Placing.{Placing}
 use Rattle.vr_ruin.specs.declared.placing.Placing.TheVariants.{One, Two}
 use Rattle.vr_ruin.specs.Placings.{placed, AreWithin}
-use Rattle.vr_ruin.specs.Increases.{node_before, node_behind, arc_cost_at, detour, visit_increase, pair_increase}
+use Rattle.vr_ruin.specs.Increases.{node_before, node_after, arc_cost_at, detour, visit_increase, pair_increase}
 use Rattle.vr_ruin.proofs.Placed.{split-three}
 
 -- what the placing adds
@@ -39,7 +39,7 @@ unfoldable pub last_of : ℕ → List ℕ → ℕ
 last_of at [] = at
 last_of at (z ∷ zs) = last_of z zs
 
--- the first of nodes with another behind them
+-- the first of nodes with another after them
 unfoldable pub first_of : List ℕ → ℕ → ℕ
 first_of [] end = end
 first_of (y ∷ ys) end = y
@@ -158,11 +158,11 @@ module _ (model : Model) (v : ℕ) where
   visit-used list x t h some =
       let whole = take-append-drop t list in
       let before : last_of begin (take t list) ≡ node_before model v list t = last-taken begin list t h in
-      let behind : first_of (drop t list) finish ≡ node_behind model v list t = first-dropped list t finish in
-      let old : arc_cost_at model v list t ≡ arc_cost model v (node_before model v list t) (node_behind model v list t) = used_arc (is_empty list) (pos 0) (arc_cost model v (node_before model v list t) (node_behind model v list t)) some in
+      let after : first_of (drop t list) finish ≡ node_after model v list t = first-dropped list t finish in
+      let old : arc_cost_at model v list t ≡ arc_cost model v (node_before model v list t) (node_after model v list t) = used_arc (is_empty list) (pos 0) (arc_cost model v (node_before model v list t) (node_after model v list t)) some in
       let used : is_empty (take t list ++ drop t list) ≡ false = ap is_empty whole ∙ some in
-      ap (detour model v (node_before model v list t) x (node_behind model v list t)) old
-      ∙ (λ i. detour model v (sym before i) x (sym behind i) (arc_cost model v (sym before i) (sym behind i)))
+      ap (detour model v (node_before model v list t) x (node_after model v list t)) old
+      ∙ (λ i. detour model v (sym before i) x (sym after i) (arc_cost model v (sym before i) (sym after i)))
       ∙ sym (cost-one (arc_cost model v) begin finish (take t list) (drop t list) x used)
       ∙ ap (λ l. at_cost (take t list ++ x ∷ drop t list) -ℤ at_cost l) whole
 
@@ -178,21 +178,21 @@ module _ (model : Model) (v : ℕ) where
   -- ---- a pair
 
   pair-together : (list : List ℕ) (p d s : ℕ) → s ≤ length list → is_empty list ≡ false
-      → arc_cost model v (node_before model v list s) p +ℤ detour model v p d (node_behind model v list s) (arc_cost_at model v list s) ≡ at_cost (take s list ++ p ∷ d ∷ drop s list) -ℤ at_cost list
+      → arc_cost model v (node_before model v list s) p +ℤ detour model v p d (node_after model v list s) (arc_cost_at model v list s) ≡ at_cost (take s list ++ p ∷ d ∷ drop s list) -ℤ at_cost list
   unfolding first_of
   pair-together list p d s h some =
       let c = arc_cost model v in
       let whole = take-append-drop s list in
       let before : last_of begin (take s list) ≡ node_before model v list s = last-taken begin list s h in
-      let behind : first_of (drop s list) finish ≡ node_behind model v list s = first-dropped list s finish in
-      let old : arc_cost_at model v list s ≡ c (node_before model v list s) (node_behind model v list s) = used_arc (is_empty list) (pos 0) (c (node_before model v list s) (node_behind model v list s)) some in
+      let after : first_of (drop s list) finish ≡ node_after model v list s = first-dropped list s finish in
+      let old : arc_cost_at model v list s ≡ c (node_before model v list s) (node_after model v list s) = used_arc (is_empty list) (pos 0) (c (node_before model v list s) (node_after model v list s)) some in
       let same : take s list ++ [] ≡ take s list = append-nil (take s list) in
       let two = cost-two c begin finish (take s list) [] (drop s list) p d (ap is_empty whole ∙ some) in
       let read = λ (a b h : ℕ). (((c a p +ℤ c p d) -ℤ c a d) +ℤ ((c b d +ℤ c d h) -ℤ c b h)) in
-      let placed_two : at_cost (take s list ++ p ∷ d ∷ drop s list) -ℤ at_cost (take s list ++ drop s list) ≡ read (node_before model v list s) (node_before model v list s) (node_behind model v list s) =
-      two ∙ (λ i. read (before i) ((ap (last_of begin) same ∙ before) i) (behind i)) in
-      ap (λ z. c (node_before model v list s) p +ℤ detour model v p d (node_behind model v list s) z) old
-      ∙ together (c (node_before model v list s) p) (c p d) (c d (node_behind model v list s)) (c (node_before model v list s) (node_behind model v list s)) (c (node_before model v list s) d)
+      let placed_two : at_cost (take s list ++ p ∷ d ∷ drop s list) -ℤ at_cost (take s list ++ drop s list) ≡ read (node_before model v list s) (node_before model v list s) (node_after model v list s) =
+      two ∙ (λ i. read (before i) ((ap (last_of begin) same ∙ before) i) (after i)) in
+      ap (λ z. c (node_before model v list s) p +ℤ detour model v p d (node_after model v list s) z) old
+      ∙ together (c (node_before model v list s) p) (c p d) (c d (node_after model v list s)) (c (node_before model v list s) (node_after model v list s)) (c (node_before model v list s) d)
       ∙ sym placed_two ∙ ap (λ l. at_cost (take s list ++ p ∷ d ∷ drop s list) -ℤ at_cost l) whole
     where
       together : (ap_ pd dh ah ad : ℤ) → ap_ +ℤ ((pd +ℤ dh) -ℤ ah) ≡ (((ap_ +ℤ pd) -ℤ ad) +ℤ ((ad +ℤ dh) -ℤ ah))
@@ -205,14 +205,14 @@ module _ (model : Model) (v : ℕ) where
       let order : s ≤ t = omega (arith, low) in
       let whole = split-three list s t order in
       let before_s : last_of begin (take s list) ≡ node_before model v list s = last-taken begin list s (omega (arith, low, high)) in
-      let behind_s : first_of (slice_range list s t ++ d ∷ drop t list) finish ≡ node_behind model v list s = first-between list (d ∷ drop t list) s t finish low high in
+      let after_s : first_of (slice_range list s t ++ d ∷ drop t list) finish ≡ node_after model v list s = first-between list (d ∷ drop t list) s t finish low high in
       let before_t : last_of begin (take s list ++ slice_range list s t) ≡ node_before model v list t = ap (last_of begin) (take-split list s t order) ∙ last-taken begin list t high in
-      let behind_t : first_of (drop t list) finish ≡ node_behind model v list t = first-dropped list t finish in
-      let old_s : arc_cost_at model v list s ≡ c (node_before model v list s) (node_behind model v list s) = used_arc (is_empty list) (pos 0) (c (node_before model v list s) (node_behind model v list s)) some in
-      let old_t : arc_cost_at model v list t ≡ c (node_before model v list t) (node_behind model v list t) = used_arc (is_empty list) (pos 0) (c (node_before model v list t) (node_behind model v list t)) some in
+      let after_t : first_of (drop t list) finish ≡ node_after model v list t = first-dropped list t finish in
+      let old_s : arc_cost_at model v list s ≡ c (node_before model v list s) (node_after model v list s) = used_arc (is_empty list) (pos 0) (c (node_before model v list s) (node_after model v list s)) some in
+      let old_t : arc_cost_at model v list t ≡ c (node_before model v list t) (node_after model v list t) = used_arc (is_empty list) (pos 0) (c (node_before model v list t) (node_after model v list t)) some in
       let two = cost-two c begin finish (take s list) (slice_range list s t) (drop t list) p d (ap is_empty whole ∙ some) in
-      (λ i. detour model v (node_before model v list s) p (node_behind model v list s) (old_s i) +ℤ detour model v (node_before model v list t) d (node_behind model v list t) (old_t i))
-      ∙ (λ i. detour model v (sym before_s i) p (sym behind_s i) (c (sym before_s i) (sym behind_s i)) +ℤ detour model v (sym before_t i) d (sym behind_t i) (c (sym before_t i) (sym behind_t i)))
+      (λ i. detour model v (node_before model v list s) p (node_after model v list s) (old_s i) +ℤ detour model v (node_before model v list t) d (node_after model v list t) (old_t i))
+      ∙ (λ i. detour model v (sym before_s i) p (sym after_s i) (c (sym before_s i) (sym after_s i)) +ℤ detour model v (sym before_t i) d (sym after_t i) (c (sym before_t i) (sym after_t i)))
       ∙ sym two ∙ ap (λ l. at_cost (take s list ++ p ∷ (slice_range list s t ++ d ∷ drop t list)) -ℤ at_cost l) whole
 
   pair-used : (list : List ℕ) (p d s t : ℕ) → s ≤ t → t ≤ length list → is_empty list ≡ false
@@ -223,13 +223,13 @@ module _ (model : Model) (v : ℕ) where
       by true e =
           let same : s ≡ t = eqb-true s t e in
           let none : t - s ≡ 0 = omega (arith, same) in
-          ap (λ b. cond b (arc_cost model v (node_before model v list s) p +ℤ detour model v p d (node_behind model v list s) (arc_cost_at model v list s)) (visit_increase model v list p s +ℤ visit_increase model v list d t)) e
+          ap (λ b. cond b (arc_cost model v (node_before model v list s) p +ℤ detour model v p d (node_after model v list s) (arc_cost_at model v list s)) (visit_increase model v list p s +ℤ visit_increase model v list d t)) e
           ∙ pair-together list p d s (omega (arith, order, high)) some
           ∙ sym (ap (λ n. at_cost (take s list ++ p ∷ (take n (drop s list) ++ d ∷ drop s list)) -ℤ at_cost list) none)
           ∙ ap (λ k. at_cost (take s list ++ p ∷ (slice_range list s t ++ d ∷ drop k list)) -ℤ at_cost list) same
       by false e =
           let low : s < t = omega (arith, order, differ s t e) in
-          ap (λ b. cond b (arc_cost model v (node_before model v list s) p +ℤ detour model v p d (node_behind model v list s) (arc_cost_at model v list s)) (visit_increase model v list p s +ℤ visit_increase model v list d t)) e
+          ap (λ b. cond b (arc_cost model v (node_before model v list s) p +ℤ detour model v p d (node_after model v list s) (arc_cost_at model v list s)) (visit_increase model v list p s +ℤ visit_increase model v list d t)) e
           ∙ pair-apart list p d s t low high some
         where
           differ : (s t : ℕ) → (s == t) ≡ false → s ≢ t

@@ -1,13 +1,12 @@
 -- What a list shares with one that has an item put in.
-use Rattle.std.proofs.Common.{◌≡◌, ◌∙◌, ◌+◌, ◌-◌, ◌<◌, ◌≤◌, ◌++◌, ℕ, zero, suc, List, [], ◌∷◌, refl, ap, sym, subst, arith, length, take, drop}
+use Rattle.std.proofs.Common.{◌≡◌, ◌∙◌, ◌-◌, ◌≤◌, ◌++◌, ℕ, zero, suc, List, [], ◌∷◌, refl, ap, sym, subst, arith, length, take, drop}
 use Rattle.std.specs.Prelude.{insert}
 use Rattle.std.proofs.lemmas.List.Edits.{length-insert}
 use Rattle.vr_model.specs.moves.Moves.{with_pair}
 use Rattle.vr_model.specs.declared.records.Model.{Model}
 use Rattle.vr_model.specs.declared.records.Pair.{Pair}
 use Rattle.vr_reach.specs.Lists.{IsUsed}
-use Rattle.vr_reach.specs.Stretches.{SharesBack, SharesEnds, SharesFront}
-use Rattle.vr_reach.specs.declared.stretches.Stretch.{Stretch}
+use Rattle.vr_reach.specs.Stretches.{SharesEnds}
 use Rattle.vr_ruin.specs.declared.placing.Placing.{Placing}
 use Rattle.vr_ruin.specs.declared.placing.Placing.TheVariants.{One, Two}
 use Rattle.vr_ruin.specs.Known.{shared_of}
@@ -21,7 +20,7 @@ taken list (suc u) zero x low le = absurd (omega (arith, low))
 taken [] (suc u) (suc t) x low le = absurd (omega (arith, le))
 taken (y ∷ ys) (suc u) (suc t) x low le = ap (λ l. y ∷ l) (taken ys u t x (omega (arith, low)) (omega (arith, le)))
 
--- what stands behind a place stands one place later if a node was put in there or before
+-- what stands after a place stands one place later if a node was put in there or before
 dropped : (list : List ℕ) (s t x : ℕ) → s ≤ t → t ≤ length list → drop t list ≡ drop (suc t) (insert list s x)
 dropped list zero t x order le = refl
 dropped list (suc s) zero x order le = absurd (omega (arith, order))

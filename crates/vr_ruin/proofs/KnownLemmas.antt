@@ -1,6 +1,5 @@
 -- Lists whose rows are known, one of each vehicle.
-use Rattle.std.proofs.Common.{◌≡◌, ◌∙◌, ◌<◌, ℕ, Bool, true, false, List, [], ap, arith, get_or, inl, inr, length, refl, set, subst, sym}
-use Rattle.std.specs.Prelude.{slice_index_or}
+use Rattle.std.proofs.Common.{◌≡◌, ◌∙◌, ℕ, List, [], ap, arith, get_or, inl, inr, length, set, subst, sym}
 use Rattle.std.proofs.lemmas.Bool.Decides.{eqb_tells}
 use Rattle.std.proofs.lemmas.List.{get_or-set_other, get_or-set_same, length-set}
 use Rattle.vr_model.specs.declared.records.Model.{Model}
@@ -14,6 +13,8 @@ pub none-known : (model : Model) (v : ℕ) (route : KnownRoute) → length route
 none-known model v route many none = record {
   many = many;
   rows_are = λ d other low no_load used. absurd (clash (is_empty route.nodes) (ap is_empty none) used);
+  arcs_are = λ used. absurd (clash (is_empty route.nodes) (ap is_empty none) used);
+  sums_are = λ used. absurd (clash (is_empty route.nodes) (ap is_empty none) used);
 }
 
 -- another list of one vehicle

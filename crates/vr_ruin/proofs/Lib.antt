@@ -20,3 +20,5 @@ pub mod CarryingLemmas
 pub mod InsertedLemmas
 pub mod KnownLemmas
 pub mod RoomLemmas
+pub mod PlaceLemmas
+pub mod CheapestLemmas

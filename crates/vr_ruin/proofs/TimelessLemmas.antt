@@ -1,5 +1,5 @@
 -- Where no schedules cost anything, an insertion makes the cost more by arcs and a fixed cost alone.
-use Rattle.std.proofs.Common.{◌≡◌, ◌∙◌, ℕ, zero, suc, ◌+◌, ◌*◌, ◌<◌, ◌≤◌, ◌++◌, Bool, true, false, cond, List, [], ◌∷◌, length, refl, sym, ap, subst, arith, length-set}
+use Rattle.std.proofs.Common.{◌≡◌, ◌∙◌, ℕ, zero, suc, ◌+◌, ◌*◌, ◌<◌, ◌++◌, Bool, true, false, cond, List, [], ◌∷◌, length, refl, sym, ap, subst, arith, length-set}
 use Rattle.std.specs.Prelude.{ℤ, pos, neg_ℤ, ◌^◌, ◌+ℤ◌, ◌-ℤ◌, ◌*ℤ◌, ◌≤ℤ◌, All, IfSome, Option, Some, None}
 use Rattle.std.specs.List.{list_all}
 use Rattle.std.specs.Ordering.{int_eq}
@@ -14,7 +14,6 @@ use Rattle.vr_model.specs.tables.WellFormed.{IsWellFormed}
 use Rattle.vr_model.specs.routes.Routes.{arcs_from, cost_of_arc, is_empty, route, route_cost, used_vehicles}
 use Rattle.vr_model.specs.routes.Costs.{Assignment, arcs_part, assigned, cost, end_at, fixed_part, global_part, global_span, over_plans, penalty_part, plan_at, soft_costs, soft_part, span_part, start_at}
 use Rattle.vr_model.specs.routes.Rules.{is_route_open}
-use Rattle.vr_model.specs.moves.Moves.{with_route}
 use Rattle.vr_model.specs.first.Choosing.{better}
 use Rattle.vr_model.specs.first.CheapestInsertion.{inserted, inserted_in}
 use Rattle.vr_model.proofs.tables.Bounds.{arc_cost_in_range}
@@ -221,3 +220,11 @@ best-adds model lists v placings best is = by best (subst (λ o. IfSome o (IsOfP
     by : (best : Option Offer) → IfSome best (IsOfPlace model v (route lists v)) → IfSome best (AddsToArcs model lists)
     by None is = is
     by (Some offer) is = subst (AddsToArcs model lists) (sym is) refl
+
+-- and it is of this vehicle
+pub best-vehicle : (model : Model) (lists : List (List ℕ)) (v : ℕ) (placings : List Placing) (best : Option Offer) → best ≡ best_of model v (route lists v) None placings → IfSome best (λ offer. offer.vehicle ≡ v)
+best-vehicle model lists v placings best is = by best (subst (λ o. IfSome o (IsOfPlace model v (route lists v))) (sym is) (best-of-place model v (route lists v) placings None tt))
+  where
+    by : (best : Option Offer) → IfSome best (IsOfPlace model v (route lists v)) → IfSome best (λ offer. offer.vehicle ≡ v)
+    by None is = is
+    by (Some offer) is = ap (λ o. o.vehicle) is

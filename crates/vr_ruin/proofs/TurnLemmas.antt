@@ -5,6 +5,7 @@ use Rattle.std.specs.Option.{option_map}
 use Rattle.std.proofs.lemmas.Int.{ints}
 use Rattle.std.proofs.lemmas.List.{get_or-map, length-map}
 use Rattle.std.proofs.lemmas.List.Folds.{find_at}
+use Rattle.std.proofs.Math.Nat.{zero-min}
 use Rattle.rand_pcg.specs.Lcg.{Lcg}
 use Rattle.vr_model.specs.declared.records.Group.{Group}
 use Rattle.vr_model.specs.declared.records.Model.{Model}
@@ -18,6 +19,7 @@ use Rattle.vr_strings.specs.Turns.{item_at}
 use Rattle.vr_strings.specs.Sorting.{sorted_by}
 use Rattle.vr_strings.specs.Zeros.{zeros}
 use Rattle.vr_ruin.specs.declared.ranking.Priced.{Priced}
+use Rattle.vr_ruin.specs.Cheapest.{first_in}
 use Rattle.vr_ruin.specs.Offers.{offer_at, offers, penalty_at, penalty_of_group, put_back, rank_key, with_offer}
 use Rattle.vr_ruin.specs.Ranks.{insertion_at}
 use Rattle.vr_ruin.proofs.Remade.{chosen_is}
@@ -51,21 +53,31 @@ got_map f [] k = refl
 got_map f (x ∷ xs) zero = refl
 got_map f (x ∷ xs) (suc k) = got_map f xs k
 
-module _ (model : Model) (well_formed : IsWellFormed model) (wide : Bool) (lists : List (List ℕ)) (item : List ℕ) (r : ℕ) (ranked : List Priced) (chosen : Option Priced) where
-  pub chosen_offer : map insertion_at ranked ≡ sorted_by (rank_key model lists) (offers model wide lists item) → chosen ≡ slice_get ranked (min r (length ranked - 1))
+module _ (model : Model) (wide : Bool) (lists : List (List ℕ)) (item : List ℕ) (r : ℕ) (chosen : Option Priced) where
+  pub chosen_offer : (ranked : List Priced) → map insertion_at ranked ≡ sorted_by (rank_key model lists) (offers model wide lists item) → chosen ≡ slice_get ranked (min r (length ranked - 1))
       → option_map insertion_at chosen ≡ offer_at model wide lists item r
-  chosen_offer order is =
+  chosen_offer ranked order is =
       ap (option_map insertion_at) is ∙ sym (got_map insertion_at ranked (min r (length ranked - 1)))
       ∙ ap (λ n. slice_get (map insertion_at ranked) (min r (n - 1))) (sym (length-map ranked insertion_at))
       ∙ ap (λ xs. slice_get xs (min r (length xs - 1))) order
 
-  pub chosen_item : map insertion_at ranked ≡ sorted_by (rank_key model lists) (offers model wide lists item) → chosen ≡ slice_get ranked (min r (length ranked - 1))
-      → IfSome chosen (λ best. (insertion_at best).item ≡ item)
-  chosen_item order is = by chosen (chosen_offer order is)
+  -- its item is the one that is put back
+  pub chosen_item : IsWellFormed model → option_map insertion_at chosen ≡ offer_at model wide lists item r → IfSome chosen (λ best. (insertion_at best).item ≡ item)
+  chosen_item well_formed e = by chosen e
     where
       by : (c : Option Priced) → option_map insertion_at c ≡ offer_at model wide lists item r → IfSome c (λ best. (insertion_at best).item ≡ item)
       by None e = tt
       by (Some best) e = (chosen_is model well_formed wide lists item r (insertion_at best) (sym e)).item_is
+
+  -- the first one
+  pub first_chosen : option_map insertion_at chosen ≡ first_in (sorted_by (rank_key model lists) (offers model wide lists item)) → r ≡ 0 → option_map insertion_at chosen ≡ offer_at model wide lists item r
+  first_chosen e none =
+      let in_order = sorted_by (rank_key model lists) (offers model wide lists item) in
+      e ∙ ap (slice_get in_order) (at_first r (length in_order - 1) none)
+    where
+      at_first : (r n : ℕ) → r ≡ 0 → 0 ≡ min r n
+      at_first zero n e = sym (zero-min n)
+      at_first (suc r) n e = absurd (omega (arith, e))
 
 -- ---- an item in its turn
 

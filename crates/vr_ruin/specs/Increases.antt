@@ -9,14 +9,14 @@ use Rattle.vr_model.specs.declared.records.Model.{Model}
 abbrev pub node_before : Model → ℕ → List ℕ → ℕ → ℕ
 node_before model v list t = cond (t == 0) (vehicle_at model v).start (slice_index list (t - 1))
 
--- the node at place t, the end behind the last
-abbrev pub node_behind : Model → ℕ → List ℕ → ℕ → ℕ
-node_behind model v list t = slice_index_or list t (vehicle_at model v).end
+-- the node at place t, the end after the last
+abbrev pub node_after : Model → ℕ → List ℕ → ℕ → ℕ
+node_after model v list t = slice_index_or list t (vehicle_at model v).end
 
 -- what the arc to place t costs, nothing in an empty list
 abbrev pub arc_cost_at : Model → ℕ → List ℕ → ℕ → ℤ
 arc_cost_at model v list t = cond (is_empty list) (pos 0)
-    (arc_cost model v (node_before model v list t) (node_behind model v list t))
+    (arc_cost model v (node_before model v list t) (node_after model v list t))
 
 -- from a node over another to a third, less what was driven there before
 abbrev pub detour : Model → ℕ → ℕ → ℕ → ℕ → ℤ → ℤ
@@ -24,12 +24,12 @@ detour model v a x b before = (arc_cost model v a x +ℤ arc_cost model v x b) -
 
 -- a visit before place t
 abbrev pub visit_increase : Model → ℕ → List ℕ → ℕ → ℕ → ℤ
-visit_increase model v list x t = detour model v (node_before model v list t) x (node_behind model v list t)
+visit_increase model v list x t = detour model v (node_before model v list t) x (node_after model v list t)
     (arc_cost_at model v list t)
 
 -- a pickup before place s and its delivery before place t
 abbrev pub pair_increase : Model → ℕ → List ℕ → ℕ → ℕ → ℕ → ℕ → ℤ
 pair_increase model v list pickup delivery s t = cond (s == t)
     (arc_cost model v (node_before model v list s) pickup
-    +ℤ detour model v pickup delivery (node_behind model v list s) (arc_cost_at model v list s))
+    +ℤ detour model v pickup delivery (node_after model v list s) (arc_cost_at model v list s))
     (visit_increase model v list pickup s +ℤ visit_increase model v list delivery t)

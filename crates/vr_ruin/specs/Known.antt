@@ -13,7 +13,8 @@ use Rattle.vr_ruin.specs.declared.placing.Placing.{Placing}
 use Rattle.vr_ruin.specs.declared.placing.Placing.TheVariants.{One, Two}
 use Rattle.vr_rules.specs.declared.items.Item.{Item}
 use Rattle.vr_rules.specs.Placing.{item_nodes}
-use Rattle.vr_ruin.specs.Carrying.{carries_all}
+use Rattle.vr_ruin.specs.Arcs.{AreArcsIfUsed}
+use Rattle.vr_ruin.specs.Carrying.{carries_all, AreSumsIfUsed}
 use Rattle.vr_ruin.specs.declared.known.Changed.{Changed}
 use Rattle.vr_ruin.specs.declared.known.KnownRoute.{KnownRoute}
 
@@ -22,10 +23,12 @@ abbrev pub AreRowsIn : Model → ℕ → List ℕ → List BothWays → Type 0
 AreRowsIn model v list rows = (d : ℕ) (other : BothWays) → d < length rows → is_load model d ≡ false
     → AreRowsIfUsed model d v list (slice_index_or rows d other)
 
--- the rows are those of the list
+-- the rows are those of the list, and so are the arcs and the sums of what it takes
 pub record IsKnownRoute (model : Model) (v : ℕ) (route : KnownRoute) : Type 0 where
   pub many : length route.rows.items ≡ length model.dimensions
   pub rows_are : AreRowsIn model v route.nodes route.rows.items
+  pub arcs_are : AreArcsIfUsed model v route.nodes route.arcs
+  pub sums_are : AreSumsIfUsed model v route.nodes route.sums
 
 -- each vehicle has a list whose rows are known
 pub record AreKnownRoutes (model : Model) (routes : List KnownRoute) : Type 0 where

@@ -17,3 +17,6 @@ pub mod Increases
 pub mod Timeless
 pub mod Carrying
 pub mod Known
+pub mod Columns
+pub mod Arcs
+pub mod Cheapest

@@ -1,6 +1,6 @@
 -- Insertions of an item into one list, as code compares them.
-use Rattle.std.specs.Prelude.{◌≡◌, ℕ, suc, false, cond, List, [], ◌∷◌, map, fold, length, insert, ℤ, pos, ◌-ℤ◌}
-use Rattle.std.specs.Prelude.{Option, IsTrue, ◌≤◌}
+use Rattle.std.specs.Prelude.{◌≡◌, ℕ, suc, true, false, cond, List, [], ◌∷◌, map, fold, length, insert, ℤ, pos}
+use Rattle.std.specs.Prelude.{Option, Some, None, IsTrue, ◌≤◌, ◌-ℤ◌, ◌<ℤ◌, int_le}
 use Rattle.std.specs.List.{list_all}
 use Rattle.vr_model.specs.tables.Numbers.{from_to, each}
 use Rattle.vr_model.specs.tables.Tables.{is_visit}
@@ -72,6 +72,22 @@ weigh model list best next = cond (is_route_open model next.vehicle (placed list
 abbrev pub best_of : Model → ℕ → List ℕ → Option Offer → List Placing → Option Offer
 best_of model v list best placings =
     fold (λ best placing. weigh model list best (offer_for model v list placing)) best placings
+
+-- an offer, if it adds no more than a limit
+abbrev pub no_more_than : Option ℤ → Option Offer → Option Offer
+no_more_than None best = best
+no_more_than (Some limit) None = None
+no_more_than (Some limit) (Some best) = cond (int_le best.increase limit) (Some best) None
+
+-- offers that add more than this need not be looked at: what the best one so far adds, or the limit
+abbrev pub bound_for : Option Offer → Option ℤ → Option ℤ
+bound_for None limit = limit
+bound_for (Some best) limit = Some best.increase
+
+-- more is added than a bound
+abbrev pub IsAbove : Option ℤ → ℤ → Type 0
+IsAbove None x = true ≡ false
+IsAbove (Some bound) x = bound <ℤ x
 
 -- a list of few distinct visits that an item may be put into: its nodes are distinct visits too, and not in the list
 pub record MayHold (model : Model) (list : List ℕ) (item : Item) : Type 0 where

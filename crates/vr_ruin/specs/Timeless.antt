@@ -11,6 +11,8 @@ use Rattle.vr_plan.specs.Paying.{is_free}
 use Rattle.vr_ruin.specs.declared.carrying.Carrier.{Carrier}
 use Rattle.vr_ruin.specs.declared.placing.Offer.{Offer}
 use Rattle.vr_ruin.specs.Carrying.{IsCarrier}
+use Rattle.vr_ruin.specs.Columns.{AreColumns}
+use Rattle.vr_ruin.specs.declared.columns.MatrixColumns.{MatrixColumns}
 use Rattle.vr_ruin.specs.Offers.{paid_cost}
 use Rattle.vr_ruin.specs.Payments.{IsCost}
 use Rattle.vr_ruin.specs.Placings.{placed}
@@ -33,8 +35,11 @@ abbrev pub AddsToArcs : Model → List (List ℕ) → Offer → Type 0
 AddsToArcs model lists offer = let list = route lists offer.vehicle in
     offer.increase ≡ route_cost model offer.vehicle (placed list offer.placing) -ℤ route_cost model offer.vehicle list
 
--- what an asker keeps of a model: rules of it, which dimensions are loads, and whether no schedules cost anything
-pub record IsAsker (model rules : Model) (carrier : Carrier) (timeless : Bool) : Type 0 where
+-- what an asker keeps of a model: rules of it, which dimensions are loads, the columns of its cost matrices, and
+-- whether no schedules cost anything
+pub record IsAsker (model rules : Model) (carrier : Carrier) (columns : List MatrixColumns) (timeless : Bool) :
+    Type 0 where
   pub rules_are : rules ≡ model
   pub carrier_is : IsCarrier model carrier.loads.items carrier.plain
+  pub columns_are : AreColumns model columns
   pub timeless_is : timeless ≡ is_timeless model

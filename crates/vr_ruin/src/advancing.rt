@@ -25,8 +25,8 @@ pub(crate) struct Terms {
     pub(crate) limit: Limit,
 }
 
-/// A step: routes are made anew, and taken over if they are accepted. It counts as a try in any case. After want of
-/// memory the routes are those before the step, or those that it accepted.
+/// A step: routes are made anew, and taken over if they are accepted. It counts as a try in any case. If memory runs
+/// out the routes are those before the step, or those that it accepted.
 pub(crate) fn advance(
     stepper: &mut Stepper<'_>,
     trial: &mut Trial<'_>,

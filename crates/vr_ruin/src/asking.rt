@@ -1,6 +1,6 @@
 //! The best place of an item in one route.
 
-ghost use Rattle.std.specs.Prelude.{◌≡◌, ◌<◌, ◌≤◌, ◌≤ℤ◌, ◌^◌, IfOk, IsTrue, None, length, map, pos, suc};
+ghost use Rattle.std.specs.Prelude.{◌≡◌, ◌<◌, ◌≤◌, ◌≤ℤ◌, ◌<ℤ◌, ◌^◌, ℕ, IfOk, IsTrue, None, length, map, pos, suc};
 ghost use Rattle.std.specs.Prelude.{◌&&◌};
 ghost use Rattle.std.specs.List.{list_all, list_any};
 ghost use Rattle.vr_model.specs.routes.Costs.{assigned, parts_at};
@@ -12,24 +12,28 @@ ghost use Rattle.vr_rules.specs.Placing.{fits_beside, item_nodes, AreBuilt};
 ghost use Rattle.vr_rules.specs.Totals.{AreInRange};
 ghost use Rattle.vr_lists.specs.Pairs.{keeps_pairs as keeps_pairs_of};
 ghost use Rattle.vr_model.specs.routes.Rules.{allows_vehicle, is_grouped as is_grouped_of, is_route_open};
-ghost use Rattle.vr_ruin.specs.Placings.{best_of, item_in, offer_for, placed, placings_of, weigh as weigh_of};
+ghost use Rattle.vr_ruin.specs.Increases.{visit_increase};
+ghost use Rattle.vr_ruin.specs.Placings.{best_of, item_in, no_more_than, offer_for, placed, placings_of};
+ghost use Rattle.vr_ruin.specs.Placings.{weigh as weigh_of, IsAbove};
 ghost use Rattle.vr_ruin.specs.Carrying.{carries_all, AreLoads};
-ghost use Rattle.vr_ruin.specs.Known.{shared_of, IsEndWithin, IsKnownList, IsReady};
+ghost use Rattle.vr_ruin.specs.Known.{IsKnownList, IsReady};
 ghost use Rattle.vr_ruin.specs.Placings.{AreWithin, MayHold};
 ghost use Rattle.vr_ruin.specs.Timeless.{costs_no_time as costs_no_time_in, is_timeless as is_timeless_of};
 ghost use Rattle.vr_ruin.specs.declared.placing.Placing.TheVariants.{Two};
 ghost use Rattle.vr_rules.specs.declared.items.Item.TheVariants.{PickupAndDelivery, Visit};
 
 use crate::carrying::Carrier;
+use crate::columns::{MatrixColumns, arcs_to, columns_of};
 use crate::increase::{Driven, increase_of};
-use crate::known::{Changed, KnownRoute, goes_in_each};
-use crate::placing::{Offer, Placing, improves, write_placed};
+use crate::known::{Changed, KnownRoute, goes_in_each, shared_with};
+use crate::places::next_place;
+use crate::placing::{Offer, Placing, bound_of, improves, within_limit, write_placed};
 use std::alloc::Global;
 use std::marker::Model;
 use vr_lists::{NodeTables, PairPlaces, keeps_pairs};
 use vr_model::{NoMemory, Parts, Seq};
 use vr_plan::Lookups;
-use vr_reach::{Stretch, Walk};
+use vr_reach::Walk;
 use vr_routes::Routes;
 use vr_rules::{Item, Rules, active_marks, groups_have_room};
 
@@ -39,6 +43,8 @@ pub(crate) struct Asker<'m> {
     lookups: Lookups<'m>,
     rules: Rules<'m>,
     carrier: Carrier,
+    // the columns of the cost matrices
+    columns: Vec<MatrixColumns>,
     // whether no schedules cost anything
     timeless: bool,
     // a list with an item placed in it, and what is written over where it is tested
@@ -55,7 +61,7 @@ impl<'m> Model for Asker<'m> {
 
     ghost view = { λ a. a.lookups.closed.model.now };
 
-    ghost invariant = { λ a. IsAsker a.lookups.closed.model.now a.rules a.carrier a.timeless };
+    ghost invariant = { λ a. IsAsker a.lookups.closed.model.now a.rules a.carrier a.columns.items a.timeless };
 }
 
 /// The list of a vehicle, the rows of which are known.
@@ -64,24 +70,6 @@ pub(crate) struct VehicleList<'l, 'k> {
     pub(crate) vehicle: u32,
     pub(crate) nodes: &'l [u32],
     pub(crate) known: &'k KnownRoute,
-}
-
-// How many nodes a list of `n` nodes shares at its ends with one that has an item placed in it.
-fn shared_with(n: usize, placing: Placing) -> Stretch
-    requires n { n ≤ 1000 }
-    requires within { IsEndWithin n placing }
-    ensures { result ≡ shared_of n placing }
-{
-    match placing {
-        Placing::One(_, t) => Stretch {
-            front: t as usize,
-            back: n - t as usize,
-        },
-        Placing::Two(_, _, s, t) => Stretch {
-            front: s as usize,
-            back: n - t as usize,
-        },
-    }
 }
 
 // Whether a list serves each pair in order and as the policy of vehicle `v` asks, and `v` may visit each of its nodes.
@@ -124,7 +112,7 @@ fn costs_no_time(lookups: &Lookups<'_>, d: u32) -> bool
 }
 
 impl<'m> Asker<'m> {
-    /// The only refusal is want of memory, as of each question.
+    /// It fails only if memory runs out, as each question does.
     pub(crate) fn open(alloc: Global, lookups: &Lookups<'m>) -> Result<Asker<'m>, NoMemory>
         ensures { IfOk result (λ asker. asker ≡ lookups.now.closed.model.now) }
     {
@@ -132,6 +120,7 @@ impl<'m> Asker<'m> {
             lookups: lookups.share()?,
             rules: Rules::over(alloc, lookups)?,
             carrier: Carrier::open(alloc, lookups.closed)?,
+            columns: columns_of(alloc, lookups.closed)?,
             timeless: is_timeless(lookups),
             longer: Seq::new(alloc),
             walk: Walk::new(alloc),
@@ -313,24 +302,73 @@ impl<'m> Asker<'m> {
         }
     }
 
-    // The best place of a visit.
+    // The first place of a visit from place `t` on before which it adds no more than a bound, past all places if there
+    // is none.
+    fn next_below(&self, list: VehicleList<'_, '_>, node: u32, t: usize, bound: i64) -> usize
+        requires vehicle { list.vehicle < length self.now.vehicles }
+        requires may { MayHold self.now list.nodes.now (Visit node) }
+        requires known { IsKnownList self.now list.vehicle list.nodes.now list.known.now }
+        requires begins { t ≤ suc (length list.nodes.now) }
+        ensures first { t ≤ result }
+        ensures last { result ≤ suc (length list.entry.nodes.now) }
+        ensures above { (u : ℕ) → t ≤ u → u < result
+            → bound <ℤ visit_increase self.now list.entry.vehicle list.entry.nodes.now node u }
+    {
+        let closed = self.lookups.closed;
+        let driven = Driven {
+            closed,
+            vehicle: list.vehicle,
+            nodes: list.nodes,
+        };
+        let known = list.known;
+        let costs = arcs_to(closed, &self.columns, list.vehicle, node);
+        next_place(&driven, known.arcs.as_slice(), costs, node, t, bound)
+    }
+
+    // The same, where there may be no bound.
+    fn next(&self, list: VehicleList<'_, '_>, node: u32, t: usize, bound: Option<i64>) -> usize
+        requires vehicle { list.vehicle < length self.now.vehicles }
+        requires may { MayHold self.now list.nodes.now (Visit node) }
+        requires known { IsKnownList self.now list.vehicle list.nodes.now list.known.now }
+        requires begins { t ≤ suc (length list.nodes.now) }
+        ensures first { t ≤ result }
+        ensures last { result ≤ suc (length list.entry.nodes.now) }
+        ensures above { (u : ℕ) → t ≤ u → u < result
+            → IsAbove bound (visit_increase self.now list.entry.vehicle list.entry.nodes.now node u) }
+    {
+        match bound {
+            None => t,
+            Some(bound) => self.next_below(list, node, t, bound),
+        }
+    }
+
+    // The best place of a visit, if it adds no more than a limit. Places that add more than that, or than the best so
+    // far, are passed over.
     fn best_visit(
         &mut self,
         list: VehicleList<'_, '_>,
         node: u32,
+        limit: Option<i64>,
     ) -> Result<Option<Offer>, NoMemory>
         requires vehicle { list.vehicle < length self.old.vehicles }
         requires may { MayHold self.old list.nodes.now (Visit node) }
         requires ready { IsReady self.old list.vehicle list.nodes.now list.known.now (Visit node) }
-        ensures best { IfOk result (λ best. best ≡ best_of self.old list.entry.vehicle list.entry.nodes.now None
-            (placings_of list.entry.nodes.now (Visit node))) }
+        ensures best { IfOk result (λ best. best ≡ no_more_than limit (best_of self.old list.entry.vehicle
+            list.entry.nodes.now None (placings_of list.entry.nodes.now (Visit node)))) }
         ensures model { self.new ≡ self.old }
     {
+        let n = list.nodes.len();
         let mut best = None;
-        for t in 0..list.nodes.len() + 1 {
-            best = self.weigh(list, best, Placing::One(node, t as u32))?;
+        let mut t = 0;
+        'places: while t <= n {
+            let place = self.next(list, node, t, bound_of(best, limit));
+            if place > n {
+                return Ok(within_limit(best, limit));
+            }
+            best = self.weigh(list, best, Placing::One(node, place as u32))?;
+            t = place + 1;
         }
-        Ok(best)
+        Ok(within_limit(best, limit))
     }
 
     // The best of the best so far and the places of a pair with the pickup at place `s`.
@@ -381,31 +419,33 @@ impl<'m> Asker<'m> {
         Ok(best)
     }
 
-    /// The best places of an item in the list of a vehicle, `None` if the list is open with it at none: those at which
-    /// it adds least to the arc costs, of these the first.
+    /// The best places of an item in the list of a vehicle: those at which it adds least to the arc costs, of these the
+    /// first. `None` if the list is open with it at none, or if it adds more than a limit there.
     pub(crate) fn best(
         &mut self,
         list: VehicleList<'_, '_>,
         item: Item,
+        limit: Option<i64>,
     ) -> Result<Option<Offer>, NoMemory>
         requires vehicle { list.vehicle < length self.old.vehicles }
         requires may { MayHold self.old list.nodes.now item }
         requires known { IsKnownList self.old list.vehicle list.nodes.now list.known.now }
-        ensures best { IfOk result (λ best. best ≡ best_of self.old list.entry.vehicle list.entry.nodes.now None
-            (placings_of list.entry.nodes.now item)) }
+        ensures best { IfOk result (λ best. best ≡ no_more_than limit (best_of self.old list.entry.vehicle
+            list.entry.nodes.now None (placings_of list.entry.nodes.now item))) }
         ensures model { self.new ≡ self.old }
     {
         self.know();
         if !self.carries(list, item) {
             return Ok(None);
         }
-        self.best_carried(list, item)
+        self.best_carried(list, item, limit)
     }
 
     // Whether the vehicle of a list can carry an item too.
     fn carries(&self, list: VehicleList<'_, '_>, item: Item) -> bool
         requires vehicle { list.vehicle < length self.now.vehicles }
         requires may { MayHold self.now list.nodes.now item }
+        requires known { IsKnownList self.now list.vehicle list.nodes.now list.known.now }
         ensures { result ≡ carries_all self.now list.entry.vehicle list.entry.nodes.now (item_nodes item) }
     {
         let closed = self.lookups.closed;
@@ -414,25 +454,30 @@ impl<'m> Asker<'m> {
             vehicle: list.vehicle,
             nodes: list.nodes,
         };
-        self.carrier.carries(&driven, item)
+        let known = list.known;
+        self.carrier.carries(&driven, known.sums.as_slice(), item)
     }
 
-    // The best places of an item that the vehicle of a list can carry too.
+    // The best places of an item that the vehicle of a list can carry too, if it adds no more than a limit there.
     fn best_carried(
         &mut self,
         list: VehicleList<'_, '_>,
         item: Item,
+        limit: Option<i64>,
     ) -> Result<Option<Offer>, NoMemory>
         requires vehicle { list.vehicle < length self.old.vehicles }
         requires may { MayHold self.old list.nodes.now item }
         requires ready { IsReady self.old list.vehicle list.nodes.now list.known.now item }
-        ensures best { IfOk result (λ best. best ≡ best_of self.old list.entry.vehicle list.entry.nodes.now None
-            (placings_of list.entry.nodes.now item)) }
+        ensures best { IfOk result (λ best. best ≡ no_more_than limit (best_of self.old list.entry.vehicle
+            list.entry.nodes.now None (placings_of list.entry.nodes.now item))) }
         ensures model { self.new ≡ self.old }
     {
         match item {
-            Item::Visit(node) => self.best_visit(list, node),
-            Item::PickupAndDelivery(pickup, delivery) => self.best_pair(list, pickup, delivery),
+            Item::Visit(node) => self.best_visit(list, node, limit),
+            Item::PickupAndDelivery(pickup, delivery) => {
+                let best = self.best_pair(list, pickup, delivery)?;
+                Ok(within_limit(best, limit))
+            }
         }
     }
 }

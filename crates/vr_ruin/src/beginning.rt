@@ -115,7 +115,7 @@ fn refine_from(
 /// `limit` allows up to 10^9 tries, which are steps, and from 1 to 10^9 solutions: all lists that the search has count,
 /// valid or not. The watchers are told of the first valid lists, and of each that are the best after them.
 ///
-/// The only refusal is want of memory. The routes are open then, valid if they were before, and the watchers have been
+/// It fails only if memory runs out. The routes are open then, valid if they were before, and the watchers have been
 /// told the events up to there: of the event in hand, the first few.
 pub fn refine_over(
     alloc: Global,

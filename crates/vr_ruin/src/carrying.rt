@@ -1,19 +1,21 @@
 //! Whether a vehicle can carry an item beside a list, in the dimensions that are loads: sums tell it, wherever in the
 //! list the item goes.
 
-ghost use Rattle.std.specs.Prelude.{◌≡◌, ◌<◌, ◌≤◌, ◌≤ℤ◌, ◌*◌, All, false, not, ◌||◌, IfOk, IsTrue, length, pos};
+ghost use Rattle.std.specs.Prelude.{◌≡◌, ◌<◌, ◌≤◌, ◌≤ℤ◌, ◌*◌, All, false, true, not, ◌||◌, IfOk, IsTrue, OnOk, length};
+ghost use Rattle.std.specs.Prelude.{pos};
 ghost use Rattle.std.specs.List.{list_all};
 ghost use Rattle.vr_model.specs.tables.Numbers.{total_by};
 ghost use Rattle.vr_balance.specs.Sums.{IsUpTo};
 ghost use Rattle.vr_loads.specs.Loads.{HasLoad, is_load as is_load_of, load_of, taken as taken_of};
 ghost use Rattle.vr_rules.specs.Placing.{item_nodes};
 ghost use Rattle.vr_ruin.specs.Carrying.{carries as carries_of, carries_all as carries_all_of};
-ghost use Rattle.vr_ruin.specs.Carrying.{carries_in as carries_in_of, AreLoads, IsCarrier, IsPlain};
+ghost use Rattle.vr_ruin.specs.Carrying.{carries_in as carries_in_of, AreLoads, AreSums, AreSumsIfUsed};
+ghost use Rattle.vr_ruin.specs.Carrying.{IsCarrier, IsPlain, IsSumIn};
 
 use crate::increase::Driven;
 use std::alloc::Global;
 use vr_loads::is_load;
-use vr_model::{Closed, NoMemory};
+use vr_model::{Closed, NoMemory, Seq};
 use vr_rules::Item;
 
 /// What is known of the loads of a model.
@@ -26,7 +28,7 @@ pub(crate) struct Carrier {
 }
 
 impl Carrier {
-    /// The only refusal is want of memory.
+    /// It fails only if memory runs out.
     pub(crate) fn open(alloc: Global, closed: Closed<'_>) -> Result<Carrier, NoMemory>
         ensures { IfOk result (λ carrier. IsCarrier closed.entry.model.now carrier.loads.items carrier.plain) }
     {
@@ -35,17 +37,18 @@ impl Carrier {
         Ok(Carrier { loads, plain })
     }
 
-    /// Whether the vehicle of a list can carry an item too, in each dimension that is a load. Else the list is open
-    /// with it at no places.
-    pub(crate) fn carries(&self, list: &Driven<'_, '_>, item: Item) -> bool
+    /// Whether the vehicle of a list can carry an item too, in each dimension that is a load, by what the list takes.
+    /// Else the list is open with it at no places.
+    pub(crate) fn carries(&self, list: &Driven<'_, '_>, sums: &[i64], item: Item) -> bool
         requires loads { AreLoads list.now.closed.model.now self.now.loads.items }
+        requires sums { AreSumsIfUsed list.now.closed.model.now list.now.vehicle list.now.nodes.now sums.now }
         requires few { length list.now.nodes.now ≤ 1000 }
         requires nodes { All (λ node. node < list.now.closed.model.now.nodes) (item_nodes item) }
         ensures { result
             ≡ carries_all_of list.now.closed.model.now list.now.vehicle list.now.nodes.now (item_nodes item) }
     {
         for d in 0..self.loads.len() {
-            if !carries_in(self.loads[d], list, d as u32, item) {
+            if !carries_in(self.loads[d], list, sums, d as u32, item) {
                 return false;
             }
         }
@@ -87,9 +90,10 @@ fn are_all(marks: &[bool]) -> bool
 }
 
 // Whether the vehicle of a list can carry an item too in a dimension, if that is a load.
-fn carries_in(is_load: bool, list: &Driven<'_, '_>, d: u32, item: Item) -> bool
+fn carries_in(is_load: bool, list: &Driven<'_, '_>, sums: &[i64], d: u32, item: Item) -> bool
     requires load { is_load ≡ is_load_of list.now.closed.model.now d }
     requires dimension { d < length list.now.closed.model.now.dimensions }
+    requires sums { AreSumsIfUsed list.now.closed.model.now list.now.vehicle list.now.nodes.now sums.now }
     requires few { length list.now.nodes.now ≤ 1000 }
     requires nodes { All (λ node. node < list.now.closed.model.now.nodes) (item_nodes item) }
     ensures { result ≡ carries_in_of list.now.closed.model.now list.now.vehicle list.now.nodes.now (item_nodes item) d }
@@ -97,12 +101,13 @@ fn carries_in(is_load: bool, list: &Driven<'_, '_>, d: u32, item: Item) -> bool
     if !is_load {
         return true;
     }
-    carries(list, d, item)
+    carries(list, sums, d, item)
 }
 
 // Whether the vehicle of a list can carry an item too in a dimension that is a load.
-fn carries(list: &Driven<'_, '_>, d: u32, item: Item) -> bool
+fn carries(list: &Driven<'_, '_>, sums: &[i64], d: u32, item: Item) -> bool
     requires load { HasLoad list.now.closed.model.now d }
+    requires sums { AreSumsIfUsed list.now.closed.model.now list.now.vehicle list.now.nodes.now sums.now }
     requires few { length list.now.nodes.now ≤ 1000 }
     requires nodes { All (λ node. node < list.now.closed.model.now.nodes) (item_nodes item) }
     ensures { result ≡ carries_of list.now.closed.model.now d list.now.vehicle list.now.nodes.now (item_nodes item) }
@@ -110,7 +115,7 @@ fn carries(list: &Driven<'_, '_>, d: u32, item: Item) -> bool
     let closed = list.closed;
     let dimension = closed.model.dimensions.get(d as usize);
     let capacity = *dimension.capacities.get(list.vehicle as usize);
-    load_along(list, d) + taken_by(list, d, item) <= capacity
+    kept_load(list, sums, d) + taken_by(list, d, item) <= capacity
 }
 
 // What the vehicle of a list takes at a node in a dimension that is a load.
@@ -156,4 +161,48 @@ fn load_along(list: &Driven<'_, '_>, d: u32) -> i64
         load += taken(list, d, nodes[k]);
     }
     load
+}
+
+// The same, by what is kept of a list that is not empty.
+fn kept_load(list: &Driven<'_, '_>, sums: &[i64], d: u32) -> i64
+    requires load { HasLoad list.now.closed.model.now d }
+    requires sums { AreSumsIfUsed list.now.closed.model.now list.now.vehicle list.now.nodes.now sums.now }
+    requires few { length list.now.nodes.now ≤ 1000 }
+    ensures value { result ≡ load_of list.now.closed.model.now d list.now.vehicle list.now.nodes.now }
+    ensures range { IsUpTo 1001 result }
+{
+    if list.nodes.is_empty() {
+        return load_along(list, d);
+    }
+    sums[d as usize]
+}
+
+// What a list takes in a dimension, if that is a load.
+fn load_if(is_load: bool, list: &Driven<'_, '_>, d: u32) -> i64
+    requires load { is_load ≡ is_load_of list.now.closed.model.now d }
+    requires dimension { d < length list.now.closed.model.now.dimensions }
+    requires few { length list.now.nodes.now ≤ 1000 }
+    ensures { IsSumIn list.now.closed.model.now list.now.vehicle list.now.nodes.now d result }
+{
+    if !is_load {
+        return 0;
+    }
+    load_along(list, d)
+}
+
+/// Writes what a list takes in each dimension that is a load over other sums. It fails only if memory runs out.
+pub(crate) fn write_sums(
+    list: &Driven<'_, '_>,
+    loads: &[bool],
+    sums: &mut Seq<i64>,
+) -> Result<(), NoMemory>
+    requires loads { AreLoads list.now.closed.model.now loads.now }
+    requires few { length list.now.nodes.now ≤ 1000 }
+    ensures { OnOk result (AreSums list.now.closed.model.now list.now.vehicle list.now.nodes.now sums.new) }
+{
+    sums.truncate(0);
+    for d in 0..loads.len() {
+        sums.push(load_if(loads[d], list, d as u32))?;
+    }
+    Ok(())
 }

@@ -88,7 +88,7 @@ fn cut_at(
 }
 
 /// Takes strings out of routes with visits. It is drawn how much, and the visits are gone through from the drawn one
-/// on. After want of memory some routes are cut.
+/// on. If memory runs out some routes are cut.
 pub(crate) fn cut_routes(
     alloc: Global,
     trial: &mut Trial<'_>,

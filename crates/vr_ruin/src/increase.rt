@@ -4,7 +4,7 @@ ghost use Rattle.std.specs.Prelude.{◌≡◌, ◌<◌, ◌≤◌, ◌^◌, All,
 ghost use Rattle.vr_model.specs.routes.Routes.{is_empty, route_cost};
 ghost use Rattle.vr_model.specs.tables.Tables.{arc_cost};
 ghost use Rattle.vr_ruin.specs.Increases.{arc_cost_at as arc_at_of, detour as detour_of};
-ghost use Rattle.vr_ruin.specs.Increases.{node_before as node_before_of, node_behind as node_behind_of};
+ghost use Rattle.vr_ruin.specs.Increases.{node_before as node_before_of, node_after as node_after_of};
 ghost use Rattle.vr_ruin.specs.Increases.{pair_increase as pair_increase_of, visit_increase as visit_increase_of};
 ghost use Rattle.vr_ruin.specs.Placings.{item_in, placed, AreWithin};
 ghost use Rattle.vr_rules.specs.Placing.{item_nodes};
@@ -22,8 +22,8 @@ pub(crate) struct Driven<'m, 'l> {
     ghost below: { All (λ node. node < closed.model.now.nodes) nodes.now },
 }
 
-// The node before a place: the start before the first.
-fn node_before(list: &Driven<'_, '_>, t: usize) -> u32
+/// The node before a place: the start before the first.
+pub(crate) fn node_before(list: &Driven<'_, '_>, t: usize) -> u32
     requires { t ≤ length list.now.nodes.now }
     ensures node { result ≡ node_before_of list.now.closed.model.now list.now.vehicle list.now.nodes.now t }
     ensures below { result < list.now.closed.model.now.nodes }
@@ -36,10 +36,10 @@ fn node_before(list: &Driven<'_, '_>, t: usize) -> u32
     }
 }
 
-// The node at a place, the end behind the last.
-fn node_behind(list: &Driven<'_, '_>, t: usize) -> u32
+/// The node at a place, the end after the last.
+pub(crate) fn node_after(list: &Driven<'_, '_>, t: usize) -> u32
     requires { t ≤ length list.now.nodes.now }
-    ensures node { result ≡ node_behind_of list.now.closed.model.now list.now.vehicle list.now.nodes.now t }
+    ensures node { result ≡ node_after_of list.now.closed.model.now list.now.vehicle list.now.nodes.now t }
     ensures below { result < list.now.closed.model.now.nodes }
 {
     let closed = list.closed;
@@ -50,8 +50,8 @@ fn node_behind(list: &Driven<'_, '_>, t: usize) -> u32
     }
 }
 
-// What the arc between two neighbours costs, nothing in an empty list, whose vehicle takes no arc.
-fn arc_between(list: &Driven<'_, '_>, a: u32, b: u32) -> i64
+/// What the arc between two neighbours costs, nothing in an empty list, whose vehicle takes no arc.
+pub(crate) fn arc_between(list: &Driven<'_, '_>, a: u32, b: u32) -> i64
     requires first { a < list.now.closed.model.now.nodes }
     requires second { b < list.now.closed.model.now.nodes }
     ensures value { result ≡ cond (is_empty list.now.nodes.now) (pos 0)
@@ -91,7 +91,7 @@ fn visit_increase(list: &Driven<'_, '_>, x: u32, t: usize) -> i64
     ensures high { result ≤ℤ pos (2 ^ 41) }
 {
     let a = node_before(list, t);
-    let b = node_behind(list, t);
+    let b = node_after(list, t);
     detour(list, a, x, b, arc_between(list, a, b))
 }
 
@@ -103,13 +103,13 @@ fn together(list: &Driven<'_, '_>, pickup: u32, delivery: u32, s: usize) -> i64
     ensures value { result ≡ (arc_cost list.now.closed.model.now list.now.vehicle
         (node_before_of list.now.closed.model.now list.now.vehicle list.now.nodes.now s) pickup
         +ℤ detour_of list.now.closed.model.now list.now.vehicle pickup delivery
-        (node_behind_of list.now.closed.model.now list.now.vehicle list.now.nodes.now s)
+        (node_after_of list.now.closed.model.now list.now.vehicle list.now.nodes.now s)
         (arc_at_of list.now.closed.model.now list.now.vehicle list.now.nodes.now s)) }
     ensures low { neg_ℤ (pos (2 ^ 41)) ≤ℤ result }
     ensures high { result ≤ℤ pos (2 ^ 42) }
 {
     let a = node_before(list, s);
-    let b = node_behind(list, s);
+    let b = node_after(list, s);
     let closed = list.closed;
     closed.model.arc_cost(list.vehicle, a, pickup)
         + detour(list, pickup, delivery, b, arc_between(list, a, b))

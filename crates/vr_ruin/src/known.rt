@@ -8,24 +8,33 @@ ghost use Rattle.vr_reach.specs.Lists.{IsTour};
 ghost use Rattle.vr_rules.specs.RoutesOpen.{is_feasible_in_each};
 ghost use Rattle.vr_loads.specs.Loads.{is_load as is_load_of};
 ghost use Rattle.vr_ruin.specs.Carrying.{AreLoads};
-ghost use Rattle.vr_ruin.specs.Known.{AreRowsIn, IsCarriedBy, IsKnownRoute, MayGo};
+ghost use Rattle.vr_ruin.specs.Known.{shared_of, AreRowsIn, IsCarriedBy, IsEndWithin, IsKnownRoute, MayGo};
 ghost use Rattle.vr_reach.specs.KnownRows.{AreRowsIfUsed};
 
+use crate::carrying::write_sums;
+use crate::increase::Driven;
+use crate::places::write_arcs;
+use crate::placing::Placing;
 use std::alloc::Global;
-use vr_model::NoMemory;
+use vr_model::{NoMemory, Seq};
 use vr_plan::Lookups;
 use vr_reach::{KnownList, Rows, StopsFor, Stretch, Walk, goes_between, write_rows};
 use vr_routes::Row;
 
-/// A list of a vehicle, with its rows in each dimension. Of the empty list nothing is known.
+/// A list of a vehicle, with its rows in each dimension, its arcs and what it takes. Of the empty list nothing is
+/// known.
 #[derive(Drop)]
 pub(crate) struct KnownRoute {
     pub(crate) nodes: Row,
     pub(crate) rows: Vec<Rows>,
+    /// What its arcs cost, the one to its end last.
+    pub(crate) arcs: Seq<i64>,
+    /// What it takes in each dimension that is a load.
+    pub(crate) sums: Seq<i64>,
 }
 
 impl KnownRoute {
-    /// The empty list. The only refusal is want of memory, as of each call.
+    /// The empty list. It fails only if memory runs out, as each call does.
     pub(crate) fn open(alloc: Global, dimensions: usize) -> Result<KnownRoute, NoMemory>
         ensures nodes { IfOk result (λ route. route.nodes ≡ []) }
         ensures rows { IfOk result (λ route. length route.rows.items ≡ dimensions) }
@@ -37,11 +46,13 @@ impl KnownRoute {
         Ok(KnownRoute {
             nodes: Row::new(),
             rows,
+            arcs: Seq::new(alloc),
+            sums: Seq::new(alloc),
         })
     }
 
-    /// Makes it another list of vehicle `v`. Its rows are written only if it is another one, and none of loads. After
-    /// want of memory it may be the empty list.
+    /// Makes it another list of vehicle `v`. What is known is written only if it is another one, and no rows of loads.
+    /// If memory runs out it may be the empty list.
     pub(crate) fn take(
         &mut self,
         alloc: Global,
@@ -64,6 +75,13 @@ impl KnownRoute {
         // of the empty list nothing is known, whatever stands in the rows
         self.nodes.clear();
         write_each(alloc, lookups, v, list, loads, &mut self.rows)?;
+        let driven = Driven {
+            closed: lookups.closed,
+            vehicle: v,
+            nodes: list,
+        };
+        write_arcs(&driven, &mut self.arcs)?;
+        write_sums(&driven, loads, &mut self.sums)?;
         write_nodes(list, &mut self.nodes);
         Ok(())
     }
@@ -146,6 +164,24 @@ pub(crate) struct Changed<'l, 'm, 'k, 'n> {
     pub(crate) known: &'k KnownRoute,
     pub(crate) nodes: &'n [u32],
     pub(crate) shared: Stretch,
+}
+
+/// How many nodes a list of `n` nodes shares at its ends with one that has an item placed in it.
+pub(crate) fn shared_with(n: usize, placing: Placing) -> Stretch
+    requires n { n ≤ 1000 }
+    requires within { IsEndWithin n placing }
+    ensures { result ≡ shared_of n placing }
+{
+    match placing {
+        Placing::One(_, t) => Stretch {
+            front: t as usize,
+            back: n - t as usize,
+        },
+        Placing::Two(_, _, s, t) => Stretch {
+            front: s as usize,
+            back: n - t as usize,
+        },
+    }
 }
 
 // Whether the line of a list is feasible in a dimension.

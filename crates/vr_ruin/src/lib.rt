@@ -20,9 +20,12 @@
 //! accepted, by `lacking`, `paying` and `heating`.
 //!
 //! Where an item goes in a list is asked of `asking`, place by place (`placing`). An item that the vehicle cannot carry
-//! goes nowhere (`carrying`). What it adds is told by the arcs at its places (`increase`), and only a place that would
-//! be the best is tested, by walks from the rows of the list (`known`), which are written when another list is asked.
-//! A price is arcs and a fixed cost where no schedule costs anything; else the schedules of all routes are asked.
+//! goes nowhere (`carrying`). What it adds is told by the arcs at its places (`increase`). For a visit these are read
+//! along one column and one row of a matrix (`columns`), and places that add too much are passed over (`places`).
+//!
+//! Only a place that would be the best is tested, by walks from the rows of the list. These rows, the arcs of the list
+//! and what it carries are kept (`known`), and are written when another list is asked. A price is arcs and a fixed cost
+//! if no schedule costs anything; else the schedules of all routes are asked.
 #![tactic(auto)]
 
 mod accepting;
@@ -31,6 +34,8 @@ mod answer;
 mod asking;
 mod beginning;
 mod carrying;
+mod cheapest;
+mod columns;
 mod cutting;
 mod heating;
 mod increase;
@@ -40,6 +45,7 @@ mod lacking;
 mod laws;
 mod making;
 mod paying;
+mod places;
 mod placing;
 mod ranking;
 mod searching;

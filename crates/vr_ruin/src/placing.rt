@@ -4,7 +4,8 @@ ghost use Rattle.std.specs.Prelude.{◌≡◌, ◌≤◌, OnOk, length, map, pos
 ghost use Rattle.vr_model.specs.tables.Limits.{most_nodes};
 ghost use Rattle.vr_model.specs.tables.Numbers.{is_lex_less};
 ghost use Rattle.vr_rules.specs.Placing.{improves as improves_by};
-ghost use Rattle.vr_ruin.specs.Placings.{item_in, key_of, placed as placed_of, places_in, AreWithin};
+ghost use Rattle.vr_ruin.specs.Placings.{bound_for, item_in, key_of, no_more_than, placed as placed_of, places_in};
+ghost use Rattle.vr_ruin.specs.Placings.{AreWithin};
 
 use vr_model::{NoMemory, Seq};
 use vr_rules::Item;
@@ -66,6 +67,28 @@ pub(crate) fn improves(best: Option<Offer>, next: Offer) -> bool
     match best {
         Some(best) => comes_before(next, best),
         None => true,
+    }
+}
+
+/// Offers that add more than this need not be looked at, where something is known: what the best one so far adds, or
+/// else the limit.
+pub(crate) fn bound_of(best: Option<Offer>, limit: Option<i64>) -> Option<i64>
+    ensures { result ≡ bound_for best limit }
+{
+    match best {
+        Some(best) => Some(best.increase),
+        None => limit,
+    }
+}
+
+/// An offer, if it adds no more than a limit.
+pub(crate) fn within_limit(best: Option<Offer>, limit: Option<i64>) -> Option<Offer>
+    ensures { result ≡ no_more_than limit best }
+{
+    let best = best?;
+    match limit {
+        Some(limit) if best.increase > limit => None,
+        _ => Some(best),
     }
 }
 

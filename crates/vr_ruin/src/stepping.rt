@@ -51,7 +51,7 @@ impl<'m> Model for Stepper<'m> {
 }
 
 impl<'m> Stepper<'m> {
-    /// What makes the steps of a search with this seed. The only refusal is want of memory, as of each call.
+    /// What makes the steps of a search with this seed. It fails only if memory runs out, as each call does.
     pub(crate) fn open(
         alloc: Global,
         lookups: &Lookups<'m>,

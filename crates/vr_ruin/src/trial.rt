@@ -1,6 +1,6 @@
 //! Routes on trial: what a step makes of the routes before it.
 
-ghost use Rattle.std.specs.Prelude.{◌≡◌, ◌<◌, ◌≤◌, ℕ, false, not, IfOk, IfSome, IsTrue, OnErr, OnOk};
+ghost use Rattle.std.specs.Prelude.{◌≡◌, ◌<◌, ◌≤◌, ◌≤ℤ◌, ◌^◌, ℕ, false, not, pos, IfOk, IfSome, IsTrue, OnErr, OnOk};
 ghost use Rattle.std.specs.Prelude.{length};
 ghost use Rattle.std.specs.Option.{option_map};
 ghost use Rattle.vr_model.specs.routes.Costs.{cost};
@@ -15,6 +15,7 @@ ghost use Rattle.vr_rules.specs.Placing.{fits_beside, item_nodes, AreBuilt, IsIt
 ghost use Rattle.vr_strings.specs.Strings.{list_after_string, IsStringIn};
 ghost use Rattle.vr_ruin.specs.Makings.{MayBeMade};
 ghost use Rattle.vr_model.specs.declared.records.Model.{Model as Defined};
+ghost use Rattle.vr_ruin.specs.Cheapest.{fixed_beside as fixed_beside_of, IsOfferWithin};
 ghost use Rattle.vr_ruin.specs.Known.{AreKnownRoutes};
 ghost use Rattle.vr_ruin.specs.Lacking.{moving_cost};
 ghost use Rattle.vr_ruin.specs.Offers.{offer as offer_of, paid_cost, price_of};
@@ -97,7 +98,7 @@ fn write_lists(
     Ok(())
 }
 
-// Gives vehicle `v` of routes another list, by way of room for all lists. After want of memory the routes are as
+// Gives vehicle `v` of routes another list, by way of room for all lists. If memory runs out the routes are as
 // before.
 fn set_list(
     routes: &mut Routes,
@@ -137,7 +138,7 @@ fn known_routes(
 }
 
 // Takes a string out of the list of vehicle `v`, and with each of its visits the other node of its pair, if what is
-// left is open. After want of memory the routes are as before.
+// left is open. If memory runs out the routes are as before.
 fn cut_list(
     asker: &mut Asker<'_>,
     routes: &mut Routes,
@@ -166,7 +167,7 @@ fn cut_list(
 }
 
 impl<'m> Trial<'m> {
-    /// Routes with empty lists. The only refusal is want of memory, as of each call.
+    /// Routes with empty lists. It fails only if memory runs out, as each call does.
     pub(crate) fn open(alloc: Global, lookups: &Lookups<'m>) -> Result<Trial<'m>, NoMemory>
         ensures { IfOk result (λ trial. trial.model ≡ lookups.now.closed.model.now) }
     {
@@ -227,6 +228,22 @@ impl<'m> Trial<'m> {
         ensures adds { IfOk result (λ offer. IfSome offer (AddsToArcs self.old.model self.old.lists)) }
         ensures trial { self.new ≡ self.old }
     {
+        self.offer_within(v, item, None)
+    }
+
+    /// The same, `None` also if it adds more than a limit: then the list need not be looked through.
+    pub(crate) fn offer_within(
+        &mut self,
+        v: u32,
+        item: Item,
+        limit: Option<i64>,
+    ) -> Result<Option<Offer>, NoMemory>
+        requires vehicle { v < length self.old.lists }
+        requires item { IsItem self.old.model item }
+        requires inactive { is_active self.old.lists (first_node (item_nodes item)) ≡ false }
+        ensures offer { IfOk result (IsOfferWithin self.old.model self.old.lists (item_nodes item) v limit) }
+        ensures trial { self.new ≡ self.old }
+    {
         let nodes = self.routes.list(v);
         let known = &mut self.known[v as usize];
         known.take(
@@ -241,7 +258,7 @@ impl<'m> Trial<'m> {
             nodes,
             known,
         };
-        self.asker.best(list, item)
+        self.asker.best(list, item, limit)
     }
 
     /// What the routes cost without penalties, `None` if no schedules cost anything: prices do not ask it then.
@@ -300,8 +317,29 @@ impl<'m> Trial<'m> {
         }
     }
 
-    // The same where no schedules cost anything.
-    fn price_by_arcs(&self, offer: Offer) -> i64
+    /// What the use of vehicle `v` costs beside the routes: nothing if it is used already.
+    pub(crate) fn fixed_beside(&self, v: u32) -> i64
+        requires { v < length self.now.lists }
+        ensures value { result ≡ fixed_beside_of self.now.model self.now.lists v }
+        ensures low { pos 0 ≤ℤ result }
+        ensures high { result ≤ℤ pos (2 ^ 40) }
+    {
+        self.know();
+        if self.is_used(v) {
+            return 0;
+        }
+        self.asker.fixed(v)
+    }
+
+    /// Whether no schedules cost anything.
+    pub(crate) fn is_timeless(&self) -> bool
+        ensures { result ≡ is_timeless self.now.model }
+    {
+        self.asker.is_timeless()
+    }
+
+    /// How much more the routes cost after an offer, without penalties, where no schedules cost anything.
+    pub(crate) fn price_by_arcs(&self, offer: Offer) -> i64
         requires offer { MayBeMade self.now.model self.now.lists offer }
         requires adds { AddsToArcs self.now.model self.now.lists offer }
         requires timeless { IsTrue (is_timeless self.now.model) }
@@ -309,13 +347,10 @@ impl<'m> Trial<'m> {
         ensures price_range { IsPrice result }
     {
         self.know();
-        if self.is_used(offer.vehicle) {
-            return offer.increase;
-        }
-        offer.increase + self.asker.fixed(offer.vehicle)
+        offer.increase + self.fixed_beside(offer.vehicle)
     }
 
-    // The same by the schedules of all routes.
+    // How much more they cost after an offer, by the schedules of all routes.
     fn price_by_schedules(&mut self, offer: Offer, paid: i64) -> Result<i64, NoMemory>
         requires offer { MayBeMade self.old.model self.old.lists offer }
         requires paid { paid ≡ paid_cost self.old.model self.old.lists }

@@ -1,17 +1,19 @@
 //! An item in its turn, and all of them.
 
-ghost use Rattle.std.specs.Prelude.{◌≡◌, ◌<◌, ◌≤ℤ◌, ◌^◌, ◌||◌, ◌==◌, All, IfSome, OnOk, false, int_lt, length, map};
-ghost use Rattle.std.specs.Prelude.{not, pos};
+ghost use Rattle.std.specs.Prelude.{◌≡◌, ◌<◌, ◌≤ℤ◌, ◌^◌, ◌||◌, ◌==◌, All, IfOk, IfSome, OnOk, false, int_lt};
+ghost use Rattle.std.specs.Prelude.{length, map, not, pos};
 ghost use Rattle.std.specs.Option.{option_map};
 ghost use Rattle.vr_model.specs.tables.Numbers.{total_by};
 ghost use Rattle.vr_model.specs.routes.Routes.{is_active};
 ghost use Rattle.vr_model.specs.first.Items.{class, first_node};
 ghost use Rattle.vr_rules.specs.Placing.{item_nodes, AreCandidates, IsCandidate};
 ghost use Rattle.vr_strings.specs.Turns.{item_at};
-ghost use Rattle.vr_ruin.specs.Makings.{AreInTurn, IsRanked};
-ghost use Rattle.vr_ruin.specs.Offers.{penalty_at as penalty_at_of, put_back as put_back_of, recreated, with_offer};
+ghost use Rattle.vr_ruin.specs.Makings.{AreInTurn, IsRanked, MayGoBack};
+ghost use Rattle.vr_ruin.specs.Offers.{offer_at, penalty_at as penalty_at_of, put_back as put_back_of, recreated};
+ghost use Rattle.vr_ruin.specs.Offers.{with_offer};
 ghost use Rattle.vr_ruin.specs.Ranks.{insertion_at};
 
+use crate::cheapest::cheapest;
 use crate::making::{chosen, rank_all};
 use crate::ranking::Priced;
 use crate::trial::Trial;
@@ -78,8 +80,30 @@ fn take_if_paid(
     }
 }
 
+// The offer for an item at place `r` of their order, the last one if there are fewer. The first one is found without
+// writing all, if no schedules cost anything.
+fn choose(
+    trial: &mut Trial<'_>,
+    item: Item,
+    wide: bool,
+    r: u32,
+    ranked: &mut Vec<Priced>,
+) -> Result<Option<Priced>, NoMemory>
+    requires { MayGoBack trial.old.model trial.old.lists item }
+    ensures ranked { IfOk result (λ best. IfSome best (IsRanked trial.old.model trial.old.lists)) }
+    ensures value { IfOk result (λ best. option_map insertion_at best
+        ≡ offer_at trial.old.model wide trial.old.lists (item_nodes item) r) }
+    ensures trial { trial.new ≡ trial.old }
+{
+    if r == 0 && trial.is_timeless() {
+        return cheapest(trial, wide, item);
+    }
+    rank_all(trial, wide, item, ranked)?;
+    Ok(chosen(ranked, r))
+}
+
 // An item in its turn: put back by the offer that a word chooses, if no group would get too many nodes from it, and
-/// the offer pays. It draws a word only if the groups have room.
+// the offer pays. It draws a word only if the groups have room.
 fn put_back(
     trial: &mut Trial<'_>,
     candidate: Candidate,
@@ -98,12 +122,12 @@ fn put_back(
         return Ok(());
     }
     let r = words.zeros() / 7;
-    rank_all(trial, wide, candidate.item, ranked)?;
-    take_if_paid(trial, candidate, chosen(ranked, r))
+    let best = choose(trial, candidate.item, wide, r, ranked)?;
+    take_if_paid(trial, candidate, best)
 }
 
-/// Puts items that are in no list back in their turns, each known by its place among those of the model. After want of
-/// memory some of them were put back.
+/// Puts items that are in no list back in their turns, each known by its place among those of the model. If memory runs
+/// out some of them were put back.
 pub(crate) fn recreate(
     trial: &mut Trial<'_>,
     candidates: &[Candidate],

@@ -28,7 +28,7 @@ returns-then-not-has_visits-clause-told g c = λ state is.
     (sym (refused_events c.args.stepper.now.model c.args.terms.ruin c.args.terms.limit.tries state c.args.stepper.now.words state.search.lists
     (step_of_none c.args.stepper.now.model c.args.terms.ruin c.args.terms.limit.tries state c.args.routes.now.lists c.args.best.now.lists c.args.stepper.now.words c.args.at.now c.has_visits.result is c.has_visits.ensures c.if-not-has_visits.true))) (told_nothing _ _)
 
--- ---- want of memory before the step is made
+-- ---- memory runs out before the step is made
 
 pub returns-in_err-remake-clause-told_in_part : goal.returns-in_err-remake-clause-told_in_part
 returns-in_err-remake-clause-told_in_part g c = λ state is.

@@ -28,7 +28,7 @@ ruin_is g c =
     let moving = c.in_ok-moving.ensures.value ∙ ap (λ (t : OnTrial). moving_cost t.model t.lists) c.in_ok-first.ensures.trial ∙ ap₂ moving_cost c.requires.same c.requires.begun in
     ap (ruin_of_step c.args.wish) (c.heat_of_first-heat.ensures.value ∙ heat_is c.args.stepper.now.model c.args.routes.now.lists c.args.wish.heat c.in_ok-moving.moving c.count_active-active.result moving c.count_active-active.ensures.value)
 
--- ---- want of memory
+-- ---- memory runs out
 
 pub returns-in_err-first-clause-told_in_part : goal.returns-in_err-first-clause-told_in_part
 returns-in_err-first-clause-told_in_part g c =

@@ -1,4 +1,4 @@
-use Rattle.std.proofs.Common.{◌≡◌, ◌∙◌, ℕ, List, [], ◌∷◌, true, arith, length, refl, sym}
+use Rattle.std.proofs.Common.{◌≡◌, ◌∙◌, List, [], ◌∷◌, true, arith, length, refl, sym}
 use Rattle.std.specs.Prelude.{◌==◌}
 use Rattle.std.proofs.Math.Dec.{eqb-suc-zero}
 use Rattle.vr_model.proofs.tables.Tests.{all-from_list_all, clash}

@@ -1,8 +1,7 @@
-use Rattle.std.proofs.Common.{◌≡◌, ◌∙◌, ℕ, [], ◌+◌, ap, arith, length, sym}
+use Rattle.std.proofs.Common.{◌≡◌, ◌∙◌, ℕ, [], ◌+◌, ap, length}
 use Rattle.std.proofs.lemmas.List.{length-append}
 use Rattle.vr_reach.proofs.Tables.{each_push}
 use Rattle.vr_ruin.specs.declared.known.KnownRoute.{KnownRoute}
-use Rattle.vr_ruin.proofs.KnownLemmas.{none-known}
 use Rattle.vr_ruin.proofs.trial.known_routes.Goals as goal
 
 pub loop-v-preserved : goal.loop-v-preserved

@@ -1,9 +1,7 @@
-use Rattle.std.proofs.Common.{◌≡◌, ◌∙◌, ◌<◌, ap, length, subst, sym}
-use Rattle.std.specs.Prelude.{IsTrue, true}
+use Rattle.std.proofs.Common.{◌∙◌, ◌<◌, ap, length, subst, sym}
 use Rattle.std.specs.List.{list_all}
 use Rattle.vr_model.specs.tables.Tables.{is_visit}
-use Rattle.vr_model.specs.tables.WellFormed.{IsWellFormed}
-use Rattle.vr_model.specs.routes.Routes.{is_distinct, is_empty}
+use Rattle.vr_model.specs.routes.Routes.{is_distinct}
 use Rattle.vr_model.specs.routes.Rules.{is_route_open}
 use Rattle.vr_reach.specs.Lists.{IsUsed}
 use Rattle.vr_reach.specs.Stretches.{SharesEnds}
@@ -12,9 +10,8 @@ use Rattle.vr_ruin.specs.Carrying.{carries_all}
 use Rattle.vr_ruin.specs.Known.{shared_of, IsCarriedBy, IsKnownRoute}
 use Rattle.vr_ruin.specs.Placings.{item_in, placed, MayHold}
 use Rattle.vr_ruin.proofs.AskLemmas.{distinct_after, visits_after}
-use Rattle.vr_ruin.proofs.CarryingLemmas.{closed-by_lines, ends-within, loads-feasible, open-by_rest, plain-open}
+use Rattle.vr_ruin.proofs.CarryingLemmas.{loads-feasible, plain-open}
 use Rattle.vr_ruin.proofs.InsertedLemmas.{placed-shares, placed-used}
-use Rattle.vr_ruin.proofs.TimelessLemmas.{some-placed}
 use Rattle.vr_ruin.proofs.asking.Asker.opens.Goals as goal
 
 pub write_placed-requires-clause-few : goal.write_placed-requires-clause-few

@@ -1,5 +1,4 @@
-use Rattle.std.proofs.Common.{◌∙◌, ℕ, Bool, List, arith, length, sym}
-use Rattle.vr_model.specs.declared.records.Model.{Model}
+use Rattle.std.proofs.Common.{◌∙◌, arith, length, sym}
 use Rattle.vr_model.proofs.tables.Ranges.{all_begin, all_end, all_go_on, all_stop}
 use Rattle.vr_rules.specs.Placing.{item_nodes}
 use Rattle.vr_ruin.specs.Carrying.{carries_in}
