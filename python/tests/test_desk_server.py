@@ -26,6 +26,7 @@ from jambulskeg.desk import Folder, FolderInUse, OpenDay
 from jambulskeg.desk.command import Opener
 from jambulskeg.desk.guard import MOST_BYTES
 from jambulskeg.desk.journal import lines_read
+from jambulskeg.desk.server import DeskServer
 from jambulskeg.program import Program
 
 from .desk_support import THREE_VANS, DeskTests
@@ -156,6 +157,15 @@ class PageTests(DeskTests):
             for step, change in enumerate(changes, seen["step"]):
                 self.assertTrue(self.post(f"{day}/change", {"step": step, "change": change})["answer"]["made"])
         self.assertEqual([list(call[0][2]) for call in completed.call_args_list], [one[1:], other, other])
+
+    def test_it_is_stopped_while_a_request_comes_in(self) -> None:
+        def interrupted(server: DeskServer, request: Any, address: Any) -> None:
+            server.process_request_thread(request, address)
+            raise KeyboardInterrupt
+
+        with socket.socket() as request:
+            with mock.patch("socketserver.ThreadingMixIn.process_request", interrupted):
+                self.assertRaises(KeyboardInterrupt, self.server.process_request, request, ("", 0))
 
     def test_a_model_with_a_clock(self) -> None:
         day = self.made(**{"from": "example", "example": "service-day", "clock": "8:00"})

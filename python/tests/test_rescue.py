@@ -5,6 +5,7 @@ No vr_refine is at hand here; `test_refining` has rounds that go on from the bes
 
 from __future__ import annotations
 
+import contextlib
 import io
 import os
 import threading
@@ -207,10 +208,12 @@ class RoundTests(WithoutRefining):
         self.assertEqual(sorted(seconds for seconds, _ in told), [seconds for seconds, _ in told])
 
     def test_the_first_rounds_are_short(self) -> None:
+        rounds: Sequence[Round] = ()
         for seconds in (0.4, 2, 10):  # A busy machine may want more of them.
             stop = Event()
             threading.Timer(seconds, stop.set).start()
-            rounds = solve_for(with_search(DAY, tries=1), 100, stop=stop).rounds
+            with contextlib.suppress(Stopped):
+                rounds = solve_for(with_search(DAY, tries=1), 100, stop=stop).rounds
             if len(rounds) >= 3:
                 break
         self.assertEqual([entry.search.first for entry in rounds[:3]], constructions(DAY.search))
@@ -266,7 +269,7 @@ class RoundTests(WithoutRefining):
         with Fake(f"if '\"tries\"' not in text or 'SAVINGS' in text: time.sleep(60)\n{AS_REAL}") as path:
             begin = time.monotonic()
             found = solve_for(DAY, 1.0, path)
-            self.assertLess(time.monotonic() - begin, 2.0)
+            self.assertLess(time.monotonic() - begin, 3.0)
             self.assertNotIn(First.SAVINGS, {entry.search.first for entry in found.rounds})
             self.assertRaises(ProgramSlow, lambda: rescue(with_search(DAY, tries=100000), path, seconds=0.3))
 

@@ -54,7 +54,7 @@ class DeskServer(ThreadingMixIn, HTTPServer):
         self._room.acquire()
         try:
             super().process_request(request, client_address)
-        except BaseException:
+        except Exception:  # there is no thread; after an interrupt there may be one, which makes room itself
             self._room.release()
             raise
 
