@@ -4,6 +4,8 @@ from __future__ import annotations
 
 import contextlib
 import os
+import pickle
+import signal
 import tempfile
 import time
 import unittest
@@ -16,7 +18,7 @@ from jambulskeg.errors import NotMet, ProgramFailed
 from jambulskeg.model import solution_of
 from jambulskeg.program import Program, find
 from jambulskeg.region import Asked, OwnCrew, Part, Planned, Region, Searcher, Store, cut, model_of_part, plan
-from jambulskeg.region.ahead import FEW, ahead, begin, made
+from jambulskeg.region.ahead import FEW, ahead, work
 from jambulskeg.region.crew import Answers, TextOf
 from jambulskeg.region.given import cost_of, given_of
 from jambulskeg.region.mending import effort_of
@@ -46,11 +48,20 @@ class AheadTests(unittest.TestCase):
             with self.assertRaises(NotMet):
                 found(3)
 
-    def test_a_process_makes_calls(self) -> None:
-        begun: List[int] = []
-        with mock.patch("signal.signal", lambda number, _: begun.append(number)):
-            begin(lambda number: 1 // number)
-        self.assertEqual((len(begun), made(1), made(0)), (2, [1], []))
+    def test_a_process_writes_what_it_makes(self) -> None:
+        reads, writes = os.pipe()
+        with mock.patch("os._exit") as ended, mock.patch("os.closerange"), mock.patch("signal.signal"):
+            work(lambda number: 6 // number, range(3), writes)
+        ended.assert_called_once_with(0)
+        os.close(writes)
+        with os.fdopen(reads, "rb") as file:
+            self.assertEqual([pickle.load(file) for _ in range(3)], [(0, []), (1, [6]), (2, [3])])
+
+    def test_what_a_killed_process_leaves_is_made_here(self) -> None:
+        with ahead(lambda number: (os.getpid(), bytes(200_000)), FEW, 2) as found:
+            os.kill(found(0)[0], signal.SIGKILL)
+            self.assertEqual(found(FEW - 2)[0], os.getpid())
+            self.assertNotEqual(found(FEW - 1)[0], os.getpid())
 
 
 class GivenTests(unittest.TestCase):
@@ -114,7 +125,7 @@ class PaceTests(unittest.TestCase):
 
     def test_a_measure_takes_little(self) -> None:
         began = time.monotonic()
-        pace = Pace(1, 2, lambda: time.monotonic() - began)
+        pace = Pace(100, 2, lambda: time.monotonic() - began)
         pace.measure(self.region, self.parts, OwnCrew(2))
         self.assertGreater(pace.tries(), 0)
         pace.measure(self.region, self.parts, Sleeper(0.01))

@@ -73,7 +73,7 @@ class Near(Dict[int, List[int]]):
         return out
 
     def links(self, van_of: Mapping[int, int], visits: Iterable[int]) -> "Counter[Optional[int]]":
-        """For each van how often one of its visits lies near one of these, both ways; None stands for visits that no van
+        """For each van how often one of its visits lies near one of these, both ways; None stands for those that no van
         makes."""
         return Counter(map(van_of.get, chain.from_iterable(map(self.around.__getitem__, visits))))
 

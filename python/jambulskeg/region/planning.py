@@ -143,7 +143,8 @@ def plan(
     """The plan of a region, by as many rounds as the tries or the seconds allow.
 
     With `tries` its rounds depend on the region and on what is asked alone, not on the crew or the machine; with
-    seconds, on the speed of these too. `began` is when the seconds began, as `time.monotonic` tells it. Raises `RunDiffers`, `NotSolved`, `EngineFailed`, `Refused`, `OSError`; what was solved is kept then.
+    seconds, on the speed of these too. `began` is when the seconds began, as `time.monotonic` tells it. Raises
+    `RunDiffers`, `NotSolved`, `EngineFailed`, `Refused`, `OSError`; what was solved is kept then.
     """
     run = Run(region, asked, crew, store, program, progress or (lambda entry: None), began)
     state = run.found(resume) or run.first_parts()
