@@ -1,4 +1,4 @@
-use Rattle.std.proofs.Common.{◌≡◌, ℕ, List, Option, Some, None, Result, true, false, ap, subst}
+use Rattle.std.proofs.Common.{◌≡◌, ℕ, List, [], Option, Some, None, Result, true, false, ap, subst}
 use Rattle.std.proofs.lemmas.Result.{IfOk-weaker}
 use Rattle.std.specs.Prelude.{IfOk, IfSome, MatchOption}
 use Rattle.vr_model.specs.routes.Routes.{are_lists}
@@ -35,7 +35,7 @@ pub returns-clause-reply : goal.returns-clause-reply
 returns-clause-reply c =
     let model = c.args.lookups.now.closed.model.now in
     let lists = c.args.lists.now in
-    first_line c.answer_from.result _ model lists _ (seated model lists c.in_ok-routes.routes c.in_ok-routes.ensures.answer c.in_ok-routes.ensures.lists (are-lists model lists c.requires)) c.answer_from.ensures.reply
+    first_line c.answer_from.result (λ events. []) model lists _ (seated model lists c.in_ok-routes.routes c.in_ok-routes.ensures.answer c.in_ok-routes.ensures.lists (are-lists model lists c.requires)) c.answer_from.ensures.reply
 
 pub returns-clause-status : goal.returns-clause-status
 returns-clause-status c = IfOk-weaker c.answer_from.result _ _ (λ a is. same_status a.status all.Done is.status_is) (returns-clause-reply c)
