@@ -196,7 +196,7 @@ class PlanTests(unittest.TestCase):
     @classmethod
     def setUpClass(cls) -> None:
         cls.region = made_region(600)
-        cls.asked = Asked(tries=30_000_000)
+        cls.asked = Asked(tries=12_000_000)
         cls.found = planned(cls.region, cls.asked)
         cls.whole = checked(cls.region, cls.found)
 
