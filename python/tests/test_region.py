@@ -195,8 +195,8 @@ class PlanTests(unittest.TestCase):
 
     @classmethod
     def setUpClass(cls) -> None:
-        cls.region = made_region(240)
-        cls.asked = Asked(tries=4_000_000, most=80)
+        cls.region = made_region(600)
+        cls.asked = Asked(tries=12_000_000)
         cls.found = planned(cls.region, cls.asked)
         cls.whole = checked(cls.region, cls.found)
 

@@ -32,9 +32,9 @@ ALL_FROM = 1
 """From this place in `LEVELS` on routes that come from one part are solved anew too, since the tries are more then."""
 OF_A_ROUND = 10**6
 """The numbers that the parts of a round have for themselves."""
-FEWEST_TRIES, FIRST_TRIES = 30_000, 3_000_000
+FEWEST_TRIES, FIRST_TRIES = 30_000, 1_500_000
 """The first tries of a seam, at least and at most."""
-PASSES = 6
+PASSES = 12
 """The tries are enough for as many rounds over all routes with the first tries of a seam."""
 RESTED = 0.15
 """The next tries are begun when no larger share of the routes is awake."""
