@@ -230,7 +230,7 @@ class PlanTests(unittest.TestCase):
         whole = check_plan(tables, self.found.standing, sheets=True, jobs=2)
         rows = plan_table(tables, whole).splitlines()
         self.assertEqual(rows[0], "\ufeffvan,stop,name,arrival,begins,departure,load")
-        self.assertEqual(len(rows), 1 + 240 + 2 * len(whole.days()))
+        self.assertEqual(len(rows), 1 + 600 + 2 * len(whole.days()))
         files = dict(sheet_files(tables, whole, "Monday"))
         self.assertEqual(len(files), len(whole.days()) + 1)
         self.assertEqual(files["all.html"].count("<section>"), len(whole.days()))
