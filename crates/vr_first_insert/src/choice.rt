@@ -81,8 +81,8 @@ pub(crate) fn improves(best: Option<InsertionChoice>, next: InsertionChoice) -> 
     }
 }
 
-/// Whether choices of a class that add at least so much may be better than the best so far. One that adds as much may
-/// be, by item, vehicle or places.
+/// Whether choices of a class that add at least `least` may be better than the best so far. One that adds as much as
+/// the best may be better by item, vehicle or places.
 pub(crate) fn may_improve(best: Option<InsertionChoice>, class: u32, least: i64) -> bool
     ensures { result ≡ may_improve_by best class least }
 {

@@ -30,7 +30,7 @@ fn node_before(list: &LookedUpList<'_, '_, '_>, t: usize) -> u32
     }
 }
 
-// The node at a place, the end behind the last.
+// The node at a place; the end after the last.
 fn node_behind(list: &LookedUpList<'_, '_, '_>, t: usize) -> u32
     requires { t ≤ length list.now.nodes.now }
     ensures node { result ≡ node_behind_of (list_model list.now) list.now.vehicle list.now.nodes.now t }
@@ -44,7 +44,7 @@ fn node_behind(list: &LookedUpList<'_, '_, '_>, t: usize) -> u32
     }
 }
 
-// What the arc between two neighbours costs, nothing in an empty list, whose vehicle takes no arc.
+// What the arc between two neighbours costs. In an empty list it costs nothing: the vehicle takes no arc.
 fn arc_between(list: &LookedUpList<'_, '_, '_>, a: u32, b: u32) -> i64
     requires first { a < (list_model list.now).nodes }
     requires second { b < (list_model list.now).nodes }
