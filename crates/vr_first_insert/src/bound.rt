@@ -61,7 +61,8 @@ pub(crate) fn least_place(list: &LookedUpList<'_, '_, '_>, node: u32) -> usize
 }
 
 /// Writes the least that a visit adds to a list before its last places: first the last one, then the last two, up to
-/// all. Entry `k` is for the last `k + 1` places; the last of these is before the end.
+/// all. Entry `k` is for the last `k + 1` places; the last of these is before the end. For example, a list of two nodes
+/// has the places 0, 1 and 2. If the visit adds 5, 3 and 9 before these, the entries are 9, 3 and 3.
 pub(crate) fn write_ahead(
     list: &LookedUpList<'_, '_, '_>,
     node: u32,

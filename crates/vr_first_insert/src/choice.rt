@@ -10,9 +10,10 @@ use vr_rules::Item;
 /// An item at its places in a list, which are counted in the list without it.
 #[derive(Clone, Copy)]
 pub(crate) enum Placing {
-    /// A visit, and the place that it is put before.
+    /// A visit, and the place that it is put before: `One(7, 1)` makes 3 7 4 of the list 3 4.
     One(u32, u32),
-    /// A pickup and its delivery, and the places that they are put before.
+    /// A pickup and its delivery, and the places that they are put before: `Two(7, 8, 1, 1)` makes 3 7 8 4 of 3 4, and
+    /// `Two(7, 8, 0, 1)` makes 7 3 8 4.
     Two(u32, u32, u32, u32),
 }
 

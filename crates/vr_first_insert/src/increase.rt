@@ -60,7 +60,8 @@ fn arc_between(list: &LookedUpList<'_, '_, '_>, a: u32, b: u32) -> i64
     lookups.closed.model.arc_cost(list.vehicle, a, b)
 }
 
-// From a node over another to a third, less what was driven there before.
+// From a node over another to a third, less what was driven there before. If the two arcs cost 4 and 5, and the arc
+// that they replace 6, the detour is 3.
 fn detour(list: &LookedUpList<'_, '_, '_>, a: u32, x: u32, b: u32, before: i64) -> i64
     requires first { a < (list_model list.now).nodes }
     requires second { x < (list_model list.now).nodes }

@@ -37,8 +37,8 @@ pub(crate) enum KnownItem {
     Best(Option<InsertionChoice>),
 }
 
-/// Whether what is known of an item tells the better of the best so far and the best in the list. It does if the best
-/// in the list is known, or if none there is better; this is asked of an item of class `class`.
+/// Whether what is known of an item of a class settles which is better, the best so far or the best in the list. It
+/// does if the best in the list is known, or if none there is better.
 pub(crate) fn is_settled(known: &KnownItem, class: u32, best: Option<InsertionChoice>) -> bool
     ensures { result ≡ is_settled_of known.now class best }
 {
@@ -107,9 +107,9 @@ fn known_beside(best: InsertionChoice, next: InsertionChoice) -> KnownItem
     }
 }
 
-// What a search for an item begins with. For a pair it is the best so far, so that few places are tried. It is nothing
-// for a visit, whose best place is soon found, and if a search told the bound. What is found then is the best of the
-// list, and serves until the list changes.
+// What a search for an item begins with. For a pair it is the best so far, so that few places are tried. For a visit,
+// whose best place is soon found, it is nothing. If a search told the bound, it is nothing too. What is found then is
+// the best of the list, and serves until the list changes.
 fn begun_with(item: Item, searched: bool, best: Option<InsertionChoice>) -> Option<InsertionChoice>
     ensures { result ≡ begun_with_of item searched best }
 {

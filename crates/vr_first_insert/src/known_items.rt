@@ -9,7 +9,8 @@ use std::alloc::Global;
 use std::marker::Model;
 use vr_model::{NoMemory, Seq};
 
-// What was found of an item, and after how many changes of the list.
+// What was found of an item, and after how many changes of the list. Found after three changes, it is forgotten by the
+// fourth.
 #[derive(Clone, Copy, Drop)]
 pub(crate) struct FoundItem {
     pub(crate) known: KnownItem,
