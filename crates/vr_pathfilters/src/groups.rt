@@ -102,7 +102,8 @@ fn many_in_pieces(numbers: &Seq<u32>, routes: &Routes, pieces: &[Piece], g: u32)
 
 // Whether `come` nodes of group `g` may come while `gone` go. If `g` is how many groups there are, it is asked of
 // visits in no group. Such a visit is active, so it comes only if it goes too, and it may not go alone. A group without
-// a penalty has as many active nodes as it may have, and keeps that number.
+// a penalty has as many active nodes as it may have, and keeps that number. A group with a penalty that may have two
+// active nodes, and has two, lets one come if one goes.
 fn allows(closed: Closed<'_>, routes: &Routes, g: u32, come: usize, gone: usize) -> bool
     requires few { IsInPieces come }
     requires few_too { IsInPieces gone }

@@ -1,6 +1,6 @@
-//! Filters that judge a change of routes by what it changes: feasible lines, allowed vehicles, groups, pairs. Of a
-//! change they ask about the nodes that come into a list or go from it, and about the stretch between the ends that it
-//! keeps. A vehicle's list is its route without start and end.
+//! Filters that judge a change of routes by what it changes: feasible lines, allowed vehicles, groups, pairs. A change
+//! keeps both ends of a list. They look at the stretch between these, and at the nodes that come into the list or go
+//! from it. A vehicle's list is its route without start and end.
 //!
 //! A filter is always in sync with the committed lists: its rule holds of them, and what it keeps is of them. Rows are
 //! made when a filter is opened or a change made ready. Sums of loads and counts of turns are written over by the

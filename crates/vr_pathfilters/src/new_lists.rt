@@ -14,7 +14,8 @@ use vr_lists::NodeTables;
 use vr_model::{Pair, Policy};
 use vr_routes::Routes;
 
-/// What a change makes of the list of a vehicle: other nodes between the ends that it keeps.
+/// What a change makes of the list of a vehicle: other nodes between the ends that it keeps. With `front` 1, `behind` 3
+/// and `middle` 8 9, the list 1 2 3 4 becomes 1 8 9 4.
 #[derive(Clone, Copy)]
 pub(crate) struct Between<'r, 'n> {
     pub(crate) routes: &'r Routes,

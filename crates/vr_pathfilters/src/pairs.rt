@@ -215,8 +215,8 @@ fn count_all(node_tables: &NodeTables<'_>, routes: &Routes, turns: &mut Turns)
 /// OR-Tools it is `PickupDeliveryFilter`, by `AddPickupAndDelivery` and `SetPickupAndDeliveryPolicyOfVehicle`.
 ///
 /// A change keeps both ends of a list. The filter looks at the nodes that are between them afterwards, and at those
-/// that are gone from there, whatever the policy of the vehicle is. In a model without pairs it judges a change without
-/// a look at any list. It takes memory only when it is opened.
+/// that are gone from there. It does so whatever the policy of the vehicle is. In a model without pairs it judges a
+/// change without a look at any list. It takes memory only when it is opened.
 pub type PairFilter<'m> = ListFilter<PairRule<'m>>;
 
 impl<'m> PairFilter<'m> {
