@@ -17,7 +17,7 @@ pub(crate) struct JoinChoice {
 }
 
 // Whether a choice comes before another: by the greater saving, then the lesser last node in front, then the lesser
-// first node of the back route.
+// first node of the back.
 fn comes_before(one: JoinChoice, other: JoinChoice) -> bool
     ensures { result ≡ is_lex_less (saving_key one) (saving_key other) }
 {

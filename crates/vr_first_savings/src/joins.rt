@@ -25,7 +25,8 @@ use vr_plan::Lookups;
 use vr_rules::{Driving, is_route_open};
 
 // What a join saves at the arc costs of vehicle 0. The vehicle drives from the last node of one route to the first of
-// another, and not over the end and the start.
+// another, and not over the end and the start. If the arcs to the end and from the start cost 10 and 12, and the arc
+// between the routes 5, the join saves 17.
 fn saved(closed: Closed<'_>, front: EndsOfRoute, back: EndsOfRoute) -> i64
     requires front { AreRouteEnds closed.model.now front }
     requires back { AreRouteEnds closed.model.now back }
