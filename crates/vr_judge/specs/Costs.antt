@@ -37,8 +37,8 @@ abbrev pub is_least_by_arcs : Model → List (List ℕ) → ℕ → Bool
 is_least_by_arcs model lists kind =
     pays_arcs_and_groups model && (is_same_number (penalty_part model lists) (pos 0) || nat_lt kind 6)
 
--- each move of a run adds to the cost of lists at least what it adds to the cost of their arcs, less what it saves. The
--- moves of a run differ in their last number.
+-- each move of a run adds to the cost of lists at least what it adds to their arcs, less what it saves. The moves of a
+-- run differ in their last number.
 abbrev pub AddArcsBut : Model → List (List ℕ) → Move → ℤ → Type 0
 AddArcsBut model lists mv saved =
     (k : ℕ) → IsTrue (is_move model lists (with_last mv k))

@@ -7,7 +7,7 @@ use Rattle.vr_judge.specs.Rules.{keeps_rules, total_weight}
 use Rattle.vr_judge.specs.Costs.{KeptCosts, StandsCosts}
 
 -- the filters ask what valid lists of the model keep, within its weights. They and the parts of the cost are in sync
--- with the lists of the routes.
+-- with the routes.
 pub record IsJudging (model : Model) (routes : Tours) (holds : List (List ℕ) → Bool)
     (weight : List (List ℕ) → List (List ℕ) → ℕ) (stands_at : Tours → Type 0) (costs : KeptCosts) : Type 0 where
   pub of_model : routes.visits ≡ visits model

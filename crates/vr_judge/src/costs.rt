@@ -154,7 +154,7 @@ impl<'m> Costs<'m> {
     //   node saves.
     //
     // `None` if more may be paid than arcs and penalties. If there is a penalty to pay, it is also `None` of moves that
-    // only take visits out, and of a pair or place that does not exist.
+    // only take visits out. So it is then of a pair or place that is not there.
     #[inline(always)]
     fn saved_by_run(&self, routes: &Routes, mv: Move) -> Option<i64>
         requires stands { StandsCosts self.now routes.now }
@@ -172,8 +172,8 @@ impl<'m> Costs<'m> {
     }
 
     /// Goes over a run of moves of the committed lists, which differ in their last number: those of the numbers from
-    /// `from` on, below `end`. Says from which number on some move may make a difference below a bound. This is told by
-    /// the cost of arcs, less the most of the penalties that any move of the run saves.
+    /// `from` on, below `end`. Says from which number on some move may make a difference below a bound. What a move
+    /// makes is bounded by the cost of arcs, less the most of the penalties that any move of the run saves.
     ///
     /// `None`:
     ///

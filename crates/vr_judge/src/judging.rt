@@ -56,8 +56,9 @@ fn judge_by<F: PathFilter, L: Ledger>(
     Ok(Verdict::Difference(difference))
 }
 
-// Makes a change of the lists that a filter and costs are in sync with. The lists are valid after it. All are made
-// ready first; then all are changed, which takes no memory. If memory is wanting, none is changed.
+// Makes a change of the lists that a filter and costs are in sync with. The lists are valid after it. Filter and costs
+// are made ready first; then they and the routes are changed, which takes no memory. If memory is wanting, none is
+// changed.
 fn commit_by<F: PathFilter>(
     filter: &mut F,
     costs: &mut Costs<'_>,
