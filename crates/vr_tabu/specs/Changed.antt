@@ -18,7 +18,7 @@ is_same_node (Some x) None = false
 is_same_node (Some x) (Some y) = x == y
 
 -- a visit is changed in a list if the node just before it is another in the new list than in the old one. So is a visit
--- that is in one of the two lists alone.
+-- that is in one of the two lists alone. From 3 7 4 to 3 4 7 the visits 4 and 7 are changed, and 3 is not.
 abbrev pub is_changed_in : ℕ → List ℕ → List ℕ → ℕ → Bool
 is_changed_in start old new visit = not (is_same_node (node_just_before start old visit)
     (node_just_before start new visit))

@@ -33,7 +33,8 @@ is_tabu_visit tabus visit = nat_lt tabus.round (tabus.until visit)
 unfoldable pub is_tabu : Model → TabuList → List (List ℕ) → List (List ℕ) → Bool
 is_tabu model tabus old new = list_all (is_tabu_visit tabus) (changed_visits model old new)
 
--- the next round: each visit that was changed is tabu for `tenure` rounds from then on
+-- the next round: each visit that was changed is tabu for `tenure` rounds from then on. With tenure 10, a visit that
+-- round 5 changed is tabu in the rounds 6 to 15.
 abbrev pub next_round : Model → ℕ → List (List ℕ) → List (List ℕ) → TabuList → TabuList
 next_round model tenure old new tabus = record {
   round = suc tabus.round;
@@ -52,8 +53,8 @@ least_candidate model tabus best lists =
     least_by (λ mv. cost model (apply model lists mv) ∷ [])
     (filter (is_candidate model tabus best lists) (moves model lists))
 
--- how a round ends: with the number of moves and their least candidate, with the number of moves and no candidate, or
--- for want of tries
+-- how a round ends. It is Best with the number of moves and their least candidate. It is Stuck with the number of moves
+-- if there is no candidate, and Cut for want of tries.
 pub data TabuRound : Type 0 where
   Best : ℕ → Move → TabuRound
   Stuck : ℕ → TabuRound

@@ -104,7 +104,8 @@ impl<'a> Round<'a> {
         }
     }
 
-    // Moves that make a lesser difference lead to lists that cost less than any before.
+    // Moves that make a lesser difference lead to lists that cost less than any before. If the best lists cost 90 and
+    // these 100, the difference is -10.
     #[inline]
     fn aspiration(&self) -> i64
         ensures { result ≡ aspiration self.now.model.now self.now.state.now.best.routes.lists
@@ -188,8 +189,8 @@ impl<'a> Round<'a> {
     }
 
     // Takes the first move of a list that is not passed over. Moves are passed over that lead to lists that are not
-    // valid, or that make no less than the best candidate so far. Before there is one, they make no less than the
-    // ceiling. Moves that are passed over are counted.
+    // valid, or that make no less than the best candidate so far. Before there is one, the ceiling takes its place.
+    // Moves that are passed over are counted.
     #[inline(always)]
     fn next_open<J: Judge>(
         &self,

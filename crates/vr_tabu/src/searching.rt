@@ -54,7 +54,7 @@ pub struct Parameters {
 /// The routes then have the last lists, and the judge is in sync with them. The answer has the first lists of the least
 /// cost. `limit` allows up to 10^9 tries and from 1 to 10^9 solutions, and `tenure` is in 1..=1000.
 ///
-/// The report's end is, asked in this order:
+/// The report's end is the first of these that holds:
 ///
 /// - `Solutions` if as many solutions were found as the limit allows;
 /// - `Tries` if there are more moves than tries left; the tries left then count as used;
@@ -64,8 +64,8 @@ pub struct Parameters {
 /// move or of a run of moves.
 ///
 /// The only refusal is want of memory. The judge is then in sync with the lists of the routes, which are valid. It was
-/// asked about no more moves than the limit has tries. The watchers have been told the events up to there; of the event
-/// in hand, the first few of them were told. Memory is taken once at the beginning, and then by the judge and the
+/// asked about no more moves than the limit has tries. The watchers have been told the events up to there; the first
+/// few of them may know the event in hand too. Memory is taken once at the beginning, and then by the judge and the
 /// watchers alone.
 pub fn tabu<J: Judge, L: Ledger>(
     alloc: Global,
