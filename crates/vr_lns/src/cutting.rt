@@ -16,7 +16,8 @@ use vr_plan::Lookups;
 use vr_routes::Routes;
 
 /// A cut: the vehicle whose list a chain of visits is taken out of, and the place in it at which the chain begins. The
-/// chain has as many visits as one may have, or those up to the end of the list.
+/// chain has as many visits as one may have, or those up to the end of the list. For example, it may have two, and the
+/// list is 3 7 4 9. A cut at place 1 takes 7 and 4, and one at place 3 takes 9.
 #[derive(Clone, Copy)]
 pub struct Cut {
     pub vehicle: u32,

@@ -28,14 +28,14 @@ use vr_watch::{Watch, note_all};
 /// `limit` allows up to 10^9 tries, which are cuts, and from 1 to 10^9 solutions. Tests ask this one; `vr_app` has the
 /// model looked up, and calls [`lns_over`].
 ///
-/// The report's end is, asked in this order:
+/// The report's end is the first of these that holds:
 ///
 /// - `Solutions` if as many solutions were found as the limit allows;
 /// - `Optimum` if no cut of the last lists gives valid lists that cost less;
 /// - `Tries` if the tries ran out before that was known.
 ///
 /// The only refusal is want of memory. The routes then hold valid lists, and no more was rebuilt than the limit has
-/// tries. The watchers have been told the events up to there; of the event in hand, the first few of them were told.
+/// tries. The watchers have been told the events up to there; the first few of them may know the event in hand too.
 pub fn lns<R: Rebuild>(
     alloc: Global,
     model: &Model,
