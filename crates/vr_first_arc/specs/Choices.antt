@@ -28,7 +28,7 @@ item_of_choice choice = choice.item
 abbrev pub nodes_of_choice : ArcChoice → List ℕ
 nodes_of_choice choice = item_nodes choice.item
 
--- the choice of a candidate behind a node
+-- the choice of a candidate after a node
 abbrev pub choice_of : Model → ℕ → ℕ → Candidate → ArcChoice
 choice_of model v at candidate = record {
   item = candidate.item;
@@ -41,14 +41,14 @@ abbrev pub may_append : Model → ℕ → List ℕ → List Bool → Item → Bo
 may_append model v list marks item = is_route_open model v (list ++ item_nodes item)
     && list_all (has_room marks item) model.groups
 
--- an item that may be appended to the list of vehicle v: it stands in no list, and the lists stay open
+-- an item that may be appended to the list of vehicle v: it is in no list, and the lists stay open
 pub record MayBeAppended (model : Model) (lists : List (List ℕ)) (v : ℕ) (item : Item) : Type 0 where
   pub is_item : IsItem model item
   pub inactive : is_active lists (first_node (item_nodes item)) ≡ false
   pub stays_open : IsTrue (is_open model (appended lists v (item_nodes item)))
 
--- the better of the best choice so far and a candidate, which counts only where its first node is not marked and it may
--- be appended
+-- the better of the best choice so far and a candidate. The candidate counts only if its first node is not marked and
+-- it may be appended.
 abbrev pub chosen_beside : Model → ℕ → List ℕ → List Bool → Candidate → Option ArcChoice → Option ArcChoice
 chosen_beside model v list marks candidate best = let next = choice_of model v (tail model v list) candidate in
     cond (is_marked marks (first_node (item_nodes candidate.item))) best

@@ -4,8 +4,7 @@ use Rattle.vr_model.specs.first.Items.{items}
 use Rattle.vr_model.specs.first.PathCheapestArc.{filled, next_appended}
 use Rattle.vr_model.specs.declared.records.Model.{Model}
 
--- where items were appended to the list of a vehicle at most as often as there are items, none may be appended any
--- more: so many steps are enough
+-- after at most as many items were appended to the list of a vehicle as there are items, none may be appended any more
 abbrev pub FillingEnds : Type 0
 FillingEnds =
     (model : Model) (v : ℕ) (lists : List (List ℕ)) → v < length lists

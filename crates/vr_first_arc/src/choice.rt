@@ -35,7 +35,7 @@ pub(crate) fn improves(best: Option<ArcChoice>, next: ArcChoice) -> bool
     }
 }
 
-// The item of a choice, where there is one.
+// The item of a choice, if there is one.
 pub(crate) fn item_of(best: Option<ArcChoice>) -> Option<Item>
     ensures { result ≡ option_map item_of_choice best }
 {

@@ -17,8 +17,8 @@ use crate::growing::{Filling, Growing};
 use vr_model::{Closed, NoMemory, Seq};
 use vr_rules::{Candidate, Fronts, Item, Room, last_stop, mark_item};
 
-// The better of the best choice so far and another, which counts only where it may be appended. That takes most to ask,
-// so it is asked only where the choice comes first.
+// The better of the best choice so far and another, which counts only if it may be appended. That takes most to ask, so
+// it is asked only if the choice comes first.
 fn consider(
     growing: &Growing<'_, '_, '_, '_>,
     room: &mut Room,
@@ -40,8 +40,8 @@ fn consider(
     }
 }
 
-// The better of the best choice so far and a candidate, which counts only where its first node is not marked: a pair
-// stands in a list with both nodes, or in none.
+// The better of the best choice so far and a candidate, which counts only if its first node is not marked. One node
+// suffices: a list has both nodes of a pair or neither.
 fn consider_candidate(
     growing: &Growing<'_, '_, '_, '_>,
     room: &mut Room,
@@ -124,8 +124,9 @@ fn place(
     Ok(())
 }
 
-// Appends items to the list of vehicle `v`, as long as one may be appended: each time the one of the least class, the
-// cheapest arc to it, and the least number. Each step appends one, so as many steps as there are items are enough.
+// Appends items to the list of vehicle `v`, as long as one may be appended. Each time it is the item of the least
+// class, then of the cheapest arc to it, then of the least number. Each step appends one, so as many steps as there are
+// items are enough.
 fn fill(
     filling: &Filling<'_, '_, '_>,
     v: u32,
@@ -156,8 +157,8 @@ fn fill(
     Ok(())
 }
 
-// The same, where what the list reaches at its end is not known yet. The list is empty here, since the construction
-// begins with empty ones.
+// The same if what the list reaches at its end is not known yet. The list is empty here, since the construction begins
+// with empty ones.
 fn fill_from_start(
     filling: &Filling<'_, '_, '_>,
     v: u32,

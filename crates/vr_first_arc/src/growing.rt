@@ -18,6 +18,6 @@ pub(crate) struct Growing<'l, 'm, 'c, 'k> {
     pub(crate) list: &'k [u32],
     // what the list reaches at its end
     pub(crate) fronts: &'k Fronts,
-    // which nodes stand in lists
+    // which nodes are in lists
     pub(crate) marks: &'k [bool],
 }

@@ -3,8 +3,8 @@
 
 ghost use Rattle.vr_first_arc.specs.Ending.{FillingEnds};
 
-/// A list is filled until nothing may be appended to it any more, and not up to its bound: as many steps as there are
-/// items are enough, from whatever lists it begins.
+/// A list is filled until nothing may be appended to it any more, and not up to its bound. As many steps as there are
+/// items are enough, whatever lists it begins from.
 pub fn filling_ends()
     ensures { FillingEnds }
 {}

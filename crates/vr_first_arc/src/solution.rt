@@ -51,7 +51,7 @@ fn filled_lists(alloc: Global, lookups: &Lookups<'_>) -> Result<Vec<Seq<u32>>, N
 /// The routes at which the construction ends, valid or not: they are open. A search that may begin with routes that
 /// lack something asks this one.
 ///
-/// `NoMemory` where there was no memory.
+/// `NoMemory` if there was no memory.
 pub fn built_over(alloc: Global, lookups: &Lookups<'_>) -> Result<Routes, NoMemory>
     ensures lists { IfOk result (λ routes. routes.lists ≡ path_cheapest_arc lookups.now.closed.model.now) }
     ensures built { IfOk result (λ routes. AreBuilt lookups.now.closed.model.now routes.lists) }
@@ -65,11 +65,11 @@ pub fn built_over(alloc: Global, lookups: &Lookups<'_>) -> Result<Routes, NoMemo
     }
 }
 
-/// The first solution of a model (`PATH_CHEAPEST_ARC` in OR-Tools): vehicle after vehicle, items are appended to its
-/// list as long as the lists stay open, each time the item of the least class, and of those the one to which the arc
-/// costs least, and of those the one of the least number.
+/// The first solution of a model (`PATH_CHEAPEST_ARC` in OR-Tools). Vehicle after vehicle, items are appended to its
+/// list as long as the lists stay open. Each time it is the item of the least class. Of those it is the one to which
+/// the arc costs least, and of those the one of the least number.
 ///
-/// `None` exactly where the lists at which this ends are not valid; `NoMemory` where there was no memory.
+/// `None` exactly if the lists at which this ends are not valid; `NoMemory` if there was no memory.
 pub fn first_over(alloc: Global, lookups: &Lookups<'_>) -> Result<Option<Routes>, NoMemory>
     ensures first { IfOk result (λ first. lists_in first ≡ cond
         (is_valid lookups.now.closed.model.now (path_cheapest_arc lookups.now.closed.model.now))
@@ -81,8 +81,8 @@ pub fn first_over(alloc: Global, lookups: &Lookups<'_>) -> Result<Option<Routes>
     complete_routes(alloc, lookups, &lists)
 }
 
-/// The same of a model that nobody has looked up yet: looks it up, and asks [`first_over`]. The program, which has it
-/// looked up, asks that itself; tests and `vr_bench` ask this.
+/// The same of a model that nobody has looked up yet: looks it up, and asks [`first_over`]. Tests and `vr_bench` ask
+/// this. The program has the model looked up, and asks [`first_over`] itself.
 pub fn first(alloc: Global, model: &Model) -> Result<Option<Routes>, NoMemory>
     requires well_formed { IsWellFormed model.now }
     ensures first { IfOk result (λ first. lists_in first

@@ -26,7 +26,7 @@ items_model items = items.lookups.now.closed.model.now
 abbrev pub AreItems : Items → Type 0
 AreItems items = AreCandidates (items_model items) items.candidates.now
 
--- a list for each vehicle, which it may drive, and what is kept is that of the lists
+-- a list for each vehicle, which it may drive; what is kept is of these lists
 pub record AreAsked (on : AskedLists) : Type 0 where
   pub ready : AreReady (items_model on.items) on.lists.now on.list_rows.now
   pub vehicles : length on.lists.now ≡ length (items_model on.items).vehicles
@@ -53,7 +53,7 @@ AreKnownIn on v = AreCandidatesKnown (items_model on.items) v (route on.lists.no
 abbrev pub AreKnownInEach : AskedLists → List (List KnownItem) → Type 0
 AreKnownInEach on = AreKnownRows (items_model on.items) on.lists.now on.items.candidates.now
 
--- the list of vehicle v may be asked for candidate i, where the row has what is known of the candidates in it
+-- the list of vehicle v may be asked for candidate i: the row has what is known of the candidates in it
 pub record MayAsk (on : AskedLists) (v i : ℕ) (known : List KnownItem) : Type 0 where
   pub asked : AreAsked on
   pub candidate : i < length on.items.candidates.now
@@ -68,8 +68,8 @@ pub record MayAskEach (on : AskedLists) (i : ℕ) (known : List (List KnownItem)
   pub may_hold : MayBeHeld on i
   pub rows : AreKnownInEach on known
 
--- whether an item may count can be told: each node has its mark, no group has more marked nodes than it may have, and
--- the item begins with one of the nodes
+-- whether an item may count can be told. Each node has its mark, no group has more marked nodes than it may have, and
+-- the item begins with one of the nodes.
 pub record MayCount (items : Items) (marked : List Bool) (candidate : Candidate) : Type 0 where
   pub marks : length marked ≡ (items_model items).nodes
   pub fit : IsTrue (list_all (fits_by marked) (items_model items).groups)
@@ -83,7 +83,7 @@ waiting_candidate on waiting k = candidate_at on.items.candidates.now (waiting_a
 abbrev pub AreWaitingFor : AskedLists → List WaitingItem → Type 0
 AreWaitingFor on = All (IsWaiting (items_model on.items) on.lists.now on.items.candidates.now)
 
--- the best so far may be set beside waiting item k: each list may be asked for it where it counts
+-- the best so far may be compared with waiting item k: each list may be asked for the item if it counts
 pub record MayWeigh (on : AskedLists) (marked : List Bool) (k : ℕ) (known : List (List KnownItem))
     (waiting : List WaitingItem) : Type 0 where
   pub asked : AreAsked on
@@ -96,7 +96,7 @@ pub record MayWeigh (on : AskedLists) (marked : List Bool) (k : ℕ) (known : Li
   pub rows : AreKnownInEach on known
   pub waits : AreWaitingFor on waiting
 
--- lists that are open, with the marks of their nodes, may be asked for each item that stands in none
+-- open lists, with the marks of their nodes, may be asked for each item that is in none of them
 pub record MayAskUnplaced (on : AskedLists) (marked : List Bool) : Type 0 where
   pub asked : AreAsked on
   pub items_are : AreItems on.items
@@ -109,8 +109,8 @@ pub record MayLower (on : AskedLists) (marked : List Bool) (v : ℕ) (item : Wai
   pub there : v < length on.lists.now
   pub waits : IsWaitingElsewhere (items_model on.items) on.lists.now v on.items.candidates.now item
 
--- the list of vehicle v may be asked for what each waiting item adds at least: it has changed, the lists are open, and
--- their rows and the marks of their nodes are those of the lists
+-- the list of vehicle v may be asked for what each waiting item adds at least. It has changed, the lists are open, and
+-- the rows and the marks are those of the lists.
 pub record MayLowerEach (items : Items) (list_rows : List ListRows) (marked : List Bool) (lists : List (List ℕ))
     (v : ℕ) (waiting : List WaitingItem) : Type 0 where
   pub items_are : AreItems items
@@ -120,8 +120,8 @@ pub record MayLowerEach (items : Items) (list_rows : List ListRows) (marked : Li
   pub there : v < length lists
   pub waits : All (IsWaitingElsewhere (items_model items) lists v items.candidates.now) waiting
 
--- items may be inserted into lists: the lists are open, and their rows, the marks of their nodes and what is known of
--- the items in them are those of the lists
+-- items may be inserted into lists. The lists are open; their rows, the marks of their nodes and what is known of the
+-- items in them are those of the lists.
 pub record MayInsert (items : Items) (list_rows : List ListRows) (marked : List Bool) (lists : List (List ℕ))
     (known : List (List KnownItem)) : Type 0 where
   pub items_are : AreItems items

@@ -4,8 +4,7 @@ use Rattle.vr_model.specs.first.CheapestInsertion.{next_inserted, rebuilt}
 use Rattle.vr_model.specs.first.Items.{items}
 use Rattle.vr_model.specs.declared.records.Model.{Model}
 
--- where items were inserted into lists at most as often as there are items, none may be inserted any more: so many
--- steps are enough
+-- after at most as many insertions as there are items, none may be made any more, whatever lists it begins with
 abbrev pub InsertionEnds : Type 0
 InsertionEnds =
     (model : Model) (lists : List (List ℕ)) → next_inserted model (rebuilt model (length (items model)) lists) ≡ None

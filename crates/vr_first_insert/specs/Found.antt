@@ -4,7 +4,7 @@ use Rattle.vr_first_insert.specs.declared.known.KnownItem.{KnownItem}
 use Rattle.vr_first_insert.specs.declared.known.KnownItem.TheVariants.{Nothing}
 use Rattle.vr_first_insert.specs.declared.known_items.FoundItem.{FoundItem}
 
--- what is known after so many changes of the list
+-- what is known after a number of changes of the list
 abbrev pub known_after : ℕ → FoundItem → KnownItem
 known_after changes found = cond (found.since == changes) found.known Nothing
 

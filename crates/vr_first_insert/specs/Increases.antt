@@ -9,11 +9,11 @@ use Rattle.vr_model.specs.declared.records.Model.{Model}
 abbrev pub node_before : Model → ℕ → List ℕ → ℕ → ℕ
 node_before model v list t = cond (t == 0) (vehicle_at model v).start (slice_index list (t - 1))
 
--- the node at place t, the end behind the last
+-- the node at place t; the end after the last
 abbrev pub node_behind : Model → ℕ → List ℕ → ℕ → ℕ
 node_behind model v list t = slice_index_or list t (vehicle_at model v).end
 
--- what the arc to place t costs, nothing in an empty list
+-- what the arc to place t costs; nothing in an empty list
 abbrev pub arc_cost_at : Model → ℕ → List ℕ → ℕ → ℤ
 arc_cost_at model v list t = cond (is_empty list) (pos 0)
     (arc_cost model v (node_before model v list t) (node_behind model v list t))

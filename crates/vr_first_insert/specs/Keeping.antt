@@ -7,7 +7,7 @@ use Rattle.vr_first_insert.specs.Kept.{AreKnownRows}
 use Rattle.vr_first_insert.specs.declared.keeper.Keeper.{Keeper}
 use Rattle.vr_first_insert.specs.declared.solution.Rebuilder.{Rebuilder}
 
--- all items of a model, a list for each vehicle, and of these lists their rows and what is known of each item in each
+-- all items of a model and a list for each vehicle, with its rows and what is known of each item in it
 pub record IsKeeper (model : Model) (keeper : Keeper) : Type 0 where
   pub candidates : AreCandidates model keeper.candidates.items
   pub vehicles : length keeper.lists.items ≡ length model.vehicles

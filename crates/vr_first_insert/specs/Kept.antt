@@ -32,26 +32,27 @@ is_settled Nothing class best = false
 is_settled (AtLeast bound) class best = not (may_improve best class bound.least)
 is_settled (Best found) class best = true
 
--- an item adds at least so much, wherever it is put in the list of vehicle v
+-- an item adds at least this much, whatever place of the list of vehicle v it is put before
 abbrev pub AddsAtLeast : Model → ℕ → List ℕ → Item → ℤ → Type 0
 AddsAtLeast model v list (Visit node) least = VisitAddsAtLeast model v list node least
 AddsAtLeast model v list (PickupAndDelivery pickup delivery) least = (s t : ℕ) → s ≤ length list → t ≤ length list
     → least ≤ℤ pair_increase model v list pickup delivery s t
 
--- the best choice of a candidate in the list of vehicle v, where there is one, adds at least so much
+-- the best choice of a candidate in the list of vehicle v, if there is one, adds at least this much
 abbrev pub BestAddsAtLeast : Model → ℕ → List ℕ → Candidate → ℤ → Type 0
 BestAddsAtLeast model v list candidate least = IfSome (best_in model v list candidate None)
     (λ choice. least ≤ℤ choice.increase)
 
--- what a search of a list tells that began with this best, or with nothing: what is better is the best of the list, and
--- where nothing is, the best of the list adds no less than this. A search that began with nothing found the best.
+-- what a search tells of the best in a list, when it began with this best, or with nothing. If it found a better one,
+-- that is the best of the list. If not, the best of the list adds no less than this. A search that began with nothing
+-- found the best.
 abbrev pub known_by_search : Option InsertionChoice → Option InsertionChoice → KnownItem
 known_by_search None found = Best found
 known_by_search (Some best) None = Best None
 known_by_search (Some best) (Some next) = cond (is_lex_less (key_of next) (key_of best)) (Best (Some next))
     (AtLeast (record { least = best.increase; searched = true }))
 
--- what a search for an item begins with: for a pair whose bound no search told the best so far, and else nothing
+-- what a search for an item begins with: the best so far for a pair whose bound no search told, and else nothing
 abbrev pub begun_with : Item → Bool → Option InsertionChoice → Option InsertionChoice
 begun_with item true best = None
 begun_with (Visit node) false best = None
@@ -61,8 +62,8 @@ begun_with (PickupAndDelivery pickup delivery) false best = best
 abbrev pub sought : Model → ℕ → List ℕ → Candidate → Option InsertionChoice → KnownItem
 sought model v list candidate best = known_by_search best (best_in model v list candidate best)
 
--- what is known once a candidate of which a bound is known was asked whether it is better than the best so far: the
--- bound, where that is not better, and else what a search tells
+-- what is known of a candidate with a known bound, once it was asked whether it is better than the best so far. If the
+-- bound is not better, it is the bound; else it is what a search tells.
 abbrev pub known_once_tried : Model → ℕ → List ℕ → Candidate → Bound → Option InsertionChoice → KnownItem
 known_once_tried model v list candidate bound best = cond (may_improve best candidate.class bound.least)
     (sought model v list candidate (begun_with candidate.item bound.searched best)) (AtLeast bound)
@@ -77,7 +78,7 @@ IsCandidateKnown model v list candidate (Best best) = best ≡ best_in model v l
 abbrev pub known_row : List (List KnownItem) → ℕ → List KnownItem
 known_row rows v = slice_index_or rows v []
 
--- the candidate that is read where there is none
+-- the candidate that is read if there is none
 abbrev pub unread : Candidate
 unread = record { item = Visit 0; class = 0 }
 

@@ -44,7 +44,7 @@ pub record AreKeptOf (model : Model) (v : ℕ) (list : List ℕ) (list_rows : Li
   pub each : (d : ℕ) (other : ListRows) → d < length list_rows
       → IsKeptOf model d v list (slice_index_or list_rows d other)
 
--- a list may be walked between its first and its last nodes, which it shares with the one before, whose rows are kept
+-- a list may be walked between its first and its last nodes: it shares these with the one before, whose rows are kept
 pub record MayGoBetween (old : LookedUpList) (new : List ℕ) (first last : ℕ) (list_rows : List ListRows) : Type 0 where
   pub kept : AreKeptOf (list_model old) old.vehicle old.nodes.now list_rows
   pub used : IsUsed (list_model old) new

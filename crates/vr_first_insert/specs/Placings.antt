@@ -42,7 +42,7 @@ abbrev pub AreWithin : List ℕ → Placing → Type 0
 AreWithin list (One node t) = t ≤ length list
 AreWithin list (Two pickup delivery s t) = (s ≤ t) × (t ≤ length list)
 
--- the insertion that a choice stands for
+-- the insertion that a choice means
 abbrev pub insertion_of : InsertionChoice → Insertion
 insertion_of choice = record {
   item = item_nodes (item_in choice.placing);
@@ -83,7 +83,7 @@ choices_in model v list class (Visit node) = map (visit_choice model v list clas
 choices_in model v list class (PickupAndDelivery pickup delivery) = each (gaps list) λ s. map
     (pair_choice model v list class pickup delivery s) (from_to s (suc (length list)))
 
--- the better of the best so far and a choice in a list, which counts only where the list stays open
+-- the better of the best so far and a choice in a list, which counts only if the list stays open
 abbrev pub weigh : Model → List ℕ → Option InsertionChoice → InsertionChoice → Option InsertionChoice
 weigh model list best next = cond (is_route_open model next.vehicle (placed list next.placing))
     (better key_of best next) best
@@ -98,24 +98,25 @@ abbrev pub best_in_lists : Model → List (List ℕ) → Candidate → ℕ → O
 best_in_lists model lists candidate count best = fold (λ best v. best_in model v (route lists v) candidate best) best
     (below count)
 
--- an item counts where its first node is not marked and the groups have room for it
+-- an item counts if its first node is not marked and the groups have room for it
 abbrev pub may_be_placed : Model → List Bool → Candidate → Bool
 may_be_placed model marks candidate = cond (is_marked marks (first_node (item_nodes candidate.item))) false
     (list_all (has_room marks candidate.item) model.groups)
 
--- the best beside all choices of a candidate, where it counts
+-- the best beside all choices of a candidate, if it counts
 abbrev pub best_beside : Model → List (List ℕ) → List Bool → Candidate → Option InsertionChoice → Option InsertionChoice
 best_beside model lists marks candidate best = cond (may_be_placed model marks candidate)
     (best_in_lists model lists candidate (length lists) best) best
 
--- a list of distinct visits that an item may be put into: its nodes are distinct visits too, and none stands there
+-- a list of distinct visits that an item may be put into. The nodes of the item are distinct visits too, and none is in
+-- the list.
 pub record MayHold (model : Model) (list : List ℕ) (item : Item) : Type 0 where
   pub visits : IsTrue (list_all (is_visit model) list)
   pub distinct : IsTrue (is_distinct list)
   pub nodes : IsTour model (item_nodes item)
   pub absent : (node : ℕ) → holds (item_nodes item) node ≡ true → holds list node ≡ false
 
--- an insertion that may be made: its item stands in no list, its places are there, and the lists stay open
+-- an insertion that may be made: its item is in no list, its places are there, and the lists stay open
 pub record MayBeInserted (model : Model) (lists : List (List ℕ)) (choice : InsertionChoice) : Type 0 where
   pub is_item : IsItem model (item_in choice.placing)
   pub inactive : is_active lists (first_node (item_nodes (item_in choice.placing))) ≡ false
@@ -123,12 +124,12 @@ pub record MayBeInserted (model : Model) (lists : List (List ℕ)) (choice : Ins
   pub within : AreWithin (route lists choice.vehicle) choice.placing
   pub stays_open : IsTrue (is_open model (inserted lists (insertion_of choice)))
 
--- choices of a class that add at least so much may be better than the best so far
+-- choices of a class that add at least this much may be better than the best so far
 abbrev pub may_improve : Option InsertionChoice → ℕ → ℤ → Bool
 may_improve None class least = true
 may_improve (Some best) class least = nat_lt class best.class || (nat_le class best.class && int_le least best.increase)
 
--- a visit adds at least so much before each place of the list of vehicle v
+-- a visit adds at least this much before each place of the list of vehicle v
 abbrev pub VisitAddsAtLeast : Model → ℕ → List ℕ → ℕ → ℤ → Type 0
 VisitAddsAtLeast model v list node least = (t : ℕ) → t ≤ length list → least ≤ℤ visit_increase model v list node t
 
@@ -137,7 +138,7 @@ pub record IsLeastIncrease (model : Model) (v : ℕ) (list : List ℕ) (node : �
   pub adds : VisitAddsAtLeast model v list node least
   pub small : IsIncrease least
 
--- a visit adds just so much before one of the last places of the list of vehicle v, from the k-th from its end on
+-- a visit adds exactly this much before one of the last places of the list of vehicle v, from the k-th from its end on
 pub record IsAddedAhead (model : Model) (v : ℕ) (list : List ℕ) (node k : ℕ) (least : ℤ) : Type 0 where
   pub place : ℕ
   pub from : length list ≤ place + k

@@ -29,13 +29,14 @@ abbrev pub is_stuck_in_some : Model → Probes → Bool
 is_stuck_in_some model probes =
     list_any (λ d. is_stuck (slice_index_or probes.here.items d [])) (below (length model.dimensions))
 
--- a list may leave the one before behind its first nodes, which it shares with it and whose rows are kept
+-- a list may leave the one before after its first nodes: it shares these with it, and the rows of the one before are
+-- kept
 pub record MayLeave (old : LookedUpList) (new : List ℕ) (shared : ℕ) (list_rows : List ListRows) : Type 0 where
   pub kept : AreKeptOf (list_model old) old.vehicle old.nodes.now list_rows
   pub used : IsUsed (list_model old) new
   pub front : SharesFront old.nodes.now new shared
 
--- a walk that stands at stop k of a list may go to its last nodes, which it shares with the one before
+-- a walk that is at stop k of a list may go to its last nodes, which it shares with the one before
 pub record MayGoFrom (old : LookedUpList) (new : List ℕ) (k shared : ℕ) (list_rows : List ListRows)
     (probes : Probes) : Type 0 where
   pub kept : AreKeptOf (list_model old) old.vehicle old.nodes.now list_rows
@@ -44,7 +45,7 @@ pub record MayGoFrom (old : LookedUpList) (new : List ℕ) (k shared : ℕ) (lis
   pub back : SharesBack old.nodes.now new shared
   pub apart : k + shared ≤ length new
 
--- a walk that stands at stop k of a list may go on to the next
+-- a walk that is at stop k of a list may go on to the next
 pub record MayGoOn (model : Model) (v : ℕ) (list : List ℕ) (k : ℕ) (probes : Probes) : Type 0 where
   pub vehicle : v < length model.vehicles
   pub used : IsUsed model list

@@ -56,8 +56,8 @@ pub record MayTestVisit (visit : VisitIn) (t : ℕ) (written : List ℕ) : Type 
   pub within : t ≤ length visit.list.nodes.now
   pub longer : written ≡ placed visit.list.nodes.now (One visit.node t)
 
--- a pair before places s and t may be tested: the same, and what the list with the pickup reaches at the node before
--- the delivery is known
+-- a pair before places s and t may be tested. As for a visit, the list is ready and the list with the pair is written.
+-- What the list with the pickup reaches at the node before the delivery is known.
 pub record MayTestPair (pair : PairIn) (s t : ℕ) (probes : Probes) (written : List ℕ) : Type 0 where
   pub ready : IsReadyList pair.list pair.list_rows.now
   pub order : s ≤ t

@@ -1,4 +1,4 @@
--- Items that stand in no list, and what is known of the best insertion of each into any list.
+-- Items in no list, and what is known of the best insertion of each into any list.
 use Rattle.std.specs.Prelude.{◌≡◌, ℕ, ◌<◌, ◌-◌, ◌^◌, ⊤, Bool, false, not, cond, nat_le, nat_lt, List, [], ◌∷◌, ◌++◌}
 use Rattle.std.specs.Prelude.{length, map, filter, take}
 use Rattle.std.specs.Prelude.{slice_index_or, Option, Some, None, ℤ, pos}
@@ -18,18 +18,18 @@ abbrev pub comes_later : Option InsertionChoice → ℕ → Bool
 comes_later None class = false
 comes_later (Some best) class = nat_lt best.class class
 
--- no insertion of an item of a class that adds at least so much, where that is known, is better than the best so far
+-- by what an item of a class adds at least, if that is known, no insertion of it is better than the best so far
 abbrev pub is_passed_over : Option InsertionChoice → ℕ → Option ℤ → Bool
 is_passed_over best class None = comes_later best class
 is_passed_over best class (Some least) = not (may_improve best class least)
 
--- what is known of an item of a class once all lists were asked, by the better of the best so far and its best
--- insertion
+-- what is known of an item of a class once all lists were asked. It is told by the better of the best so far and the
+-- best insertion of the item.
 abbrev pub least_told : Option InsertionChoice → ℕ → Option ℤ → Option ℤ
 least_told None class before = Some (pos (2 ^ 63 - 1))
 least_told (Some best) class before = cond (nat_le class best.class) (Some best.increase) before
 
--- the best insertion of a candidate into each list, where there is one, adds at least so much, where that is known
+-- the best insertion of a candidate into each list, if there is one, adds at least this much, if that is known
 abbrev pub IsLeastAnywhere : Model → List (List ℕ) → Candidate → Option ℤ → Type 0
 IsLeastAnywhere model lists candidate None = ⊤
 IsLeastAnywhere model lists candidate (Some least) = (v : ℕ) → v < length lists
@@ -47,13 +47,13 @@ pub record IsWaiting (model : Model) (lists : List (List ℕ)) (candidates : Lis
   pub there : waiting.number < length candidates
   pub least : IsLeastAnywhere model lists (candidate_at candidates waiting.number) waiting.least
 
--- the same where the list of vehicle v has changed
+-- the same after the list of vehicle v has changed
 pub record IsWaitingElsewhere (model : Model) (lists : List (List ℕ)) (v : ℕ) (candidates : List Candidate)
     (waiting : WaitingItem) : Type 0 where
   pub there : waiting.number < length candidates
   pub least : IsLeastElsewhere model lists v (candidate_at candidates waiting.number) waiting.least
 
--- the item that is read where there is none
+-- the item that is read if there is none
 abbrev pub unread_waiting : WaitingItem
 unread_waiting = record { number = 0; least = None }
 
@@ -65,7 +65,7 @@ waiting_at waiting k = slice_index_or waiting k unread_waiting
 abbrev pub waiting_candidates : List Candidate → List WaitingItem → List Candidate
 waiting_candidates candidates waiting = map (λ item. candidate_at candidates item.number) waiting
 
--- those of some candidates that stand in no list
+-- those of some candidates that are in no list
 abbrev pub unplaced_of : List (List ℕ) → List Candidate → List (List ℕ)
 unplaced_of lists candidates = filter (λ item. not (is_active lists (first_node item)))
     (map (λ candidate. item_nodes candidate.item) candidates)
@@ -81,12 +81,12 @@ pub record AreBegun (candidates : List Candidate) (marks : List Bool) (count : �
   pub nothing : (k : ℕ) → k < length waiting → (waiting_at waiting k).least ≡ None
   pub unmarked : waiting_candidates candidates waiting ≡ filter (is_unmarked marks) (take count candidates)
 
--- candidate i waits beside others, where it is not marked
+-- candidate i waits beside others, unless it is marked
 abbrev pub with_waiting : List Candidate → List Bool → ℕ → List WaitingItem → List WaitingItem
 with_waiting candidates marks i waiting = cond (is_unmarked marks (candidate_at candidates i))
     (waiting ++ record { number = i; least = None } ∷ []) waiting
 
--- what is known of the waiting items is so, and all items that stand in no list wait
+-- what is known of the waiting items is so, and all items in no list wait
 pub record AreWaiting (model : Model) (lists : List (List ℕ)) (candidates : List Candidate)
     (waiting : List WaitingItem) : Type 0 where
   pub each : All (IsWaiting model lists candidates) waiting

@@ -31,8 +31,8 @@ pub(crate) struct AskedLists<'l, 'm, 'c, 'k> {
     pub(crate) lists: &'k [Seq<u32>],
 }
 
-// The better of the best so far and the best insertion of candidate `i` into the list of vehicle `v`, of whose
-// candidates `known_here` has what is known.
+// The better of the best so far and the best insertion of candidate `i` into the list of vehicle `v`. What is known of
+// the candidates in that list is in `known_here`.
 fn settle(
     scratch: &mut InsertScratch,
     on: &AskedLists<'_, '_, '_, '_>,
@@ -53,8 +53,8 @@ fn settle(
     ask(scratch, on, v, i, known_here, best)
 }
 
-// The same, where what is known does not tell: the list is asked, and what it says is written. It stands apart, so that
-// what it needs is no burden where nothing is asked.
+// The same if what is known does not settle it: the list is asked, and its answer is written. It is a function of its
+// own, so that what it needs is no burden when nothing is asked.
 #[inline(never)]
 fn ask(
     scratch: &mut InsertScratch,
@@ -88,8 +88,8 @@ fn ask(
     Ok(better_of(best, &told))
 }
 
-/// The better of the best so far and the best insertion of candidate `i` into any list, where `known_items` has what is
-/// known of the candidates in each.
+/// The better of the best so far and the best insertion of candidate `i` into any list. `known_items` has, for each
+/// list, what is known of the candidates in it.
 pub(crate) fn best_in_lists(
     scratch: &mut InsertScratch,
     on: &AskedLists<'_, '_, '_, '_>,

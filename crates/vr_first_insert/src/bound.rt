@@ -1,5 +1,5 @@
-//! What no place of a list can do better than. `known` asks the least of a visit or a pair before it has a list
-//! searched; `one_list` asks the others while it goes through places.
+//! Lower bounds of what an item adds to a list: no place does better. `known` asks the least of a visit or a pair
+//! before it has a list searched. `one_list` asks the others while it goes through places.
 
 ghost use Rattle.std.specs.Prelude.{◌≡◌, ℕ, ◌<◌, ◌≤◌, ◌^◌, OnOk, cond, int_lt, length, neg_ℤ, pos, ◌+ℤ◌, ◌≤ℤ◌};
 ghost use Rattle.vr_first_insert.specs.Increases.{pair_increase as pair_increase_of, IsIncrease};
@@ -60,8 +60,9 @@ pub(crate) fn least_place(list: &LookedUpList<'_, '_, '_>, node: u32) -> usize
     at.place
 }
 
-/// Writes the least that a visit adds to a list before its last places: before the last one, before the last two, and
-/// so on up to all. Entry `k` is that of the last `k + 1` places, of which the last is before the end.
+/// Writes the least that a visit adds to a list before its last places: first the last one, then the last two, up to
+/// all. Entry `k` is for the last `k + 1` places; the last of these is before the end. For example, a list of two nodes
+/// has the places 0, 1 and 2. If the visit adds 5, 3 and 9 before these, the entries are 9, 3 and 3.
 pub(crate) fn write_ahead(
     list: &LookedUpList<'_, '_, '_>,
     node: u32,
@@ -80,7 +81,7 @@ pub(crate) fn write_ahead(
     Ok(())
 }
 
-/// What a pair adds at least where its pickup alone adds so much, and its delivery alone `least` at least.
+/// What a pair adds at least, if its pickup alone adds `pickup` and its delivery alone at least `least`.
 pub(crate) fn least_apart(pickup: i64, least: i64) -> i64
     requires pickup { IsIncrease pickup }
     requires least { IsIncrease least }
@@ -91,7 +92,7 @@ pub(crate) fn least_apart(pickup: i64, least: i64) -> i64
     pickup + least
 }
 
-/// What a pair adds at least with its pickup before place `s`, where the delivery alone adds `least` at least.
+/// What a pair adds at least with its pickup before place `s`. The delivery alone adds at least `least`.
 pub(crate) fn least_behind(
     list: &LookedUpList<'_, '_, '_>,
     pickup: u32,
@@ -114,8 +115,8 @@ pub(crate) fn least_behind(
     together.min(apart)
 }
 
-/// What a pair adds at least with its pickup before place `s` and its delivery before a later one, where the delivery
-/// alone adds `least` at least.
+/// What a pair adds at least with its pickup before place `s` and its delivery before a later one. The delivery alone
+/// adds at least `least`.
 pub(crate) fn least_further(
     list: &LookedUpList<'_, '_, '_>,
     pickup: u32,
@@ -136,8 +137,8 @@ pub(crate) fn least_further(
     visit_increase(list, pickup, s) + least
 }
 
-/// What a pair adds at least to a list: a delivery that is not right behind its pickup counts with the least that it
-/// adds before any place, so each two places may add more.
+/// What a pair adds at least to a list. A delivery that does not come right after its pickup counts with the least that
+/// it adds before any place. So each two places may add more.
 pub(crate) fn least_pair(list: &LookedUpList<'_, '_, '_>, pickup: u32, delivery: u32) -> i64
     requires pickup { pickup < (list_model list.now).nodes }
     requires delivery { delivery < (list_model list.now).nodes }

@@ -10,9 +10,10 @@ use vr_rules::Item;
 /// An item at its places in a list, which are counted in the list without it.
 #[derive(Clone, Copy)]
 pub(crate) enum Placing {
-    /// A visit, and the place that it is put before.
+    /// A visit, and the place that it is put before: `One(7, 1)` makes 3 7 4 of the list 3 4.
     One(u32, u32),
-    /// A pickup and its delivery, and the places that they are put before.
+    /// A pickup and its delivery, and the places that they are put before: `Two(7, 8, 1, 1)` makes 3 7 8 4 of 3 4, and
+    /// `Two(7, 8, 0, 1)` makes 7 3 8 4.
     Two(u32, u32, u32, u32),
 }
 
@@ -81,8 +82,8 @@ pub(crate) fn improves(best: Option<InsertionChoice>, next: InsertionChoice) -> 
     }
 }
 
-/// Whether choices of a class that add at least so much may be better than the best so far. One that adds as much may
-/// be, by item, vehicle or places.
+/// Whether choices of a class that add at least `least` may be better than the best so far. One that adds as much as
+/// the best may be better by item, vehicle or places.
 pub(crate) fn may_improve(best: Option<InsertionChoice>, class: u32, least: i64) -> bool
     ensures { result ≡ may_improve_by best class least }
 {

@@ -30,7 +30,7 @@ fn node_before(list: &LookedUpList<'_, '_, '_>, t: usize) -> u32
     }
 }
 
-// The node at a place, the end behind the last.
+// The node at a place; the end after the last.
 fn node_behind(list: &LookedUpList<'_, '_, '_>, t: usize) -> u32
     requires { t ≤ length list.now.nodes.now }
     ensures node { result ≡ node_behind_of (list_model list.now) list.now.vehicle list.now.nodes.now t }
@@ -44,7 +44,7 @@ fn node_behind(list: &LookedUpList<'_, '_, '_>, t: usize) -> u32
     }
 }
 
-// What the arc between two neighbours costs, nothing in an empty list, whose vehicle takes no arc.
+// What the arc between two neighbours costs. In an empty list it costs nothing: the vehicle takes no arc.
 fn arc_between(list: &LookedUpList<'_, '_, '_>, a: u32, b: u32) -> i64
     requires first { a < (list_model list.now).nodes }
     requires second { b < (list_model list.now).nodes }
@@ -60,7 +60,8 @@ fn arc_between(list: &LookedUpList<'_, '_, '_>, a: u32, b: u32) -> i64
     lookups.closed.model.arc_cost(list.vehicle, a, b)
 }
 
-// From a node over another to a third, less what was driven there before.
+// From a node over another to a third, less what was driven there before. If the two arcs cost 4 and 5, and the arc
+// that they replace 6, the detour is 3.
 fn detour(list: &LookedUpList<'_, '_, '_>, a: u32, x: u32, b: u32, before: i64) -> i64
     requires first { a < (list_model list.now).nodes }
     requires second { x < (list_model list.now).nodes }

@@ -24,8 +24,9 @@ use vr_plan::Lookups;
 use vr_routes::Routes;
 use vr_rules::{Candidate, active_marks, candidates, empty_lists};
 
-/// Lists of a model, those at which the last rebuild ended, or empty ones, and what is kept of them: their rows, and
-/// what is known of each item in each (`KnownItem`: the best place, what that adds at least, or nothing).
+/// Lists of a model and what is kept of them. The lists are those at which the last rebuild ended, or empty ones. Kept
+/// are their rows, and what is known of each item in each (`KnownItem`: the best place, what that adds at least, or
+/// nothing).
 #[derive(Drop)]
 pub(crate) struct Keeper {
     candidates: Vec<Candidate>,
@@ -44,8 +45,8 @@ fn is_same_list(one: &[u32], other: &[u32]) -> bool
     one == other
 }
 
-// Takes a list over as that of its vehicle. Where it is another than before, its rows are written, and of items in it
-// nothing is known any more.
+// Takes a list over as that of its vehicle. If it differs from the list before, its rows are written, and nothing is
+// known any more of items in it.
 fn take_list(
     alloc: Global,
     list_rows: &mut [ListRows],
@@ -121,8 +122,8 @@ impl Keeper {
         })
     }
 
-    /// Makes the lists those at which insertion ends when it begins with open routes. What is known of a list that is
-    /// as the rebuild before left it is not found again. After want of memory nothing is said of the lists.
+    /// Makes the lists those at which insertion ends when it begins with open routes. A list that is as the last
+    /// rebuild left it keeps what is known of it. After want of memory nothing is said of the lists.
     pub(crate) fn rebuild(&mut self, lookups: &Lookups<'_>, routes: &Routes) -> Result<(), NoMemory>
         requires keeper { IsKeeper lookups.now.closed.model.now self.old }
         requires built { AreBuilt lookups.now.closed.model.now routes.now.lists }

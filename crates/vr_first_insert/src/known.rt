@@ -31,14 +31,14 @@ pub(crate) struct Bound {
 pub(crate) enum KnownItem {
     /// Nothing yet.
     Nothing,
-    /// What the best choice adds at least, where there is one.
+    /// What the best choice adds at least, if there is one.
     AtLeast(Bound),
-    /// The best choice, `None` where none is allowed.
+    /// The best choice; `None` if none is allowed.
     Best(Option<InsertionChoice>),
 }
 
-/// Whether what is known of an item of a class in a list tells the better of the best so far and the best in the list:
-/// the best in the list is known, or none there is better.
+/// Whether what is known of an item of a class settles which is better, the best so far or the best in the list. It
+/// does if the best in the list is known, or if none there is better.
 pub(crate) fn is_settled(known: &KnownItem, class: u32, best: Option<InsertionChoice>) -> bool
     ensures { result ≡ is_settled_of known.now class best }
 {
@@ -80,8 +80,9 @@ pub(crate) fn least_in(of: &CandidateIn<'_, '_, '_>) -> i64
     }
 }
 
-// What a search tells that began with the best so far: what is better is the best of the list. One that began with
-// nothing tells the best of the list, or that none is allowed; one that began with a best ends with one.
+// What a search tells of the best in the list, when it began with the best so far. If it found a better one, that is
+// the best of the list. A search that began with nothing tells the best of the list, or that none is allowed. One that
+// began with a best ends with one.
 fn known_by_search(best: Option<InsertionChoice>, found: Option<InsertionChoice>) -> KnownItem
     ensures { result ≡ known_by_search_of best found }
 {
@@ -91,7 +92,7 @@ fn known_by_search(best: Option<InsertionChoice>, found: Option<InsertionChoice>
     }
 }
 
-// The same where there was a best so far: where nothing in the list is better, the best of the list, if there is one,
+// The same if there was a best so far. If nothing in the list is better, then the best of the list, if there is one,
 // adds no less.
 fn known_beside(best: InsertionChoice, next: InsertionChoice) -> KnownItem
     ensures { result ≡ known_by_search_of (Some best) (Some next) }
@@ -106,9 +107,9 @@ fn known_beside(best: InsertionChoice, next: InsertionChoice) -> KnownItem
     }
 }
 
-// What a search for an item begins with. For a pair that is the best so far, so that few places are tried; but where a
-// search told the bound, and for a visit, whose best place is soon found, it is nothing: what is found then is the best
-// of the list, and serves until that changes.
+// What a search for an item begins with. For a pair it is the best so far, so that few places are tried. For a visit,
+// whose best place is soon found, it is nothing. If a search told the bound, it is nothing too. What is found then is
+// the best of the list, and serves until the list changes.
 fn begun_with(item: Item, searched: bool, best: Option<InsertionChoice>) -> Option<InsertionChoice>
     ensures { result ≡ begun_with_of item searched best }
 {
@@ -159,7 +160,7 @@ pub(crate) fn find_out(
     }
 }
 
-// The same of a candidate of which a bound is known: where that is not better than the best so far, no more is known,
+// The same of a candidate of which a bound is known. If the bound is not better than the best so far, no more is known,
 // and the list is not searched.
 fn search_if_better(
     scratch: &mut InsertScratch,

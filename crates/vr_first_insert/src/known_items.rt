@@ -1,4 +1,4 @@
-//! What is known of items in one list, forgotten at once where the list changes.
+//! What is known of items in one list, forgotten at once when the list changes.
 
 ghost use Rattle.std.specs.Prelude.{◌≡◌, ◌<◌, ◌≤◌, ℕ, All, IfOk, length, replicate, slice_index_or, slice_set};
 ghost use Rattle.vr_first_insert.specs.declared.known.KnownItem.TheVariants.{Nothing};
@@ -9,15 +9,16 @@ use std::alloc::Global;
 use std::marker::Model;
 use vr_model::{NoMemory, Seq};
 
-// What was found of an item, and after how many changes of the list.
+// What was found of an item, and after how many changes of the list. Found after three changes, it is forgotten by the
+// fourth.
 #[derive(Clone, Copy, Drop)]
 pub(crate) struct FoundItem {
     pub(crate) known: KnownItem,
     pub(crate) since: u64,
 }
 
-/// What is known of items in a list. Contracts see it as a list, with nothing where what was found is of the list
-/// before its last change.
+/// What is known of items in a list. Contracts see it as a list of `KnownItem`. An entry is `Nothing` if it was found
+/// before the last change of the list.
 #[derive(Drop)]
 pub(crate) struct KnownItems {
     found: Seq<FoundItem>,
@@ -66,8 +67,8 @@ impl KnownItems {
         self.found.set(i, FoundItem { known, since });
     }
 
-    /// Nothing is known any more: what was found counts as of an older list. Only where the count of changes is at its
-    /// end is all cleared. It takes no memory. The count then goes on from 1, since what is cleared stands at 0.
+    /// Nothing is known any more: what was found counts as of an older list. All is cleared only if the count of
+    /// changes is at its end. The count then goes on from 1, since what is cleared has 0. It takes no memory.
     pub(crate) fn forget(&mut self)
         ensures many { length self.new ≡ length self.old }
         ensures nothing { (i : ℕ) → slice_index_or self.new i Nothing ≡ Nothing }
@@ -81,7 +82,7 @@ impl KnownItems {
     }
 }
 
-// What is known after so many changes of the list.
+// What is known after `changes` changes of the list.
 #[inline]
 fn known_of(found: &FoundItem, changes: u64) -> KnownItem
     ensures { result ≡ known_after changes found.now }
@@ -93,7 +94,7 @@ fn known_of(found: &FoundItem, changes: u64) -> KnownItem
     }
 }
 
-// Nothing found of any of so many items.
+// Nothing found of any of `count` items.
 fn none_of(alloc: Global, count: usize) -> Result<Seq<FoundItem>, NoMemory>
     ensures { IfOk result (λ found. found ≡ replicate count (record { known = Nothing; since = 0 })) }
 {

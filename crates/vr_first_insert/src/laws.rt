@@ -3,8 +3,8 @@
 
 ghost use Rattle.vr_first_insert.specs.Ending.{InsertionEnds};
 
-/// Insertion ends where nothing may be inserted any more, and not at its bound: as many steps as there are items are
-/// enough, from whatever lists it begins.
+/// Insertion ends because nothing may be inserted any more, and not at its bound. As many steps as there are items are
+/// enough, whatever lists it begins from.
 pub fn insertion_ends()
     ensures { InsertionEnds }
 {}

@@ -1,4 +1,4 @@
-//! The rows of lists in each dimension: what each list reaches at its stops, and from where its end is reached.
+//! The rows of lists in each dimension: what each list reaches at its stops, and what its end can be reached from.
 
 ghost use Rattle.std.specs.Prelude.{◌≡◌, ◌<◌, length, IfOk, OnOk};
 ghost use Rattle.vr_model.specs.moves.Moves.{with_route};
@@ -94,10 +94,10 @@ pub(crate) fn keep_each(
     Ok(list_rows)
 }
 
-/// Writes the rows of a list over those of the list of its vehicle before, in each dimension. After `NoMemory` nothing
-/// is said of what is kept.
+/// Writes the rows of a list over those of the list that its vehicle had before, in each dimension.
 ///
-/// It takes memory only where the list is longer than any of its vehicle before, or a set has more than four runs.
+/// It takes memory only if the list is longer than each earlier one of its vehicle, or a set has more than four runs.
+/// After `NoMemory` nothing is said of what is kept.
 pub(crate) fn rewrite(
     alloc: Global,
     list_rows: &mut [ListRows],
@@ -115,8 +115,8 @@ pub(crate) fn rewrite(
     Ok(())
 }
 
-/// Makes a list that of its vehicle, with its rows written over those of the list before. After want of memory nothing
-/// is said of the lists. The rows are written first, since they ask for the list before.
+/// Makes a list that of its vehicle, and writes its rows over those of the list before. The rows are written first,
+/// since they ask for the list before. After want of memory nothing is said of the lists.
 pub(crate) fn change_list(
     alloc: Global,
     list_rows: &mut [ListRows],
@@ -133,12 +133,11 @@ pub(crate) fn change_list(
     Ok(())
 }
 
-/// Whether the line of a list is feasible in each dimension, found by walks through what differs from the list that the
-/// vehicle has (`old`), whose rows are kept: all but the first `front` and the last `back` nodes. Afterwards nothing is
-/// said of where the walk stands.
+/// Whether the line of a list is feasible in each dimension. The list shares its first `front` and its last `back`
+/// nodes with the list that the vehicle has (`old`), whose rows are kept. Walks go through what differs alone.
+/// Afterwards the place of the walk is not promised.
 ///
-/// `NoMemory` where there was no memory: it is taken only where a set has more than four runs, or the vehicle has
-/// breaks.
+/// `NoMemory` if there was no memory. It is taken only if a set has more than four runs, or the vehicle has breaks.
 pub(crate) fn is_feasible_between(
     list_rows: &[ListRows],
     old: &LookedUpList<'_, '_, '_>,

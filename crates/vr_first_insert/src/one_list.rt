@@ -38,7 +38,7 @@ fn visit_at(visit: &VisitIn<'_, '_, '_>, t: usize) -> InsertionChoice
     }
 }
 
-// The better of the best so far and a visit before place `t`, as `longer` has it, which is tested only where it
+// The better of the best so far and a visit before place `t`, as `longer` has it. The visit is tested only if it
 // improves.
 fn weigh_visit(
     trying: &mut Trying,
@@ -79,8 +79,8 @@ fn is_visit_taken(
     may_visit(trying, visit, t)
 }
 
-// The better of the best so far and a visit before each place of a list. The first place at which it adds least comes
-// first: where that is taken, no other is looked at.
+// The better of the best so far and a visit before each place of a list. The first place at which it adds least is
+// tried first: if that is taken, no other is looked at.
 fn best_visit(
     scratch: &mut InsertScratch,
     visit: &VisitIn<'_, '_, '_>,
@@ -139,7 +139,7 @@ fn pair_at(pair: &PairIn<'_, '_, '_>, s: usize, t: usize) -> InsertionChoice
     }
 }
 
-// The better of the best so far and a pair before two places, as `longer` has it, which is tested only where it
+// The better of the best so far and a pair before two places, as `longer` has it. The pair is tested only if it
 // improves, by what the list with the pickup reaches at the node before the delivery.
 fn weigh_pair(
     trying: &mut Trying,
@@ -164,7 +164,7 @@ fn weigh_pair(
     }
 }
 
-// A pickup before place `s`, and its delivery somewhere behind.
+// A pickup before place `s`, and its delivery before some later place.
 #[derive(Clone, Copy)]
 struct Begun<'l, 'm, 'k, 's> {
     pair: PairIn<'l, 'm, 'k>,
@@ -177,10 +177,11 @@ struct Begun<'l, 'm, 'k, 's> {
     ghost picked_up: { half.now ≡ insert pair.list.nodes.now s pair.pickup },
 }
 
-// The better of the best so far and a pickup before a place with its delivery before each place behind, where what the
-// list with the pickup reaches at the stop behind the pickup is known. That moves on with the delivery: to stop `t + 1`
-// of that list where the delivery goes before place `t`. Once nothing is reached, no place further on is allowed; and
-// none is looked at where none from there on can be better.
+// The better of the best so far and a pickup before a place with its delivery before each later place. What the list
+// with the pickup reaches at the stop after the pickup is known. That moves on with the delivery: when the delivery
+// goes before place `t`, it is at stop `t + 1` of that list.
+//
+// Once nothing is reached, no place further on is allowed. No place is looked at if none from there on can be better.
 fn best_further(
     trying: &mut Trying,
     probes: &mut Probes,
@@ -222,8 +223,8 @@ fn best_further(
 }
 
 // The better of the best so far and a pickup before a place with its delivery before each place from there on. Once
-// nothing is reached, no place further on is allowed; and none is looked at behind the first where none can be better
-// (`least` is what the delivery adds at least, before any place).
+// nothing is reached, no place further on is allowed. After the first place none is looked at if none can be better;
+// `least` is what the delivery adds at least, before any place.
 fn best_behind(
     alloc: Global,
     trying: &mut Trying,
@@ -262,8 +263,8 @@ fn best_behind(
     best_further(trying, probes, begun, near)
 }
 
-// The better of the best so far and a pickup before place `s` with its delivery before each place from there on, where
-// the least that the delivery adds is in the scratch: then no place is looked at where none can be better.
+// The better of the best so far and a pickup before place `s` with its delivery before each place from there on. The
+// least that the delivery adds is in the scratch. No place is looked at if none can be better.
 fn best_delivery(
     scratch: &mut InsertScratch,
     pair: &PairIn<'_, '_, '_>,
@@ -360,8 +361,8 @@ fn best_where_allowed(
     Ok(best)
 }
 
-/// The better of the best so far and the best insertion of an item into a list. Whether the vehicle may visit the nodes
-/// of the item is asked once.
+/// The better of the best so far and the best insertion of an item into a list. The vehicle is asked once whether it
+/// may visit the nodes of the item.
 pub(crate) fn best_in_list(
     scratch: &mut InsertScratch,
     of: &CandidateIn<'_, '_, '_>,

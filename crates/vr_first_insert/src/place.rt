@@ -63,9 +63,9 @@ pub(crate) fn write_list(list: &[u32], out: &mut Seq<u32>) -> Result<(), NoMemor
     Ok(())
 }
 
-/// Makes an insertion, with the rows of the list written over those of the list before; the list is written over
-/// `longer` first. It takes memory only where the list is longer than any of its vehicle before, or a set has more than
-/// four runs.
+/// Makes an insertion, and writes the rows of the list over those of the list before. The list is written over `longer`
+/// first. It takes memory only if the list is longer than each earlier one of its vehicle, or a set has more than four
+/// runs.
 pub(crate) fn place_in(
     longer: &mut Seq<u32>,
     alloc: Global,

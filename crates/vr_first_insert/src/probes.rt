@@ -1,5 +1,5 @@
-//! What a list reaches at one stop in each dimension, moved from stop to stop: a list with the pickup of a pair in it,
-//! while places of the delivery are tried (`one_list`).
+//! What a list reaches at one stop in each dimension, moved from stop to stop. It is asked for a list with the pickup
+//! of a pair in it, while places of the delivery are tried (`one_list`).
 
 ghost use Rattle.std.specs.Prelude.{◌≡◌, ◌+◌, ◌≤◌, IsTrue, length, IfOk, OnOk};
 ghost use Rattle.vr_rules.specs.RoutesOpen.{is_feasible_in_each};
@@ -18,7 +18,7 @@ use vr_steps::Levels;
 /// What a list reaches at one stop in each dimension.
 #[derive(Drop)]
 pub(crate) struct Probes {
-    // of the dimensions; contracts allow more behind them, which one model does not make
+    // of the dimensions; contracts allow more after them, which one model does not make
     pub(crate) here: Vec<Levels>,
 }
 
@@ -30,10 +30,10 @@ impl Probes {
         }
     }
 
-    /// Stands behind the first `front` nodes of a list and one arc more, where it shares those nodes with the list that
-    /// the vehicle has (`old`), whose rows are kept. Afterwards nothing is said of where the walk stands.
+    /// Goes to the stop after the first `front` nodes of a list, one arc on. The list shares those nodes with the list
+    /// that the vehicle has (`old`), whose rows are kept. Afterwards the place of the walk is not promised.
     ///
-    /// `NoMemory` as of `is_feasible_between`, and the first time, when no levels are there yet.
+    /// `NoMemory` as of `is_feasible_between`, and the first time, when there are no levels yet.
     pub(crate) fn leave(
         &mut self,
         alloc: Global,
@@ -65,9 +65,9 @@ impl Probes {
         false
     }
 
-    /// Whether the line of a list is feasible in each dimension, found by walks from stop `k`, where this is reached,
-    /// to its last `back` nodes, which it shares with the list that the vehicle has (`old`), whose rows are kept.
-    /// Afterwards nothing is said of where the walk stands.
+    /// Whether the line of a list is feasible in each dimension. Walks go from stop `k`, at which this is reached, to
+    /// its last `back` nodes. It shares those with the list that the vehicle has (`old`), whose rows are kept.
+    /// Afterwards the place of the walk is not promised.
     ///
     /// `NoMemory` as of `is_feasible_between`.
     pub(crate) fn goes_from(
@@ -106,8 +106,8 @@ impl Probes {
         Ok(true)
     }
 
-    /// Moves on from stop `k` of a list of vehicle `v` to the next stop. Afterwards nothing is said of where the walk
-    /// stands.
+    /// Moves on from stop `k` of a list of vehicle `v` to the next stop. Afterwards the place of the walk is not
+    /// promised.
     ///
     /// `NoMemory` as of `is_feasible_between`.
     #[inline]
@@ -137,7 +137,7 @@ impl Probes {
     }
 }
 
-// Makes levels for so many dimensions at least.
+// Makes levels for at least `wanted` dimensions.
 fn fit(alloc: Global, probes: &mut Probes, wanted: usize) -> Result<(), NoMemory>
     ensures { OnOk result (wanted ≤ length probes.new.here.items) }
 {
@@ -147,7 +147,7 @@ fn fit(alloc: Global, probes: &mut Probes, wanted: usize) -> Result<(), NoMemory
     Ok(())
 }
 
-// Stands in each dimension behind the arc by which a list leaves the one that the vehicle has (`old`).
+// In each dimension, goes over the arc by which a list leaves the one that the vehicle has (`old`).
 fn leave_each(
     probes: &mut Probes,
     list_rows: &[ListRows],

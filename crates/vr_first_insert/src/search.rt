@@ -34,7 +34,7 @@ fn may_be_placed(items: &Items<'_, '_, '_>, marks: &[bool], candidate: Candidate
     }
 }
 
-// Takes the better of the best so far and the best of all insertions of waiting item `k`. Where what is known of it
+// Takes the better of the best so far and the best of all insertions of waiting item `k`. If what is known of the item
 // shows that none is better, no list is asked.
 fn beside(
     scratch: &mut InsertScratch,
@@ -103,8 +103,8 @@ fn next_insertion(
     Ok(best)
 }
 
-// Inserts waiting items into lists as long as one may be inserted: each time the insertion of the least class,
-// increase, item, vehicle and places.
+// Inserts waiting items into lists as long as one may be inserted. Each time it is the insertion of the least class,
+// increase, item, vehicle and places, compared in that order.
 fn insert_waiting(
     scratch: &mut InsertScratch,
     items: &Items<'_, '_, '_>,
@@ -124,7 +124,7 @@ fn insert_waiting(
     ensures known { OnOk result (AreKnownRows (items_model items.now) lists.new items.now.candidates.now
         known_items.new) }
 {
-    // each step inserts an item, so that as many steps as there are items are enough
+    // each step inserts an item, so as many steps as there are items are enough
     for _step in 0..items.candidates.len() {
         let next = next_insertion(
             scratch,
@@ -163,8 +163,8 @@ fn insert_waiting(
     Ok(())
 }
 
-/// Inserts items into lists as long as one may be inserted: each time the insertion of the least class, increase, item,
-/// vehicle and places.
+/// Inserts items into lists as long as one may be inserted. Each time it is the insertion of the least class, increase,
+/// item, vehicle and places, compared in that order.
 ///
 /// After want of memory nothing is said of the lists.
 pub(crate) fn insert_all(

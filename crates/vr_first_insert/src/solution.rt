@@ -17,9 +17,9 @@ use vr_plan::Lookups;
 use vr_routes::Routes;
 use vr_rules::complete_routes;
 
-/// Rebuilds routes of one model, again and again. What it found of lists in one call it keeps for the next: the sets
-/// that a list reaches, and the best place of each item in it, or what that adds at least. It serves for each list that
-/// is as the call before left it.
+/// Rebuilds routes of one model, again and again. What it found of lists in one call it keeps for the next. That is the
+/// sets that a list reaches, and for each item the best place in it, or what that adds at least. It serves for each
+/// list that is as the call before left it.
 #[derive(Drop)]
 pub struct Rebuilder {
     // on the heap, since it is large
@@ -102,7 +102,7 @@ fn rebuilt_routes(
     }
 }
 
-// The same, where nothing is kept yet.
+// The same if nothing is kept yet.
 fn rebuilt_over(alloc: Global, lookups: &Lookups<'_>, routes: &Routes) -> Result<Routes, NoMemory>
     requires { AreBuilt lookups.now.closed.model.now routes.now.lists }
     ensures lists { IfOk result (λ after. after.lists ≡ rebuilt lookups.now.closed.model.now
@@ -114,12 +114,15 @@ fn rebuilt_over(alloc: Global, lookups: &Lookups<'_>, routes: &Routes) -> Result
     rebuilt_routes(alloc, &mut keeper, lookups, routes)
 }
 
-/// The routes at which parallel cheapest insertion ends when it begins with these open routes: as long as an item may
-/// be inserted into some list so that the lists stay open, the insertion of the least class is made, of those the one
-/// that adds least to the arc costs, and of those the first by item, vehicle and places. Path neighbourhoods ask a
-/// [`Rebuilder`] instead; tests ask this one, and `vr_app` has it for `Rebuild::rebuild`, which no search calls.
+/// The routes at which parallel cheapest insertion ends when it begins with these open routes. It inserts as long as an
+/// item may be inserted into some list so that the lists stay open. Each time it makes the insertion of the least
+/// class. Of those it makes the one that adds least to the arc costs, and of those the first by item, vehicle and
+/// places.
 ///
-/// `NoMemory` where there was no memory.
+/// Path neighbourhoods ask a [`Rebuilder`] instead; tests ask this one. `vr_app` has it for `Rebuild::rebuild`, which
+/// no search calls.
+///
+/// `NoMemory` if there was no memory.
 pub fn rebuild(alloc: Global, model: &Model, routes: &Routes) -> Result<Routes, NoMemory>
     requires well_formed { IsWellFormed model.now }
     requires lists { IsTrue (are_lists model.now routes.now.lists) }
@@ -164,7 +167,7 @@ fn first_kept(
 /// The first solution of a model by parallel cheapest insertion (`PARALLEL_CHEAPEST_INSERTION` in OR-Tools): empty
 /// routes, rebuilt.
 ///
-/// `None` exactly where the lists at which this ends are not valid. `NoMemory` where there was no memory.
+/// `None` exactly if the lists at which this ends are not valid. `NoMemory` if there was no memory.
 pub fn first_over(alloc: Global, lookups: &Lookups<'_>) -> Result<Option<Routes>, NoMemory>
     ensures first { IfOk result (λ first. lists_in first ≡ cond
         (is_valid lookups.now.closed.model.now (parallel_cheapest_insertion lookups.now.closed.model.now))
@@ -176,8 +179,8 @@ pub fn first_over(alloc: Global, lookups: &Lookups<'_>) -> Result<Option<Routes>
     first_kept(alloc, &mut keeper, lookups)
 }
 
-/// The same of a model that nobody has looked up yet: looks it up, and asks [`first_over`]. The program, which has it
-/// looked up, asks that itself; tests ask this.
+/// The same of a model that nobody has looked up yet: looks it up, and asks [`first_over`]. Tests ask this. The program
+/// has the model looked up, and asks [`first_over`] itself.
 pub fn first(alloc: Global, model: &Model) -> Result<Option<Routes>, NoMemory>
     requires well_formed { IsWellFormed model.now }
     ensures first { IfOk result (λ first. lists_in first

@@ -57,9 +57,9 @@ fn keeps_its_pairs(trying: &mut Trying, list: &LookedUpList<'_, '_, '_>) -> bool
     )
 }
 
-/// Whether the vehicle of a list may drive it with a visit before place `t`, as `longer` has it, found by walks over
-/// the two arcs that are new. Whether it may visit the node was asked before (`best_in_list`), and whether the groups
-/// have room (`search`).
+/// Whether the vehicle of a list may drive it with a visit before place `t`, as `longer` has it. Walks go over the two
+/// arcs that are new. Whether the vehicle may visit the node was asked before (`best_in_list`), and so was whether the
+/// groups have room (`search`).
 pub(crate) fn may_visit(
     trying: &mut Trying,
     visit: &VisitIn<'_, '_, '_>,
@@ -81,9 +81,9 @@ pub(crate) fn may_visit(
     Ok(keeps_its_pairs(trying, list))
 }
 
-/// Whether the vehicle of a list may drive it with a pair in it, the delivery before place `t`, as `longer` has it,
-/// where what the list with the pickup reaches at the node before the delivery is known (with the pickup in front that
-/// is its stop `t + 1`).
+/// Whether the vehicle of a list may drive it with a pair in it, the delivery before place `t`, as `longer` has it.
+/// What the list with the pickup reaches at the node before the delivery is known. With the pickup in front, that is
+/// its stop `t + 1`.
 pub(crate) fn may_serve(
     trying: &mut Trying,
     probes: &Probes,

@@ -1,5 +1,5 @@
-//! Items that stand in no list, with what is known of the best insertion of each into any list. So most are passed over
-//! by one number, and no list is asked (`search`).
+//! Items in no list, with what is known of the best insertion of each into any list. So most are passed over by one
+//! number, and no list is asked (`search`).
 
 ghost use Rattle.std.specs.Prelude.{◌≡◌, ◌<◌, All, IfOk, OnOk, Some, length};
 ghost use Rattle.vr_model.specs.first.Items.{first_node};
@@ -17,12 +17,12 @@ use std::alloc::Global;
 use vr_model::{NoMemory, Seq};
 use vr_rules::Candidate;
 
-/// An item that stood in no list when insertion began.
+/// An item that was in no list when insertion began.
 #[derive(Clone, Copy, Drop)]
 pub(crate) struct WaitingItem {
     /// Its number among the candidates.
     pub(crate) number: usize,
-    /// What its best insertion into any list adds at least, where there is one; `None` where nothing is known.
+    /// What its best insertion into any list adds at least, if there is one; `None` if nothing is known.
     pub(crate) least: Option<i64>,
 }
 
@@ -46,8 +46,9 @@ pub(crate) fn is_passed_over(best: Option<InsertionChoice>, class: u32, least: O
     }
 }
 
-/// What is known of an item of a class once all lists were asked, by the better of the best so far and its best
-/// insertion: it adds no less than that, if it is not of a later class. Where there is none it has no insertion.
+/// What is known of an item of a class once all lists were asked. `best` is the better of the best so far and the best
+/// insertion of the item. The item adds no less than `best`, if it is not of a later class. If there is no `best`, the
+/// item has no insertion.
 pub(crate) fn least_told(
     best: Option<InsertionChoice>,
     class: u32,
@@ -61,7 +62,7 @@ pub(crate) fn least_told(
     }
 }
 
-// The same where there is a best.
+// The same if there is a best.
 fn least_by_best(best: InsertionChoice, class: u32, before: Option<i64>) -> Option<i64>
     ensures { result ≡ least_told_of (Some best) class before }
 {
@@ -72,7 +73,7 @@ fn least_by_best(best: InsertionChoice, class: u32, before: Option<i64>) -> Opti
     }
 }
 
-/// Whether a candidate is marked, by its first node: a pair stands in a list with both nodes or in none.
+/// Whether a candidate is marked, by its first node: a list has both nodes of a pair or neither.
 pub(crate) fn is_marked(marks: &[bool], candidate: Candidate) -> bool
     requires { first_node (item_nodes candidate.item) < length marks.now }
     ensures { result ≡ is_marked_by marks.now (first_node (item_nodes candidate.item)) }
@@ -80,7 +81,7 @@ pub(crate) fn is_marked(marks: &[bool], candidate: Candidate) -> bool
     marks[candidate.item.number() as usize]
 }
 
-// Has candidate `i` wait, where it is not marked.
+// Has candidate `i` wait, unless it is marked.
 fn have_wait(
     items: &Items<'_, '_, '_>,
     marks: &[bool],
@@ -120,8 +121,8 @@ pub(crate) fn unmarked(
     Ok(waiting)
 }
 
-// What is known of a waiting item that adds at least so much to the other lists, where the list of vehicle `v` has
-// changed. Of one that is marked nothing is kept.
+// What is known of a waiting item after the list of vehicle `v` has changed. To the other lists the item adds at least
+// `least`. Nothing is kept of an item that is marked.
 fn lowered_by_list(
     on: &AskedLists<'_, '_, '_, '_>,
     marks: &[bool],
@@ -140,7 +141,7 @@ fn lowered_by_list(
     Some(least.min(here))
 }
 
-// What is known of a waiting item, where the list of vehicle `v` has changed.
+// What is known of a waiting item after the list of vehicle `v` has changed.
 fn lowered(
     on: &AskedLists<'_, '_, '_, '_>,
     marks: &[bool],
@@ -157,7 +158,7 @@ fn lowered(
     }
 }
 
-/// Writes what is known of the waiting items, where the list of vehicle `v` has changed.
+/// Writes what is known of the waiting items after the list of vehicle `v` has changed.
 pub(crate) fn lower(
     items: &Items<'_, '_, '_>,
     list_rows: &[ListRows],

@@ -8,11 +8,11 @@ use Rattle.vr_model.specs.first.SavingsJoins.{Join, may_join, saving}
 use Rattle.vr_model.specs.declared.records.Model.{Model}
 use Rattle.vr_first_savings.specs.declared.choice.JoinChoice.{JoinChoice}
 
--- one route behind another
+-- one route after another
 abbrev pub both : List ℕ → List ℕ → Join
 both front back = record { front = front; back = back }
 
--- no join that may be made of a route in front and one of the routes behind it saves more than the bound
+-- no join that may be made of a front route and one of the routes after it saves more than the bound
 abbrev pub IsBound : Model → List (List ℕ) → List ℕ → ℤ → Type 0
 IsBound model routes front bound = (j : ℕ) → j < length routes → IsTrue (may_join model (both front (route routes j)))
     → saving model (both front (route routes j)) ≤ℤ bound
@@ -27,8 +27,8 @@ abbrev pub may_improve : Option JoinChoice → ℤ → Bool
 may_improve None bound = true
 may_improve (Some best) bound = int_le best.saving bound
 
--- bounds that are raised for the first route: each is at least what its route saves in front of the first one, and that
--- of the first route is at least what any join saves
+-- bounds are raised for the first route. Each is at least what its route saves in front of the first one. That of the
+-- first route is at least what any join saves.
 pub record AreRaised (model : Model) (routes : List (List ℕ)) (old new : List ℤ) : Type 0 where
   pub number : length new ≡ length old
   pub grown : (k : ℕ) → number_at old k ≤ℤ number_at new k

@@ -9,6 +9,6 @@ abbrev pub IsMerged : Model → List (List ℕ) → Type 0
 IsMerged model routes =
     (join : Join) → least_by (join_key model) (joins model routes) ≡ Some join → is_wanted model routes join ≡ false
 
--- where routes were joined at most as often as there were routes, no join is wanted any more: so many steps are enough
+-- after at most as many joins as there are routes, no join is wanted any more, whatever routes it begins with
 abbrev pub MergingEnds : Type 0
 MergingEnds = (model : Model) (routes : List (List ℕ)) → IsMerged model (merged model (length routes) routes)

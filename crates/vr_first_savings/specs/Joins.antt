@@ -11,17 +11,18 @@ use Rattle.vr_model.specs.first.SavingsJoins.{Join, may_join, saving}
 use Rattle.vr_model.specs.declared.records.Model.{Model}
 use Rattle.vr_first_savings.specs.declared.choice.JoinChoice.{JoinChoice}
 
--- routes with visits, none of which stands twice
+-- routes with visits, each visit in them once
 pub record AreApart (model : Model) (routes : List (List ℕ)) : Type 0 where
   pub some : All (λ route. 0 < length route) routes
   pub visits : IsTrue (list_all (is_visit model) (concat routes))
   pub distinct : IsTrue (is_distinct (concat routes))
 
--- the join that a choice stands for
+-- the join that a choice means
 abbrev pub join_of : List (List ℕ) → JoinChoice → Join
 join_of routes choice = record { front = route routes choice.front; back = route routes choice.back }
 
--- what a choice is compared by: the greatest saving first, then the last node in front, then the first node behind
+-- what a choice is compared by: the greatest saving first, then the last node of the front route, then the first of the
+-- back route
 abbrev pub saving_key : JoinChoice → List ℤ
 saving_key choice = neg_ℤ choice.saving ∷ pos choice.last ∷ pos choice.first ∷ []
 
@@ -40,7 +41,7 @@ choice_at model routes i j = record {
   first = first_node (route routes j);
 }
 
--- the better of the best so far and a choice, which counts only where the two routes may be joined
+-- the better of the best so far and a choice, which counts only if the two routes may be joined
 abbrev pub weigh_join : Model → List (List ℕ) → Option JoinChoice → JoinChoice → Option JoinChoice
 weigh_join model routes best next = cond (may_join model (join_of routes next)) (better saving_key best next) best
 

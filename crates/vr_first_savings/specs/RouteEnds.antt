@@ -27,6 +27,6 @@ pub record AreRouteEnds (model : Model) (ends : EndsOfRoute) : Type 0 where
   pub to_end_in_range : IsIn (pos 0) greatest_cost ends.to_end
   pub from_start_in_range : IsIn (pos 0) greatest_cost ends.from_start
 
--- the ends that are read where there are none
+-- the ends that are read if there are none
 abbrev pub no_ends : EndsOfRoute
 no_ends = record { last = 0; first = 0; to_end = pos 0; from_start = pos 0 }

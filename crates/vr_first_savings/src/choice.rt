@@ -5,8 +5,8 @@ ghost use Rattle.vr_model.specs.tables.Numbers.{is_lex_less};
 ghost use Rattle.vr_rules.specs.Placing.{improves as improves_by};
 ghost use Rattle.vr_first_savings.specs.Joins.{saving_key};
 
-/// Two routes by their places, the one in front and the one behind it, what joining them saves, and the nodes where
-/// they meet: the last of the one and the first of the other.
+/// Two routes by their places, the front one and the back one, with what joining them saves. It has the nodes at which
+/// they meet: the last of the front route and the first of the back route.
 #[derive(Clone, Copy)]
 pub(crate) struct JoinChoice {
     pub(crate) front: usize,
@@ -16,8 +16,8 @@ pub(crate) struct JoinChoice {
     pub(crate) first: u32,
 }
 
-// Whether a choice comes before another: the greater saving, then the lesser last node in front, then the lesser first
-// node behind.
+// Whether a choice comes before another: by the greater saving, then the lesser last node in front, then the lesser
+// first node of the back.
 fn comes_before(one: JoinChoice, other: JoinChoice) -> bool
     ensures { result ≡ is_lex_less (saving_key one) (saving_key other) }
 {

@@ -1,4 +1,4 @@
-//! The ends of routes: where two are joined, and what the arcs cost that a join saves.
+//! The ends of routes, at which two are joined, and what the arcs cost that a join saves.
 
 ghost use Rattle.std.specs.Prelude.{◌≡◌, ◌<◌, length, map, IfOk};
 ghost use Rattle.vr_model.specs.routes.Routes.{route};
@@ -8,8 +8,8 @@ ghost use Rattle.vr_first_savings.specs.Joins.{AreApart};
 use std::alloc::Global;
 use vr_model::{Closed, NoMemory, Seq};
 
-/// The last and the first node of a route, and what the arcs of vehicle 0 cost from the last to its end and from its
-/// start to the first.
+/// The last and the first node of a route, with what two arcs of vehicle 0 cost. These go from the last node to its
+/// end, and from its start to the first node.
 #[derive(Clone, Copy)]
 pub(crate) struct EndsOfRoute {
     pub(crate) last: u32,

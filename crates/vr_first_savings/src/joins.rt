@@ -1,8 +1,8 @@
 //! The best join of two routes.
 //!
-//! Of each route, in front, a bound is kept on what its joins save. Most rows of joins are passed over by it: after a
-//! join only the bounds of routes that would save more with the joined route are raised. Invariant: no join that may be
-//! made saves more than the bound of its route in front.
+//! Of each route, in front, an upper bound is kept on what its joins save. Most rows of joins are passed over by it.
+//! After a join the only bounds that are raised are those of routes that would save more with the joined route.
+//! Invariant: no join that may be made saves more than the bound of its front route.
 
 ghost use Rattle.std.specs.Prelude.{◌≡◌, ◌<◌, ◌++◌, ◌^◌, ℕ, All, IfOk, IfSome, OnOk, List, None, option_map, length};
 ghost use Rattle.std.specs.Prelude.{map, neg_ℤ, pos, ◌≤ℤ◌, ◌+ℤ◌, ◌-ℤ◌, set};
@@ -24,8 +24,9 @@ use vr_model::{Closed, NoMemory, Seq};
 use vr_plan::Lookups;
 use vr_rules::{Driving, is_route_open};
 
-// What it saves to drive from the last node of one route to the first of another, and not over the end and the start,
-// at the arc costs of vehicle 0.
+// What a join saves at the arc costs of vehicle 0. The vehicle drives from the last node of one route to the first of
+// another, and not over the end and the start. If the arcs to the end and from the start cost 10 and 12, and the arc
+// between the routes 5, the join saves 17.
 fn saved(closed: Closed<'_>, front: EndsOfRoute, back: EndsOfRoute) -> i64
     requires front { AreRouteEnds closed.model.now front }
     requires back { AreRouteEnds closed.model.now back }
@@ -56,7 +57,7 @@ fn choice_at(closed: Closed<'_>, ends: &[EndsOfRoute], i: usize, j: usize) -> Jo
     }
 }
 
-/// One route behind another.
+/// One route after another.
 pub(crate) fn joined(
     alloc: Global,
     routes: &[Seq<u32>],
@@ -74,8 +75,8 @@ pub(crate) fn joined(
     Ok(joined)
 }
 
-// The better of the best so far and a choice, which counts only where it joins two routes, and not one with itself, and
-// the joined route is open. That takes most to ask, so it is asked only where the choice comes first.
+// The better of the best so far and a choice. The choice counts only if it joins two routes, and not one with itself,
+// and if the joined route is open. That takes most to ask, so it is asked only if the choice comes first.
 fn consider(
     alloc: Global,
     lookups: &Lookups<'_>,
@@ -117,7 +118,7 @@ struct Weighed {
     bound: i64,
 }
 
-// The best of the joins of route `i`, in front, with each route behind it.
+// The best of the joins of route `i`, in front, with each other route after it.
 fn best_behind(
     alloc: Global,
     lookups: &Lookups<'_>,
@@ -150,8 +151,8 @@ fn may_improve(best: Option<JoinChoice>, bound: i64) -> bool
     }
 }
 
-// The better of the best so far and the joins of route `i`, in front, with a bound on what these save. They are gone
-// over only where the bound so far lets one of them be better; then the bound is what the best of them saves.
+// The better of the best so far and the joins of route `i`, in front, with a bound on what these save. The joins are
+// gone over only if the bound so far lets one of them be better. Then the bound becomes what the best of them saves.
 fn weigh_row(
     alloc: Global,
     lookups: &Lookups<'_>,
@@ -185,8 +186,8 @@ fn weigh_row(
     }
 }
 
-/// The best join of two routes, whatever it saves, if any may be joined. The bounds, of each route in front by its
-/// first node, are told anew of the routes whose joins are gone over.
+/// The best join of two routes, whatever it saves, if any may be joined. The bounds are kept by the first node of the
+/// front route. They are set anew for the routes whose joins are gone over.
 pub(crate) fn best_join(
     alloc: Global,
     lookups: &Lookups<'_>,
@@ -221,8 +222,8 @@ pub(crate) fn best_join(
 /// A bound on what any join saves, as long as nothing more is known.
 pub(crate) const UNKNOWN: i64 = 2_199_023_255_552;
 
-/// Raises bounds, so that they hold of the first route too, which was joined: of each route in front of it by what that
-/// join saves. Of the first route in front nothing is known.
+/// Raises bounds so that they hold of the first route too, which was joined. The bound of each route is raised to what
+/// its join saves in front of the first route. Of joins with the first route in front nothing is known.
 pub(crate) fn raise(closed: Closed<'_>, routes: &[Seq<u32>], bounds: &mut [i64])
     requires apart { AreApart closed.model.now routes.now }
     requires some { 0 < length routes.now }
@@ -237,7 +238,7 @@ pub(crate) fn raise(closed: Closed<'_>, routes: &[Seq<u32>], bounds: &mut [i64])
     raise_to(bounds, joined.first as usize, UNKNOWN);
 }
 
-// Raises a bound to a number where it is less.
+// Raises a bound to a number if it is less.
 fn raise_to(bounds: &mut [i64], k: usize, least: i64)
     requires { k < length bounds.old }
     ensures { bounds.new ≡ set bounds.old k (int_max (number_at bounds.old k) least) }

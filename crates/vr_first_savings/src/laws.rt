@@ -3,8 +3,8 @@
 
 ghost use Rattle.vr_first_savings.specs.Ending.{MergingEnds};
 
-/// Routes are joined until no join is wanted any more, and not up to their bound: as many steps as there are routes are
-/// enough, from whatever routes it begins.
+/// Routes are joined until no join is wanted any more, and not up to their bound. As many steps as there are routes are
+/// enough, whatever routes it begins from.
 pub fn merging_ends()
     ensures { MergingEnds }
 {}

@@ -15,8 +15,8 @@ use vr_model::{Model, NoMemory, Seq};
 use vr_plan::Lookups;
 use vr_rules::Driving;
 
-// Puts a copy of a route behind others, where it is none of the two that are joined, whose first nodes are `front` and
-// `back`: a route is known by its first node.
+// Appends a copy of a route to others, unless it is one of the two that are joined. A route is known by its first node;
+// those of the two are `front` and `back`.
 fn keep_other(
     alloc: Global,
     route: &[u32],
@@ -101,8 +101,8 @@ fn merge_all(
     Ok(routes)
 }
 
-/// The routes that are left where all joins are made that are wanted. The room for bounds is lent, so that there is
-/// less to let go where memory is wanting.
+/// The routes that are left when all joins are made that are wanted. The room for bounds is lent, so that there is less
+/// to let go if memory is wanting.
 pub(crate) fn merged(
     alloc: Global,
     lookups: &Lookups<'_>,

@@ -17,7 +17,7 @@ use vr_plan::Lookups;
 use vr_routes::Routes;
 use vr_rules::{Driving, Rules};
 
-// The lists at which the construction ends. The room for walks is lent, so that there is less to let go where memory is
+// The lists at which the construction ends. The room for walks is lent, so that there is less to let go if memory is
 // wanting.
 fn lists_joined(
     alloc: Global,
@@ -42,8 +42,8 @@ fn lists_by_savings(alloc: Global, lookups: &Lookups<'_>) -> Result<Vec<Seq<u32>
     lists_joined(alloc, lookups, &mut driving)
 }
 
-// Whether routes of the model are valid. All is asked, and not only what is missing: each list is open for vehicle 0,
-// and need not be for another that is not like it.
+// Whether routes of the model are valid. All is asked, and not only what is missing. Each list is open for vehicle 0,
+// but need not be for a vehicle that is not like it.
 fn are_valid(alloc: Global, lookups: &Lookups<'_>, routes: &Routes) -> Result<bool, NoMemory>
     requires { IsTrue (are_lists lookups.now.closed.model.now routes.now.lists) }
     ensures { IfOk result (λ answer. answer ≡ is_valid lookups.now.closed.model.now routes.now.lists) }
@@ -55,7 +55,7 @@ fn are_valid(alloc: Global, lookups: &Lookups<'_>, routes: &Routes) -> Result<bo
 /// The routes at which the construction ends, valid or not. A search that may begin with routes that lack something
 /// asks this one.
 ///
-/// `NoMemory` where there was no memory.
+/// `NoMemory` if there was no memory.
 pub fn built_over(alloc: Global, lookups: &Lookups<'_>) -> Result<Routes, NoMemory>
     ensures savings { IfOk result (λ routes. routes.lists ≡ savings lookups.now.closed.model.now) }
     ensures lists { IfOk result (λ routes. IsTrue (are_lists lookups.now.closed.model.now routes.lists)) }
@@ -69,11 +69,12 @@ pub fn built_over(alloc: Global, lookups: &Lookups<'_>) -> Result<Routes, NoMemo
     }
 }
 
-/// The first solution of a model by savings (`SAVINGS` in OR-Tools, after Clarke and Wright): each item that may be a
-/// route of its own begins as one, and routes are joined where that saves most. Routes are built as if vehicle 0 drove
-/// each. A model that names this construction has vehicles that are alike; of another model it gives what it can.
+/// The first solution of a model by savings (`SAVINGS` in OR-Tools, after Clarke and Wright). Each item that may be a
+/// route of its own begins as one; then routes are joined, each time by the join that saves most. Routes are built as
+/// if vehicle 0 drove each. A model that names this construction has vehicles that are alike; of another model it gives
+/// what it can.
 ///
-/// `None` exactly where the lists at which this ends are not valid. `NoMemory` where there was no memory.
+/// `None` exactly if the lists at which this ends are not valid. `NoMemory` if there was no memory.
 pub fn first_over(alloc: Global, lookups: &Lookups<'_>) -> Result<Option<Routes>, NoMemory>
     ensures first { IfOk result (λ first. lists_in first ≡ cond
         (is_valid lookups.now.closed.model.now (savings lookups.now.closed.model.now))
@@ -89,8 +90,8 @@ pub fn first_over(alloc: Global, lookups: &Lookups<'_>) -> Result<Option<Routes>
     }
 }
 
-/// The same of a model that nobody has looked up yet: looks it up, and asks [`first_over`]. The program, which has it
-/// looked up, asks that itself; tests ask this.
+/// The same of a model that nobody has looked up yet: looks it up, and asks [`first_over`]. Tests ask this. The program
+/// has the model looked up, and asks [`first_over`] itself.
 pub fn first(alloc: Global, model: &Model) -> Result<Option<Routes>, NoMemory>
     requires well_formed { IsWellFormed model.now }
     ensures first { IfOk result (λ first. lists_in first

@@ -1,4 +1,4 @@
--- Where the parts of the cost stand.
+-- What the parts of the cost know of the lists that they are in sync with.
 use Rattle.std.specs.Prelude.{◌≡◌, ℕ, ℤ, Bool, not, ◌&&◌, ◌||◌, nat_lt, IsTrue, List}
 use Rattle.std.specs.Prelude.{pos, ◌*◌, ◌+ℤ◌, ◌-ℤ◌}
 use Rattle.vr_model.specs.tables.Numbers.{is_same_number}
@@ -20,15 +20,15 @@ use Rattle.vr_plan.specs.Bounds.{cumul_cost, IsAround}
 use Rattle.vr_parts.specs.Bounds.{IsAddedByChange}
 use Rattle.vr_earliest.specs.Kept.{KeptEarly, StandsEarliest}
 
--- what valid lists of the model differ by in cost is what their arcs and the penalties of their groups differ by
+-- valid lists of the model differ in cost by exactly what their arcs and the penalties of their groups differ by
 abbrev pub PaysArcsAndGroups : Model → Type 0
 PaysArcsAndGroups model =
     (lists later : List (List ℕ)) → IsTrue (is_valid model lists) → IsTrue (is_valid model later)
     → cost model later -ℤ cost model lists
     ≡ (arcs_part model later -ℤ arcs_part model lists) +ℤ (penalty_part model later -ℤ penalty_part model lists)
 
--- no vehicle has a fixed cost, no span a coefficient, no stop a soft upper bound and no global span a coefficient, so
--- that arcs and groups alone are paid
+-- arcs and groups alone are paid: no vehicle has a fixed cost, no span or global span a coefficient, no stop a soft
+-- upper bound
 abbrev pub pays_arcs_and_groups : Model → Bool
 pays_arcs_and_groups model = (not (is_some_fixed model) && pays_no_plan model) && not (is_some_spanned model)
 
@@ -37,8 +37,8 @@ abbrev pub is_least_by_arcs : Model → List (List ℕ) → ℕ → Bool
 is_least_by_arcs model lists kind =
     pays_arcs_and_groups model && (is_same_number (penalty_part model lists) (pos 0) || nat_lt kind 6)
 
--- each move of a run, whose moves differ in their last number, adds no less to the cost of lists than it adds to the
--- cost of their arcs, but for what it saves
+-- each move of a run adds to the cost of lists at least what it adds to their arcs, less what it saves. The moves of a
+-- run differ in their last number.
 abbrev pub AddArcsBut : Model → List (List ℕ) → Move → ℤ → Type 0
 AddArcsBut model lists mv saved =
     (k : ℕ) → IsTrue (is_move model lists (with_last mv k))
@@ -63,8 +63,8 @@ pub record KeptCosts : Type 0 where
   pub earliest : KeptEarly
   pub arcs_and_groups : Bool
 
--- each part and what is kept of early ends is of the model, and has committed these lists; it is said whether arcs and
--- groups alone are paid, and where it is said so, valid lists differ by them alone
+-- each part, and what is kept of early ends, is of the model and has committed these lists. It is told whether arcs and
+-- groups alone are paid. If they are, valid lists differ by them alone.
 pub record StandsCosts (kept : KeptCosts) (tours : Tours) : Type 0 where
   pub arcs_model : kept.arcs.model ≡ kept.model
   pub fixed_model : kept.fixed.model ≡ kept.model

@@ -1,4 +1,4 @@
--- Where a judge stands, with its filter and its costs.
+-- What a judge, its filter and its costs are in sync with.
 use Rattle.std.specs.Prelude.{◌≡◌, ℕ, Bool, List}
 use Rattle.vr_model.specs.tables.Tables.{visits}
 use Rattle.vr_model.specs.declared.records.Model.{Model}
@@ -6,8 +6,8 @@ use Rattle.vr_routes.specs.Tours.{Tours}
 use Rattle.vr_judge.specs.Rules.{keeps_rules, total_weight}
 use Rattle.vr_judge.specs.Costs.{KeptCosts, StandsCosts}
 
--- the filters ask what valid lists of the model keep, within its weights; they and the parts of the cost stand at the
--- lists of the routes
+-- the filters ask what valid lists of the model keep, within its weights. They and the parts of the cost are in sync
+-- with the routes.
 pub record IsJudging (model : Model) (routes : Tours) (holds : List (List ℕ) → Bool)
     (weight : List (List ℕ) → List (List ℕ) → ℕ) (stands_at : Tours → Type 0) (costs : KeptCosts) : Type 0 where
   pub of_model : routes.visits ≡ visits model

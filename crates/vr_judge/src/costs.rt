@@ -38,11 +38,11 @@ pub(crate) struct Costs<'m> {
     plans: PlanCost<'m>,
     // global spans
     spans: GlobalSpan<'m>,
-    // how early vehicles can end lists and how short their spans can be, for what `plans` and `spans` add at least
+    // how early vehicles can end lists and how short their spans can be: lower bounds for `plans` and `spans`
     earliest: Earliest<'m>,
-    // room for that of the lists after a change
+    // room for the same of the lists after a change
     earlies: Earlies,
-    // whether arcs and groups alone are paid, so that runs of moves are told by them
+    // whether arcs and groups alone are paid, so that these two tell runs of moves
     arcs_and_groups: bool,
 }
 
@@ -63,8 +63,8 @@ impl<'m> Model for Costs<'m> {
     } };
 }
 
-// Whether no vehicle has a fixed cost, no span and no global span a coefficient, and no stop a soft upper bound, not
-// one with the coefficient 0 either: these tell no two lists apart then.
+// Whether arcs and groups alone are paid. No vehicle has a fixed cost, and no span or global span has a coefficient. No
+// stop has a soft upper bound, not even one with the coefficient 0. These parts then tell no two lists apart.
 fn are_idle(fixed: &FixedCost, plans: &PlanCost, spans: &GlobalSpan) -> bool
     requires pays { fixed.now.pays ≡ is_some_fixed fixed.now.model }
     requires plans_model { plans.now.model ≡ fixed.now.model }
@@ -75,7 +75,8 @@ fn are_idle(fixed: &FixedCost, plans: &PlanCost, spans: &GlobalSpan) -> bool
     fixed.is_idle() && plans.is_idle() && spans.is_idle()
 }
 
-// Whether a move leaves each node active that is, and no other: so do those that put visits elsewhere.
+// Whether a move leaves each node active that is active, and makes no other active. Moves that put visits elsewhere do
+// so.
 #[inline(always)]
 fn keeps_activity(mv: Move) -> bool
     ensures { result ≡ nat_lt (kind_of mv) 6 }
@@ -144,12 +145,16 @@ impl<'m> Costs<'m> {
         })
     }
 
-    // What each move of a run saves at most beside what it adds to the cost of arcs: 0 where the committed lists have
-    // no penalty to pay, or moves of the kind leave the penalties as they are; else the penalties of what it puts into
-    // a list, or, where each move of a run puts another visit in the place of a node, the greatest that any visit saves
-    // less what that node saves. The moves of a run differ in their last number. `None` where more may be paid than
-    // arcs and penalties, and, where there is a penalty to pay, of moves that only take visits out and of a pair or a
-    // place that there is not.
+    // What each move of a run saves at most beside what it adds to the cost of arcs. The moves of a run differ in their
+    // last number. What is saved is:
+    //
+    // - 0 if the committed lists have no penalty to pay, or if moves of the kind leave the penalties as they are;
+    // - else the penalties of what the move puts into a list;
+    // - or, if each move puts another visit in the place of a node, the greatest that any visit saves, less what that
+    //   node saves.
+    //
+    // `None` if more may be paid than arcs and penalties. If there is a penalty to pay, it is also `None` of moves that
+    // only take visits out. So it is then of a pair or place that is not there.
     #[inline(always)]
     fn saved_by_run(&self, routes: &Routes, mv: Move) -> Option<i64>
         requires stands { StandsCosts self.now routes.now }
@@ -167,10 +172,15 @@ impl<'m> Costs<'m> {
     }
 
     /// Goes over a run of moves of the committed lists, which differ in their last number: those of the numbers from
-    /// `from` on, below `end`. Says from which number on some may make a difference below a bound, by the cost of arcs,
-    /// less the most of the penalties that any of them saves. `None` where more may be paid than these, of moves that
-    /// only take visits out, of some `mv` that is no move (it puts elsewhere a pair that is not served, say), and where
-    /// the bound and what is saved together do not fit an `i64`.
+    /// `from` on, below `end`. Says from which number on some move may make a difference below a bound. What a move
+    /// makes is bounded by the cost of arcs, less the most of the penalties that any move of the run saves.
+    ///
+    /// `None`:
+    ///
+    /// - if more may be paid than arcs and penalties;
+    /// - of moves that only take visits out;
+    /// - of some `mv` that is no move (it puts elsewhere a pair that is not served, say);
+    /// - if the bound and what is saved together do not fit an `i64`.
     #[inline(always)]
     pub fn first_below(
         &mut self,
@@ -212,8 +222,8 @@ impl<'m> Costs<'m> {
         Ok(sum(arcs, fixed, groups, plans, spans))
     }
 
-    /// What a change of the committed lists adds to their cost at least, where the lists after it are valid: what arcs
-    /// and fixed costs add, and what groups, soft upper bounds, spans and global spans add at least.
+    /// A lower bound of what a change of the committed lists adds to their cost, if the lists after it are valid. It is
+    /// what arcs and fixed costs add, and the least that groups, soft upper bounds, spans and global spans add.
     pub fn least(&mut self, routes: &Routes, change: &Change) -> i64
         requires stands { StandsCosts self.old routes.now }
         requires made { IsMadeOn routes.now change.now }
@@ -231,8 +241,8 @@ impl<'m> Costs<'m> {
         sum(arcs, fixed, groups, plans, spans)
     }
 
-    /// Commits the lists after a change. Plans and global spans are made ready first, so all stay as before where
-    /// memory is wanting; the other cost terms take none.
+    /// Commits the lists after a change. Plans and global spans are made ready first; the other cost terms take no
+    /// memory. So if memory is wanting, all stay as before.
     pub fn commit(&mut self, routes: &Routes, change: &Change) -> Result<(), NoMemory>
         requires stands { StandsCosts self.old routes.now }
         requires made { IsMadeOn routes.now change.now }

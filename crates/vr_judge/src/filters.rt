@@ -20,7 +20,7 @@ pub type Filters<'m> = Both<
     Both<VehicleFilter<'m>, Both<PairFilter<'m>, Each<DimensionFilter<'m>>>>,
 >;
 
-/// The filters of a model, over what was looked up of it, which stand at these routes. The only refusal is want of
+/// The filters of a model, over what was looked up of it, in sync with these routes. The only refusal is want of
 /// memory. [`crate::FilterJudge::over`] alone calls it.
 pub fn filters_of<'m>(
     alloc: Global,

@@ -17,14 +17,25 @@ use vr_plan::Lookups;
 use vr_routes::{Change, Judge, Routes, Verdict};
 
 /// Judges a move by what it changes: filters refuse it (`LocalSearchFilterManager` in OR-Tools), and parts of the cost
-/// tell its difference. It counts no questions. Of steps it counts at most the weight that the definitions give the
-/// change, summed over the dimensions: filters do not walk what lies before and behind the changed stretch of a route.
-/// Parts of the cost count no steps; where a schedule may cost anything, they go along the whole list of a vehicle that
-/// has breaks, or where a stop allows several runs of cumuls, and of one that chooses its tight schedule, where soft
-/// bounds may cost anything and its end is at another cumul than before.
+/// tell its difference. It counts no questions.
 ///
-/// A judged move takes memory only where a set of cumuls has more than four runs, where a list is longer than any
-/// before, or its vehicle has breaks, or where a tight schedule is built, for which a line is copied.
+/// Of steps it counts at most the weight that the definitions give the change, summed over the dimensions. Filters do
+/// not walk what lies before and after the changed stretch of a route.
+///
+/// Parts of the cost count no steps. If a schedule may cost anything, they go along the whole list of a vehicle in
+/// these cases:
+///
+/// - the vehicle has breaks;
+/// - a stop allows several runs of cumuls;
+/// - the vehicle chooses its tight schedule, soft bounds may cost anything, and its end is at another cumul than
+///   before.
+///
+/// A judged move takes memory only in these cases:
+///
+/// - a set of cumuls has more than four runs;
+/// - a list is longer than any before;
+/// - its vehicle has breaks;
+/// - a tight schedule is built, for which a line is copied.
 #[derive(Drop)]
 pub struct FilterJudge<'m> {
     // in a box, so that who owns a judge moves and drops one pointer
@@ -76,7 +87,7 @@ impl<'m> FilterJudge<'m> {
         })
     }
 
-    /// Lets the judge go. Who drops it instead is asked for a proof that all which it holds can be dropped.
+    /// Lets the judge go. Who drops it instead must prove that all it holds can be dropped.
     pub fn close(self) {}
 }
 

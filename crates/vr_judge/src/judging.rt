@@ -25,7 +25,8 @@ pub(crate) struct Judging<'m, F: PathFilter + Drop> {
     pub(crate) costs: Costs<'m>,
 }
 
-// Judges a change of lists at which a filter and costs stand: the filter says whether they are valid after it.
+// Judges a change of the lists that a filter and costs are in sync with. The filter says whether the lists are valid
+// after it.
 fn judge_by<F: PathFilter, L: Ledger>(
     filter: &mut F,
     costs: &mut Costs<'_>,
@@ -55,8 +56,9 @@ fn judge_by<F: PathFilter, L: Ledger>(
     Ok(Verdict::Difference(difference))
 }
 
-// Makes a change of lists at which a filter and costs stand, and after which they are valid: they are made ready first,
-// then all are changed, which takes no memory. Where memory is wanting, none of them is.
+// Makes a change of the lists that a filter and costs are in sync with. The lists are valid after it. Filter and costs
+// are made ready first; then they and the routes are changed, which takes no memory. If memory is wanting, none is
+// changed.
 fn commit_by<F: PathFilter>(
     filter: &mut F,
     costs: &mut Costs<'_>,

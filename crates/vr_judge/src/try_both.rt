@@ -4,9 +4,9 @@ ghost use Rattle.std.specs.Prelude.{◌≡◌, Ok, IfOk};
 
 use vr_model::NoMemory;
 
-/// Both of two values, or want of memory where making either wanted it. A function that opens several large values
-/// joins them by it, two by two, and ends early at one place for all of them, where it owns none of them. Those behind
-/// one that wanted memory are opened all the same.
+/// Both of two values, or want of memory if making either wanted it. A function that opens several large values joins
+/// them by it, two by two. So it ends early at one place for all of them, at which it owns none of them. The values
+/// after one that wanted memory are opened all the same.
 pub(crate) fn try_both<A: Drop, B: Drop>(
     first: Result<A, NoMemory>,
     second: Result<B, NoMemory>,

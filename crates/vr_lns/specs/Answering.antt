@@ -12,7 +12,7 @@ pub record IsSoundAtLast (model : Model) (first : List (List ℕ)) (limit : Limi
   pub sound : IsSoundAnswer model first limit answer
   pub last_is_best : answer.last ≡ answer.best
 
--- the search from valid lists answers so, however many visits a chain has at most, where the limit allows a solution
+-- the search from valid lists answers so, however many visits a chain has at most, if the limit allows a solution
 abbrev pub PathLnsIsSound : Type 0
 PathLnsIsSound =
     (model : Model) (lists : List (List ℕ)) (limit : Limit) (most : ℕ) → IsTrue (is_valid model lists)

@@ -1,10 +1,10 @@
--- Where the chain of a cut lies.
+-- The place of the chain of a cut.
 use Rattle.std.specs.Prelude.{ℕ, ◌+◌, Bool, ◌&&◌, ◌==◌, List, length, min, nat_le, nat_lt}
 use Rattle.vr_model.specs.routes.Routes.{route}
 use Rattle.vr_routes.specs.declared.seats.Seat.{Seat}
 use Rattle.vr_lns.specs.declared.cutting.Cut.{Cut}
 
--- the place behind the chain of a cut
+-- the place after the chain of a cut
 abbrev pub chain_end : ℕ → List (List ℕ) → Cut → ℕ
 chain_end most lists at = min (at.place + most) (length (route lists at.vehicle))
 

@@ -19,12 +19,12 @@ cuts_of v list = map (λ a. record { vehicle = v; place = a }) (below (length li
 abbrev pub cuts : List (List ℕ) → List Cut
 cuts lists = each (vehicles lists) λ v. cuts_of v (route lists v)
 
--- the chain that a cut takes out of its list: the visits from its place on, at most so many
+-- the chain that a cut takes out of its list: the visits from its place on, at most `most` of them
 abbrev pub cut_chain : ℕ → List (List ℕ) → Cut → List ℕ
 cut_chain most lists at =
     let list = route lists at.vehicle in slice_range list at.place (min (at.place + most) (length list))
 
--- a node goes with a chain where it stands in it, or where the other node of its pair does
+-- a node goes with a chain if it or the other node of its pair is in it
 abbrev pub goes_with : List ℕ → ℕ → Option Pair → Bool
 goes_with chain node None = holds chain node
 goes_with chain node (Some pair) = holds chain pair.pickup || holds chain pair.delivery
@@ -37,8 +37,8 @@ without_chain model chain list = filter (λ node. not (goes_with chain node (pai
 abbrev pub left_by : Model → ℕ → List (List ℕ) → Cut → List (List ℕ)
 left_by model most lists at = map (without_chain model (cut_chain most lists at)) lists
 
--- open lists after parallel cheapest insertion of items that stand in none, as long as one may be inserted; of other
--- lists nothing is made
+-- open lists after parallel cheapest insertion of items that are in none, as long as one may be inserted. Of other
+-- lists nothing is made.
 abbrev pub rebuilt_where_open : Model → List (List ℕ) → Option (List (List ℕ))
 rebuilt_where_open model lists = cond (is_open model lists) (Some (rebuilt model (length (items model)) lists)) None
 
@@ -50,11 +50,11 @@ result_of model most lists at = rebuilt_where_open model (left_by model most lis
 abbrev pub improves_on : Model → List (List ℕ) → List (List ℕ) → Bool
 improves_on model lists after = is_valid model after && int_lt (cost model after) (cost model lists)
 
--- a result where it is accepted: it is valid and costs less
+-- a result if it is accepted: it is valid and costs less
 abbrev pub where_better : Model → List (List ℕ) → Option (List (List ℕ)) → Option (List (List ℕ))
 where_better model lists None = None
 where_better model lists (Some after) = cond (improves_on model lists after) (Some after) None
 
--- the result of a cut where the cut is acceptable
+-- the result of a cut if the cut is acceptable
 unfoldable pub accepted_by : Model → ℕ → List (List ℕ) → Cut → Option (List (List ℕ))
 accepted_by model most lists at = where_better model lists (result_of model most lists at)

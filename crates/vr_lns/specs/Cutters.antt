@@ -20,6 +20,6 @@ pub record AreRoutesOf (model : Model) (routes : Tours) : Type 0 where
   pub visits_are : routes.visits ≡ visits model
   pub lists_are : IsTrue (are_lists model routes.lists)
 
--- lists where there is a result
+-- lists if there is a result
 abbrev pub result_in : Bool → List (List ℕ) → Option (List (List ℕ))
 result_in there lists = cond there (Some lists) None

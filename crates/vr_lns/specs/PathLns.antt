@@ -1,4 +1,4 @@
--- Path neighbourhoods destroyed and rebuilt: the first cut whose result costs less is made, again and again.
+-- Path neighbourhoods ruined and recreated: the first cut whose result costs less is made, again and again.
 use Rattle.std.specs.Prelude.{ℕ, zero, suc, ◌+◌, ◌-◌, true, false, ◌==◌, List}
 use Rattle.vr_model.specs.search.Outcomes.{SearchState, Outcome, tried, ended, event_at, with_event, from_first}
 use Rattle.vr_model.specs.declared.records.Model.{Model}
@@ -19,8 +19,8 @@ after_round model limit again state (Accepted n after) =
 after_round model limit again state (Complete n) = ended (tried state n) Optimum
 after_round model limit again state Short = ended (tried state (limit.tries - state.used)) Tries
 
--- The search from where it stands, by at most so many rounds. Each round that does not end the search uses a try, so
--- with one round more than there are tries left the bound is never met.
+-- The search from its state, by at most this many rounds. Each round that does not end the search uses a try. So with
+-- one round more than there are tries left the bound is never met.
 unfoldable pub path_lns_from : Model → ℕ → Limit → ℕ → SearchState → Outcome
 path_lns_from model most limit zero state = ended state Tries
 path_lns_from model most limit (suc rounds) state = elim (state.found == limit.solutions) [
@@ -29,6 +29,6 @@ path_lns_from model most limit (suc rounds) state = elim (state.found == limit.s
       (round model most state.lists (limit.tries - state.used))
 ]
 
--- the search from lists, by cuts of at most so many visits
+-- the search from lists, by cuts of at most `most` visits
 unfoldable pub path_lns : Model → List (List ℕ) → Limit → ℕ → Outcome
 path_lns model lists limit most = from_first model lists (path_lns_from model most limit (suc limit.tries))

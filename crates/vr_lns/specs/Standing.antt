@@ -1,4 +1,4 @@
--- Where a search in code stands, and what a round of cuts makes of that.
+-- The state of a search in code, and what a round of cuts makes of it.
 use Rattle.std.specs.Prelude.{◌≡◌, ℕ, ◌+◌, ◌-◌, Bool, false, true, List, [], ◌∷◌, ℤ, IsTrue, Option, Some, None}
 use Rattle.vr_model.specs.tables.Tables.{visits}
 use Rattle.vr_model.specs.routes.Rules.{is_valid}
@@ -14,7 +14,7 @@ use Rattle.vr_lns.specs.declared.rounds.RoundEnd.{RoundEnd}
 use Rattle.vr_lns.specs.declared.rounds.RoundEnd.TheVariants as ends
 use Rattle.vr_descent.specs.declared.progress.Progress.{Progress}
 
--- routes hold valid lists of a model that cost so much
+-- routes hold valid lists of a model that cost this much
 pub record HoldValid (model : Model) (routes : Tours) (total : ℤ) : Type 0 where
   pub of_model : routes.visits ≡ visits model
   pub valid : IsTrue (is_valid model routes.lists)
@@ -48,23 +48,23 @@ tries_in_round rest (ends.Accepted place) = place
 tries_in_round rest (ends.Complete length) = length
 tries_in_round rest ends.Short = rest
 
--- the event of a cut that was made, after so many tries
+-- the event of a cut that was made, after a number of tries
 abbrev pub cut_event : Model → List (List ℕ) → ℕ → Event
 cut_event model after tries = record { tries = tries; kind = kind.Move; cost = cost model after }
 
--- the events of a round of a search that has used so many tries
+-- the events of a round of a search that has used this many tries
 abbrev pub round_events : Model → ℕ → Round → List Event
 round_events model used (Accepted n after) = cut_event model after (used + n) ∷ []
 round_events model used (Complete n) = []
 round_events model used Short = []
 
--- where a search stands after a round
+-- the state of a search after a round
 abbrev pub standing_after : Model → Limit → Progress → Round → Progress
 standing_after model limit at (Accepted n after) =
     record { used = at.used + n; found = at.found + 1; cost = cost model after }
 standing_after model limit at (Complete n) = record { used = at.used + n; found = at.found; cost = at.cost }
 standing_after model limit at Short = record { used = limit.tries; found = at.found; cost = at.cost }
 
--- the round of a search of lists that has used so many tries
+-- the round of a search of lists that has used this many tries
 abbrev pub round_at : Model → ℕ → Limit → List (List ℕ) → ℕ → Round
 round_at model most limit lists used = round model most lists (limit.tries - used)

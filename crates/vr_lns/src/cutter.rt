@@ -75,9 +75,9 @@ impl<'m> Cutter<'m> {
         rebuild.know(&self.lookups)
     }
 
-    /// Makes routes of the model the result of a cut: what it leaves, rebuilt. Answers whether there is one, which is
-    /// where what is left is open: a list that loses visits need not be, as where an arc takes longer than the way over
-    /// a visit. Where there is none, the routes are what is left.
+    /// Makes routes of the model the result of a cut: what it leaves, rebuilt. Answers whether there is one. There is
+    /// one exactly if what is left is open. A list that loses visits need not be: an arc may take longer than the way
+    /// over a visit. If there is no result, the routes are what is left.
     pub(crate) fn write_result<R: Rebuild>(
         &mut self,
         rebuild: &mut R,
@@ -112,8 +112,8 @@ impl<'m> Cutter<'m> {
         Ok(true)
     }
 
-    /// Takes the lists of a result over, and their cost as `total`, where they are valid and cost less than `total`.
-    /// Answers whether it does. The result is open, so it is valid where nothing is missing.
+    /// Takes the lists of a result over, and their cost as `total`, if they are valid and cost less than `total`.
+    /// Answers whether it does. The result is open, so it is valid if nothing is missing.
     pub(crate) fn take(
         &mut self,
         after: &Routes,

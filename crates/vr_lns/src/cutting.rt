@@ -15,8 +15,9 @@ use vr_model::NoMemory;
 use vr_plan::Lookups;
 use vr_routes::Routes;
 
-/// A cut: the vehicle whose list a chain of visits is taken out of, and the place there where the chain begins. The
-/// chain has as many visits as one may have, or those up to the end of the list.
+/// A cut: the vehicle whose list a chain of visits is taken out of, and the place in it at which the chain begins. The
+/// chain has as many visits as one may have, or those up to the end of the list. For example, it may have two, and the
+/// list is 3 7 4 9. A cut at place 1 takes 7 and 4, and one at place 3 takes 9.
 #[derive(Clone, Copy)]
 pub struct Cut {
     pub vehicle: u32,
@@ -75,7 +76,7 @@ impl<'m> Cutting<'m> {
         self.cutter.know(rebuild)
     }
 
-    /// Tries a cut, and takes its result over where the cut is acceptable. Answers whether it is.
+    /// Tries a cut, and takes its result over if the cut is acceptable. Answers whether it is.
     pub(crate) fn try_cut<R: Rebuild>(
         &mut self,
         rebuild: &mut R,

@@ -4,14 +4,14 @@
 ghost use Rattle.vr_lns.specs.Answering.{PathLnsIsSound};
 ghost use Rattle.vr_lns.specs.Bounding.{PathLnsBoundUnmet};
 
-/// The lists of a search by cuts from valid lists are valid and cost no more than these, and its tries and its
-/// solutions are within the limit. `vr_app` rests its answer on the law.
+/// What each answer of a search by cuts from valid lists keeps to. The lists are valid and cost no more than the first.
+/// Its tries and its solutions are within the limit. `vr_app` rests its answer on the law.
 pub fn path_lns_is_sound()
     ensures { PathLnsIsSound }
 {}
 
-/// A search by cuts ends by itself: a bound on its rounds that is above the number of tries left is never met, so the
-/// definition, which has one round more than tries, does not end at it.
+/// A search by cuts ends by itself. A bound on its rounds that is above the number of tries left is never met. So the
+/// definition, which has one round more than tries, does not end at its bound.
 pub fn path_lns_bound_unmet()
     ensures { PathLnsBoundUnmet }
 {}

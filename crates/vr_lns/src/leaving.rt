@@ -33,7 +33,7 @@ fn is_between(seat: Seat, at: Cut, end: u32) -> bool
     seat.vehicle == at.vehicle && at.place <= seat.place && seat.place < end
 }
 
-// Whether a node stands in the chain that a cut takes out.
+// Whether a node is in the chain that a cut takes out.
 fn is_in_chain(cut: &CutOf<'_, '_, '_>, node: u32) -> bool
     ensures { result ≡ holds (cut_chain cut.now.most cut.now.routes.now.lists cut.now.at) node }
 {
@@ -53,7 +53,7 @@ fn pair_of(lookups: &Lookups<'_>, node: u32) -> Option<Pair>
     lookups.nodes().pair_of(node)
 }
 
-// Whether a node goes with that chain: it stands in it, or the other node of its pair does.
+// Whether a node goes with that chain: it or the other node of its pair is in it.
 fn goes_with(cut: &CutOf<'_, '_, '_>, node: u32) -> bool
     ensures { result ≡ goes_with_of (cut_chain cut.now.most cut.now.routes.now.lists cut.now.at) node
         (pair_in cut.now.lookups.now.closed.model.now node) }
@@ -78,8 +78,8 @@ fn without_chain(alloc: Global, cut: &CutOf<'_, '_, '_>, list: &[u32]) -> Result
     Ok(left)
 }
 
-// The lists that a cut leaves. Those of other vehicles stay as they are where the routes are open, since a pair stands
-// in one list there.
+// The lists that a cut leaves. If the routes are open, those of other vehicles stay as they are, since a pair is in one
+// list then.
 fn lists_left(alloc: Global, cut: &CutOf<'_, '_, '_>) -> Result<Vec<Seq<u32>>, NoMemory>
     ensures { IfOk result (λ left. left.items ≡ left_by cut.now.lookups.now.closed.model.now cut.now.most
         cut.now.routes.now.lists cut.now.at) }
@@ -93,7 +93,7 @@ fn lists_left(alloc: Global, cut: &CutOf<'_, '_, '_>) -> Result<Vec<Seq<u32>>, N
     Ok(left)
 }
 
-/// Makes routes of the model those that a cut leaves: without the chain, and without the other node of the pair of each
+/// Makes routes of the model those that a cut leaves. The chain is gone, and so is the other node of the pair of each
 /// of its nodes.
 pub(crate) fn leave(
     alloc: Global,

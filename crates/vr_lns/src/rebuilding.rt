@@ -14,22 +14,22 @@ use vr_model::{Model, NoMemory};
 use vr_plan::Lookups;
 use vr_routes::Routes;
 
-/// Rebuilds open routes. It may keep from call to call what it knows of a model and of lists: what it answers does not
-/// depend on it. Who asks again and again lets it know the model once, and then asks for that model alone.
+/// Rebuilds open routes. It may keep from call to call what it knows of a model and of lists; its answers do not depend
+/// on that. Who asks again and again lets it know the model once, and then asks for that model alone.
 pub trait Rebuild {
-    /// A number that rises by at most one where routes are rebuilt: by it a search says how often it rebuilds. That of
+    /// A number that rises by at most one when routes are rebuilt: by it a search says how often it rebuilds. That of
     /// `vr_app` stays 0; tests count.
     ghost made: { Self → ℕ };
 
     /// What it keeps is of this model.
     ghost knows: { Self → RoutingModel → Type 0 };
 
-    /// The routes at which parallel cheapest insertion ends when it begins with these open routes: as long as an item
-    /// may be inserted into some list so that the lists stay open, the insertion of the least class is made, of those
-    /// the one that adds least to the arc costs, and of those the first by item, vehicle and places. No search calls
-    /// this: it calls `rebuild_known`, which a test makes of this.
+    /// The routes at which parallel cheapest insertion ends when it begins with these open routes. It inserts as long
+    /// as an item may be inserted into some list so that the lists stay open. Each time it makes the insertion of the
+    /// least class. Of those it makes the one that adds least to the arc costs, and of those the first by item, vehicle
+    /// and places.
     ///
-    /// The only refusal is want of memory.
+    /// No search calls this: it calls `rebuild_known`, which a test makes of this. The only refusal is want of memory.
     fn rebuild(&mut self, model: &Model, routes: &Routes) -> Result<Routes, NoMemory>
         requires well_formed { IsWellFormed model.now }
         requires lists { IsTrue (are_lists model.now routes.now.lists) }
@@ -45,10 +45,10 @@ pub trait Rebuild {
         ensures knows { OnOk result (knows self.new lookups.now.closed.model.now) }
         ensures made { made self.new ≡ made self.old };
 
-    /// Makes open routes those that `rebuild` gives, of the model that it knows: what it found of lists in the call
+    /// Makes open routes those that `rebuild` gives, of the model that it knows. What it found of lists in the call
     /// before it may keep for lists that are the same.
     ///
-    /// The only refusal is want of memory. The routes are as before then, and nothing is said of what it keeps.
+    /// The only refusal is want of memory. The routes are then as before, and nothing is said of what it keeps.
     fn rebuild_known(&mut self, lookups: &Lookups<'_>, routes: &mut Routes) -> Result<(), NoMemory>
         requires knows { knows self.old lookups.now.closed.model.now }
         requires of_model { routes.old.visits ≡ visits lookups.now.closed.model.now }

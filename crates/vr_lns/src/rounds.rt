@@ -14,15 +14,15 @@ use vr_routes::Routes;
 /// How a round of cuts ends.
 #[derive(Clone, Copy)]
 pub enum RoundEnd {
-    /// The first acceptable cut stands at this place among the cuts, counted from 1. The routes took its result over.
+    /// The first acceptable cut is at this place among the cuts, counted from 1. The routes took its result over.
     Accepted { place: u64 },
-    /// No cut is acceptable; there are so many.
+    /// No cut is acceptable; there are `length` of them.
     Complete { length: u64 },
     /// The tries ran out before the cuts did.
     Short,
 }
 
-// Tries the cuts of the list of vehicle `v`, behind `tried` others of which none is acceptable. These count in `rest`,
+// Tries the cuts of the list of vehicle `v`, after `tried` others of which none is acceptable. These count in `rest`,
 // and in the place or the number that it ends with.
 fn cut_list<R: Rebuild>(
     cutting: &mut Cutting<'_>,
@@ -66,10 +66,10 @@ fn cut_list<R: Rebuild>(
     Ok(RoundEnd::Complete { length: place })
 }
 
-/// Tries the cuts of the routes in order, at most `rest` of them, up to the first that is acceptable, whose result the
-/// routes take over. Each try rebuilds once at most.
+/// Tries the cuts of the routes in order, at most `rest` of them, up to the first that is acceptable. The routes take
+/// its result over. Each try rebuilds at most once.
 ///
-/// The only refusal is want of memory. The routes are as before then.
+/// The only refusal is want of memory. The routes are then as before.
 pub(crate) fn round<R: Rebuild>(
     cutting: &mut Cutting<'_>,
     rebuild: &mut R,

@@ -20,18 +20,22 @@ use vr_plan::Lookups;
 use vr_routes::Routes;
 use vr_watch::{Watch, note_all};
 
-/// Makes the first cut whose result costs less, again and again, and tells the watchers of the first solution and of
-/// each cut that it makes. A cut takes a chain of at most `cut` visits, from 1 to 100, out of a list, and with each of
-/// them the other node of its pair; its result is what is left, rebuilt, where that is open. The routes then hold the
-/// last lists, which are the best. `limit` allows up to 10^9 tries, which are cuts, and from 1 to 10^9 solutions. Tests
-/// ask this one; `vr_app` has the model looked up, and calls [`lns_over`].
+/// Makes the first cut whose result costs less, again and again. It tells the watchers of the first solution and of
+/// each cut that it makes. A cut takes a chain of at most `cut` visits out of a list, and with each of them the other
+/// node of its pair; `cut` is in 1..=100. Its result is what is left, rebuilt, if that is open. The routes then hold
+/// the last lists, which are the best.
 ///
-/// The report's end is `Solutions` where as many solutions were found as the limit allows, which is asked first; else
-/// `Optimum` where no cut of the last lists gives valid lists that cost less, and `Tries` where the tries ran out
-/// before that was known.
+/// `limit` allows up to 10^9 tries, which are cuts, and from 1 to 10^9 solutions. Tests ask this one; `vr_app` has the
+/// model looked up, and calls [`lns_over`].
 ///
-/// The only refusal is want of memory. The routes then hold valid lists, no more was rebuilt than the limit has tries,
-/// and the watchers have been told the events up to there: of the event in hand, the first few.
+/// The report's end is the first of these that holds:
+///
+/// - `Solutions` if as many solutions were found as the limit allows;
+/// - `Optimum` if no cut of the last lists gives valid lists that cost less;
+/// - `Tries` if the tries ran out before that was known.
+///
+/// The only refusal is want of memory. The routes then hold valid lists, and no more was rebuilt than the limit has
+/// tries. The watchers have been told the events up to there; the first few of them may know the event in hand too.
 pub fn lns<R: Rebuild>(
     alloc: Global,
     model: &Model,

@@ -15,8 +15,8 @@ use vr_watch::{Watch, note_all};
 
 /// One round: the first acceptable cut is made and told to the watchers; the tries are counted.
 ///
-/// The only refusal is want of memory. The routes hold valid lists then, and of the event in hand some watchers at
-/// the front were told.
+/// The only refusal is want of memory. The routes then hold valid lists, and the first few watchers may know the event
+/// in hand.
 pub(crate) fn advance<R: Rebuild>(
     at: &mut Progress,
     cutting: &mut Cutting<'_>,

@@ -1,4 +1,4 @@
--- How many pickups and deliveries stand in a list up to each of its nodes.
+-- How many pickups and deliveries are in a list up to each of its nodes.
 use Rattle.std.specs.Prelude.{◌≡◌, ℕ, ◌+◌, ◌<◌, ◌≤◌, Bool, true, false, cond}
 use Rattle.std.specs.Prelude.{All, IsTrue}
 use Rattle.std.specs.Prelude.{◌==◌, List, length, take, slice_index, slice_index_or, Option, Some, None}
@@ -20,7 +20,7 @@ pair_counts model nodes = record { pickups = pickups_in model nodes; deliveries 
 abbrev pub no_counts : Counts
 no_counts = record { pickups = 0; deliveries = 0 }
 
--- a number of nodes, no more than stand in three lists of 1000 nodes
+-- a number of nodes, at most as many as three lists of 1000 nodes have
 abbrev pub IsOfThreeLists : ℕ → Type 0
 IsOfThreeLists many = many ≤ 3000
 
@@ -34,7 +34,7 @@ pub record CanBeCounted (list : List ℕ) : Type 0 where
   pub few : length list ≤ 1000
   pub distinct : IsTrue (is_distinct list)
 
--- a table has, of each node of a list, what stands in the list up to it
+-- a table has, for each node of a list, the counts of the list up to it
 pub record AreCounted (model : Model) (list : List ℕ) (table : List Counts) : Type 0 where
   pub up_to : (k : ℕ) → k < length list → count_of table (slice_index list k) ≡ pair_counts model (take (k + 1) list)
 
@@ -55,7 +55,7 @@ asks_turns Any = false
 asks_turns Lifo = true
 asks_turns Fifo = true
 
--- a list is counted, and the nodes that stand in the place of a stretch of it
+-- a list is counted, and the nodes that replace a stretch of it
 pub record IsNewCounted (model : Model) (old : List ℕ) (front behind : ℕ) (middle : List ℕ)
     (listed between : List Counts) : Type 0 where
   pub seams : AreSeams (length old) front behind

@@ -12,8 +12,8 @@ use Rattle.vr_routes.specs.declared.pieces.Piece.{Piece}
 use Rattle.vr_balance.specs.Balances.{Turnover, over_pieces}
 use Rattle.vr_pathfilters.specs.TourLists.{AreTours}
 
--- no group has more active nodes than it may have, each visit in no group is active, and each group without a penalty
--- has exactly as many active nodes as it may have
+-- groups are kept: no group has more active nodes than it may have, and each visit in no group is active. Each group
+-- without a penalty has exactly as many active nodes as it may have.
 abbrev pub keeps_groups : Model → List (List ℕ) → Bool
 keeps_groups model lists = list_all (fits_group lists) model.groups
     && (has_required model lists
@@ -27,12 +27,12 @@ one_in_group numbers g node = cond (node_number numbers node == g) 1 0
 abbrev pub many_of : List ℕ → List (List ℕ) → List Piece → ℕ → ℕ
 many_of numbers lists pieces g = over_pieces (one_in_group numbers g) lists pieces
 
--- a number of nodes, no more than stand in 18 pieces of 1000 nodes
+-- a number of nodes, at most as many as 18 pieces of 1000 nodes have
 abbrev pub IsInPieces : ℕ → Type 0
 IsInPieces many = many ≤ 18000
 
--- as many nodes of group g may come and go: as many of them; or it has a penalty, and no more come than go, or there is
--- room for them
+-- these numbers of nodes of group g may come and go. They may if as many come as go. If the group has a penalty, they
+-- also may if no more come than go, or if there is room for them.
 abbrev pub allows_number : Model → List (List ℕ) → ℕ → ℕ → ℕ → Bool
 allows_number model lists g come gone = (come == gone)
     || (nat_lt g (length model.groups)
@@ -50,7 +50,7 @@ abbrev pub allows_pieces : Model → List ℕ → List (List ℕ) → Turnover �
 allows_pieces model numbers lists turnover pieces =
     list_all (λ piece. list_all (allows_node model numbers lists turnover) (nodes_of lists piece)) pieces
 
--- a filter with these numbers stands at the tours, of which the rule holds
+-- a filter with these numbers is in sync with the tours, of which the rule holds
 pub record KnowsGroups (model : Model) (numbers : List ℕ) (tours : Tours) : Type 0 where
   pub well_formed : IsWellFormed model
   pub numbers_are : AreNumbers model numbers

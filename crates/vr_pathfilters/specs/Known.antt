@@ -1,4 +1,4 @@
--- What a filter of a dimension knows of the lists at which it stands.
+-- What a filter of a dimension knows of the lists that it is in sync with.
 use Rattle.std.specs.Prelude.{◌≡◌, ℕ, ◌<◌, Bool, true, cond, nat_lt, List, length, slice_index_or, IsTrue}
 use Rattle.std.specs.Prelude.{Option, None, is_some}
 use Rattle.vr_model.specs.moves.Moves.{with_route}
@@ -31,8 +31,8 @@ pub record KnowsLoads (model : Model) (d : ℕ) (lists : List (List ℕ)) (carri
   pub load : IsTrue (is_load model d)
   pub carried_are : AreCarried model d lists carried
 
--- a filter of dimension d with these loads or rows stands at the lists: loads are kept where the dimension is a
--- load, and rows where it is none
+-- a filter of dimension d with these loads or rows is in sync with the lists. Loads are kept if the dimension is a
+-- load, and rows if it is none.
 pub record StandsAt (model : Model) (d : ℕ) (loads : Option (List Carried)) (known : List BothWays)
     (tours : Tours) : Type 0 where
   pub well_formed : IsWellFormed model
@@ -43,23 +43,23 @@ pub record StandsAt (model : Model) (d : ℕ) (loads : Option (List Carried)) (k
   pub rows_are : loads ≡ None → KnowsRows model d known tours.lists
   pub rule : IsTrue (holds_of_each (is_feasible_list model d) tours.lists)
 
--- the rows are those of the list of part k of a change, where there is that part
+-- the rows are those of the list of part k of a change, if there is that part
 abbrev pub AreRowsOfPart : Model → ℕ → List (List ℕ) → List ListAfter → ℕ → BothWays → Type 0
 AreRowsOfPart model d lists parts k rows = k < length parts
     → AreRowsIfUsed model d (part_at parts k).vehicle (joined lists (part_at parts k).pieces) rows
 
--- lists with the list of part k of a change of others, where there is that part
+-- lists with the list of part k of a change of others, if there is that part
 abbrev pub with_part : List (List ℕ) → List ListAfter → ℕ → List (List ℕ) → List (List ℕ)
 with_part old parts k lists = cond (nat_lt k (length parts))
     (with_route lists (part_at parts k).vehicle (joined old (part_at parts k).pieces)) lists
 
--- the rows are those of the first two parts of a change, as far as there are so many
+-- the rows are those of the first two parts of a change, as far as it has them
 pub record AreRowsOfParts (model : Model) (d : ℕ) (first second : BothWays) (lists : List (List ℕ))
     (parts : List ListAfter) : Type 0 where
   pub first_are : AreRowsOfPart model d lists parts 0 first
   pub second_are : AreRowsOfPart model d lists parts 1 second
 
--- the rows of each part of a change were made, where rows are kept, and the rule holds after it
+-- the rows of each part of a change were made, if rows are kept, and the rule holds after it
 pub record IsReady (model : Model) (d : ℕ) (is_prepared : Bool) (loads : Option (List Carried))
     (first second : BothWays) (lists : List (List ℕ)) (parts : List ListAfter) : Type 0 where
   pub prepared : is_prepared ≡ true

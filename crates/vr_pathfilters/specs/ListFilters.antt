@@ -1,4 +1,4 @@
--- Where a filter of a rule of single lists stands.
+-- When a filter of a rule of single lists is in sync with routes.
 use Rattle.std.specs.Prelude.{◌≡◌, ℕ, Bool, true, List, IsTrue}
 use Rattle.vr_routes.specs.Tours.{Tours}
 use Rattle.vr_routes.specs.Pieces.{ListAfter, changed}

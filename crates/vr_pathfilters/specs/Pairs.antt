@@ -34,12 +34,12 @@ pub record KnowsPairs (model : Model) (listed : List Counts) (tours : Tours) : T
   pub knows_tours : KnowsTours model tours
   pub counted : AreAllCounted model tours.lists listed
 
--- a list of vehicle v is counted, where its policy asks for turns, and what is kept of other nodes stays
+-- a list of vehicle v is counted, if its policy asks for turns, and what is kept of other nodes stays
 pub record IsListCounted (model : Model) (v : ℕ) (list : List ℕ) (before after : List Counts) : Type 0 where
   pub counted : IsTrue (asks_turns_of model v) → AreCounted model list after
   pub others : (node : ℕ) → holds list node ≡ false → count_of after node ≡ count_of before node
 
--- a list serves a pair, where there is one
+-- a list serves a pair, if there is one
 abbrev pub serves_if_any : List ℕ → Option Pair → Bool
 serves_if_any list None = true
 serves_if_any list (Some pair) = serves_pair list pair
@@ -61,8 +61,8 @@ AreMarked list marks = (node : ℕ) → IsTrue (holds list node) → IsTrue (is_
 abbrev pub serves_unmarked : Model → List ℕ → List ℕ → List ℕ → ℕ → Bool
 serves_unmarked model list nodes marks node = is_at_mark nodes marks node || serves_node model list node
 
--- the list of vehicle v keeps its front and its end, with marked nodes in the place of those between, and no node
--- stands twice in what it becomes
+-- the list of vehicle v keeps its front and its end, with marked nodes in the place of those between. In what it
+-- becomes no node is there twice.
 pub record IsNewList (lists : List (List ℕ)) (v front behind : ℕ) (middle marks : List ℕ) : Type 0 where
   pub vehicle : v < length lists
   pub once : IsOnce lists

@@ -6,7 +6,7 @@ use Rattle.vr_reach.specs.Lists.{IsTour}
 use Rattle.vr_reach.specs.Spliced.{AreSeams, spliced}
 use Rattle.vr_routes.specs.Pieces.{ListAfter, joined}
 
--- nodes between the ends of the list of v make the list of a part, which is a tour of a model of 1000 nodes at most
+-- nodes between the ends of the list of v make the list of a part. It is a tour of a model of at most 1000 nodes.
 pub record IsPartBetween (model : Model) (lists : List (List ℕ)) (part : ListAfter) (v front behind : ℕ)
     (between : List ℕ) : Type 0 where
   pub same : v ≡ part.vehicle

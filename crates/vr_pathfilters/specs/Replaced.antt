@@ -1,4 +1,4 @@
--- Which pairs come in turn where other nodes stand in the place of a stretch of a list.
+-- Which pairs come in turn when a stretch of a list is replaced by other nodes.
 use Rattle.std.specs.Prelude.{◌≡◌, ℕ, Bool, true, List, length, IsTrue, Option, Some, None}
 use Rattle.std.specs.List.{list_all}
 use Rattle.vr_model.specs.first.Items.{pair_of}
@@ -23,7 +23,7 @@ pub record Replaced : Type 0 where
 abbrev pub replaced_list : Replaced → List ℕ
 replaced_list r = spliced r.old r.front r.behind r.middle
 
--- a pair comes in turn, where there is one
+-- a pair comes in turn, if there is one
 abbrev pub is_in_turn_if_any : Model → Policy → List ℕ → Option Pair → Bool
 is_in_turn_if_any model policy list None = true
 is_in_turn_if_any model policy list (Some pair) = is_in_turn model policy list pair
@@ -42,9 +42,9 @@ pub record Serves (model : Model) (list : List ℕ) : Type 0 where
   pub distinct : IsTrue (is_distinct list)
   pub each_pair : IsTrue (list_all (serves_pair list) model.pairs)
 
--- where the pairs of a list come in turn, and it serves each pair before and with other nodes in the place of a
--- stretch, all pairs come in turn with these exactly where those of the new nodes do: then pairs that begin before them
--- and end behind them come in turn too
+-- a stretch of a list, whose pairs come in turn, is replaced by other nodes; it serves each pair before and after. Then
+-- all pairs come in turn exactly if those of the new nodes do. So pairs that begin before the new nodes and end after
+-- them come in turn too.
 abbrev pub TurnsAreBetween : Type 0
 TurnsAreBetween = (model : Model) (policy : Policy) (old middle : List ℕ) (front behind : ℕ) → IsWellFormed model
     → AreSeams (length old) front behind → Serves model old → Serves model (spliced old front behind middle)

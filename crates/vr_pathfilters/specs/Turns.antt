@@ -1,4 +1,4 @@
--- Which pairs come in turn, by how many pickups and deliveries stand before their nodes.
+-- Which pairs come in turn, by how many pickups and deliveries come before their nodes.
 use Rattle.std.specs.Prelude.{◌≡◌, ℕ, ◌+◌, Bool, true, ◌==◌, List, take, count_by, IsTrue}
 use Rattle.std.specs.List.{list_all, list_any}
 use Rattle.vr_model.specs.tables.Tables.{vehicle_at}
@@ -26,8 +26,8 @@ pickups_in model nodes = count_by (is_pickup model) nodes
 abbrev pub deliveries_in : Model → List ℕ → ℕ
 deliveries_in model nodes = count_by (is_delivery model) nodes
 
--- the pickup and the delivery at two places of a list come in turn: last in first out, between them as many are picked
--- up as are delivered; first in first out, as many are picked up before the one as are delivered before the other
+-- the pickup and the delivery at two places of a list come in turn. Last in first out, as many are picked up as are
+-- delivered between them. First in first out, as many are picked up before the one as are delivered before the other.
 abbrev pub are_in_turn : Model → Policy → List ℕ → ℕ → ℕ → Bool
 are_in_turn model Any list pickup delivery = true
 are_in_turn model Lifo list pickup delivery =
@@ -45,7 +45,7 @@ is_in_turn model policy list pair =
 abbrev pub takes_turns : Model → Policy → List ℕ → Bool
 takes_turns model policy list = list_all (is_in_turn model policy list) (pairs_in model list)
 
--- a list of distinct nodes that serves each pair keeps the policy of a vehicle exactly where its pairs come in turn
+-- a list of distinct nodes that serves each pair keeps the policy of a vehicle exactly if its pairs come in turn
 abbrev pub TurnsArePolicies : Type 0
 TurnsArePolicies = (model : Model) (v : ℕ) (list : List ℕ) → IsWellFormed model → IsTrue (is_distinct list)
     → IsTrue (list_all (serves_pair list) model.pairs)

@@ -35,22 +35,24 @@ use vr_plan::Lookups;
 use vr_reach::{KnownList, Rows, Splice, StopsFor, Walk, passes_along};
 use vr_routes::{Change, Routes, Row};
 
-/// Lets a change pass where the line of each used vehicle in one dimension has a schedule afterwards (the path cumul
-/// filter of a `RoutingDimension` in OR-Tools). Of a load it keeps sums of the committed lists, and judges a change by
-/// them in a time that does not depend on how long the lists are, where the vehicles have the same evaluator. Of any
-/// other dimension it keeps the rows of the committed lists, and walks only through what a change changes: `passes`
-/// takes memory only where a set has more than four runs, or a vehicle has breaks.
+/// Lets a change pass if the line of each used vehicle in one dimension has a schedule afterwards. In OR-Tools it is
+/// the path cumul filter of a `RoutingDimension`.
+///
+/// - Of a load it keeps sums of the committed lists, and judges a change by them. If the vehicles have the same
+///   evaluator, the time does not depend on how long the lists are.
+/// - Of any other dimension it keeps the rows of the committed lists, and walks only through what a change changes.
+///   `passes` takes memory only if a set has more than four runs, or a vehicle has breaks.
 #[derive(Drop)]
 pub struct DimensionFilter<'m> {
     lookups: Lookups<'m>,
     d: u32,
     alloc: Global,
-    // where the dimension is a load, what vehicles take along their lists
+    // if the dimension is a load, what vehicles take along their lists
     loads: Option<Loads>,
     // else the rows of the list of each vehicle
     known: Vec<Rows>,
     room: Room,
-    // the rows of the changed lists, where a change was made ready
+    // the rows of the changed lists, if a change was made ready
     first: Rows,
     second: Rows,
     // whether a change was made ready: contracts alone read it
@@ -58,7 +60,7 @@ pub struct DimensionFilter<'m> {
 }
 
 impl<'m> DimensionFilter<'m> {
-    /// A filter that stands at the lists of routes, whose lines in dimension `d` are feasible. The only refusal is want
+    /// A filter in sync with the lists of routes, whose lines in dimension `d` are feasible. The only refusal is want
     /// of memory. Tests alone call it; `vr_judge` calls `over`.
     pub fn open(
         alloc: Global,
@@ -98,7 +100,7 @@ impl<'m> DimensionFilter<'m> {
         ensures stands { IfOk result (λ filter.
             ⟦<DimensionFilter<'static> as PathFilter>⟧.stands_at filter routes.now) }
     {
-        // neither does anything: contracts learn that no visit stands twice, and that lists have visits alone
+        // neither does anything: contracts learn that no visit is there twice, and that lists have visits alone
         routes.know_once();
         routes.know_entries();
         let at = RoutesIn {
@@ -129,10 +131,11 @@ impl<'m> DimensionFilter<'m> {
         })
     }
 
-    /// The same as `passes`, where tries are counted too: the arcs that walks without a break go over, which are asked
-    /// first of a vehicle with breaks where neither a visit nor the end allows more than one run. They go along what a
-    /// change changes alone, at most once for each number of breaks that may be taken before it. `passes` alone asks
-    /// it, by `passes_untried`, with a counter of tries that nobody reads.
+    /// The same as `passes`, and tries are counted too: the arcs that walks without a break go over. Such walks are
+    /// asked first of a vehicle with breaks, if neither a visit nor the end allows more than one run. They go along
+    /// what a change changes alone, at most once for each number of breaks that may be taken before it.
+    ///
+    /// `passes` alone asks it, by `passes_untried`, with a counter of tries that nobody reads.
     pub fn passes_within<L: Ledger, M: Ledger>(
         &mut self,
         routes: &Routes,
@@ -297,8 +300,8 @@ impl<'m> PathFilter for DimensionFilter<'m> {
     ghost keeps_rule = { λ f tours stands. stands.rule };
 }
 
-// Puts the rows of part `k` of a change in the place of those of its vehicle, where there is that part. Those become
-// the room for the next ones.
+// Swaps the rows of part `k` of a change with those of its vehicle, if there is that part. The rows of the vehicle
+// before become the room for the next ones.
 fn put_part(known: &mut Vec<Rows>, change: &Change, k: usize, rows: &mut Rows)
     requires vehicle { k < length change.now → (part_at change.now k).vehicle < length known.old.items }
     ensures some { 0 < length change.now }
@@ -314,7 +317,7 @@ fn put_part(known: &mut Vec<Rows>, change: &Change, k: usize, rows: &mut Rows)
     mem::swap(&mut known[change.vehicle(k) as usize], rows);
 }
 
-// What is kept of the lists of all vehicles: loads where the dimension is one, else rows. `lists` counts the lists that
+// What is kept of the lists of all vehicles: loads if the dimension is one, else rows. `lists` counts the lists that
 // are handed over for their rows, and nobody reads it (`rows`).
 fn kept_of<L: Ledger>(
     alloc: Global,

@@ -22,15 +22,19 @@ use vr_lists::group_numbers;
 use vr_model::{Closed, Model, NoMemory, Seq, Steps};
 use vr_routes::{Change, Piece, Routes};
 
-/// Lets a change pass where afterwards no group has more active nodes than it may have, each visit in no group is
-/// active, and each group without a penalty has as many active nodes as it may have (`AddDisjunction` in OR-Tools). It
-/// looks at the nodes of the pieces that come and go and at their groups, and takes no memory once it is opened.
+/// Lets a change pass if groups are kept afterwards (`AddDisjunction` in OR-Tools):
+///
+/// - no group has more active nodes than it may have;
+/// - each visit in no group is active;
+/// - each group without a penalty has as many active nodes as it may have.
+///
+/// It looks at the nodes of the pieces that come and go and at their groups. Once it is opened it takes no memory.
 #[derive(Drop)]
 pub struct GroupFilter<'m> {
     model: &'m Model,
-    // for each node the number of its group; how many groups there are, where it is in none
+    // for each node the number of its group; if it is in none, how many groups there are
     numbers: Seq<u32>,
-    // what the change in hand brings and takes out: each question writes it over
+    // what the change in hand brings and takes out; each question writes it over
     balance: Balance,
     // whether a change was made ready: contracts alone read it
     is_prepared: bool,
@@ -96,9 +100,10 @@ fn many_in_pieces(numbers: &Seq<u32>, routes: &Routes, pieces: &[Piece], g: u32)
     many
 }
 
-// Whether so many nodes of group g may come and go. A visit in no group, where g is how many groups there are, is
-// active, so it comes only if it goes too, and is refused where it goes alone. A group without a penalty has as many
-// active nodes as it may have, and keeps so many.
+// Whether `come` nodes of group `g` may come while `gone` go. If `g` is how many groups there are, it is asked of
+// visits in no group. Such a visit is active, so it comes only if it goes too, and it may not go alone. A group without
+// a penalty has as many active nodes as it may have, and keeps that number. A group with a penalty that may have two
+// active nodes, and has two, lets one come if one goes.
 fn allows(closed: Closed<'_>, routes: &Routes, g: u32, come: usize, gone: usize) -> bool
     requires few { IsInPieces come }
     requires few_too { IsInPieces gone }
@@ -194,7 +199,7 @@ fn all_allow(filter: &GroupFilter<'_>, routes: &Routes) -> bool
 }
 
 impl<'m> GroupFilter<'m> {
-    /// A filter that stands at the lists of routes, of which the rule holds. There is no `over` beside it: it looks up
+    /// A filter in sync with the lists of routes, of which the rule holds. There is no `over` beside it: it looks up
     /// the groups of nodes by itself, also for `vr_judge`. The only refusal is want of memory.
     pub fn open(
         alloc: Global,
@@ -212,7 +217,7 @@ impl<'m> GroupFilter<'m> {
         ensures weight { IfOk result (λ filter. (before later : List (List ℕ))
             → ⟦<GroupFilter<'static> as PathFilter>⟧.weight filter before later ≡ 0) }
     {
-        // neither does anything: contracts learn that no visit stands twice, and that lists have visits alone
+        // neither does anything: contracts learn that no visit is there twice, and that lists have visits alone
         routes.know_once();
         routes.know_entries();
         let numbers = group_numbers(alloc, model)?;

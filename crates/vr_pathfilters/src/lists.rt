@@ -23,8 +23,7 @@ pub trait ListRule {
     /// What is kept is right for such tours.
     ghost knows: { Self → Tours → Type 0 };
 
-    /// Whether the rule holds of the list of part `k` of a change, where it held of the list before. It takes no
-    /// memory.
+    /// Whether the rule holds of the list of part `k` of a change, if it held of the list before. It takes no memory.
     fn keeps(&mut self, routes: &Routes, change: &Change, k: usize) -> bool
         requires knows { knows self.old routes.now }
         requires made { IsMadeOn routes.now change.now }
@@ -44,7 +43,7 @@ pub trait ListRule {
         ensures knows { knows self.new (after routes.now change.now) };
 }
 
-/// Lets a change pass where a rule holds of each list afterwards. It never answers `NoMemory`, and counts no steps.
+/// Lets a change pass if a rule holds of each list afterwards. It never answers `NoMemory`, and counts no steps.
 #[derive(Drop)]
 pub struct ListFilter<R> {
     pub(crate) rule: R,

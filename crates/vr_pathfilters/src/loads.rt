@@ -16,7 +16,7 @@ use vr_loads::{Loads, is_load};
 use vr_model::{Closed, Model, NoMemory};
 use vr_routes::{Change, Routes, Row};
 
-/// What is kept of the lists of all vehicles where dimension `d` is a load, nothing where it is none.
+/// What is kept of the lists of all vehicles if dimension `d` is a load; nothing if it is none.
 pub(crate) fn loads_of(
     alloc: Global,
     closed: Closed<'_>,
@@ -58,8 +58,8 @@ pub(crate) fn all_carried(
     true
 }
 
-// Whether a vehicle can carry what it takes with the list of one part of a change: exactly where the list is empty or
-// its line feasible.
+// Whether a vehicle can carry what it takes with the list of one part of a change. It can exactly if the list is empty
+// or its line is feasible.
 #[inline]
 fn part_carried(
     model: &Model,
@@ -80,8 +80,8 @@ fn part_carried(
     loads.can_carry(model, d, routes, change.vehicle(k), change.pieces(k))
 }
 
-/// The vehicle of part `k` of a change has the list of the part, where there is that part: called at a commit. The row
-/// `list` is room for it.
+/// Gives the vehicle of part `k` of a change the list of the part, if there is that part. It is called at a commit; the
+/// row `list` is room for it.
 pub(crate) fn put_list(
     loads: &mut Loads,
     model: &Model,

@@ -14,7 +14,8 @@ use vr_lists::NodeTables;
 use vr_model::{Pair, Policy};
 use vr_routes::Routes;
 
-/// What a change makes of the list of a vehicle: other nodes between the ends that it keeps.
+/// What a change makes of the list of a vehicle: other nodes between the ends that it keeps. With `front` 1, `behind` 3
+/// and `middle` 8 9, the list 1 2 3 4 becomes 1 8 9 4.
 #[derive(Clone, Copy)]
 pub(crate) struct Between<'r, 'n> {
     pub(crate) routes: &'r Routes,
@@ -25,14 +26,14 @@ pub(crate) struct Between<'r, 'n> {
     pub(crate) behind: u32,
     // the nodes between
     pub(crate) middle: &'n [u32],
-    // the place of each of them there; the marks of others are of no account
+    // the place of each of them there; the marks of other nodes do not count
     pub(crate) marks: &'n [u32],
-    /// The nodes are marked, and none stands twice.
+    /// The nodes are marked, and none is in the new list twice.
     pub(crate) ghost fits: { IsNewList routes.now.lists v front behind middle.now marks.now } by { Prim.hlevel props },
 }
 
 /// The list of a vehicle after a change: what it keeps at both ends, with other nodes between. Contracts see the list.
-/// Where a node stands in it is looked up, however long it is.
+/// The place of a node in it is looked up, however long the list is.
 #[derive(Drop)]
 pub(crate) struct NewList<'r, 'n> {
     pub(crate) ends: Between<'r, 'n>,
@@ -62,7 +63,7 @@ pub(crate) fn mark(list: &[u32], marks: &mut [u32; 1000])
     }
 }
 
-// The mark of a node, which may be one of an earlier change: who asks looks whether the node stands there (`is_at`).
+// The mark of a node. It may be one of an earlier change: who asks looks whether the node is at that place (`is_at`).
 #[inline]
 fn mark_of(marks: &[u32], node: u32) -> u32
     ensures { result ≡ slice_index marks.now node }
@@ -73,7 +74,7 @@ fn mark_of(marks: &[u32], node: u32) -> u32
     0
 }
 
-// Whether a node stands at a place of a list.
+// Whether a node is at a place of a list.
 #[inline]
 fn is_at(list: &[u32], place: u32, node: u32) -> bool
     ensures { result ≡ (nat_lt place (length list.now) && (slice_index list.now place == node)) }
@@ -92,7 +93,7 @@ impl<'r, 'n> NewList<'r, 'n> {
             + (self.ends.routes.len(self.ends.v) - self.ends.behind)
     }
 
-    // The place of a node, the length of the list where it is absent.
+    // The place of a node; the length of the list if it is absent.
     #[inline]
     fn place(&self, node: u32) -> u32
         ensures { result ≡ place_of self.now node }
@@ -123,7 +124,7 @@ impl<'r, 'n> NewList<'r, 'n> {
     fn serves(&self, pair: Pair) -> bool
         ensures { result ≡ serves_pair self.now pair }
     {
-        // the read tells contracts that no node stands twice; the place of a node that is absent is the length
+        // the read tells contracts that no node is there twice; the place of a node that is absent is the length
         let _ = &self.ends;
         let pickup = self.place(pair.pickup);
         let delivery = self.place(pair.delivery);
@@ -154,8 +155,8 @@ impl<'r, 'n> NewList<'r, 'n> {
             .all(|&node| self.serves_node(node_tables, node))
     }
 
-    /// Whether the list serves the pairs that some nodes are in, but for nodes that `marks` tells to be in `marked`,
-    /// which `serves_each` is asked about: both are handed in, since contracts see of this the list alone.
+    /// Whether the list serves the pairs that some nodes are in. Nodes that `marks` tells to be in `marked` are left
+    /// out: `serves_each` is asked about those. Both are handed in, since contracts see of `self` the list alone.
     pub(crate) fn serves_unmarked(
         &self,
         node_tables: &NodeTables<'_>,
@@ -183,7 +184,7 @@ impl<'r, 'n> NewList<'r, 'n> {
         }
     }
 
-    /// Whether the pairs that some nodes are in come in turn, where the list is counted.
+    /// Whether the pairs that some nodes are in come in turn. The list is counted in `counted`.
     pub(crate) fn come_in_turn(
         &self,
         policy: Policy,

@@ -49,7 +49,7 @@ struct PairTables {
 }
 
 // Whether the list of a vehicle serves each pair, with other nodes between the ends that it keeps. It asks the pairs of
-// these nodes, and of those that stood there and do so no more.
+// these nodes, and of those that were between the ends and are there no more.
 fn serves_between(node_tables: &NodeTables<'_>, ends: &Between) -> bool
     requires before { IsTrue (list_all (serves_pair (list_before ends.now)) node_tables.now.pairs) }
     ensures { result ≡ list_all (serves_pair (changed_list ends.now)) node_tables.now.pairs }
@@ -67,8 +67,8 @@ fn serves_between(node_tables: &NodeTables<'_>, ends: &Between) -> bool
         )
 }
 
-// Whether the pairs of the list of a vehicle come in turn, with other nodes between the ends that it keeps, where they
-// came in turn before. It asks the pairs of the new nodes alone.
+// Whether the pairs of the list of a vehicle come in turn, with other nodes between the ends that it keeps. They came
+// in turn before, so it asks the pairs of the new nodes alone.
 fn takes_turns(node_tables: &NodeTables<'_>, turns: &Turns, policy: Policy, ends: &Between) -> bool
     requires listed { AreCounted node_tables.now (list_before ends.now) turns.now.listed }
     requires between { AreCounted node_tables.now ends.now.middle.now turns.now.between }
@@ -96,7 +96,7 @@ fn policy_of(node_tables: &NodeTables<'_>, v: u32) -> Policy
     node_tables.model().vehicles.get(v as usize).policy
 }
 
-// Counts a list of vehicle `v`, where the policy of the vehicle asks for turns.
+// Counts a list of vehicle `v` if the policy of the vehicle asks for turns.
 fn count_list(node_tables: &NodeTables<'_>, v: u32, list: &[u32], turns: &mut Turns)
     requires vehicle { v < length node_tables.now.vehicles }
     requires tour { IsTour node_tables.now list.now }
@@ -111,7 +111,7 @@ fn count_list(node_tables: &NodeTables<'_>, v: u32, list: &[u32], turns: &mut Tu
 }
 
 impl PairTables {
-    // Whether the list that part `k` of a change gives its vehicle keeps the rule, where the list before kept it.
+    // Whether the list that part `k` of a change gives its vehicle keeps the rule, if the list before kept it.
     fn keeps(
         &mut self,
         node_tables: &NodeTables<'_>,
@@ -140,7 +140,7 @@ impl PairTables {
             middle: self.list.as_slice(),
             marks: &self.marks,
         };
-        // asked before the turns, which tell of the policy only where the list serves its pairs
+        // asked before the turns: these tell of the policy only if the list serves its pairs
         if !serves_between(node_tables, &between) {
             return false;
         }
@@ -152,7 +152,7 @@ impl PairTables {
         takes_turns(node_tables, &self.turns, policy, &between)
     }
 
-    // Counts the list that part `k` of a change gives its vehicle, where the policy of the vehicle asks for turns.
+    // Counts the list that part `k` of a change gives its vehicle if the policy of the vehicle asks for turns.
     fn count_part(
         &mut self,
         node_tables: &NodeTables<'_>,
@@ -211,16 +211,17 @@ fn count_all(node_tables: &NodeTables<'_>, routes: &Routes, turns: &mut Turns)
     }
 }
 
-/// Lets a change pass where each list afterwards serves each pair in order, and keeps the policy of its vehicle
-/// (`PickupDeliveryFilter` in OR-Tools, by `AddPickupAndDelivery` and `SetPickupAndDeliveryPolicyOfVehicle`). Of a list
-/// it looks at what stands afterwards between the ends that a change keeps, and at what is gone from there, whatever
-/// the policy of its vehicle is. It takes memory only when it is opened, and in a model without pairs it judges a
-/// change without a look at any list.
+/// Lets a change pass if each list afterwards serves each pair in order and keeps the policy of its vehicle. In
+/// OR-Tools it is `PickupDeliveryFilter`, by `AddPickupAndDelivery` and `SetPickupAndDeliveryPolicyOfVehicle`.
+///
+/// A change keeps both ends of a list. The filter looks at the nodes that are between them afterwards, and at those
+/// that are gone from there. It does so whatever the policy of the vehicle is. In a model without pairs it judges a
+/// change without a look at any list. It takes memory only when it is opened.
 pub type PairFilter<'m> = ListFilter<PairRule<'m>>;
 
 impl<'m> PairFilter<'m> {
-    /// A filter that stands at the lists of routes, which keep the rule. The only refusal is want of memory. Tests
-    /// alone call it; `vr_judge` calls `over`.
+    /// A filter in sync with the lists of routes, which keep the rule. The only refusal is want of memory. Tests alone
+    /// call it; `vr_judge` calls `over`.
     pub fn open(
         alloc: Global,
         model: &'m Model,
@@ -240,8 +241,8 @@ impl<'m> PairFilter<'m> {
         PairFilter::over(&lookups, routes)
     }
 
-    /// The same, over what was looked up of the model. It takes no memory; `NoMemory` only where as many share what was
-    /// looked up as can be counted.
+    /// The same, over what was looked up of the model. It takes no memory; `NoMemory` only if as many already share
+    /// what was looked up as can be counted.
     pub fn over(lookups: &Lookups<'m>, routes: &Routes) -> Result<PairFilter<'m>, NoMemory>
         requires { KeepRule keeps_pairs lookups.now.closed.model.now routes.now }
         ensures holds { IfOk result (λ filter. ⟦<PairFilter<'static> as PathFilter>⟧.holds filter
@@ -250,7 +251,7 @@ impl<'m> PairFilter<'m> {
         ensures weight { IfOk result (λ filter. (before later : List (List ℕ))
             → ⟦<PairFilter<'static> as PathFilter>⟧.weight filter before later ≡ 0) }
     {
-        // neither does anything: contracts learn that no visit stands twice, and that lists have visits alone
+        // neither does anything: contracts learn that no visit is there twice, and that lists have visits alone
         routes.know_once();
         routes.know_entries();
         let mut turns = Turns::new();

@@ -1,6 +1,8 @@
-//! The rows of lists, as a filter of a dimension makes them: of all lists where it is opened, and of the lists of a
-//! change that is made ready. Each list that is handed over for its rows is counted, an empty one too, though nobody
-//! reads the count: the question about a change has no such counter, so it makes no rows.
+//! The rows of lists, as a filter of a dimension makes them. It makes those of all lists when it is opened, and those
+//! of a change's lists when the change is made ready.
+//!
+//! Each list that is handed over for its rows is counted, an empty one too, though nobody reads the count. The question
+//! about a change has no such counter, so it makes no rows.
 
 ghost use Rattle.std.specs.Prelude.{◌≡◌, ◌+◌, ◌<◌, IfOk, OnOk, None};
 ghost use Rattle.vr_routes.specs.Changes.{IsMadeOn};
@@ -33,8 +35,8 @@ pub(crate) struct Room {
     pub(crate) list: Row,
 }
 
-// Writes the rows of a vehicle with a list over others, where the list is not empty, and counts the list, also an empty
-// one. After `NoMemory` nothing is said of the rows.
+// Writes the rows of a vehicle with a list over others, unless the list is empty. It counts the list, an empty one too.
+// After `NoMemory` nothing is said of the rows.
 fn write_list<L: Ledger>(
     alloc: Global,
     stops: &StopsFor,
@@ -52,8 +54,8 @@ fn write_list<L: Ledger>(
     write_rows(alloc, stops, list, rows)
 }
 
-/// Writes the rows of the list of part `k` of a change over others, where there is that part. After `NoMemory` nothing
-/// is said of them.
+/// Writes the rows of the list of part `k` of a change over others, if there is that part. After `NoMemory` nothing is
+/// said of them.
 pub(crate) fn write_part<L: Ledger>(
     alloc: Global,
     at: &RoutesIn,
@@ -103,7 +105,7 @@ pub(crate) fn rows_unless<L: Ledger>(
     know_all(alloc, at, lists)
 }
 
-/// More stops than the line of any list has: room for so many is never too little.
+/// More stops than the line of any list has: room for this many always suffices.
 pub(crate) fn most_stops(model: &Model) -> usize {
     model.nodes as usize + 2
 }

@@ -79,13 +79,13 @@ fn pieces_allow(node_tables: &NodeTables<'_>, routes: &Routes, v: u32, pieces: &
     true
 }
 
-/// Lets a change pass where each visit of each list allows its vehicle afterwards (`SetAllowedVehiclesForIndex` in
+/// Lets a change pass if each visit of each list allows its vehicle afterwards (`SetAllowedVehiclesForIndex` in
 /// OR-Tools). It asks the nodes that a change takes from the list of another vehicle or puts in one by one, and no
-/// others, and takes memory only when it is opened.
+/// others. It takes memory only when it is opened.
 pub type VehicleFilter<'m> = ListFilter<VehicleRule<'m>>;
 
 impl<'m> VehicleFilter<'m> {
-    /// A filter that stands at the lists of routes, whose visits allow their vehicles. The only refusal is want of
+    /// A filter in sync with the lists of routes, whose visits allow their vehicles. The only refusal is want of
     /// memory. Tests alone call it; `vr_judge` calls `over`.
     pub fn open(
         alloc: Global,
@@ -107,8 +107,8 @@ impl<'m> VehicleFilter<'m> {
         VehicleFilter::over(&lookups, routes)
     }
 
-    /// The same, over what was looked up of the model. It takes no memory; `NoMemory` only where as many share what was
-    /// looked up as can be counted.
+    /// The same, over what was looked up of the model. It takes no memory; `NoMemory` only if as many already share
+    /// what was looked up as can be counted.
     pub fn over(lookups: &Lookups<'m>, routes: &Routes) -> Result<VehicleFilter<'m>, NoMemory>
         requires { KeepRule is_allowed_list lookups.now.closed.model.now routes.now }
         ensures holds { IfOk result (λ filter. ⟦<VehicleFilter<'static> as PathFilter>⟧.holds filter
@@ -118,7 +118,7 @@ impl<'m> VehicleFilter<'m> {
         ensures weight { IfOk result (λ filter. (before later : List (List ℕ))
             → ⟦<VehicleFilter<'static> as PathFilter>⟧.weight filter before later ≡ 0) }
     {
-        // neither does anything: contracts learn that no visit stands twice, and that lists have visits alone
+        // neither does anything: contracts learn that no visit is there twice, and that lists have visits alone
         routes.know_once();
         routes.know_entries();
         Ok(ListFilter {

@@ -5,8 +5,8 @@ use Rattle.vr_model.specs.tables.Tables.{visits}
 use Rattle.vr_model.specs.declared.records.Model.{Model}
 use Rattle.vr_routes.specs.Tours.{Tours}
 
--- a plain judge has committed routes: they and its scratch ones are of the model, these with a list for each vehicle,
--- and the number is what the lists cost
+-- a plain judge has committed routes. They and its scratch ones are of the model, the scratch ones with a list for each
+-- vehicle. The number is what the lists cost.
 pub record AreCommitted (model : Model) (routes scratch : Tours) (total : ℤ) : Type 0 where
   pub of_model : routes.visits ≡ visits model
   pub scratch_of_model : scratch.visits ≡ visits model

@@ -18,13 +18,17 @@ use vr_rules::Rules;
 /// Judges a move by the rules and the cost of the whole lists after it, which it builds anew each time. It counts no
 /// questions and no steps: all of its numbers are 0.
 ///
-/// All that a judged move needs is kept and written over: after the first moves one takes memory only where a set of
-/// cumuls has more than four runs, a list is longer than any before, its vehicle has breaks, or a tight schedule is
-/// built, as `Rules` says.
+/// All that a judged move needs is kept and written over. After the first moves, one takes memory only in these cases,
+/// as `Rules` says:
+///
+/// - a set of cumuls has more than four runs;
+/// - a list is longer than any before;
+/// - its vehicle has breaks;
+/// - a tight schedule is built.
 #[derive(Drop)]
 pub struct PlainJudge<'m> {
     rules: Rules<'m>,
-    // what the lists cost that are committed
+    // what the committed lists cost
     total: i64,
     // the lists after the move in hand, written over for each move
     scratch: Routes,

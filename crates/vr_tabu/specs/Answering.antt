@@ -6,8 +6,8 @@ use Rattle.vr_model.specs.declared.search.Limit.{Limit}
 use Rattle.vr_descent.specs.Answering.{IsSoundAnswer}
 use Rattle.vr_tabu.specs.TabuSearches.{tabu_search}
 
--- tabu search from valid lists gives valid lists of which the best cost no more, within the limit, where that allows a
--- solution
+-- tabu search from valid lists gives valid lists, of which the best cost no more. It stays within the limit, if that
+-- allows a solution.
 abbrev pub TabuIsSound : Type 0
 TabuIsSound =
     (model : Model) (lists : List (List ℕ)) (limit : Limit) (tenure : ℕ)

@@ -26,13 +26,13 @@ is_freed tabus list visit = not (is_tabu_visit tabus visit) && changes list visi
 abbrev pub frees : TabuList → OldAndNew → Bool
 frees tabus list = list_any (is_freed tabus list) list.new || list_any (is_freed tabus list) list.old
 
--- v is a vehicle of the lists, and no visit stands twice in its list, nor in the new one
+-- v is a vehicle of the lists, and no visit is twice in its list, nor in the new one
 pub record IsListChange (lists : List (List ℕ)) (v : ℕ) (new : List ℕ) : Type 0 where
   pub vehicle : v < length lists
   pub old_distinct : IsTrue (is_distinct (route lists v))
   pub new_distinct : IsTrue (is_distinct new)
 
--- a place of a list is kept of a visit, which stands there
+-- a place of a list is kept of a visit, which is there
 pub record IsPlaced (list places : List ℕ) (visit : ℕ) : Type 0 where
   pub place : slice_index places visit < length list
   pub stands : slice_index list (slice_index places visit) ≡ visit

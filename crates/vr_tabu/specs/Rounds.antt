@@ -19,7 +19,7 @@ use Rattle.vr_tabu.specs.declared.rounds.Candidate.{Candidate}
 use Rattle.vr_tabu.specs.declared.rounds.RoundEnd.{RoundEnd}
 use Rattle.vr_tabu.specs.declared.rounds.RoundEnd.TheVariants as code
 
--- the move of a candidate, where there is one
+-- the move of a candidate, if there is one
 abbrev pub move_of : Option Candidate → Option Move
 move_of None = None
 move_of (Some candidate) = Some candidate.mv
@@ -32,8 +32,8 @@ IsDifferenceKnown model lists candidate = candidate.difference ≡ cost_change m
 abbrev pub IsChangeOf : Model → List (List ℕ) → List ListAfter → Candidate → Type 0
 IsChangeOf model lists change candidate = IsChange model lists candidate.mv change
 
--- what the difference of a better candidate than the best so far is below: that of this one, else a ceiling, where it
--- is known
+-- the difference of a better candidate than the best so far is below this. It is the difference of the best so far,
+-- else a ceiling, if that is known.
 abbrev pub bound_of : Option Candidate → Option ℤ → Option ℤ
 bound_of None ceiling = ceiling
 bound_of (Some best) ceiling = Some best.difference
@@ -47,12 +47,12 @@ is_no_less (Some bound) least = int_le bound least
 abbrev pub aspiration : Model → List (List ℕ) → List (List ℕ) → ℤ
 aspiration model best lists = cost model best -ℤ cost model lists
 
--- a move makes no difference below a bound, where the lists after it are valid
+-- a move makes no difference below a bound, if the lists after it are valid
 abbrev pub IsNoBetter : Model → List (List ℕ) → Move → Option ℤ → Type 0
 IsNoBetter model lists mv bound =
     IsTrue (is_valid model (apply model lists mv)) → IsTrue (is_no_less bound (cost_change model lists mv))
 
--- what a round passes over: where a move is one of the lists, it makes no difference below a bound
+-- what a round passes over: a move that makes no difference below a bound, if it is a move of the lists
 abbrev pub IsPassedInRound : Model → List (List ℕ) → Option ℤ → Move → Type 0
 IsPassedInRound model lists bound mv = IsTrue (is_move model lists mv) → IsNoBetter model lists mv bound
 
@@ -73,7 +73,7 @@ pub record CanPass (model : Model) (routes : Tours) (judged : Model) (committed 
   pub judge_model : judged ≡ model
   pub holds : HasCommitted model committed routes
 
--- the better of the best candidate so far and a move, where that is a candidate
+-- the better of the best candidate so far and a move, if that is a candidate
 abbrev pub better_with : Model → TabuList → List (List ℕ) → List (List ℕ) → Option Move → Move → Option Move
 better_with model tabus best lists found mv =
     cond (is_candidate model tabus best lists mv)
@@ -89,12 +89,12 @@ tabu_round_end model lists (Best n mv) = code.Best n (with_difference model list
 tabu_round_end model lists (Stuck n) = code.Stuck n
 tabu_round_end model lists Cut = code.Cut
 
--- the end of a round of so many moves, with the best candidate in code
+-- the end of a round of this many moves, with the best candidate in code
 abbrev pub end_with : ℕ → Option Candidate → RoundEnd
 end_with n None = code.Stuck n
 end_with n (Some candidate) = code.Best n candidate
 
--- where a round ends with a best candidate, this is what its move changes
+-- if a round ends with a best candidate, this is what its move changes
 abbrev pub IsChangeOfBest : Model → List (List ℕ) → RoundEnd → List ListAfter → Type 0
 IsChangeOfBest model lists (code.Best n candidate) change = IsChangeOf model lists change candidate
 IsChangeOfBest model lists (code.Stuck n) change = Unit {0}

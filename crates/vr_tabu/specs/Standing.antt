@@ -1,4 +1,4 @@
--- Where tabu search in code stands.
+-- The state of tabu search in code.
 use Rattle.std.specs.Prelude.{◌≡◌, ℕ, suc, ◌-◌, ◌≤◌, List, [], ◌∷◌, length, Option, Some, None, IsTrue}
 use Rattle.vr_model.specs.routes.Costs.{cost}
 use Rattle.vr_model.specs.routes.Rules.{is_valid}
@@ -25,8 +25,8 @@ pub record AreTabuParameters (parameters : Parameters) : Type 0 where
   pub solutions : parameters.limit.solutions ≤ 1000000000
   pub tenure : parameters.tenure ≤ 1000
 
--- what tabu search begins with: these routes are the best, they cost what is known there, no visit is tabu, and there
--- is a number for each node
+-- what tabu search begins with. These routes are the best and cost what is known there; no visit is tabu, and there is
+-- a number for each node.
 pub record IsTabuBegun (model : Model) (routes : Tours) (at : Progress) (state : State) : Type 0 where
   pub at_is : state.at ≡ at
   pub best_is : state.best ≡ record { routes = routes; cost = at.cost }
@@ -41,8 +41,8 @@ pub record IsKnownState (model : Model) (routes : Tours) (state : State) : Type 
   pub costs : state.at.cost ≡ cost model routes.lists
   pub best : IsBest model routes.visits state.best
 
--- the search is under way, the number of its round is below that of the solutions found, and it is known of each node
--- how long it is tabu
+-- the search is under way, and the number of its round is below that of the solutions found. Of each node it is known
+-- how long it is tabu.
 pub record TabuStands (model : Model) (parameters : Parameters) (committed : Tours → Type 0) (routes : Tours)
     (state : State) : Type 0 where
   pub going : IsUnderWay model parameters.limit committed routes state.at state.best
@@ -55,12 +55,12 @@ tabu_from_here model parameters tabus lists best used found =
     tabu_from model parameters.limit parameters.tenure (suc (parameters.limit.tries - used)) tabus
     (standing lists best used found)
 
--- the same from where the code stands
+-- the same from the state of the code
 abbrev pub tabu_from_state : Model → Parameters → List (List ℕ) → State → Outcome
 tabu_from_state model parameters lists state =
     tabu_from_here model parameters (tabus_of state.tabus) lists state.best.routes.lists state.at.used state.at.found
 
--- the round of the search from where the code stands
+-- the round of the search from the state of the code
 abbrev pub next_of : Model → Parameters → List (List ℕ) → State → TabuRound
 next_of model parameters lists state =
     round_of model (tabus_of state.tabus) state.best.routes.lists lists (parameters.limit.tries - state.at.used)
@@ -71,13 +71,13 @@ events_of model state (Best n mv) = event_at model (accepted model state n mv) k
 events_of model state (Stuck n) = []
 events_of model state Cut = []
 
--- the events of the round from where the code stands
+-- the events of the round from the state of the code
 abbrev pub next_events : Model → Parameters → List (List ℕ) → State → List Event
 next_events model parameters lists state =
     events_of model (standing lists state.best.routes.lists state.at.used state.at.found)
     (next_of model parameters lists state)
 
--- what is left of the search where the code stands: it goes on, or it has ended
+-- what is left of the search from the state of the code: it goes on, or it has ended
 abbrev pub left_of : Model → Parameters → List (List ℕ) → State → Option End → Outcome
 left_of model parameters lists state None = tabu_from_state model parameters lists state
 left_of model parameters lists state (Some stop) =

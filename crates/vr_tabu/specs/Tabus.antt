@@ -5,7 +5,7 @@ use Rattle.vr_model.specs.declared.records.Model.{Model}
 use Rattle.vr_tabu.specs.TabuSearches.{TabuList as Tabus, is_tabu_visit}
 use Rattle.vr_tabu.specs.declared.tabu_list.TabuList.{TabuList}
 
--- the round before which a visit is tabu, 0 where none is kept
+-- the round before which a visit is tabu; 0 if none is kept
 abbrev pub until_at : TabuList → ℕ → ℕ
 until_at tabus visit = slice_index_or tabus.until.items visit 0
 

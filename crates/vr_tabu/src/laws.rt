@@ -4,14 +4,14 @@
 ghost use Rattle.vr_tabu.specs.Answering.{TabuIsSound};
 ghost use Rattle.vr_tabu.specs.Bounding.{TabuBoundUnmet};
 
-/// The best lists of a tabu search from valid lists are valid and cost no more than these, the last ones are valid, and
-/// its tries and its solutions are within the limit.
+/// What each answer of a tabu search from valid lists keeps to. The best lists are valid and cost no more than the
+/// first; the last ones are valid. Its tries and its solutions are within the limit.
 pub fn tabu_is_sound()
     ensures { TabuIsSound }
 {}
 
-/// Tabu search ends by itself: a bound on its rounds that is above the number of tries left is never met, so the
-/// definition, which has one round more than tries, does not end at it.
+/// Tabu search ends by itself. A bound on its rounds that is above the number of tries left is never met. So the
+/// definition, which has one round more than tries, does not end at its bound.
 pub fn tabu_bound_unmet()
     ensures { TabuBoundUnmet }
 {}

@@ -1,19 +1,21 @@
-//! Tabu search in whole numbers, over any judge of moves.
+//! Tabu search in whole numbers, over any judge of moves. Each round (`rounds`) tries all moves of the lists and makes
+//! the best one that may be made, even if it costs more. The visits that it changes are then tabu for some rounds
+//! (`tabu_list`): those whose vehicle, or whose node just before, is another. A move that changes only tabu visits is
+//! not made, unless it leads to lists that cost less than any before (the aspiration criterion).
 //!
-//! [`tabu`] (`searching`) goes on in rounds. A round (`rounds`) tries all moves of the lists, and the best one that may
-//! be made is made, also where it costs more; the visits that it changes, whose vehicle or whose node just before is
-//! another then, are tabu for some rounds (`tabu_list`): a move that changes no other visit is not made, unless it
-//! leads to lists that cost less than any before. Which visits a move changes is told by the lists that its change
-//! makes (`written_list`, `list_change`), without memory. Of a run of moves, those in front that cannot be better are
-//! tries that nothing more is asked about (`passing`). What the best candidate so far changes is kept for the commit:
-//! `State::advance` owns that change, the round that of the move in hand, and the two are swapped where a better
-//! candidate is found.
+//! Invariant between rounds: the judge is in sync with the lists of the routes. These are valid and of known cost, and
+//! so are the best lists so far. What the definition says of the whole search is what was reported already, and after
+//! that what it says of the search from here. By `laws` the best lists cost no more than the first.
 //!
-//! Between rounds the judge stands at the lists of the routes, which are valid and of known cost, the best lists so far
-//! are valid and of known cost, and what the definition says of the whole search is what was reported already, and
-//! behind that what it says of the search from here. By `laws` the best lists cost no more than the first.
+//! `vr_app` calls [`tabu`] for `TABU_SEARCH`. Moves come from `vr_descent`, and are judged by any `vr_routes::Judge`.
+//! Runs of moves are passed over by `vr_known`, and events are told by `vr_watch`.
 //!
-//! `vr_app` calls [`tabu`] for `TABU_SEARCH`.
+//! Start reading at [`tabu`] (`searching`), which goes on in rounds. Then come:
+//!
+//! - `passing`: of a run of moves, the first ones that cannot be better are tries that nothing more is asked about.
+//! - `written_list` and `list_change`: the lists that a change makes tell which visits a move changes, without memory.
+//! - `State::advance` owns the change of the best candidate so far, kept for the commit. The round owns that of the
+//!   move in hand. The two are swapped when a better candidate is found.
 #![tactic(auto)]
 
 mod laws;

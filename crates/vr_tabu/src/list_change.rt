@@ -56,15 +56,14 @@ impl<'r, 'a> ListChange<'r, 'a> {
     }
 }
 
-// The node just before a visit in the list of a vehicle, which begins behind `origin`; none where it does not stand
-// there.
+// The node just before a visit in the list of a vehicle, which begins after `origin`; none if the visit is not in it.
 #[inline]
 fn node_before(routes: &Routes, v: u32, origin: u32, visit: u32) -> Option<u32>
     requires vehicle { v < length routes.now.lists }
     requires distinct { IsTrue (is_distinct (route routes.now.lists v)) }
     ensures { result ≡ node_just_before origin (route routes.now.lists v) visit }
 {
-    // it does nothing: contracts learn that the visit stands nowhere else
+    // it does nothing: contracts learn that the visit is nowhere else
     routes.know_once();
     match routes.seat(visit) {
         None => None,

@@ -7,12 +7,12 @@ use vr_known::Sieve;
 use vr_model::{Model, Move, Neighbourhood};
 use vr_routes::{Judge, Routes};
 
-/// What tells of a run of moves from which on some may make a difference below a bound.
+/// What tells from which move of a run on some may make a difference below a bound.
 #[derive(Drop)]
 pub struct NoBetter<'a, J: Judge> {
     pub model: &'a Model,
     pub routes: &'a Routes,
-    /// Where there is none, no run is passed over.
+    /// If there is none, no run is passed over.
     pub bound: Option<i64>,
     /// How many moves the round may try.
     pub rest: u64,

@@ -39,9 +39,9 @@ pub struct Candidate {
 /// How a round ends.
 #[derive(Clone, Copy)]
 pub enum RoundEnd {
-    /// The best candidate of a list of so many moves.
+    /// The best candidate of a list of `length` moves.
     Best { length: u64, candidate: Candidate },
-    /// None of so many moves is a candidate.
+    /// None of `length` moves is a candidate.
     Stuck { length: u64 },
     /// The tries ran out.
     Cut,
@@ -69,18 +69,18 @@ pub struct Round<'a> {
     model: &'a Model,
     routes: &'a Routes,
     state: &'a State,
-    // where each visit is tabu, only moves that make less than this are candidates
+    // if each visit is tabu, only moves that make less than this are candidates
     ceiling: Option<i64>,
     // the lists are valid, and their cost and that of the best ones are known
     ghost known: { IsKnownState model.now routes.now state.now } by { Prim.hlevel (props, IsWellFormed-prop) },
-    // no move that makes the ceiling or more is a candidate; it is none where that is not known
+    // no move that makes the ceiling or more is a candidate; it is none if that is not known
     ghost bounded: { IsCeiling model.now (tabus_of state.now.tabus) state.now.best.routes.lists routes.now.lists
         ceiling },
 }
 
 impl<'a> Round<'a> {
-    /// A round of routes. Where each visit is tabu, so is each move, and only those that lead to lists that cost less
-    /// than any before are candidates.
+    /// A round of routes. If each visit is tabu, so is each move. Then only those are candidates that lead to lists
+    /// that cost less than any before.
     pub fn open(model: &'a Model, routes: &'a Routes, state: &'a State) -> Round<'a>
         requires known { IsKnownState model.now routes.now state.now }
         ensures model { result.model.now ≡ model.now }
@@ -104,7 +104,8 @@ impl<'a> Round<'a> {
         }
     }
 
-    // Moves that make a lesser difference lead to lists that cost less than any before.
+    // Moves that make a lesser difference lead to lists that cost less than any before. If the best lists cost 90 and
+    // these 100, the difference is -10.
     #[inline]
     fn aspiration(&self) -> i64
         ensures { result ≡ aspiration self.now.model.now self.now.state.now.best.routes.lists
@@ -113,14 +114,19 @@ impl<'a> Round<'a> {
         self.state.best.cost - self.state.at.cost
     }
 
-    /// Tries all moves of the lists, where there are at most `rest`, for the best candidate. Each try is judged at most
-    /// once, and the judge is asked at most twice as often what moves make at least: a move that is known so to make no
-    /// less than the best candidate so far is not judged, and which visits a move changes is asked only where it is
-    /// judged to make less. Of the moves of a run, which differ in their last number, the judge is asked at once from
-    /// which on some may cost less, and those in front of these are tries as well. What the best candidate changes is
-    /// written over `kept`; where the round ends without one, `kept` is any.
+    /// Tries all moves of the lists for the best candidate, if there are at most `rest`.
     ///
-    /// The only refusal is want of memory, which is taken by the judge alone; it still stands at the same lists then.
+    /// Each try is judged at most once. The judge is asked at most twice as often for lower bounds of moves. A move
+    /// whose bound is no less than the best candidate so far is not judged. Which visits a move changes is asked only
+    /// if it is judged to make less.
+    ///
+    /// The moves of a run differ in their last number. The judge is asked at once from which of them on some may cost
+    /// less; the ones before it are tries as well.
+    ///
+    /// What the best candidate changes is written over `kept`. If the round ends without one, `kept` is any.
+    ///
+    /// The only refusal is want of memory, which is taken by the judge alone. It is then still in sync with the same
+    /// lists.
     pub fn run<J: Judge, L: Ledger>(
         &self,
         judge: &mut J,
@@ -143,7 +149,7 @@ impl<'a> Round<'a> {
         self.run_over(judge, rest, &mut list, kept, steps)
     }
 
-    // Tries the moves of a list of all moves. The list is lent, so that where the round ends there is less to let go.
+    // Tries the moves of a list of all moves. The list is lent, so that there is less to let go when the round ends.
     #[inline(never)]
     fn run_over<J: Judge, L: Ledger>(
         &self,
@@ -175,15 +181,16 @@ impl<'a> Round<'a> {
             length += 1;
             best = self.try_move(judge, mv, best, kept, &mut scratch, steps)?;
         }
-        // the moves behind the last try were passed over, and are tries as well
+        // the moves after the last try were passed over, and are tries as well
         if length > rest {
             return Ok(RoundEnd::Cut);
         }
         Ok(end_of(length, best))
     }
 
-    // Takes the first move of a list, behind some that are passed over since they make no less than the best candidate
-    // so far, or before there is one than the ceiling, or lead to lists that are not valid. These are counted.
+    // Takes the first move of a list that is not passed over. Moves are passed over that lead to lists that are not
+    // valid, or that make no less than the best candidate so far. Before there is one, the ceiling takes its place.
+    // Moves that are passed over are counted.
     #[inline(always)]
     fn next_open<J: Judge>(
         &self,
@@ -212,8 +219,8 @@ impl<'a> Round<'a> {
         list.step(&passing, judge, length)
     }
 
-    // A move is a better candidate only where it makes less than this: than the best candidate so far, or, before there
-    // is one, than the ceiling. `None` where there is neither.
+    // A move is a better candidate only if it makes less than this. It is what the best candidate so far makes; before
+    // there is one, it is the ceiling. `None` if there is neither.
     #[inline(always)]
     fn bound(&self, best: Option<Candidate>) -> Option<i64>
         ensures { result ≡ bound_of best self.now.ceiling }
@@ -224,8 +231,8 @@ impl<'a> Round<'a> {
         }
     }
 
-    // The better of the best candidate so far and a move, where that is a candidate. What the best candidate changes is
-    // kept. It stands apart from the loop, whose list passes over most moves where runs are told.
+    // The better of the best candidate so far and a move, if that is a candidate. What the best candidate changes is
+    // kept. It is a function apart from the loop: the list of the loop passes over most moves when runs are told.
     #[inline(never)]
     fn try_move<J: Judge, L: Ledger>(
         &self,
@@ -289,8 +296,8 @@ impl<'a> Round<'a> {
         self.state.tabus.is_tabu(lists, after)
     }
 
-    // Whether a change that makes a difference is tabu and leads to lists that cost no less than the best before. Where
-    // they cost less, whether it is tabu is not asked.
+    // Whether a change that makes a difference is tabu and leads to lists that cost no less than the best before. If
+    // they cost less, it is not asked whether the change is tabu.
     #[inline]
     fn is_forbidden(&self, difference: i64, change: &Change, after: &mut WrittenList) -> bool
         requires made { IsMadeOn self.now.routes.now change.now }
@@ -307,7 +314,7 @@ impl<'a> Round<'a> {
     }
 }
 
-// Whether a difference is not below a bound, where there is one.
+// Whether a difference is not below a bound, if there is one.
 #[inline(always)]
 fn is_no_less(bound: Option<i64>, least: i64) -> bool
     ensures { result ≡ is_no_less bound least }
@@ -318,7 +325,7 @@ fn is_no_less(bound: Option<i64>, least: i64) -> bool
     }
 }
 
-// The end of a round of so many moves.
+// The end of a round of `length` moves.
 fn end_of(length: u64, best: Option<Candidate>) -> RoundEnd
     ensures { result ≡ end_with length best }
 {

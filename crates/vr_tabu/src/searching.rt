@@ -46,23 +46,27 @@ pub struct Parameters {
     pub tenure: u32,
 }
 
-/// Tries all moves of the lists in each round and makes the one of least cost, also where it costs more
-/// (`TABU_SEARCH` in OR-Tools). The visits that it changes are tabu for the next `tenure` rounds: those whose vehicle
-/// or whose node just before is another. A move that changes only visits that are tabu is not made, unless it leads
-/// to lists that cost less than any before. The routes then have the last lists, at which the judge stands; the answer
-/// has the first lists of the least cost. `limit` allows up to 10^9 tries and from 1 to 10^9 solutions, and `tenure` is
-/// in 1..=1000.
+/// Tries all moves of the lists in each round and makes the one of least cost, even if it costs more (`TABU_SEARCH` in
+/// OR-Tools). The visits that it changes are tabu for the next `tenure` rounds: those whose vehicle or whose node just
+/// before is another. A move that changes only visits that are tabu is not made, unless it leads to lists that cost
+/// less than any before.
 ///
-/// The report's end is `Solutions` where as many solutions were found as the limit allows, which is asked first; else
-/// `Tries` where there are more moves than tries left, which then count as used; and `Optimum` where no move may be
-/// made.
+/// The routes then have the last lists, and the judge is in sync with them. The answer has the first lists of the least
+/// cost. `limit` allows up to 10^9 tries and from 1 to 10^9 solutions, and `tenure` is in 1..=1000.
 ///
-/// The judge is asked about no more moves than are tried, and at most twice as often what a move, or a run of moves,
-/// makes at least.
+/// The report's end is the first of these that holds:
 ///
-/// The only refusal is want of memory. The judge then stands at the lists of the routes, which are valid, it was asked
-/// about no more moves than the limit has tries, and the watchers have been told the events up to there: of the event
-/// in hand, the first few. Memory is taken once at the beginning, and then by the judge and the watchers alone.
+/// - `Solutions` if as many solutions were found as the limit allows;
+/// - `Tries` if there are more moves than tries left; the tries left then count as used;
+/// - `Optimum` if no move may be made.
+///
+/// The judge is asked about no more moves than are tried. It is asked at most twice as often for the lower bound of a
+/// move or of a run of moves.
+///
+/// The only refusal is want of memory. The judge is then in sync with the lists of the routes, which are valid. It was
+/// asked about no more moves than the limit has tries. The watchers have been told the events up to there; the first
+/// few of them may know the event in hand too. Memory is taken once at the beginning, and then by the judge and the
+/// watchers alone.
 pub fn tabu<J: Judge, L: Ledger>(
     alloc: Global,
     model: &Model,
@@ -112,7 +116,7 @@ pub fn tabu<J: Judge, L: Ledger>(
     })
 }
 
-/// Where tabu search stands.
+/// The state of a tabu search.
 #[derive(Drop)]
 pub struct State {
     pub at: Progress,
@@ -121,8 +125,8 @@ pub struct State {
 }
 
 impl State {
-    // At the beginning these routes are the best, and no visit is tabu. The routes are copied last, so that where
-    // memory is wanting they are not to be let go.
+    // At the beginning these routes are the best, and no visit is tabu. The routes are copied last, so that they are
+    // not to be let go if memory is wanting.
     fn open(alloc: Global, model: &Model, routes: &Routes, at: Progress) -> Result<State, NoMemory>
         ensures { IfOk result (IsTabuBegun model.now routes.now at) }
     {
@@ -134,8 +138,8 @@ impl State {
         Ok(State { at, best, tabus })
     }
 
-    // One round: the best candidate is made and told to the watchers, and the visits that it changes are tabu, with
-    // which `None` is answered; or the search ends, and why is answered. The tries are counted.
+    // One round. Either the best candidate is made and told to the watchers, the visits that it changes become tabu,
+    // and `None` is answered. Or the search ends, and the answer is why. The tries are counted.
     fn advance<J: Judge, L: Ledger>(
         &mut self,
         closed: Closed<'_>,
@@ -195,8 +199,8 @@ impl State {
         }
     }
 
-    // Makes the best candidate of a round of so many moves, of which `change` is what it changes, and tells the
-    // watchers. Where memory is wanting, the judge stands at the lists of the routes all the same.
+    // Makes the best candidate of a round of `length` moves, and tells the watchers; `change` is what it changes. If
+    // memory is wanting, the judge is in sync with the lists of the routes all the same.
     fn take<J: Judge>(
         &mut self,
         judge: &mut J,
@@ -238,8 +242,8 @@ impl State {
         Ok(())
     }
 
-    // Counts the tries of a round and the solution that it found, and keeps its routes where they cost less than the
-    // best before.
+    // Counts the tries of a round and the solution that it found, and keeps its routes if they cost less than the best
+    // before.
     fn follow(&mut self, routes: &Routes, tries: u64, difference: i64)
         requires tries { self.old.at.used + tries < 2 ^ 64 }
         requires found { self.old.at.found + 1 < 2 ^ 64 }
@@ -261,7 +265,7 @@ impl State {
     }
 }
 
-// One round from where a search stands, in which at most `rest` moves may be tried. What the best candidate changes is
+// One round from the state of a search, in which at most `rest` moves may be tried. What the best candidate changes is
 // written over `kept`.
 fn run_round<J: Judge, L: Ledger>(
     model: &Model,
@@ -286,7 +290,7 @@ fn run_round<J: Judge, L: Ledger>(
     round.run(judge, rest, kept, steps)
 }
 
-// Searches on from where it stands, and says why it ended.
+// Searches on from its state, and says why it ended.
 fn search<J: Judge, L: Ledger>(
     closed: Closed<'_>,
     judge: &mut J,

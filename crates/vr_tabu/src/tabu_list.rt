@@ -24,7 +24,7 @@ pub struct TabuList {
     pub until: Vec<u64>,
 }
 
-/// A change, and the lists that it is of: all lists are those of a model, before it and after it.
+/// A change of lists, with the lists that it is of: they are lists of a model, before it and after it.
 #[derive(Clone, Copy)]
 pub struct WholeChange<'m, 'r, 'c> {
     pub closed: Closed<'m>,
@@ -76,7 +76,7 @@ impl TabuList {
         false
     }
 
-    /// Whether each visit is tabu in this round: then a move is a candidate only if it leads to lists that cost less
+    /// Whether each visit is tabu in this round. If so, a move is a candidate only if it leads to lists that cost less
     /// than any before (`Round::open`).
     pub fn are_all_tabu(&self, model: &Model) -> bool
         ensures { IsTrue result → AreAllTabu model.now (tabus_of self.now) }
@@ -99,8 +99,7 @@ impl TabuList {
             .any(|&visit| !self.is_tabu_visit(visit) && list.changes(visit))
     }
 
-    // Whether a part of a change changes a visit that is not tabu. Those that leave the list stand in the old one
-    // alone.
+    // Whether a part of a change changes a visit that is not tabu. Visits that leave the list are in the old one alone.
     #[inline]
     fn frees(&self, list: &ListChange<'_, '_>) -> bool
         ensures { result ≡ frees (tabus_of self.now) list.now }
@@ -189,7 +188,7 @@ impl TabuList {
     }
 }
 
-// Where a vehicle starts.
+// The node at which a vehicle starts.
 #[inline]
 fn start_of(model: &Model, v: u32) -> u32
     requires vehicle { v < length model.now.vehicles }

@@ -10,11 +10,11 @@ ghost use Rattle.vr_tabu.specs.Parts.{ArePlaced};
 use std::marker::Model;
 use vr_routes::{Change, Routes, Row};
 
-/// The list of a vehicle after a change, written out. Contracts see the list. Where a visit stands in it is looked up.
+/// The list of a vehicle after a change, written out. Contracts see the list. The place of a visit in it is looked up.
 #[derive(Drop)]
 pub struct WrittenList {
     row: Row,
-    // the place of each visit of the row; those of others are of no account
+    // the place of each visit of the row; those of other visits do not count
     places: [u32; 1000],
 }
 
@@ -59,7 +59,7 @@ impl WrittenList {
         self.row.as_slice()
     }
 
-    /// The node just before a visit, where the list begins behind `origin`; none where the visit does not stand there.
+    /// The node just before a visit, in a list that begins after `origin`; none if the visit is not in it.
     #[inline]
     pub fn node_before(&self, origin: u32, visit: u32) -> Option<u32>
         requires distinct { IsTrue (is_distinct self.now) }
@@ -85,7 +85,7 @@ fn place_each(list: &[u32], places: &mut [u32; 1000])
     }
 }
 
-// The place that is kept of a visit, which need not stand there (`is_at`); 0 for a number that no visit has.
+// The place that is kept of a visit, which need not be there (`is_at`); 0 for a number that no visit has.
 #[inline]
 fn place_in(places: &[u32], visit: u32) -> u32
     ensures { result ≡ slice_index places.now visit }
@@ -96,7 +96,7 @@ fn place_in(places: &[u32], visit: u32) -> u32
     0
 }
 
-// Whether a visit stands at a place of a list.
+// Whether a visit is at a place of a list.
 #[inline]
 fn is_at(list: &[u32], place: u32, visit: u32) -> bool
     ensures { result ≡ (nat_lt place (length list.now) && (slice_index list.now place == visit)) }
@@ -104,7 +104,7 @@ fn is_at(list: &[u32], place: u32, visit: u32) -> bool
     (place as usize) < list.len() && list[place as usize] == visit
 }
 
-/// The node just before a place of a list that begins behind `origin`.
+/// The node just before a place of a list that begins after `origin`.
 #[inline]
 pub fn node_before_place(list: &[u32], origin: u32, place: u32) -> u32
     requires place { place < length list.now }

@@ -1,4 +1,4 @@
-//! How many pickups and deliveries stand in a list up to each of its nodes.
+//! How many pickups and deliveries are in a list up to each of its nodes.
 
 ghost use Rattle.std.specs.Prelude.{◌≡◌, ◌<◌, ◌≤◌, ℕ, false, length, take};
 ghost use Rattle.vr_model.specs.declared.records.Model.{Model};
@@ -53,7 +53,7 @@ fn with_node(node_tables: &NodeTables<'_>, before: Counts, node: u32) -> Counts
     }
 }
 
-/// Writes, for each node of a list of distinct nodes, what stands in the list up to it, itself included.
+/// Writes, for each node of a list of distinct nodes, the counts of the list up to it, itself included.
 pub(crate) fn write_counts(node_tables: &NodeTables<'_>, list: &[u32], table: &mut [Counts; 1000])
     requires { CanBeCounted list.now }
     ensures counted { AreCounted node_tables.now list.now table.new }
@@ -80,7 +80,7 @@ fn count_of(table: &[Counts], node: u32) -> Counts
     Counts::none()
 }
 
-/// What is counted of the nodes of a list before a place, of all of them at its end and past it.
+/// What is counted of the nodes of a list before a place; at its end and past it, of all of them.
 #[inline]
 pub(crate) fn counts_before(list: &[u32], table: &[Counts], place: usize) -> Counts
     requires counted { (model : _) × AreCounted model list.now table.now }

@@ -1,4 +1,4 @@
-//! What is counted in a list with other nodes in the place of a stretch, and whether its pairs come in turn.
+//! What is counted in a list with a stretch replaced by other nodes, and whether its pairs come in turn.
 
 ghost use Rattle.std.specs.Prelude.{◌≡◌, ◌+◌, ◌<◌, ◌≤◌, ◌^◌, length, take};
 ghost use Rattle.vr_model.specs.first.Items.{pair_of as pair_of_node};
@@ -13,8 +13,8 @@ use std::marker::Model;
 use vr_lists::NodeTables;
 use vr_model::{Pair, Policy};
 
-/// A list with other nodes in the place of a stretch, whose pickups and deliveries are counted. Contracts see the
-/// model, the list before, the stretch and the nodes.
+/// A list with a stretch replaced by other nodes, whose pickups and deliveries are counted. Contracts see the model,
+/// the list before, the stretch and the nodes.
 #[derive(Drop)]
 pub struct NewCounts<'a, 'm> {
     // what is looked up once of the nodes of the model
@@ -48,7 +48,7 @@ impl<'a, 'm> Model for NewCounts<'a, 'm> {
 }
 
 impl<'a, 'm> NewCounts<'a, 'm> {
-    /// A list that keeps its first `front` nodes and those from `behind` on, with others between, where all are
+    /// A list that keeps its first `front` nodes and those from `behind` on, with others between. All of them are
     /// counted.
     #[inline]
     pub fn of(

@@ -1,4 +1,4 @@
-//! Tables of what stands in lists up to each of their nodes.
+//! Tables of the counts of lists up to each of their nodes.
 
 ghost use Rattle.std.specs.Prelude.{◌≡◌, ℕ, false};
 ghost use Rattle.vr_model.specs.routes.Routes.{holds};
@@ -8,13 +8,13 @@ use super::counts::{Counts, write_counts};
 use vr_lists::NodeTables;
 use vr_model::Policy;
 
-/// How many pickups and deliveries stand in lists up to each of their nodes. It has room for the largest model in
-/// place, 16 kilobytes, and takes no memory.
+/// How many pickups and deliveries are in lists up to each of their nodes. It has room for the largest model in place,
+/// 16 kilobytes, and takes no memory.
 #[derive(Drop)]
 pub struct Turns {
-    /// For each node of the lists that were put, what stands in its list up to it, itself included.
+    /// For each node of the lists that were put, the counts of its list up to it, itself included.
     pub listed: [Counts; 1000],
-    /// For each node that a change puts into a list, what stands among these up to it.
+    /// For each node that a change puts into a list, the counts of these nodes up to it.
     pub between: [Counts; 1000],
 }
 
