@@ -32,9 +32,9 @@ abbrev pub IsComplete : (List Event → List ℕ) → Run → Type 0
 IsComplete reports run = IsCompleteBy (program_of reports) run
 
 -- Words that ask for a solution get 0 exactly if the input is a model with a first solution. They get 6 exactly if it
--- is a model without one. Status 6 comes of no other words. What is written is a solution, which meets a check. It has valid
--- lists with their chosen schedules and their cost; with `--log` the watchers' reports follow. Status 5 comes exactly
--- if the model is refused; the text says code and path.
+-- is a model without one. Status 6 comes of no other words. What is written is a solution, which meets a check. It has
+-- valid lists with their chosen schedules and their cost; with `--log` the watchers' reports follow. Status 5 comes
+-- exactly if the model is refused; the text says code and path.
 pub record IsSolving (reports : List Event → List ℕ) (run : Run) : Type 0 where
   pub done : WhereSolved run.words run.left_before run.status (λ bytes. (run.status ≡ 0) ↔ HasFirst bytes)
   pub solution : run.status ≡ 0 → (asked : Mode) → IsAskedFor asked run.words → WhereKnown run.left_before (λ bytes.

@@ -72,11 +72,11 @@
 //!     25. try_move            vr_descent: asks the judge, a `vr_judge::FilterJudge`, about a move
 //!     26. judge_change        vr_judge: the filters, and then what the move adds to each part of the cost
 //!
-//! `advance` owns the change of the move in hand and lends it down. `try_move` writes it over for each move, and hands it
-//! to all that is asked. If a move is accepted, its place, the move and its difference go back to `advance`. That notes
-//! the rows that the scan refused whole (`vr_known`). Then `take` has the judge make the change (`commit_change`), counts
-//! the move and tells the watchers. Last, `advance` stamps what the move touched, and the search lets what it keeps
-//! follow the routes.
+//! `advance` owns the change of the move in hand and lends it down. `try_move` writes it over for each move, and hands
+//! it to all that is asked. If a move is accepted, its place, the move and its difference go back to `advance`. That
+//! notes the rows that the scan refused whole (`vr_known`). Then `take` has the judge make the change
+//! (`commit_change`), counts the move and tells the watchers. Last, `advance` stamps what the move touched, and the
+//! search lets what it keeps follow the routes.
 //!
 //! The way back from there to the printed line:
 //!

@@ -1,4 +1,4 @@
--- What is wrong with a file, and where.
+-- What is wrong with a file, and in which line.
 use Rattle.std.specs.Prelude.{◌≡◌, ℕ, Bool, List, [], Result, Ok, Err, IfOk, ⊤, if◌then◌else◌}
 use Rattle.vr_json.specs.declared.fault.Fault.{Fault}
 use Rattle.vr_json.specs.declared.fault.ReadFail.{ReadFail}
@@ -20,7 +20,7 @@ flaw_code NodeAgain = 44
 flaw_code Missing = 45
 flaw_code DepotDemand = 46
 
--- the fault of a flaw in a line: the path is `/` and the number of the line, or 0 for the file as a whole
+-- The fault of a flaw in a line. The path is `/` and the number of the line, or 0 for the file as a whole.
 abbrev pub fault_in_line : Flaw → ℕ → Fault
 fault_in_line flaw number = record { code = flaw_code flaw; path = item_path [] number }
 
