@@ -72,9 +72,8 @@ pub enum LinePlace {
     Ended,
 }
 
-/// What is known beside the rows of sections: the keywords and sections that came, the depot, and the part of the file
-/// that the next line is in. What a keyword or the row of the depot says is `None` until it came. `nodes` is what
-/// `DIMENSION` says.
+/// What is known beside the rows of sections: the keywords and sections that came, the depot, and the place of the next
+/// line. What a keyword or the row of the depot says is `None` until it came. `nodes` is what `DIMENSION` says.
 #[derive(Clone, Copy)]
 pub struct Head {
     /// Whether `NAME` came. It and the two below are kept because none may come twice; their values are not used.

@@ -2,8 +2,8 @@
 //! as many vehicles as the caller says. A line `DIMENSION : 5`, say, makes five nodes, and their rows of coordinates
 //! make the matrix of distances.
 //!
-//! A file is read line by line, once, and what a line says is kept in a `State`. This has the head (keywords, which
-//! sections came, and the part of the file that the next line is in) and the rows of the sections. Nothing of the
+//! A file is read line by line, once. What a line says is kept in a `State`: the head and the rows of the sections.
+//! The head has the keywords, which sections came, and the part of the file that the next line is in. Nothing of the
 //! file's text is kept. The state after each line is that of the definition `read_lines`, so the first faulty line
 //! gives the answer.
 //!

@@ -85,7 +85,7 @@ pub(crate) fn demand_row(n: u32, earlier: &[DemandRow], line: &[u8]) -> Result<D
     })
 }
 
-/// The part of the file that the line after a row of coordinates is in; the row was one of this many that were to come.
+/// The part of the file that comes after a row of coordinates. The row was one of this many that were to come.
 pub(crate) fn sites_left(left: u32) -> LinePlace
     ensures { result ≡ row_tables.sites_left left }
 {
@@ -96,7 +96,7 @@ pub(crate) fn sites_left(left: u32) -> LinePlace
     }
 }
 
-/// The part of the file that the line after the row of a demand is in; the row was one of this many that were to come.
+/// The part of the file that comes after the row of a demand. The row was one of this many that were to come.
 pub(crate) fn demands_left(left: u32) -> LinePlace
     ensures { result ≡ row_tables.demands_left left }
 {

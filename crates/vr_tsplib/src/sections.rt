@@ -50,8 +50,8 @@ fn weights_wanted(format: Option<WeightFormat>, n: u32) -> Option<u64>
     }
 }
 
-/// The part of the file that the next line is in, if this many weights are to come: their section, and outside it if
-/// none are.
+/// The part of the file that the next line is in, if this many weights are to come. It is their section, and outside it
+/// if none are.
 pub(crate) fn weights_left(left: u64) -> LinePlace
     ensures { result ≡ heads.weights_left left }
 {
