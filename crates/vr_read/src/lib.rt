@@ -1,5 +1,5 @@
 //! The reading of a routing model from its JSON form, in format 1 or 2. What cannot be read is refused, with a code and
-//! a path. If the first vehicle has no `start`, say, the path of the fault is that field.
+//! a path: a model whose first vehicle has no `start`, say, with the path `/vehicles/0/start`.
 //!
 //! What is read is well formed, the one condition of all crates above (`laws`). Each table is a reader that follows its
 //! definition in `specs/` line by line. The order of the lines is the order of the faults, and the first fault is the
