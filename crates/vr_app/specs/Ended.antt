@@ -47,7 +47,7 @@ pub record IsSilent {K : Type 0} (cause : Status) (old new : K) (status : ℕ) :
   pub same : new ≡ old
 
 -- An answer of which P holds is written, or cut short if the sink failed. Or there is none, because the source failed
--- and `failed` holds, or because memory was wanting.
+-- and `failed` holds, or because memory ran out.
 abbrev pub Ends : {K : Type 0} → (K → Option (List ℕ)) → (K → ℕ) → (Answer → Type 0) → Type 0 → K → K → ℕ → Type 0
 Ends written faults P failed old new status =
     IsAnswered P (written old) (written new) status

@@ -74,15 +74,15 @@ abbrev pub WroteFront : Program → Run → List ℕ → Type 0
 WroteFront program run bytes =
     TookFront run.written_before run.written_after (program.reply run.words bytes).text
 
--- The reply: if the run was settled, its status and whole text are those of the definition. If nothing is read, they
--- are, whatever the source has. If the sink failed, a front of the text is written.
+-- The reply: if the run was settled, its status and whole text are those of the definition. If nothing is read, that
+-- holds whatever the source has. If the sink failed, a front of the text is written.
 pub record IsReplyOf (program : Program) (run : Run) : Type 0 where
   pub read : IsStatusOfAnswer run.status → WhereKnown run.left_before (RepliesAs program run)
   pub unread : IsStatusOfAnswer run.status → ReadsNone program run → (bytes : List ℕ) → RepliesAs program run bytes
   pub front : run.status ≡ 3 → WhereKnown run.left_before (WroteFront program run)
   pub unread_front : run.status ≡ 3 → ReadsNone program run → (bytes : List ℕ) → WroteFront program run bytes
 
--- Words that read, an input of at most 64 MiB, and no failure of source or sink: the whole reply, or want of memory. Of
+-- Words that read, an input of at most 64 MiB, and no failure of source or sink: the whole reply, or out of memory. Of
 -- words that read nothing, a sink that does not fail is enough.
 pub record IsCompleteBy (program : Program) (run : Run) : Type 0 where
   pub read : Reads program run → WhereKnown run.left_before (λ bytes. length bytes ≤ max_input

@@ -27,7 +27,7 @@ program_of reports = record { reply = replies.reply reports; is_read = λ words.
 abbrev pub IsReply : (List Event → List ℕ) → Run → Type 0
 IsReply reports run = IsReplyOf (program_of reports) run
 
--- its reply is whole, or memory was wanting
+-- its reply is whole, or memory ran out
 abbrev pub IsComplete : (List Event → List ℕ) → Run → Type 0
 IsComplete reports run = IsCompleteBy (program_of reports) run
 

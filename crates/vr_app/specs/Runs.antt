@@ -56,7 +56,7 @@ ReadsJson words = reads_json (request_of words) ≡ true
 abbrev pub ReadsNothing : List (List ℕ) → Type 0
 ReadsNothing words = is_read (request_of words) ≡ false
 
--- a status that is that of an answer: no fault of source or sink, and no want of memory
+-- a status that is that of an answer: no fault of source or sink, and not out of memory
 pub record IsStatusOfAnswer (status : ℕ) : Type 0 where
   pub is_read : status ≢ 2
   pub is_written : status ≢ 3

@@ -125,7 +125,7 @@ fn answer_borrowed(alloc: Global, question: Question, value: &Value) -> Result<A
 
 /// The answer to a question about a value, an object of a model and a solution. If the solution keeps all rules of the
 /// model, it is what is asked; else it is the first rule that the solution breaks. A value that cannot be read gives
-/// its first fault. The value is let go at the end. `NoMemory` if there was no memory.
+/// its first fault. The value is let go at the end. `NoMemory` if out of memory.
 pub fn answer_checked(alloc: Global, question: Question, value: Value) -> Result<Answer, NoMemory>
     ensures reply { IfOk result (AnswersReply (replies.reply_to_checked question (checked_of (view value)))) }
     ensures status { IfOk result (λ a. IsOfChecking a.status) }

@@ -28,7 +28,7 @@ pub fn first_routes(alloc: Global, lookups: &Lookups<'_>) -> Result<Option<Route
 }
 
 /// Fills open routes of a model up by parallel cheapest insertion. They become those at which it ends when it begins
-/// with them. The only refusal is want of memory; then nothing is said of them.
+/// with them. The call fails only if out of memory; then nothing is said of them.
 pub fn fill_up(alloc: Global, lookups: &Lookups<'_>, routes: &mut Routes) -> Result<(), NoMemory>
     requires of_model { routes.old.visits ≡ visits lookups.now.closed.model.now }
     requires built { AreBuilt lookups.now.closed.model.now routes.old.lists }
@@ -53,7 +53,7 @@ fn inserted_routes(alloc: Global, lookups: &Lookups<'_>) -> Result<Routes, NoMem
 }
 
 /// The routes at which the construction that the model names ends, valid or not. `vr_refine` asks it, since its search
-/// by ruin and recreate may begin with routes that lack something. `NoMemory` if there was no memory.
+/// by ruin and recreate may begin with routes that lack something. `NoMemory` if out of memory.
 pub fn built_routes(alloc: Global, lookups: &Lookups<'_>) -> Result<Routes, NoMemory>
     ensures lists { IfOk result (λ routes. routes.lists ≡ build lookups.now.closed.model.now) }
     ensures visits { IfOk result (λ routes. routes.visits ≡ visits lookups.now.closed.model.now) }

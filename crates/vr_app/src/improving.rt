@@ -190,7 +190,7 @@ fn rebuild_from<R: Rebuild>(
 /// `RoutingModel::SolveFromAssignmentWithParameters` in OR-Tools, by `local_search_metaheuristic`. It works by a judge
 /// that has committed the first solution, or by what rebuilds open routes. The watchers are told of each event.
 ///
-/// `NoMemory` if there was no memory, also if a watcher finds none.
+/// `NoMemory` if out of memory, also if a watcher is.
 pub fn improve<J: Judge, R: Rebuild, L: Ledger>(
     alloc: Global,
     lookups: &Lookups<'_>,

@@ -50,7 +50,7 @@ fn with_reports(mode: Mode, line: Seq<u8>, watch: &Watchers) -> Result<Seq<u8>, 
 }
 
 /// The answer that is the line of a solution. After it come the reports of the watchers, in order, if they are asked
-/// for. `NoMemory` if there was no memory, also if a watcher finds none.
+/// for. `NoMemory` if out of memory, also if a watcher is.
 pub fn done(mode: Mode, line: Seq<u8>, watch: &Watchers) -> Result<Answer, NoMemory>
     ensures { let reports = joined_reports (λ w later. after w later) watch.now.items [] in
         IfOk result (AnswersWith Status.Done (replies.with_reports mode line reports)) }

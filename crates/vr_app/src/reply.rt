@@ -33,7 +33,7 @@ use vr_watch::Watch;
 pub enum Stop {
     /// The source failed.
     ReadFault,
-    /// Want of memory.
+    /// Out of memory.
     NoMemory,
 }
 
@@ -177,7 +177,7 @@ fn run_lent<S: Source, K: Sink>(
 /// - `demo N` reads nothing, and writes the line of a summary of the whole search of that model.
 ///
 /// N and K are written in decimal digits, with no 0 in front of others. N is at most 2^64 - 1, and K is 1 to 100. What
-/// is read is the source to its end, unless it fails, too many bytes come or memory is wanting. C is the cost of the
+/// is read is the source to its end, unless it fails, too many bytes come or memory runs out. C is the cost of the
 /// solution, which keeps all rules of its model.
 ///
 /// Each status, when it comes, and what is written:
@@ -189,7 +189,7 @@ fn run_lent<S: Source, K: Sink>(
 /// - 4, of all but `import`, exactly if the input is no JSON: `{"status":"NOT_JSON"}`.
 /// - 5 exactly if reading finds a fault: `{"code":C,"path":"P","status":"ROUTING_INVALID"}`.
 /// - 6, of `first` and `solve`, exactly if the model has no first solution: `{"status":"ROUTING_FAIL"}`.
-/// - 7 is want of memory; nothing in the contract ties it to a refused growth. Nothing is written.
+/// - 7 if out of memory; nothing in the contract ties it to a refused growth. Nothing is written.
 /// - 8 exactly if the input has more than 67108864 bytes: `{"status":"TOO_LONG"}`.
 /// - 9, of `check` and `spans`, exactly if a rule is broken: `{"place":L,"rule":"R","status":"NOT_MET","vehicle":V}`.
 ///
@@ -206,7 +206,7 @@ fn run_lent<S: Source, K: Sink>(
 /// all schedules of the vehicle's line, and the printed span. With them comes the schedule of the least span whose
 /// cumuls, compared from the start on, are least.
 ///
-/// Only with `--log` is an event of the search noted, to every watcher in order. A watcher that finds no memory for it
+/// Only with `--log` is an event of the search noted, to every watcher in order. A watcher that has no memory for it
 /// ends the run with status 7. All watchers are dropped at the end.
 ///
 /// The words are looked at first, then the source is read. Then come the length, the JSON, the model, the construction
@@ -222,7 +222,7 @@ pub fn run<S: Source, K: Sink>(
     ensures status { IsStatus result }
 
     // Status and text are those of the reply, and a front of it if the sink failed. With no failure it is whole, or
-    // memory was wanting.
+    // memory ran out.
     ensures reply { let reports = joined_reports (λ w later. after w later) watch.items in
         IsReply reports (program_run (bytes_of words.now)
         (S.left source.old) (S.left source.new) (S.faults source.old) (S.faults source.new)
@@ -253,7 +253,7 @@ pub fn run<S: Source, K: Sink>(
         (K.written sink.old) (K.written sink.new) (K.faults sink.old) (K.faults sink.new) result) }
     ensures unwritten { (result ≡ 2) ⊎ (result ≡ 7) → sink.new ≡ sink.old }
 
-    // Words that read have the source read to its end, unless it failed, too many bytes came or memory was wanting.
+    // Words that read have the source read to its end, unless it failed, too many bytes came or memory ran out.
     // Other words leave the source as it is.
     ensures emptied { let reports = joined_reports (λ w later. after w later) watch.items in
         IsEmptied reports (program_run (bytes_of words.now)

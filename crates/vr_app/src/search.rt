@@ -23,7 +23,7 @@ use vr_plan::Lookups;
 use vr_routes::{Judge, Routes};
 
 /// What the search that the model names makes of its first solution, by a judge of filters that is in sync with it. The
-/// watchers are told of each event. The only refusal is want of memory. A counter of steps, which contracts alone see,
+/// watchers are told of each event. The call fails only if out of memory. A counter of steps, which contracts alone see,
 /// is made of `blank` for the search. Beside `search_watched`, a test of `vr_app_tests` calls it: its types show that
 /// the program searches by this judge.
 pub fn improve_judged<L: Ledger>(
@@ -61,7 +61,7 @@ pub fn improve_judged<L: Ledger>(
 }
 
 /// What the search that the model names makes of its first solution, which has this cost. The watchers are told of each
-/// event. The only refusal is want of memory.
+/// event. The call fails only if out of memory.
 pub(crate) fn search_watched(
     alloc: Global,
     lookups: &Lookups<'_>,
@@ -107,7 +107,7 @@ pub(crate) fn search_unwatched(
 }
 
 /// What the search of a mode makes of the first solution of a model, which has this cost. With `Log` alone the watchers
-/// are told, of each event. The only refusal is want of memory.
+/// are told, of each event. The call fails only if out of memory.
 pub(crate) fn search(
     alloc: Global,
     mode: Mode,

@@ -228,7 +228,7 @@ fn routes_tree(
 }
 
 /// How short the routes of a printed solution could be. It meets the rules of its model, so it has the right shape. It
-/// is read once more, since the check gives what it finds and no record. `NoMemory` if there was no memory.
+/// is read once more, since the check gives what it finds and no record. `NoMemory` if out of memory.
 pub(crate) fn spans_tree(
     alloc: Global,
     closed: Closed<'_>,

@@ -1,4 +1,4 @@
-//! What the judge says of one move, and that memory is wanting.
+//! What the judge says of one move, and that it is out of memory.
 
 ghost use Rattle.std.specs.Prelude.{◌≡◌, ◌<◌, IsTrue};
 ghost use Rattle.vr_model.specs.moves.MoveTests.{is_move};
@@ -46,7 +46,7 @@ fn word_of(of: Solved<'_>, mv: Move) -> Result<&'static str, Stop>
 }
 
 /// Prints what the judge says of the move that turns two visits of the first list, from this place on. It prints
-/// instead that memory was wanting, if it was when the judge was asked. Before that, want of memory ends the run.
+/// instead that memory ran out, if it did when the judge was asked. Before that, running out of memory ends the run.
 pub(crate) fn print_verdict(rt: &HostRuntime, of: Solved<'_>, place: u32) -> Result<(), Stop> {
     let mv = Move::TwoOpt {
         v: 0,

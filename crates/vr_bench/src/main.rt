@@ -9,8 +9,8 @@
 //! `crossing` and `meet` make what they need themselves. The others read a model from standard input and begin with its
 //! first solution by the cheapest arcs. `bench/run` runs them beside plain Rust.
 //!
-//! `vr_bench ask PLACE` takes no time. It prints what the judge says of one move of that solution, or that memory was
-//! wanting when it was asked. `bench/refuse` runs it. Without words nothing is printed.
+//! `vr_bench ask PLACE` takes no time. It prints what the judge says of one move of that solution, or that memory ran
+//! out when it was asked. `bench/refuse` runs it. Without words nothing is printed.
 //!
 //! A function owns one large value at most, and lends it on. Start at `input`, which chooses the work.
 #![tactic(auto)]

@@ -24,7 +24,7 @@ use vr_printed::{Printed, printed_lists, read_printed};
 /// What the check finds in the solution that a tree prints. If the solution keeps each rule of the model, that is its
 /// cost. Else it is the first rule that is broken, in the order of `Rule`, with its vehicle and place. A tree of
 /// another shape breaks the first rule. Each printed plan has to be a schedule, and need not be the chosen one.
-/// `NoMemory` if there was no memory.
+/// `NoMemory` if out of memory.
 pub fn check(alloc: Global, model: &Model, solution: &Value) -> Result<Finding, NoMemory>
     requires { IsWellFormed model.now }
     ensures { IfOk result (λ found. found ≡ finding model.now (view solution.now)) }

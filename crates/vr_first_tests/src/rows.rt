@@ -12,7 +12,7 @@ pub(crate) const PAIRED: &str = r#"{"format":1,"nodes":5,"matrices":[
 "dimensions":[{"name":"time","evaluators":[{"matrix":0}],"slack_max":20,"capacity":100,
 "breaks":[{"vehicle":0,"breaks":[{"from":2,"to":6,"duration":3}]}]}]}"#;
 
-/// Fails by the name of the row if it does not hold, or there was no memory.
+/// Fails by the name of the row if it does not hold, or memory ran out.
 pub(crate) fn row(name: &'static str, holds: Result<bool, NoMemory>) -> Result<(), Fail> {
     match holds {
         Ok(true) => Ok(()),

@@ -1,6 +1,6 @@
-//! Whole searches by both judges, which must find the same, and how often they ask a judge. It judges no more often than
-//! moves are tried, and less often if a lower bound of a move rules it out. It is asked for such bounds at most twice a
-//! try. Of tabu search the tests also say which moves it makes, passes over and ends at.
+//! Whole searches by both judges, which must find the same, and how often they ask a judge. It judges no more often
+//! than moves are tried, and less often if a lower bound of a move rules it out. It is asked for such bounds at most
+//! twice a try. Of tabu search the tests also say which moves it makes, passes over and ends at.
 
 ghost use Rattle.std.specs.Prelude.{IfOk};
 ghost use Rattle.vr_descent.specs.Asking.{AsksFor};

@@ -1,4 +1,4 @@
-//! What a descent leaves if a watcher wants memory in its midst.
+//! What a descent leaves if a watcher runs out of memory in its midst.
 
 ghost use Rattle.vr_descent.specs.Refused.{CanJudge};
 
@@ -14,7 +14,7 @@ use vr_routes::{Judge, Routes};
 use vr_rules::total;
 use vr_watch::{Stopper, Trace, Watch};
 
-// Whether a descent wants memory.
+// Whether a descent is out of memory.
 fn is_stopped<J: Judge, L: Ledger>(
     alloc: Global,
     closed: Closed<'_>,

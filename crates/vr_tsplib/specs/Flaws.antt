@@ -33,7 +33,7 @@ at_line number (Err flaw) = Err (fault_in_line flaw number)
 unfoldable pub refuse_if : Bool → Flaw → Result ⊤ Flaw
 refuse_if wrong flaw = if wrong then Err flaw else Ok tt
 
--- What a call answers, beside what is to be read: that value or that flaw. It may want memory instead.
+-- What a call answers, beside what is to be read: that value or that flaw. It may be out of memory instead.
 pub record AnswersLine {A : Type 0} (answer : Result A LineFail) (reading : Result A Flaw) : Type 0 where
   pub value : IfOk answer (λ x. reading ≡ Ok x)
   pub flawed : (flaw : Flaw) → answer ≡ Err (Flawed flaw) → reading ≡ Err flaw
