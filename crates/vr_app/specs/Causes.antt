@@ -70,7 +70,7 @@ HasFirst bytes = (model : Model) × IsModel bytes model × IsSome (first_lists m
 abbrev pub HasNoFirst : List ℕ → Type 0
 HasNoFirst bytes = (model : Model) × IsModel bytes model × (first_lists model ≡ None)
 
--- it is a model, and the text is the line of the solution that is asked for. After it come the watchers' reports, if
+-- It is a model, and the text is the line of the solution that is asked for. After it come the watchers' reports, if
 -- these are asked for.
 pub record IsAnsweredBy (asked : Mode) (reports : List Event → List ℕ) (bytes text : List ℕ) : Type 0 where
   pub model : Model

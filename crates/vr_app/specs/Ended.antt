@@ -14,7 +14,7 @@ use Rattle.vr_app.specs.declared.status.Status.{Status}
 use Rattle.vr_app.specs.declared.status.Status.TheVariants as all
 
 -- The answer is the one of a program to these words and to a source that has this left before, and this after. Usage is
--- told only if `unknown` holds, and a broken rule only if `asking` does.
+-- reported only if `unknown` holds, and a broken rule only if `asking` does.
 pub record RespondsBy (program : Program) (unknown asking : Type 0) (words : List (List ℕ))
     (left_before left_after : Option (List ℕ)) (answer : Answer) : Type 0 where
   pub replies : WhereKnown left_before (λ bytes. AnswersReply (program.reply words bytes) answer)

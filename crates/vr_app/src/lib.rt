@@ -1,5 +1,5 @@
 //! The whole of what the program does: from the words and the bytes of a source to a status and the bytes of a sink.
-//! The words `solve` and a model, say, give status 0 and one line, the best solution that the search found.
+//! The word `solve` and a model with a first solution, say, give status 0 and the line of the best solution found.
 //! `specs/Reply` defines the reply to words and bytes, and [`run`] gives it. These files answer what is asked:
 //!
 //! - `words` says what is asked for. `input` finds the value in bytes, and the model in a value.

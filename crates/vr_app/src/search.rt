@@ -23,9 +23,9 @@ use vr_plan::Lookups;
 use vr_routes::{Judge, Routes};
 
 /// What the search that the model names makes of its first solution, by a judge of filters that is in sync with it. The
-/// watchers are told of each event. The call fails only if out of memory. A counter of steps, which contracts alone see,
-/// is made of `blank` for the search. Beside `search_watched`, a test of `vr_app_tests` calls it: its types show that
-/// the program searches by this judge.
+/// watchers are told of each event. The call fails only if out of memory. A counter of steps, which contracts alone
+/// see, is made of `blank` for the search. Beside `search_watched`, a test of `vr_app_tests` calls it: its types show
+/// that the program searches by this judge.
 pub fn improve_judged<L: Ledger>(
     alloc: Global,
     lookups: &Lookups<'_>,

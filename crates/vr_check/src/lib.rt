@@ -1,6 +1,6 @@
 //! The checker: whether a printed solution keeps every rule of its model. It says the first rule that is broken, or the
-//! cost. If a visit is printed on two routes, say, it answers that `Once` is broken, with the vehicle and place of the
-//! later one.
+//! cost. If the first thing wrong is a visit on two routes, say, it answers that `Once` is broken, with the vehicle and
+//! place of the later one.
 //!
 //! It shares with the search and its judges only what the records of `vr_model` answer themselves: no table that is
 //! looked up beforehand or kept. Each rule is asked of the printed lists, plans and numbers themselves, one pass for

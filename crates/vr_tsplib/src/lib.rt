@@ -1,6 +1,6 @@
 //! Import of routing problems from TSPLIB files of type CVRP. Such a file becomes the tree of a model of format 1, with
-//! as many vehicles as the caller says. A line `DIMENSION : 5`, say, makes five nodes, and their rows of coordinates
-//! make the matrix of distances.
+//! as many vehicles as the caller says. A line `DIMENSION : 5`, say, makes five nodes. With `EUC_2D` their rows of
+//! coordinates make the matrix of distances.
 //!
 //! A file is read line by line, once. What a line says is kept in a `State`: the head and the rows of the sections.
 //! The head has the keywords, which sections came, and the part of the file that the next line is in. Nothing of the
