@@ -227,8 +227,8 @@ fn routes_tree(
     reported_spans(alloc, rows)
 }
 
-/// How short the routes of a printed solution could be. It meets the rules of its model, so it has the right shape. It
-/// is read once more, since the check gives what it finds and no record. `NoMemory` if out of memory.
+/// How short the routes of a printed solution could be. The solution meets the rules of its model, so it has the right
+/// shape. It is read once more, since the check gives what it finds and no record. `NoMemory` if out of memory.
 pub(crate) fn spans_tree(
     alloc: Global,
     closed: Closed<'_>,

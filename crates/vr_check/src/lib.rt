@@ -1,5 +1,5 @@
 //! The checker: whether a printed solution keeps every rule of its model. It says the first rule that is broken, or the
-//! cost. If the first thing wrong is a visit on two routes, say, it answers that `Once` is broken, with the vehicle and
+//! cost. If the first thing wrong is a visit on two routes, say, `Once` is broken. The answer has the vehicle and the
 //! place of the later one.
 //!
 //! It shares with the search and its judges only what the records of `vr_model` answer themselves: no table that is
