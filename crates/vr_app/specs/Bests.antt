@@ -7,7 +7,7 @@ use Rattle.vr_app.specs.Endings.{IsBestOfOutcome}
 use Rattle.vr_app.specs.declared.best.Best.{Best}
 use Rattle.vr_app.specs.Found.{Found}
 
--- the best is that of the search that was found for a model, whose first solution costs so much
+-- the best is that of the search that was found for a model, whose first solution has this cost
 pub record IsBestOf (model : Model) (found : Found) (first_cost : ℤ) (best : Best) : Type 0 where
   pub ends : IsBestOfOutcome (visits model) found.outcome best
   pub first_cost_is : first_cost ≡ cost model found.first

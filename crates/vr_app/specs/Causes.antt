@@ -45,7 +45,7 @@ pub record HasFlaw (vehicles : ℕ) (bytes : List ℕ) (fault : Fault) : Type 0 
   pub short : length bytes ≤ max_input
   pub is_fault : imported vehicles bytes ≡ Err fault
 
--- it is a file, and this is the tree of its model with so many vehicles
+-- it is a file, and this is the tree of its model with this many vehicles
 pub record IsImportedAs (vehicles : ℕ) (bytes : List ℕ) (tree : Data) : Type 0 where
   pub short : length bytes ≤ max_input
   pub is_tree : imported vehicles bytes ≡ Ok tree
@@ -70,8 +70,8 @@ HasFirst bytes = (model : Model) × IsModel bytes model × IsSome (first_lists m
 abbrev pub HasNoFirst : List ℕ → Type 0
 HasNoFirst bytes = (model : Model) × IsModel bytes model × (first_lists model ≡ None)
 
--- it is a model, and the text is the line of the solution that is asked for, and behind it the reports of the watchers
--- where these are asked for
+-- It is a model, and the text is the line of the solution that is asked for. After it come the watchers' reports, if
+-- these are asked for.
 pub record IsAnsweredBy (asked : Mode) (reports : List Event → List ℕ) (bytes text : List ℕ) : Type 0 where
   pub model : Model
   pub found : Found

@@ -18,7 +18,7 @@ pub record Checked : Type 0 where
 abbrev pub checked_together : Model → Data → Checked
 checked_together model solution = record { model = model; solution = solution }
 
--- any tree, as it stands
+-- any tree, as it is
 abbrev pub any_tree : ReaderOf Data
 any_tree path d = Ok d
 

@@ -13,8 +13,8 @@ use Rattle.vr_app.specs.declared.answer.Answer.{Answer}
 use Rattle.vr_app.specs.declared.status.Status.{Status}
 use Rattle.vr_app.specs.declared.status.Status.TheVariants as all
 
--- the answer is the one of a program to these words and to a source that has this left before, and this after; usage is
--- told only where `unknown` holds, and a broken rule only where `asking` does
+-- The answer is the one of a program to these words and to a source that has this left before, and this after. Usage is
+-- reported only if `unknown` holds, and a broken rule only if `asking` does.
 pub record RespondsBy (program : Program) (unknown asking : Type 0) (words : List (List ℕ))
     (left_before left_after : Option (List ℕ)) (answer : Answer) : Type 0 where
   pub replies : WhereKnown left_before (λ bytes. AnswersReply (program.reply words bytes) answer)
@@ -46,8 +46,8 @@ pub record IsSilent {K : Type 0} (cause : Status) (old new : K) (status : ℕ) :
   pub status_is : status ≡ status_number cause
   pub same : new ≡ old
 
--- an answer of which P holds is written, or cut short where the sink failed; or there is none, because the source
--- failed, where `failed` holds, or memory was wanting
+-- An answer of which P holds is written, or cut short if the sink failed. Or there is none, because the source failed
+-- and `failed` holds, or because memory ran out.
 abbrev pub Ends : {K : Type 0} → (K → Option (List ℕ)) → (K → ℕ) → (Answer → Type 0) → Type 0 → K → K → ℕ → Type 0
 Ends written faults P failed old new status =
     IsAnswered P (written old) (written new) status
@@ -55,8 +55,8 @@ Ends written faults P failed old new status =
     ⊎ (IsSilent all.ReadFault old new status × failed)
     ⊎ IsSilent all.NoMemory old new status
 
--- a run of a program ends so: the source has this left before and after it, and failed so often; source and sink failed
--- nowhere, unless it ends with that
+-- A run of a program ends in this way. The source has this left, and has failed this often, before it and after it.
+-- Source and sink fail nowhere, unless the run ends with that.
 pub record RanBy {K : Type 0} (written : K → Option (List ℕ)) (faults : K → ℕ) (program : Program)
     (unknown asking : Type 0) (words : List (List ℕ)) (left_before left_after : Option (List ℕ))
     (read_faults_before read_faults_after : ℕ) (old new : K) (status : ℕ) : Type 0 where
@@ -65,8 +65,8 @@ pub record RanBy {K : Type 0} (written : K → Option (List ℕ)) (faults : K �
   pub source_quiet : status ≢ 2 → read_faults_after ≡ read_faults_before
   pub sink_quiet : status ≢ 3 → faults new ≡ faults old
 
--- the same of the program whose watchers report so; its status is one of an answer to what the words ask for, unless
--- something failed
+-- The same of the program whose watchers report in this way. The run's status is one of an answer to what the words ask
+-- for, unless something failed.
 pub record Ran {K : Type 0} (written : K → Option (List ℕ)) (faults : K → ℕ) (reports : List Event → List ℕ)
     (words : List (List ℕ)) (left_before left_after : Option (List ℕ)) (read_faults_before read_faults_after : ℕ)
     (old new : K) (status : ℕ) : Type 0 where

@@ -31,7 +31,7 @@ found_from asked model lists = record { first = lists; outcome = searched asked 
 abbrev pub found_with : Mode → Model → Option (List (List ℕ)) → Option Found
 found_with asked model begun = option_map (found_from asked model) begun
 
--- what a mode finds for a model; none exactly where the construction of a first solution gives none
+-- what a mode finds for a model; none exactly if the construction of a first solution gives none
 abbrev pub found_for : Mode → Model → Option Found
 found_for asked model = found_with asked model (first_lists model)
 

@@ -14,7 +14,7 @@ pub record GivesModel (reading : Result Model Fault) : Type 0 where
   pub is_read : reading ≡ Ok model
   pub is_well_formed : IsWellFormed model
 
--- the tree of a file, with 1 to 100 vehicles, is read as a well-formed model, wherever in an input it stands
+-- the tree of a file, with 1 to 100 vehicles, is read as a well-formed model, at any place of an input
 abbrev pub ImportedTreesAreModels : Type 0
 ImportedTreesAreModels =
     (vehicles : ℕ) → IsCountIn 1 100 vehicles → (bytes : List ℕ) → (tree : Data)

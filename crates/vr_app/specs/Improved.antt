@@ -12,7 +12,7 @@ use Rattle.vr_model.specs.declared.search.Limit.{Limit}
 use Rattle.vr_lns.specs.PathLns.{path_lns}
 use Rattle.vr_tabu.specs.TabuSearches.{tabu_search}
 
--- where no move is tried, the search ends at the first solution
+-- if no move is tried, the search ends at the first solution
 abbrev pub untried : List (List ℕ) → Outcome
 untried lists = ended (begun lists) stop.First
 

@@ -12,8 +12,8 @@ use Rattle.vr_read.specs.Models.{read_model}
 abbrev pub max_input : ℕ
 max_input = most_input_bytes
 
--- the value of an input; none where it is no JSON, since its bytes are no UTF-8, or since `serde_json` reads no value
--- from them, which may nest at most 127 deep
+-- The value of an input, which may nest at most 127 deep. It is none if the input is no JSON: its bytes are no UTF-8,
+-- or `serde_json` reads no value from them.
 unfoldable pub input_value : List ℕ → Option Data
 input_value bytes = if is_utf8 bytes then read bytes else None
 

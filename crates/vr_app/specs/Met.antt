@@ -1,4 +1,4 @@
--- What an input is, for each status of a question about its solution, where it has no more bytes than it may.
+-- What an input is, for each status of a question about its solution, if it has no more bytes than it may.
 use Rattle.std.specs.Prelude.{◌≡◌, ℕ, ℤ, List, false, IsTrue, Some}
 use Rattle.vr_json.specs.Trees.{text_line}
 use Rattle.vr_printed.specs.Printed.{assignment_of}
@@ -20,8 +20,8 @@ IsMet bytes = (it : Checked) × IsReadAs checked_of bytes it × IsTrue (is_met (
 abbrev pub IsNotMet : List ℕ → Type 0
 IsNotMet bytes = (it : Checked) × IsReadAs checked_of bytes it × (is_met (found_in it) ≡ false)
 
--- its solution keeps all rules of its model: routes from start to end, valid lists, plans that are schedules, the parts
--- of their cost, and limits
+-- Its solution keeps all rules of its model: routes from start to end, valid lists, plans that are schedules. It keeps
+-- the parts of their cost, and limits.
 pub record HasKept (bytes : List ℕ) : Type 0 where
   pub it : Checked
   pub printed : Printed
@@ -36,8 +36,8 @@ pub record IsMetBy (bytes text : List ℕ) : Type 0 where
   pub kept : HasKept bytes
   pub text_is : text ≡ text_line (met_tree kept.cost)
 
--- its solution keeps all rules of its model, and the text says how short its routes could be: for each used vehicle
--- and each dimension without breaks the shortest schedule of the line
+-- Its solution keeps all rules of its model, and the text says how short its routes could be. For each used vehicle and
+-- each dimension without breaks it gives the shortest schedule of the line.
 pub record IsSpannedBy (bytes text : List ℕ) : Type 0 where
   pub kept : HasKept bytes
   pub shortest : ReportsShortest kept.it.model (assignment_of kept.printed.routes)

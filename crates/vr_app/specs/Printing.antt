@@ -9,8 +9,8 @@ use Rattle.vr_print.specs.Solution.{solution_tree}
 use Rattle.vr_check.specs.Check.{finding}
 use Rattle.vr_check.specs.declared.finding.Finding.TheVariants.{Meets}
 
--- the tree of valid lists of a well-formed model, of a first cost of 64 bits that is no less than theirs, and of a
--- report within the limits of the model meets all rules with the cost of the lists
+-- The printed tree of valid lists of a well-formed model meets all rules, with the cost of the lists. It does so for
+-- each first cost of 64 bits that is no less than theirs, and each report within the limits of the model.
 abbrev pub PrintedMeets : Type 0
 PrintedMeets =
     (model : Model) → IsWellFormed model → (lists : List (List ℕ)) → IsTrue (is_valid model lists)

@@ -16,13 +16,13 @@ pub record Program : Type 0 where
 pub record Run : Type 0 where
   -- its words, as bytes
   pub words : List (List ℕ)
-  -- what the source has left before it and after it, where it is known
+  -- what the source has left before it and after it, if it is known
   pub left_before : Option (List ℕ)
   pub left_after : Option (List ℕ)
   -- how often the source has failed before it and after it
   pub read_faults_before : ℕ
   pub read_faults_after : ℕ
-  -- what the sink has taken before it and after it, where it is known
+  -- what the sink has taken before it and after it, if it is known
   pub written_before : Option (List ℕ)
   pub written_after : Option (List ℕ)
   -- how often the sink has failed before it and after it
@@ -74,15 +74,15 @@ abbrev pub WroteFront : Program → Run → List ℕ → Type 0
 WroteFront program run bytes =
     TookFront run.written_before run.written_after (program.reply run.words bytes).text
 
--- The reply: status and whole text are those of the definition, where the run was settled, whatever the source has
--- where nothing is read; where the sink failed, a front of the text is written.
+-- The reply: if the run was settled, its status and whole text are those of the definition. If nothing is read, that
+-- holds whatever the source has. If the sink failed, a front of the text is written.
 pub record IsReplyOf (program : Program) (run : Run) : Type 0 where
   pub read : IsStatusOfAnswer run.status → WhereKnown run.left_before (RepliesAs program run)
   pub unread : IsStatusOfAnswer run.status → ReadsNone program run → (bytes : List ℕ) → RepliesAs program run bytes
   pub front : run.status ≡ 3 → WhereKnown run.left_before (WroteFront program run)
   pub unread_front : run.status ≡ 3 → ReadsNone program run → (bytes : List ℕ) → WroteFront program run bytes
 
--- Words that read, an input of at most 64 MiB, and no failure of source or sink: the whole reply, or want of memory. Of
+-- Words that read, an input of at most 64 MiB, and no failure of source or sink: the whole reply, or out of memory. Of
 -- words that read nothing, a sink that does not fail is enough.
 pub record IsCompleteBy (program : Program) (run : Run) : Type 0 where
   pub read : Reads program run → WhereKnown run.left_before (λ bytes. length bytes ≤ max_input
@@ -92,7 +92,7 @@ pub record IsCompleteBy (program : Program) (run : Run) : Type 0 where
   pub unread : ReadsNone program run → (Rose run.write_faults_before run.write_faults_after → ⊥) → (bytes : List ℕ)
       → (run.status ≡ 7) ⊎ RepliesAs program run bytes
 
--- 2 comes exactly where the source failed, of words that read, and 3 exactly where the sink failed: else their counts
+-- Status 2 comes exactly if the source failed, of words that read, and 3 exactly if the sink failed. Else their counts
 -- of failures stay as they are.
 pub record HasFailedOf (reads_input : Type 0) (run : Run) : Type 0 where
   pub read_fault : run.status ≡ 2 → Rose run.read_faults_before run.read_faults_after
@@ -101,7 +101,7 @@ pub record HasFailedOf (reads_input : Type 0) (run : Run) : Type 0 where
   pub read_fault_only : run.status ≢ 2 → run.read_faults_after ≡ run.read_faults_before
   pub write_fault_only : run.status ≢ 3 → run.write_faults_after ≡ run.write_faults_before
 
--- Where the input is read, it is read to its end on every status but 2, 7 and 8; on 3 where the reply is not 8.
+-- If the input is read, it is read to its end on every status but 2, 7 and 8. On status 3 it is if the reply is not 8.
 abbrev pub IsEmptiedBy : Program → Run → Type 0
 IsEmptiedBy program run = Reads program run → run.status ≢ 2 → run.status ≢ 7 → run.status ≢ 8
     → WhereKnown run.left_before (λ bytes. (run.status ≡ 3 → (program.reply run.words bytes).status ≢ 8)

@@ -1,5 +1,5 @@
 -- What is promised of a run, by subject. When 0, 1, 4, 5, 6, 8 or 9 comes is said of runs whose status is none of 2, 3
--- and 7; what is JSON, a model or a file is not too long.
+-- and 7. What is JSON, a model or a file is not too long.
 use Rattle.std.specs.Prelude.{◌≡◌, ◌⊎◌, ◌↔◌, ℕ, List}
 use Rattle.serde_json.specs.Data.{Data}
 use Rattle.vr_json.specs.Trees.{text_line}
@@ -27,14 +27,14 @@ program_of reports = record { reply = replies.reply reports; is_read = λ words.
 abbrev pub IsReply : (List Event → List ℕ) → Run → Type 0
 IsReply reports run = IsReplyOf (program_of reports) run
 
--- its reply is whole, or memory was wanting
+-- its reply is whole, or memory ran out
 abbrev pub IsComplete : (List Event → List ℕ) → Run → Type 0
 IsComplete reports run = IsCompleteBy (program_of reports) run
 
--- Of words that ask for a solution, 0 comes exactly where the input is a model with a first solution, 6 exactly where
--- it is a model without one; 6 comes of no other words. What is written is a solution, which meets a check: valid
--- lists with their chosen schedules and their cost; with `--log` the watchers' reports follow. 5 comes exactly where
--- the model is refused; the text says code and path.
+-- Words that ask for a solution get 0 exactly if the input is a model with a first solution. They get 6 exactly if it
+-- is a model without one. Status 6 comes of no other words. What is written is a solution, which meets a check. It has
+-- valid lists with their chosen schedules and their cost; with `--log` the watchers' reports follow. Status 5 comes
+-- exactly if the model is refused; the text says code and path.
 pub record IsSolving (reports : List Event → List ℕ) (run : Run) : Type 0 where
   pub done : WhereSolved run.words run.left_before run.status (λ bytes. (run.status ≡ 0) ↔ HasFirst bytes)
   pub solution : run.status ≡ 0 → (asked : Mode) → IsAskedFor asked run.words → WhereKnown run.left_before (λ bytes.
@@ -46,11 +46,11 @@ pub record IsSolving (reports : List Event → List ℕ) (run : Run) : Type 0 wh
   pub refusal : run.status ≡ 5 → IsSolutionAsked run.words → WhereKnown run.left_before (λ bytes.
       (fault : Fault) → HasFault model_of_value bytes fault → Wrote run (text_line (refused_tree fault)))
 
--- Of `check` and `spans`, 0 comes exactly where the solution in the input meets the rules of its model, and then it
--- keeps them: valid lists, schedules, the parts of their cost. `spans` says of the line of each used vehicle, in each
--- dimension in which no vehicle has breaks, the least span of all its schedules, with the first schedule of this span.
--- 9 comes of these two alone, exactly where the solution breaks a rule; the text says the first. 5 comes exactly where
--- the input is refused; the text says code and path.
+-- `check` and `spans` get 0 exactly if the solution in the input meets the rules of its model. Then it keeps them:
+-- valid lists, schedules, the parts of their cost. `spans` speaks of the line of each used vehicle, in each dimension
+-- in which no vehicle has breaks. It says the least span of all schedules of the line, with the first schedule of this
+-- span. Status 9 comes of these two alone, exactly if the solution breaks a rule; the text says the first. Status 5
+-- comes exactly if the input is refused; the text says code and path.
 pub record IsChecking (run : Run) : Type 0 where
   pub met : WhereAsked run.words run.left_before run.status (λ bytes. (run.status ≡ 0) ↔ IsMet bytes)
   pub kept : run.status ≡ 0 → AsksCheck run.words → WhereKnown run.left_before (λ bytes.
@@ -66,7 +66,7 @@ pub record IsChecking (run : Run) : Type 0 where
   pub refusal : run.status ≡ 5 → IsAsking run.words → WhereKnown run.left_before (λ bytes.
       (fault : Fault) → HasFault checked_of bytes fault → Wrote run (text_line (refused_tree fault)))
 
--- Of `import`, 0 comes exactly where the file has no fault, and then its model is written. 5 comes exactly where it has
+-- `import` gets 0 exactly if the file has no fault, and then its model is written. Status 5 comes exactly if it has
 -- one; the text says the first.
 pub record IsImporting (run : Run) : Type 0 where
   pub imported : WhereImported run.words run.left_before run.status (λ vehicles bytes.
@@ -78,9 +78,9 @@ pub record IsImporting (run : Run) : Type 0 where
   pub flaw : run.status ≡ 5 → (vehicles : ℕ) → Imports vehicles run.words → WhereKnown run.left_before (λ bytes.
       (fault : Fault) → HasFlaw vehicles bytes fault → Wrote run (text_line (refused_tree fault)))
 
--- Of words that read, 8 comes exactly where the input is too long; of all of them but `import`, 4 comes exactly where
--- it is no JSON. Of no other words 8, 4 or 5 comes. 1 comes exactly where the words are not accepted. Of accepted words
--- that read nothing only 0 comes.
+-- Words that read get 8 exactly if the input is too long. All of them but `import` get 4 exactly if it is no JSON. Of
+-- no other words 8, 4 or 5 comes. Status 1 comes exactly if the words are not accepted. Of accepted words that read
+-- nothing only 0 comes.
 pub record HasCause (run : Run) : Type 0 where
   pub too_long : WhereAnswered run.words run.left_before run.status (λ bytes. (run.status ≡ 8) ↔ IsTooLong bytes)
   pub not_json : WhereAnswered run.words run.left_before run.status (λ bytes.

@@ -61,7 +61,7 @@ none_found = status_reply 6 (codes "ROUTING_FAIL")
 abbrev pub done : List ℕ → Reply
 done text = record { status = 0; text = text }
 
--- the line of a solution, and behind it the reports of the watchers where these are asked for
+-- the line of a solution, and after it the reports of the watchers if these are asked for
 abbrev pub with_reports : Mode → List ℕ → List ℕ → List ℕ
 with_reports mode.First line reports = line
 with_reports mode.Solve line reports = line
@@ -78,7 +78,7 @@ abbrev pub reply_to_model : Mode → (List Event → List ℕ) → Result Model 
 reply_to_model asked reports (Err fault) = refused fault
 reply_to_model asked reports (Ok model) = reply_to_found asked reports model (found_for asked model)
 
--- the tree that answers a question about a solution that meets the rules of its model and costs so much
+-- the tree that answers a question about a solution that meets the rules of its model and has this cost
 abbrev pub answer_tree : Question → Checked → ℤ → Data
 answer_tree question.Check it cost = met_tree cost
 answer_tree question.Spans it cost = spans_of it
@@ -129,7 +129,7 @@ abbrev pub reply_to_imported : Result Data Fault → Reply
 reply_to_imported (Err fault) = refused fault
 reply_to_imported (Ok tree) = done (text_line tree)
 
--- the reply to the bytes of a file, with so many vehicles
+-- the reply to the bytes of a file, with this many vehicles
 unfoldable pub reply_to_file : ℕ → List ℕ → Reply
 reply_to_file vehicles bytes =
     if nat_lt max_input (length bytes) then too_long else reply_to_imported (imported vehicles bytes)

@@ -40,7 +40,7 @@ AsksSpans words = Asks question.Spans words
 abbrev pub IsAsking : List (List ℕ) → Type 0
 IsAsking words = (asked : Question) × Asks asked words
 
--- the words ask for the model of a file, with so many vehicles
+-- the words ask for the model of a file, with this many vehicles
 abbrev pub Imports : ℕ → List (List ℕ) → Type 0
 Imports vehicles words = request_of words ≡ Some (request.Import vehicles)
 
@@ -56,13 +56,13 @@ ReadsJson words = reads_json (request_of words) ≡ true
 abbrev pub ReadsNothing : List (List ℕ) → Type 0
 ReadsNothing words = is_read (request_of words) ≡ false
 
--- a status that is that of an answer: no fault of source or sink, and no want of memory
+-- a status that is that of an answer: no fault of source or sink, and not out of memory
 pub record IsStatusOfAnswer (status : ℕ) : Type 0 where
   pub is_read : status ≢ 2
   pub is_written : status ≢ 3
   pub has_memory : status ≢ 7
 
--- what is said of the bytes that a source has left, where they are known
+-- what is said of the bytes that a source has left, if they are known
 abbrev pub WhereKnown : Option (List ℕ) → (List ℕ → Type 0) → Type 0
 WhereKnown left P = (bytes : List ℕ) → left ≡ Some bytes → P bytes
 
@@ -70,19 +70,19 @@ WhereKnown left P = (bytes : List ℕ) → left ≡ Some bytes → P bytes
 abbrev pub WhereSettled : Type 0 → Option (List ℕ) → ℕ → (List ℕ → Type 0) → Type 0
 WhereSettled asked left status P = IsStatusOfAnswer status → asked → WhereKnown left P
 
--- what is said of the input of a run that was settled, where it is read
+-- what is said of the input of a run that was settled, if it is read
 abbrev pub WhereAnswered : List (List ℕ) → Option (List ℕ) → ℕ → (List ℕ → Type 0) → Type 0
 WhereAnswered words left status P = WhereSettled (ReadsInput words) left status P
 
--- the same, where a solution of it is asked for
+-- the same, if a solution of it is asked for
 abbrev pub WhereSolved : List (List ℕ) → Option (List ℕ) → ℕ → (List ℕ → Type 0) → Type 0
 WhereSolved words left status P = WhereSettled (IsSolutionAsked words) left status P
 
--- the same, where something is asked about its solution
+-- the same, if something is asked about its solution
 abbrev pub WhereAsked : List (List ℕ) → Option (List ℕ) → ℕ → (List ℕ → Type 0) → Type 0
 WhereAsked words left status P = WhereSettled (IsAsking words) left status P
 
--- the same, where it is a file whose model with so many vehicles is asked for
+-- the same, if it is a file whose model with this many vehicles is asked for
 abbrev pub WhereImported : List (List ℕ) → Option (List ℕ) → ℕ → (ℕ → List ℕ → Type 0) → Type 0
 WhereImported words left status P =
     IsStatusOfAnswer status → (vehicles : ℕ) → Imports vehicles words → WhereKnown left (P vehicles)

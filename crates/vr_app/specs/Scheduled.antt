@@ -1,4 +1,4 @@
--- What the code knows where it reports spans.
+-- What the code knows when it reports spans.
 use Rattle.std.specs.Prelude.{◌≡◌, ℕ, ◌<◌, ℤ, List, Some, IsTrue, false, length, slice_index_or}
 use Rattle.std.specs.List.{list_all}
 use Rattle.serde_json.specs.Data.{Data}
@@ -42,7 +42,7 @@ pub record AreScheduled (model : Model) (routes : List PrintedRoute) : Type 0 wh
   pub of_used : (v : ℕ) → v < length routes → is_empty (visits_of (slice_index_or routes v no_route)) ≡ false
       → HasSchedules model v (slice_index_or routes v no_route) (visits_of (slice_index_or routes v no_route))
 
--- the plan is the shortest schedule of a line, and its span stands beside it
+-- the plan is the shortest schedule of a line, and its span is kept beside it
 pub record IsShortestIn (line : Defined) (least : Least) : Type 0 where
   pub plan_is : shortest line ≡ Some (as_defined least.plan)
   pub span_is : least.span ≡ span line (as_defined least.plan)

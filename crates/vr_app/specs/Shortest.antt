@@ -1,5 +1,5 @@
--- The shortest schedule of a line: one of the least span, and of those of this span the one whose cumuls, compared from
--- the start on, are least. Each line has one, or is not feasible.
+-- The shortest schedule of a line: one of the least span. Of those of this span it is the one whose cumuls, compared
+-- from the start on, are least. Each line has one, or is not feasible.
 use Rattle.std.proofs.Common.{◌≡◌, ℕ, zero, suc, ◌<◌, List, [], ◌∷◌, ◌++◌, length, ◌⊎◌, inl, inr, refl, ◌∙◌, sym, arith}
 use Rattle.std.specs.Prelude.{Bool, ℤ, pos, neg_ℤ, ◌-ℤ◌, ◌≤ℤ◌, int_le, int_lt, IsTrue, Option, Some, None, unwrap_or}
 use Rattle.std.proofs.lemmas.Int.{ints}
@@ -137,10 +137,10 @@ find_shortest line = elim (find_chosen line) [
 abbrev pub shortest_found : (line : Line) → ShortestFound line → Option Plan
 shortest_found line found = elim found [ inl r ↦ Some r.0 | inr none ↦ None ]
 
--- the shortest schedule of a line, where there is one
+-- the shortest schedule of a line, if there is one
 abbrev pub shortest : Line → Option Plan
 shortest line = shortest_found line (find_shortest line)
 
--- the same, without cumuls where there is none
+-- the same, without cumuls if there is none
 abbrev pub shortest_plan : Line → Plan
 shortest_plan line = unwrap_or (shortest line) no_plan

@@ -21,8 +21,8 @@ HasChosenPlans model assignment = (d v : ℕ) → d < length model.dimensions �
     → is_empty (route assignment.lists v) ≡ false
     → IsChosenUnder (vehicle_at model v).schedule (line model d v (route assignment.lists v)) (plan_at assignment d v)
 
--- an assignment with valid lists and chosen schedules; its cost, the sum of the six parts at its cumuls, is that of its
--- lists and at most that of the first solution
+-- An assignment with valid lists and chosen schedules. Its cost, the sum of the six parts at its cumuls, is that of its
+-- lists; it is at most that of the first solution.
 pub record IsSolution (model : Model) (first : List (List ℕ)) (assignment : Assignment) : Type 0 where
   pub valid : IsTrue (is_valid model assignment.lists)
   pub plans : HasPlans model assignment
@@ -36,8 +36,8 @@ pub record IsInLimits (model : Model) (report : Report) : Type 0 where
   pub some_solution : 1 ≤ report.solutions
   pub solutions : report.solutions ≤ model.search.solutions
 
--- the text is the line of a solution, of what the lists cost that the search began with, and of a report; a check finds
--- that it meets all rules, with its cost
+-- The text is the line of a solution, of what the lists cost that the search began with, and of a report. A check finds
+-- that it meets all rules, with its cost.
 pub record PrintsBegun (begins : List (List ℕ) → Type 0) (model : Model) (text : List ℕ) : Type 0 where
   pub first : List (List ℕ)
   pub assignment : Assignment

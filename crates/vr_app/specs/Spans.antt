@@ -20,8 +20,8 @@ use Rattle.vr_printed.specs.declared.printed.Printed.{Printed}
 use Rattle.vr_app.specs.Checked.{Checked}
 use Rattle.vr_app.specs.Shortest.{IsShortestSchedule, shortest_plan}
 
--- what is reported of a vehicle in a dimension: the cumuls and slacks of a plan, the name of the dimension, the least
--- span and the printed one
+-- What is reported of a vehicle in a dimension: its cumuls and slacks by a plan, and the name of the dimension. With
+-- these come the least span and the printed one.
 unfoldable pub span_tree : Dimension → ℕ → Plan → ℤ → ℤ → Data
 span_tree dimension v plan least printed = object
     (member (codes "cumuls") (wholes plan.cumuls)
@@ -51,7 +51,7 @@ without_breaks model ds = filter (λ d. not (has_breaks (dimension_at model d)))
 abbrev pub spans_in : Model → ℕ → List ℕ → (ℕ → Plan) → List ℕ → List Data
 spans_in model v list plans ds = map (span_at model v list plans) (without_breaks model ds)
 
--- what is reported of a vehicle, dimension after dimension; nothing where it is unused
+-- what is reported of a vehicle, dimension after dimension; nothing if it is unused
 abbrev pub spans_with : Model → ℕ → List ℕ → (ℕ → Plan) → List Data
 spans_with model v list plans =
     if is_empty list then [] else spans_in model v list plans (below (length model.dimensions))
@@ -70,7 +70,7 @@ reported_spans rows = object
 unfoldable pub spans_tree : Model → Assignment → Data
 spans_tree model assignment = reported_spans (each (vehicles assignment.lists) (span_rows model assignment))
 
--- the assignment of a printed solution, without routes where none is printed
+-- the assignment of a printed solution, without routes if none is printed
 abbrev pub printed_assignment : Option Printed → Assignment
 printed_assignment None = record { lists = []; plans = [] }
 printed_assignment (Some printed) = assignment_of printed.routes

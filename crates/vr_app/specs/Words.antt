@@ -13,7 +13,7 @@ use Rattle.vr_app.specs.declared.words.Request.{Request}
 use Rattle.vr_app.specs.declared.words.Request.TheVariants as request
 use Rattle.vr_app.specs.declared.words.Task.TheVariants as task
 
--- a 0 stands in front of others
+-- a 0 comes in front of others
 abbrev pub has_leading_zero : List ℕ → Bool
 has_leading_zero [] = false
 has_leading_zero (x ∷ []) = false
@@ -23,7 +23,7 @@ has_leading_zero (x ∷ y ∷ ys) = x == 48
 abbrev pub is_numeral : List ℕ → Bool
 is_numeral word = list_all is_ascii_digit word && not (has_leading_zero word) && not (is_empty word)
 
--- the number that a word writes, where it is at most 2^64 - 1
+-- the number that a word writes, if it is at most 2^64 - 1
 abbrev pub number_in : List ℕ → Option ℕ
 number_in word =
     if is_numeral word && nat_lt (digits_value 10 word) (2 ^ 64) then Some (digits_value 10 word) else None
@@ -32,12 +32,12 @@ number_in word =
 abbrev pub is_fleet : ℕ → Bool
 is_fleet vehicles = nat_le 1 vehicles && nat_le vehicles 100
 
--- a number of vehicles as a request, where there may be so many
+-- a number of vehicles as a request, if there may be this many
 abbrev pub import_of : Option ℕ → Option Request
 import_of None = None
 import_of (Some vehicles) = if is_fleet vehicles then Some (request.Import vehicles) else None
 
--- what the word behind `import` asks for
+-- what the word after `import` asks for
 abbrev pub imported : List ℕ → Option Request
 imported word = import_of (number_in word)
 
@@ -48,7 +48,7 @@ one_word word = if bytes_eq word (codes "first") then Some (request.Read (task.F
     else if bytes_eq word (codes "check") then Some (request.Read (task.Ask question.Check))
     else if bytes_eq word (codes "spans") then Some (request.Read (task.Ask question.Spans)) else None
 
--- what the word behind `solve` asks for
+-- what the word after `solve` asks for
 abbrev pub logged : List ℕ → Option Request
 logged word = if bytes_eq word (codes "--log") then Some (request.Read (task.Find mode.Log)) else None
 

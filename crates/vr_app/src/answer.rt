@@ -20,9 +20,9 @@ use vr_model::{NoMemory, Seq};
 /// A status, and the text to write.
 #[derive(Drop)]
 pub struct Answer {
-    /// How the run ends where the text is written.
+    /// How the run ends if the text is written.
     pub status: Status,
-    /// One line, and the reports of watchers behind it where these are asked for.
+    /// One line, and the reports of watchers after it if these are asked for.
     pub text: Seq<u8>,
 }
 
@@ -48,7 +48,7 @@ fn status_line(alloc: Global, status: Status, name: &str) -> Result<Answer, NoMe
     answer_of_tree(alloc, status, &tree)
 }
 
-/// The answer to words that are not accepted. `NoMemory` where there was no memory.
+/// The answer to words that are not accepted. `NoMemory` if out of memory.
 pub fn usage(alloc: Global) -> Result<Answer, NoMemory>
     ensures reply { IfOk result (AnswersReply replies.usage) }
     ensures status { IfOk result (λ a. a.status ≡ Status.Usage) }
@@ -56,7 +56,7 @@ pub fn usage(alloc: Global) -> Result<Answer, NoMemory>
     status_line(alloc, Status::Usage, "USAGE")
 }
 
-/// The answer to an input of more than 64 MiB. `NoMemory` where there was no memory.
+/// The answer to an input of more than 64 MiB. `NoMemory` if out of memory.
 pub fn too_long(alloc: Global) -> Result<Answer, NoMemory>
     ensures reply { IfOk result (AnswersReply replies.too_long) }
     ensures status { IfOk result (λ a. a.status ≡ Status.TooLong) }
@@ -64,7 +64,7 @@ pub fn too_long(alloc: Global) -> Result<Answer, NoMemory>
     status_line(alloc, Status::TooLong, "TOO_LONG")
 }
 
-/// The answer to an input that is no JSON. `NoMemory` where there was no memory.
+/// The answer to an input that is no JSON. `NoMemory` if out of memory.
 pub fn not_json(alloc: Global) -> Result<Answer, NoMemory>
     ensures reply { IfOk result (AnswersReply replies.not_json) }
     ensures status { IfOk result (λ a. a.status ≡ Status.NotJson) }
@@ -72,7 +72,7 @@ pub fn not_json(alloc: Global) -> Result<Answer, NoMemory>
     status_line(alloc, Status::NotJson, "NOT_JSON")
 }
 
-/// The answer to a model for which the construction gives no first solution. `NoMemory` where there was no memory.
+/// The answer to a model for which the construction gives no first solution. `NoMemory` if out of memory.
 pub fn none_found(alloc: Global) -> Result<Answer, NoMemory>
     ensures reply { IfOk result (AnswersReply replies.none_found) }
     ensures status { IfOk result (λ a. a.status ≡ Status.NoneFound) }
@@ -80,7 +80,7 @@ pub fn none_found(alloc: Global) -> Result<Answer, NoMemory>
     status_line(alloc, Status::NoneFound, "ROUTING_FAIL")
 }
 
-/// The answer to an input that is refused: the code and the path of the fault. `NoMemory` where there was no memory.
+/// The answer to an input that is refused: the code and the path of the fault. `NoMemory` if out of memory.
 pub fn refused(alloc: Global, fault: &Fault) -> Result<Answer, NoMemory>
     ensures reply { IfOk result (AnswersReply (replies.refused fault.now)) }
     ensures status { IfOk result (λ a. a.status ≡ Status.Refused) }
@@ -89,8 +89,8 @@ pub fn refused(alloc: Global, fault: &Fault) -> Result<Answer, NoMemory>
     answer_of_tree(alloc, Status::Refused, &tree)
 }
 
-/// The answer that reports the first rule that is broken, by its word, with its vehicle and place; -1 stands where a
-/// number does not apply. `NoMemory` where there was no memory.
+/// The answer that reports the first rule that is broken, by its word, with its vehicle and place. A number that does
+/// not apply is -1. `NoMemory` if out of memory.
 pub fn broken(alloc: Global, rule: &str, vehicle: i64, place: i64) -> Result<Answer, NoMemory>
     ensures reply { IfOk result (AnswersReply (replies.breaks rule.now vehicle place)) }
     ensures status { IfOk result (λ a. a.status ≡ Status.NotMet) }

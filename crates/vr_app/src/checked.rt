@@ -1,5 +1,5 @@
-//! The answer to a question about a model and a solution beside it: whether this keeps the rules of that, or how short
-//! its routes could be.
+//! The answer to a question about a model and a solution beside it. It says whether the solution keeps the rules of the
+//! model, or how short its routes could be.
 
 ghost use Rattle.std.specs.Prelude.{◌≡◌, IfOk, codes};
 ghost use Rattle.serde_json.specs.View.{view};
@@ -32,7 +32,7 @@ fn model_in(alloc: Global, value: &Value, path: &Path) -> Result<Model, ReadFail
     Fields { alloc, value, path }.required("model", &ModelField)
 }
 
-// The solution in an object, as it stands: another shape is no fault of reading, it breaks the first rule of the check.
+// The solution in an object, as it is. Another shape is no fault of reading: it breaks the first rule of the check.
 fn solution_in<'a>(alloc: Global, value: &'a Value, path: &Path) -> Result<&'a Value, ReadFail>
     ensures { Answers (seen (λ v. view v.now) result)
         (field_of (codes "solution") any_tree path.now (view value.now)) }
@@ -59,7 +59,7 @@ fn model_and_solution<'a>(
     Ok((model, solution))
 }
 
-// The answer to a question about a solution that meets the rules of its model, and costs so much.
+// The answer to a question about a solution that meets the rules of its model, and has this cost.
 fn answer_met(
     alloc: Global,
     question: Question,
@@ -123,9 +123,9 @@ fn answer_borrowed(alloc: Global, question: Question, value: &Value) -> Result<A
     }
 }
 
-/// The answer to a question about a value, an object of a model and a solution: what is asked where the solution keeps
-/// all rules of the model, else the first rule that it breaks; or the first fault of the value. The value is let go at
-/// the end. `NoMemory` where there was no memory.
+/// The answer to a question about a value, an object of a model and a solution. If the solution keeps all rules of the
+/// model, it is what is asked; else it is the first rule that the solution breaks. A value that cannot be read gives
+/// its first fault. The value is let go at the end. `NoMemory` if out of memory.
 pub fn answer_checked(alloc: Global, question: Question, value: Value) -> Result<Answer, NoMemory>
     ensures reply { IfOk result (AnswersReply (replies.reply_to_checked question (checked_of (view value)))) }
     ensures status { IfOk result (λ a. IsOfChecking a.status) }

@@ -25,9 +25,9 @@ use vr_model::{Closed, NoMemory};
 use vr_plan::Lookups;
 use vr_routes::Routes;
 
-/// The answer that reports on the whole search of the model of a number. It is the one that its model would have if it
-/// were read, in short: it does not rest on a law that this model is read and solved. That it is, so that no refusal
-/// comes, is said at `run`.
+/// The answer that reports on the whole search of the model of a number, in short. It is the one that its model would
+/// have if it were read. So it does not rest on a law that this model is read and solved. That it is, so that no
+/// refusal comes, is said at `run`.
 pub(crate) fn demo(alloc: Global, number: u64) -> Result<Answer, NoMemory>
     ensures reply { IfOk result (AnswersReply (replies.reply_of_demo number)) }
     ensures status { IfOk result (λ a. IsOfSolving a.status) }

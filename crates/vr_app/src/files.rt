@@ -26,8 +26,8 @@ fn answer_bytes(alloc: Global, vehicles: u32, bytes: &[u8]) -> Result<Answer, No
     }
 }
 
-/// The answer to a TSPLIB file, whose bytes are let go: the line of its model with so many vehicles, 1 to 100, or the
-/// first fault of the file. `NoMemory` where there was no memory.
+/// The answer to a TSPLIB file, whose bytes are let go. It is the line of its model with this many vehicles, 1 to 100,
+/// or the first fault of the file. `NoMemory` if out of memory.
 pub fn answer_file(alloc: Global, vehicles: u32, bytes: Vec<u8>) -> Result<Answer, NoMemory>
     requires some { 1 ≤ vehicles }
     requires few { vehicles ≤ 100 }

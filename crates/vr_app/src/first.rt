@@ -13,8 +13,8 @@ use vr_model::{First, NoMemory};
 use vr_plan::Lookups;
 use vr_routes::Routes;
 
-/// The first solution of a model, by the construction that the model names, over what was looked up of it; none exactly
-/// where that gives none.
+/// The first solution of a model, by the construction that the model names, over what was looked up of it. It is none
+/// exactly if the construction gives none.
 pub fn first_routes(alloc: Global, lookups: &Lookups<'_>) -> Result<Option<Routes>, NoMemory>
     ensures lists { IfOk result (λ first. lists_in first ≡ first_lists lookups.now.closed.model.now) }
     ensures visits { let model = lookups.now.closed.model.now in
@@ -27,8 +27,8 @@ pub fn first_routes(alloc: Global, lookups: &Lookups<'_>) -> Result<Option<Route
     }
 }
 
-/// Fills open routes of a model up by parallel cheapest insertion: they become those at which it ends when it begins
-/// with them. The only refusal is want of memory; then nothing is said of them.
+/// Fills open routes of a model up by parallel cheapest insertion. They become those at which it ends when it begins
+/// with them. The call fails only if out of memory; then nothing is said of them.
 pub fn fill_up(alloc: Global, lookups: &Lookups<'_>, routes: &mut Routes) -> Result<(), NoMemory>
     requires of_model { routes.old.visits ≡ visits lookups.now.closed.model.now }
     requires built { AreBuilt lookups.now.closed.model.now routes.old.lists }
@@ -52,8 +52,8 @@ fn inserted_routes(alloc: Global, lookups: &Lookups<'_>) -> Result<Routes, NoMem
     Ok(routes)
 }
 
-/// The routes at which the construction that the model names ends, valid or not: `vr_refine` asks it, whose search by
-/// ruin and recreate may begin with routes that lack something. `NoMemory` where there was no memory.
+/// The routes at which the construction that the model names ends, valid or not. `vr_refine` asks it, since its search
+/// by ruin and recreate may begin with routes that lack something. `NoMemory` if out of memory.
 pub fn built_routes(alloc: Global, lookups: &Lookups<'_>) -> Result<Routes, NoMemory>
     ensures lists { IfOk result (λ routes. routes.lists ≡ build lookups.now.closed.model.now) }
     ensures visits { IfOk result (λ routes. routes.visits ≡ visits lookups.now.closed.model.now) }

@@ -162,8 +162,7 @@ fn tabu_from<J: Judge, L: Ledger>(
     })
 }
 
-// Path neighbourhoods from the first solution. The last lists are the best, since a cut is kept only where they cost
-// less.
+// Path neighbourhoods from the first solution. The last lists are the best, since a cut is kept only if they cost less.
 fn rebuild_from<R: Rebuild>(
     alloc: Global,
     lookups: &Lookups<'_>,
@@ -187,11 +186,11 @@ fn rebuild_from<R: Rebuild>(
     Ok(Best { routes, report })
 }
 
-/// What the improvement that the model names makes of its first solution, by a judge that has committed it, or by what
-/// rebuilds open routes (`RoutingModel::SolveFromAssignmentWithParameters` in OR-Tools, by
-/// `local_search_metaheuristic`). The watchers are told of each event.
+/// Improves the first solution of a model by the search that the model names. This is
+/// `RoutingModel::SolveFromAssignmentWithParameters` in OR-Tools, by `local_search_metaheuristic`. It works by a judge
+/// that has committed the first solution, or by what rebuilds open routes. The watchers are told of each event.
 ///
-/// `NoMemory` where there was no memory, also where a watcher finds none.
+/// `NoMemory` if out of memory, also if a watcher is.
 pub fn improve<J: Judge, R: Rebuild, L: Ledger>(
     alloc: Global,
     lookups: &Lookups<'_>,

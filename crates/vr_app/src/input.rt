@@ -12,7 +12,7 @@ use vr_json::{Path, ReadFail};
 use vr_model::{Model, NoMemory};
 use vr_read::read_model;
 
-// The value of an input, none where it is no JSON.
+// The value of an input, none if it is no JSON.
 fn parse(alloc: Global, bytes: &[u8]) -> Result<Option<Value>, NoMemory>
     ensures { IfOk result (λ value. option_map view value ≡ input_value bytes.now) }
 {
@@ -23,15 +23,15 @@ fn parse(alloc: Global, bytes: &[u8]) -> Result<Option<Value>, NoMemory>
     }
 }
 
-/// The value of an input, whose bytes are let go; `None` where it is no JSON: no UTF-8, or no value that `serde_json`
-/// reads. `NoMemory` where there was no memory.
+/// The value of an input, whose bytes are let go. It is `None` if the input is no JSON: no UTF-8, or no value that
+/// `serde_json` reads. `NoMemory` if out of memory.
 pub fn parse_owned(alloc: Global, bytes: Vec<u8>) -> Result<Option<Value>, NoMemory>
     ensures { IfOk result (λ value. option_map view value ≡ input_value bytes.items) }
 {
     parse(alloc, &bytes)
 }
 
-/// The model of a value, which is let go; the first fault of reading it, or want of memory.
+/// The model of a value, which is let go; the first fault of reading it, or out of memory.
 pub fn read_owned(alloc: Global, value: Value) -> Result<Model, ReadFail>
     ensures model { ModelAnswers result (model_of_value (view value)) }
     ensures well_formed { IfOk result IsWellFormed }

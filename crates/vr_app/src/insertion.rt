@@ -9,7 +9,7 @@ use vr_model::{Model, NoMemory};
 use vr_plan::Lookups;
 use vr_routes::Routes;
 
-/// Parallel cheapest insertion of items that stand in no list.
+/// Parallel cheapest insertion of items that are in no list.
 #[derive(Drop)]
 pub(crate) struct Insertion {
     alloc: Global,

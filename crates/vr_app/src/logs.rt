@@ -1,4 +1,4 @@
-//! The reports of watchers behind a line.
+//! The reports of watchers after a line.
 
 ghost use Rattle.std.specs.Prelude.{◌≡◌, ◌++◌, [], IfOk, OnOk};
 ghost use Rattle.vr_app.specs.Answers.{AnswersWith};
@@ -14,7 +14,7 @@ use vr_watch::Watch;
 
 type Watcher = Box<dyn Watch>;
 
-// Puts what a watcher reports behind a text.
+// Puts what a watcher reports after a text.
 fn push_report(text: &mut Seq<u8>, watcher: &Watcher) -> Result<(), NoMemory>
     ensures { OnOk result (text.new ≡ text.old ++ after watcher.now []) }
 {
@@ -23,7 +23,7 @@ fn push_report(text: &mut Seq<u8>, watcher: &Watcher) -> Result<(), NoMemory>
     Ok(())
 }
 
-// Puts what each watcher reports behind a text, in order.
+// Puts what each watcher reports after a text, in order.
 fn push_reports(text: &mut Seq<u8>, watch: &Watchers) -> Result<(), NoMemory>
     ensures { OnOk result (text.new ≡ text.old ++ joined_reports (λ w later. after w later) watch.now.items []) }
 {
@@ -33,7 +33,7 @@ fn push_reports(text: &mut Seq<u8>, watch: &Watchers) -> Result<(), NoMemory>
     Ok(())
 }
 
-// The line, and behind it what each watcher reports, in order, where this is asked for.
+// The line, and after it what each watcher reports, in order, if this is asked for.
 fn with_reports(mode: Mode, line: Seq<u8>, watch: &Watchers) -> Result<Seq<u8>, NoMemory>
     ensures { let reports = joined_reports (λ w later. after w later) watch.now.items [] in
         IfOk result (λ text. text ≡ replies.with_reports mode line reports) }
@@ -49,8 +49,8 @@ fn with_reports(mode: Mode, line: Seq<u8>, watch: &Watchers) -> Result<Seq<u8>, 
     }
 }
 
-/// The answer that is the line of a solution, and behind it the reports of the watchers, in order, where they are asked
-/// for. `NoMemory` where there was no memory, also where a watcher finds none.
+/// The answer that is the line of a solution. After it come the reports of the watchers, in order, if they are asked
+/// for. `NoMemory` if out of memory, also if a watcher is.
 pub fn done(mode: Mode, line: Seq<u8>, watch: &Watchers) -> Result<Answer, NoMemory>
     ensures { let reports = joined_reports (λ w later. after w later) watch.now.items [] in
         IfOk result (AnswersWith Status.Done (replies.with_reports mode line reports)) }

@@ -19,7 +19,7 @@ use vr_model::NoMemory;
 use vr_plan::Lookups;
 use vr_routes::Routes;
 
-/// The answer that is the model of a number. `NoMemory` where there was no memory.
+/// The answer that is the model of a number. `NoMemory` if out of memory.
 pub fn generated(alloc: Global, number: u64) -> Result<Answer, NoMemory>
     ensures reply { IfOk result (AnswersReply (replies.reply_generated number)) }
     ensures status { IfOk result (λ a. a.status ≡ Status.Done) }
@@ -29,7 +29,7 @@ pub fn generated(alloc: Global, number: u64) -> Result<Answer, NoMemory>
 }
 
 /// The answer that reports in short on a search in the model of a number, from a first solution that costs
-/// `first_cost`. `NoMemory` where there was no memory.
+/// `first_cost`. `NoMemory` if out of memory.
 pub fn summarised(
     alloc: Global,
     number: u64,

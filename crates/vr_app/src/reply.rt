@@ -33,7 +33,7 @@ use vr_watch::Watch;
 pub enum Stop {
     /// The source failed.
     ReadFault,
-    /// Want of memory.
+    /// Out of memory.
     NoMemory,
 }
 
@@ -125,8 +125,8 @@ fn respond<S: Source>(
     }
 }
 
-/// Writes an answer to the sink, and gives the number of the status with which a run ends: that of the answer, or that
-/// of what failed, the source, the memory or the sink. `vr_refine` calls it too.
+/// Writes an answer to the sink, and gives the number of the status with which a run ends. This is the status of the
+/// answer, or that of what failed: the source, the memory or the sink. `vr_refine` calls it too.
 pub fn deliver<K: Sink>(reply: Result<Answer, Stop>, sink: &mut K) -> u8
     ensures status { IsStatus result }
     ensures ends { Ends (λ k. K.written k) (λ k. K.faults k) (λ answer. reply ≡ Ok answer) (reply ≡ Err Stop.ReadFault)
@@ -165,51 +165,53 @@ fn run_lent<S: Source, K: Sink>(
 
 /// Does all that the program does, and gives its status.
 ///
-/// `words` are the words after the program's name. These are accepted, and no others:
+/// `words` are the words after the program's name. These are accepted, and no others, with what is written on status 0:
 ///
-/// | words | reads | writes on status 0 |
-/// |---|---|---|
-/// | `first` | a model | the line of its first solution |
-/// | `solve` | a model | the line of the best solution that the model's search finds from there |
-/// | `solve --log` | a model | the same, and behind it what each watcher reports of the search, in order |
-/// | `check` | an object of a `model` and a `solution` | `{"cost":C,"status":"MEETS"}` |
-/// | `spans` | the same | the line of how short each of its routes could be |
-/// | `import K` | a TSPLIB file of type CVRP | the line of its model with K vehicles |
-/// | `generate N` | nothing | the line of the model of number N |
-/// | `demo N` | nothing | the line of a summary of the whole search of that model |
+/// - `first` reads a model, and writes the line of its first solution.
+/// - `solve` reads a model, and writes the line of the best solution that the model's search finds from there.
+/// - `solve --log` does the same, and after the line writes what each watcher reports of the search, in order.
+/// - `check` reads an object of a `model` and a `solution`, and writes `{"cost":C,"status":"MEETS"}`.
+/// - `spans` reads the same, and writes the line of how short each of its routes could be.
+/// - `import K` reads a TSPLIB file of type CVRP, and writes the line of its model with K vehicles.
+/// - `generate N` reads nothing, and writes the line of the model of number N.
+/// - `demo N` reads nothing, and writes the line of a summary of the whole search of that model.
 ///
-/// N and K are written in decimal digits, with no 0 in front of others; N is at most 2^64 - 1, and K is 1 to 100. What
-/// is read is the source to its end, unless it fails, too many bytes come or memory is wanting. C is the cost of the
+/// N and K are written in decimal digits, with no 0 in front of others. N is at most 2^64 - 1, and K is 1 to 100. What
+/// is read is the source to its end, unless it fails, too many bytes come or memory runs out. C is the cost of the
 /// solution, which keeps all rules of its model.
 ///
-/// | status | comes | written |
-/// |---|---|---|
-/// | 0 | exactly where the input is what the words ask for; of `generate` and `demo` always | as above |
-/// | 1 | exactly where the words are not accepted; nothing is read | `{"status":"USAGE"}` |
-/// | 2 | exactly where the source failed in this call | nothing |
-/// | 3 | exactly where the sink failed in this call; it stands in place of the text's status | a front of the text |
-/// | 4 | of all but `import`, exactly where the input is no JSON | `{"status":"NOT_JSON"}` |
-/// | 5 | exactly where reading finds a fault | `{"code":C,"path":"P","status":"ROUTING_INVALID"}` |
-/// | 6 | of `first` and `solve`, exactly where the model has no first solution | `{"status":"ROUTING_FAIL"}` |
-/// | 7 | want of memory; nothing in the contract ties it to a refused growth | nothing |
-/// | 8 | exactly where the input has more than 67108864 bytes | `{"status":"TOO_LONG"}` |
-/// | 9 | `check`, `spans`: exactly where a rule is broken | `{"place":L,"rule":"R","status":"NOT_MET","vehicle":V}` |
+/// Each status, when it comes, and what is written:
 ///
-/// An input is JSON where it is UTF-8 and `serde_json` reads a value from it, which may nest at most 127 deep. `first`
-/// and `solve` ask for a model with a first solution: the lists at which its construction ends are valid. `check` and
-/// `spans` ask for a solution that keeps all rules of the model beside it. Of each used vehicle `spans` says, in each
-/// dimension in which no vehicle has breaks, the least span of all schedules of its line and the printed one, and of
-/// the schedules of the least span the one whose cumuls, compared from the start on, are least. With 5, C is the code
-/// and P the path of the first fault of reading, of `import` a `/` and the number of the line, `/0` for the file as a
-/// whole; with 9, R is the first rule (`vr_check::Rule`) that is broken, with its vehicle V and place L, -1 where one
-/// does not apply. 4, 5 and 8 come of words that read alone, 6 and 9 of those alone that are named with them.
+/// - 0 exactly if the input is what the words ask for; of `generate` and `demo` always. What is said above is written.
+/// - 1 exactly if the words are not accepted. Nothing is read; `{"status":"USAGE"}` is written.
+/// - 2 exactly if the source failed in this call. Nothing is written.
+/// - 3 exactly if the sink failed in this call; it comes in place of the text's status. A front of the text is written.
+/// - 4, of all but `import`, exactly if the input is no JSON: `{"status":"NOT_JSON"}`.
+/// - 5 exactly if reading finds a fault: `{"code":C,"path":"P","status":"ROUTING_INVALID"}`.
+/// - 6, of `first` and `solve`, exactly if the model has no first solution: `{"status":"ROUTING_FAIL"}`.
+/// - 7 if out of memory; nothing in the contract ties it to a refused growth. Nothing is written.
+/// - 8 exactly if the input has more than 67108864 bytes: `{"status":"TOO_LONG"}`.
+/// - 9, of `check` and `spans`, exactly if a rule is broken: `{"place":L,"rule":"R","status":"NOT_MET","vehicle":V}`.
 ///
-/// Only with `--log` is an event of the search noted, to every watcher in order; a watcher that finds no memory for it
+/// "Exactly if" is said of calls that end with none of 2, 3 and 7. Statuses 4, 5 and 8 come of words that read alone,
+/// 6 and 9 of those alone that are named with them. With 5, C is the code and P the path of the first fault of reading.
+/// Of `import` P is a `/` and the number of the line, or `/0` for the file as a whole. With 9, R is the first rule
+/// (`vr_check::Rule`) that is broken, with its vehicle V and place L. If one of these does not apply, it is -1.
+///
+/// An input is JSON if it is UTF-8 and `serde_json` reads a value from it, which may nest at most 127 deep. `first` and
+/// `solve` ask for a model with a first solution: the lists at which its construction ends are valid. `check` and
+/// `spans` ask for a solution that keeps all rules of the model beside it.
+///
+/// `spans` speaks of each used vehicle, in each dimension in which no vehicle has breaks. It gives the least span of
+/// all schedules of the vehicle's line, and the printed span. With them comes the schedule of the least span whose
+/// cumuls, compared from the start on, are least.
+///
+/// Only with `--log` is an event of the search noted, to every watcher in order. A watcher that has no memory for it
 /// ends the run with status 7. All watchers are dropped at the end.
 ///
-/// The words are looked at first, then the source is read, then come the length, the JSON, the model, the construction
-/// or the check, and the writing; of `import` the file comes behind the length, and then the writing. The first that
-/// fails gives the status. "Exactly where" is said of calls that end with none of 2, 3 and 7.
+/// The words are looked at first, then the source is read. Then come the length, the JSON, the model, the construction
+/// or the check, and the writing. Of `import` the file comes after the length, and then the writing. The first that
+/// fails gives the status.
 pub fn run<S: Source, K: Sink>(
     alloc: Global,
     words: &[String],
@@ -219,8 +221,8 @@ pub fn run<S: Source, K: Sink>(
 ) -> u8
     ensures status { IsStatus result }
 
-    // Status and text are those of the reply, and a front of it where the sink failed. With no failure it is whole, or
-    // memory was wanting.
+    // Status and text are those of the reply, and a front of it if the sink failed. With no failure it is whole, or
+    // memory ran out.
     ensures reply { let reports = joined_reports (λ w later. after w later) watch.items in
         IsReply reports (program_run (bytes_of words.now)
         (S.left source.old) (S.left source.new) (S.faults source.old) (S.faults source.new)
@@ -230,7 +232,7 @@ pub fn run<S: Source, K: Sink>(
         (S.left source.old) (S.left source.new) (S.faults source.old) (S.faults source.new)
         (K.written sink.old) (K.written sink.new) (K.faults sink.old) (K.faults sink.new) result) }
 
-    // What the words ask for, exactly where it is given; and what is refused, exactly where it is.
+    // What the words ask for, exactly if it is given; and what is refused, exactly if it is.
     ensures solving { let reports = joined_reports (λ w later. after w later) watch.items in
         IsSolving reports (program_run (bytes_of words.now)
         (S.left source.old) (S.left source.new) (S.faults source.old) (S.faults source.new)
@@ -251,8 +253,8 @@ pub fn run<S: Source, K: Sink>(
         (K.written sink.old) (K.written sink.new) (K.faults sink.old) (K.faults sink.new) result) }
     ensures unwritten { (result ≡ 2) ⊎ (result ≡ 7) → sink.new ≡ sink.old }
 
-    // Words that read have the source read to its end, unless it failed, too many bytes came or memory was wanting;
-    // others leave it as it is.
+    // Words that read have the source read to its end, unless it failed, too many bytes came or memory ran out.
+    // Other words leave the source as it is.
     ensures emptied { let reports = joined_reports (λ w later. after w later) watch.items in
         IsEmptied reports (program_run (bytes_of words.now)
         (S.left source.old) (S.left source.new) (S.faults source.old) (S.faults source.new)

@@ -22,10 +22,10 @@ use vr_model::{NoMemory, Steps};
 use vr_plan::Lookups;
 use vr_routes::{Judge, Routes};
 
-/// What the search that the model names makes of its first solution, by a judge of filters that stands at it. The
-/// watchers are told of each event. The only refusal is want of memory. A counter of steps is made of `blank` for the
-/// search, which contracts alone see. Beside `search_watched` a test of `vr_app_tests` calls it, which shows by its
-/// types that the program searches by this judge.
+/// What the search that the model names makes of its first solution, by a judge of filters that is in sync with it. The
+/// watchers are told of each event. The call fails only if out of memory. A counter of steps, which contracts alone
+/// see, is made of `blank` for the search. Beside `search_watched`, a test of `vr_app_tests` calls it: its types show
+/// that the program searches by this judge.
 pub fn improve_judged<L: Ledger>(
     alloc: Global,
     lookups: &Lookups<'_>,
@@ -60,8 +60,8 @@ pub fn improve_judged<L: Ledger>(
     )
 }
 
-/// What the search that the model names makes of its first solution, which costs so much. The watchers are told of each
-/// event. The only refusal is want of memory.
+/// What the search that the model names makes of its first solution, which has this cost. The watchers are told of each
+/// event. The call fails only if out of memory.
 pub(crate) fn search_watched(
     alloc: Global,
     lookups: &Lookups<'_>,
@@ -106,8 +106,8 @@ pub(crate) fn search_unwatched(
     search_watched(alloc, lookups, first, first_cost, &mut none)
 }
 
-/// What the search of a mode makes of the first solution of a model, which costs so much. With `Log` alone the watchers
-/// are told, of each event. The only refusal is want of memory.
+/// What the search of a mode makes of the first solution of a model, which has this cost. With `Log` alone the watchers
+/// are told, of each event. The call fails only if out of memory.
 pub(crate) fn search(
     alloc: Global,
     mode: Mode,

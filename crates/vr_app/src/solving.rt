@@ -76,9 +76,9 @@ fn line_found(
     }
 }
 
-/// The answer of a mode to a model, from these valid routes: the line of what it finds, and the reports of watchers if
-/// they are asked for; without routes, that there is no first solution. `vr_refine` asks it, of routes that it was
-/// given. `NoMemory` where there was no memory.
+/// The answer of a mode to a model, from these valid routes. It is the line of what the mode finds, and the reports of
+/// watchers if they are asked for. Without routes it says that there is no first solution. `vr_refine` asks it, of
+/// routes that it was given. `NoMemory` if out of memory.
 pub fn answer_from(
     alloc: Global,
     mode: Mode,

@@ -1,5 +1,5 @@
-//! How short the routes of a printed solution could be: for each used vehicle, and each dimension in which no vehicle
-//! has breaks, the least span of its line beside the printed one.
+//! How short the routes of a printed solution could be. For each used vehicle, and each dimension in which no vehicle
+//! has breaks, it gives the least span of its line beside the printed one.
 
 ghost use Rattle.std.specs.Prelude.{◌≡◌, ◌++◌, ◌∷◌, ◌<◌, ◌-◌, ◌-ℤ◌, ℕ, [], false, map, length, pos};
 ghost use Rattle.std.specs.Prelude.{IfOk, IsTrue, OnOk};
@@ -115,7 +115,7 @@ fn has_breaks(dimension: &Dimension) -> bool
         .any(|entry| !entry.rows.is_empty())
 }
 
-// Puts what is reported of a used vehicle in dimension `d` behind the rows, where no vehicle has breaks in it.
+// Puts what is reported of a used vehicle in dimension `d` after the rows, if no vehicle has breaks in it.
 fn push_row(
     alloc: Global,
     closed: Closed<'_>,
@@ -138,7 +138,7 @@ fn push_row(
     Ok(())
 }
 
-// Puts what is reported of a used vehicle behind the rows, dimension after dimension.
+// Puts what is reported of a used vehicle after the rows, dimension after dimension.
 fn push_used(
     alloc: Global,
     closed: Closed<'_>,
@@ -158,7 +158,7 @@ fn push_used(
     Ok(())
 }
 
-// Puts what is reported of a vehicle behind the rows: nothing where it is unused.
+// Puts what is reported of a vehicle after the rows: nothing if it is unused.
 fn push_rows(
     alloc: Global,
     closed: Closed<'_>,
@@ -227,8 +227,8 @@ fn routes_tree(
     reported_spans(alloc, rows)
 }
 
-/// How short the routes of a printed solution could be, which meets the rules of its model, so it has the right shape.
-/// It is read once more, since the check gives what it finds and no record. `NoMemory` where there was no memory.
+/// How short the routes of a printed solution could be. The solution meets the rules of its model, so it has the right
+/// shape. It is read once more, since the check gives what it finds and no record. `NoMemory` if out of memory.
 pub(crate) fn spans_tree(
     alloc: Global,
     closed: Closed<'_>,

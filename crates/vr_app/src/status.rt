@@ -20,7 +20,7 @@ pub enum Status {
     Refused = 5,
     /// The construction gives no first solution.
     NoneFound = 6,
-    /// Want of memory.
+    /// Out of memory.
     NoMemory = 7,
     /// The input has too many bytes.
     TooLong = 8,

@@ -61,7 +61,7 @@ fn put_refusal(alloc: Global, tree: &mut Tree, fault: &Fault) -> Result<(), NoMe
     put_text(alloc, tree, "status", "ROUTING_INVALID")
 }
 
-/// The tree of a solution that meets the rules of its model, and costs so much.
+/// The tree of a solution that meets the rules of its model, and has this cost.
 #[tactic(auto, unfolding(crate::specs::Texts::met_tree))]
 pub(crate) fn met_tree(alloc: Global, cost: i64) -> Result<Value, NoMemory>
     ensures { IfOk result (λ v. view v ≡ texts.met_tree cost) }

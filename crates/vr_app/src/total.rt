@@ -10,7 +10,7 @@ use vr_plan::Lookups;
 use vr_routes::Routes;
 use vr_rules::Rules;
 
-/// What valid routes cost. `NoMemory` where there was no memory.
+/// What valid routes cost. `NoMemory` if out of memory.
 pub(crate) fn total_over(
     alloc: Global,
     lookups: &Lookups<'_>,

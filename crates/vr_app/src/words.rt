@@ -14,11 +14,11 @@ pub enum Mode {
     First,
     /// The solution of the whole search.
     Solve,
-    /// The same, and behind it what the watchers report of the search.
+    /// The same, and after it what the watchers report of the search.
     Log,
 }
 
-/// What is asked of a model and a solution beside it. Either question is answered where the solution meets the rules of
+/// What is asked of a model and a solution beside it. Either question is answered if the solution meets the rules of
 /// the model; else the first rule that it breaks is reported.
 #[derive(Clone, Copy)]
 pub enum Question {
@@ -42,7 +42,7 @@ pub enum Task {
 pub enum Request {
     /// An answer to the JSON that is read.
     Read(Task),
-    /// The model of the TSPLIB file that is read, with so many vehicles.
+    /// The model of the TSPLIB file that is read, with this many vehicles.
     Import(u32),
     /// The model of a number.
     Generate(u64),
@@ -50,7 +50,7 @@ pub enum Request {
     Demo(u64),
 }
 
-/// What the words ask for, `None` where they are not accepted.
+/// What the words ask for, `None` if they are not accepted.
 pub fn request_of(words: &[String]) -> Option<Request>
     ensures request { result ≡ words_of.request_of (bytes_of words.now) }
     ensures vehicles { IfSome result HasFleet }
@@ -121,7 +121,7 @@ fn imported(word: &str) -> Option<Request>
     }
 }
 
-// The model of a file with so many vehicles, where there may be so many.
+// The model of a file with this many vehicles, if there may be this many.
 fn import_of(vehicles: u64) -> Option<Request>
     ensures request { result ≡ words_of.import_of (Some vehicles) }
     ensures vehicles { IfSome result HasFleet }
@@ -159,7 +159,7 @@ fn are_digits(word: &str) -> bool
     word.as_bytes().iter().all(|byte| byte.is_ascii_digit())
 }
 
-// Whether a 0 stands in front of others.
+// Whether a 0 comes in front of others.
 fn has_leading_zero(word: &str) -> bool
     ensures { result ≡ words_of.has_leading_zero word.now }
 {

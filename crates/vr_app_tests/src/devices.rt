@@ -44,7 +44,7 @@ fn assert_failing(
     assert_taken(rt, alloc, words, &mut source, failing)
 }
 
-// The call behind those that are needed fails nobody.
+// The call after those that are needed fails nobody.
 #[test]
 fn each_write_may_fail(rt: HostRuntime) -> Result<(), Fail> {
     let calls = FIRST.len().div_ceil(7);

@@ -58,7 +58,7 @@ fn is_searched(alloc: Global, lookups: &Lookups<'_>) -> Result<bool, NoMemory> {
     }
 }
 
-// The same, where it is looked up for that.
+// The same, looked up for that.
 fn is_model_searched(alloc: Global, closed: Closed<'_>) -> Result<bool, NoMemory> {
     let lookups = Lookups::open(alloc, closed)?;
     is_searched(alloc, &lookups)

@@ -1,9 +1,13 @@
-//! What no contract of [`vr_app::run`] says, and no case of the built program: that with ample memory each kind of
-//! reply is given, what is left where a device fails, what cut input is answered, what a watcher that refuses ends, and
-//! that the judge of filters is asked.
+//! Tests of the whole program: what no contract of [`vr_app::run`] says, and no case of the built program. The words
+//! `first` and the input `[`, say, end with status 4. This is what is tested:
 //!
-//! A function owns one large value and lends it on; a row that fails is named. The tests stand in a crate of their own,
-//! so that what they test is proved once.
+//! - With ample memory each kind of reply is given (`replies`).
+//! - What is left if a device fails, and what cut input is answered (`devices`).
+//! - What a watcher that refuses ends (`replies`).
+//! - The judge of filters is asked (`judged`).
+//!
+//! A function owns one large value and lends it on, and a row that fails is named. The tests have a crate of their own,
+//! so that what they test is proved once. Nothing calls them. Start at `rows`, which says what a row asks.
 #![tactic(auto)]
 
 #[cfg(test)]

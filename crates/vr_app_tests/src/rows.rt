@@ -12,10 +12,10 @@ use vr_watch::{Stopper, Watch};
 pub(crate) struct Row<'a> {
     pub(crate) words: &'a str,
     pub(crate) input: &'a str,
-    /// Behind how many events a watcher refuses one; none watches where this is `None`.
+    /// After how many events a watcher refuses one; none watches if this is `None`.
     pub(crate) stops: Option<u64>,
     pub(crate) status: u8,
-    /// All that is written where it ends a line or is empty, and else the beginning.
+    /// All that is written if it ends a line or is empty, and else the beginning.
     pub(crate) text: &'a str,
 }
 
@@ -28,7 +28,7 @@ fn words_of(alloc: Global, line: &str) -> Result<Vec<String>, Fail> {
     Ok(words)
 }
 
-// The watchers of a run: the one that refuses an event, where there is one.
+// The watchers of a run: the one that refuses an event, if there is one.
 fn watchers(alloc: Global, stops: Option<u64>) -> Result<Vec<Box<dyn Watch>>, Fail> {
     let mut watch: Vec<Box<dyn Watch>> = Vec::new(alloc);
     if let Some(at) = stops {

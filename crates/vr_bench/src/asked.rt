@@ -1,4 +1,4 @@
-//! What the judge says of one move, and where memory is wanting.
+//! What the judge says of one move, and that it is out of memory.
 
 ghost use Rattle.std.specs.Prelude.{◌≡◌, ◌<◌, IsTrue};
 ghost use Rattle.vr_model.specs.moves.MoveTests.{is_move};
@@ -45,8 +45,8 @@ fn word_of(of: Solved<'_>, mv: Move) -> Result<&'static str, Stop>
     }
 }
 
-/// Prints what the judge says of the move that turns two visits of the first list, from this place on, or that memory
-/// was wanting where it was asked. Before that, want of memory ends the run.
+/// Prints what the judge says of the move that turns two visits of the first list, from this place on. It prints
+/// instead that memory ran out, if it did when the judge was asked. Before that, running out of memory ends the run.
 pub(crate) fn print_verdict(rt: &HostRuntime, of: Solved<'_>, place: u32) -> Result<(), Stop> {
     let mv = Move::TwoOpt {
         v: 0,

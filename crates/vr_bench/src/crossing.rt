@@ -74,7 +74,7 @@ fn cross_all<L: Ledger>(
     Ok(())
 }
 
-// The time of crossing a chain of arcs between two sets of levels, so many rounds.
+// The time of crossing a chain of arcs between two sets of levels, this many rounds.
 fn time_rounds<L: Ledger>(
     rt: &HostRuntime,
     next: &Spans,
@@ -146,7 +146,7 @@ fn meet_all(next: &Spans, a: &mut Spans, b: &mut Spans) -> Result<(), vr_spans::
     Ok(())
 }
 
-// The time of meeting a set with two others in turn, so many rounds.
+// The time of meeting a set with two others in turn, this many rounds.
 fn time_meeting(
     rt: &HostRuntime,
     next: &Spans,
@@ -168,7 +168,7 @@ fn time_meeting(
     })
 }
 
-// The time of the meet of two sets of so many runs.
+// The time of the meet of two sets of this many runs.
 fn time_meet(rt: &HostRuntime, alloc: Global, count: u32, rounds: u32) -> Result<Timed, Stop> {
     let next = cumuls(alloc, count)?;
     let mut a = cumuls(alloc, count)?;
@@ -211,7 +211,7 @@ fn two_breaks() -> Breaks
     Breaks { rows }
 }
 
-// The time of crossing without breaks, with so many runs in each set.
+// The time of crossing without breaks, with this many runs in each set.
 fn time_plain(rt: &HostRuntime, alloc: Global, count: u32, rounds: u32) -> Result<Timed, Stop> {
     let next = cumuls(alloc, count)?;
     let breaks = no_breaks();

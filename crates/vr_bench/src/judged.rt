@@ -45,7 +45,7 @@ fn judge_all<J: Judge, L: Ledger>(
     Ok(sum)
 }
 
-// The time of judging moves, so many rounds.
+// The time of judging moves, this many rounds.
 fn time_rounds<J: Judge, L: Ledger>(
     rt: &HostRuntime,
     judge: &mut J,
@@ -117,7 +117,7 @@ fn time_judging(rt: &HostRuntime, of: Solved<'_>, moves: &[Move], rounds: u32) -
     done
 }
 
-/// Prints the times of judging a move, of the first moves of the model's neighbourhoods; nothing where there are none.
+/// Prints the times of judging a move, of the first moves of the model's neighbourhoods; nothing if there are none.
 /// What is timed is `Judge::judge` alone: the moves are listed before.
 pub(crate) fn time_judge(rt: &HostRuntime, of: Solved<'_>, rounds: u32) -> Result<(), Stop> {
     let moves = first_moves(of.alloc, of.closed, of.routes)?;

@@ -16,7 +16,7 @@ use vr_routes::{Change, Routes};
 // How many moves are judged at most.
 const MOST: usize = 5000;
 
-/// The first moves of the model's neighbourhoods, at most 5000. They are tested to be moves, where no time is taken.
+/// The first moves of the model's neighbourhoods, at most 5000. They are tested to be moves while no time is taken.
 pub(crate) fn first_moves(
     alloc: Global,
     closed: Closed<'_>,
@@ -62,7 +62,7 @@ fn changes_of_all(closed: Closed<'_>, routes: &Routes, change: &mut Change) -> u
     changes_of_list(closed, routes, &mut list, change)
 }
 
-// The time of so many rounds through all moves.
+// The time of this many rounds through all moves.
 fn time_rounds(
     rt: &HostRuntime,
     closed: Closed<'_>,

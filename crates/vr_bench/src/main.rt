@@ -1,15 +1,18 @@
-//! Nanoseconds of hot paths: crossing an arc, the meet of two sets, listing a move and making its change, judging a
-//! move, the earliest schedule of a list.
+//! Nanoseconds of hot paths. `vr_bench WORK ROUNDS` times one of these works:
 //!
-//! `vr_bench WORK ROUNDS`. The works `crossing` and `meet` make what they need themselves. The others read a model from
-//! standard input and begin with its first solution by the cheapest arcs: `moves` lists the moves of the model's
-//! neighbourhoods and makes their changes, `judge` judges the first of them, and `schedule` asks for the earliest
-//! schedule of the first list in the first dimension. `bench/run` runs them beside plain Rust.
+//! - `crossing`: crossing an arc.
+//! - `meet`: the meet of two sets.
+//! - `moves`: listing the moves of the model's neighbourhoods and making their changes.
+//! - `judge`: judging the first of them.
+//! - `schedule`: the earliest schedule of the first list in the first dimension.
 //!
-//! `vr_bench ask PLACE` takes no time: it prints what the judge says of one move of that solution, or that memory was
-//! wanting where it was asked. `bench/refuse` runs it. Without words nothing is printed.
+//! `crossing` and `meet` make what they need themselves. The others read a model from standard input and begin with its
+//! first solution by the cheapest arcs. `bench/run` runs them beside plain Rust.
 //!
-//! A function owns one large value at most, and lends it on.
+//! `vr_bench ask PLACE` takes no time. It prints what the judge says of one move of that solution, or that memory ran
+//! out when it was asked. `bench/refuse` runs it. Without words nothing is printed.
+//!
+//! A function owns one large value at most, and lends it on. Start at `input`, which chooses the work.
 #![tactic(auto)]
 
 mod asked;

@@ -5,7 +5,7 @@ use std::io;
 /// How often a time is taken; the least counts.
 pub(crate) const TIMES: u32 = 5;
 
-/// What was timed: so many calls, the sum of what they gave, and the nanoseconds they took.
+/// What was timed: this many calls, the sum of what they gave, and the nanoseconds they took.
 #[derive(Clone, Copy)]
 pub(crate) struct Timed {
     pub calls: u128,

@@ -1,4 +1,4 @@
--- A line of which each number is looked up where it is asked for.
+-- A line of which each number is looked up when it is asked for.
 use Rattle.std.specs.Prelude.{ℕ, ◌+◌, ◌==◌, ◌||◌, not, Bool, ℤ, pos, List, length}
 use Rattle.std.specs.Prelude.{slice_index_or, Option, None}
 use Rattle.vr_model.specs.tables.Numbers.{number_at, is_same_number}
@@ -32,6 +32,6 @@ row_at_stop it k = slice_index_or (stop_rows_of it) k None
 abbrev pub is_let : AskedLine → ℕ → ℤ → Bool
 is_let it k x = stop_allows (number_at (dimension_at it.model.now it.d).capacities it.v) (row_at_stop it k) x
 
--- the start is 0 where the dimension fixes it
+-- the start is 0 if the dimension fixes it
 abbrev pub keeps_fixed_start : AskedLine → ℕ → ℤ → Bool
 keeps_fixed_start it k x = not (k == 0) || (not (dimension_at it.model.now it.d).fix_start || is_same_number x (pos 0))

@@ -24,13 +24,13 @@ numbers_finding model printed = unless_broken rule.Parts (parts_broken model pri
     (unless_broken rule.FirstCost (first_cost_broken printed)
     (unless_broken rule.Limits (limits_broken model printed) (Meets printed.cost))))
 
--- the rules on plans, in order, and those behind them
+-- the rules on plans, in order, and those after them
 abbrev pub plans_finding : Model → Printed → Finding
 plans_finding model printed = unless_broken rule.Cumul (routes_broken plan.Cumul model printed.routes)
     (unless_broken rule.Slack (routes_broken plan.Slack model printed.routes)
     (unless_broken rule.Break (routes_broken plan.Break model printed.routes) (numbers_finding model printed)))
 
--- the rules on active visits, pairs and vehicles, in order, and those behind them
+-- the rules on active visits, pairs and vehicles, in order, and those after them
 abbrev pub visits_finding : Model → Printed → List (List ℕ) → Finding
 visits_finding model printed lists = unless_broken rule.Dropped (dropped_broken model lists printed.dropped)
     (unless_broken rule.Required (required_broken model lists)
@@ -39,7 +39,7 @@ visits_finding model printed lists = unless_broken rule.Dropped (dropped_broken 
     (unless_broken rule.Policy (policy_broken model lists)
     (unless_broken rule.Allowed (allowed_broken model lists) (plans_finding model printed))))))
 
--- the rules on printed nodes, in order, and those behind them
+-- the rules on printed nodes, in order, and those after them
 abbrev pub lists_finding : Model → Printed → List (List ℕ) → Finding
 lists_finding model printed lists = unless_broken rule.Ends (ends_broken model printed.routes)
     (unless_broken rule.Once (once_broken lists) (visits_finding model printed lists))

@@ -14,10 +14,10 @@ use Rattle.vr_check.specs.Check.{finding}
 use Rattle.vr_check.specs.declared.finding.Finding.TheVariants.{Meets}
 use Rattle.vr_printed.specs.declared.printed.Printed.{Printed}
 
--- each printed route with nodes goes from the start of its vehicle through the list to the end; the dropped visits are
--- the inactive ones, ascending; the printed lists are valid, each printed plan is a schedule of its line, the printed
--- parts are those of the assignment, the cost is their sum and at most the cost of the first solution, and tries and
--- solutions are within the limits of the model
+-- Each printed route with nodes goes from the start of its vehicle through the list to the end. The dropped visits are
+-- the inactive ones, ascending. The printed lists are valid, and each printed plan is a schedule of its line. The
+-- printed parts are those of the assignment. The cost is their sum and at most the cost of the first solution. Tries
+-- and solutions are within the limits of the model.
 pub record KeepsAllRules (model : Model) (printed : Printed) (cost : ℤ) : Type 0 where
   pub nodes_are_stops : (v : ℕ) → v < length printed.routes → is_empty (nodes_at printed.routes v) ≡ false
       → nodes_at printed.routes v ≡ stops model v (route (lists_of printed.routes) v)
@@ -30,8 +30,8 @@ pub record KeepsAllRules (model : Model) (printed : Printed) (cost : ℤ) : Type
   pub cost_at_most_first : printed.cost ≤ℤ printed.first_cost
   pub within_limits : IsTrue (is_within_limits model printed)
 
--- where the finding is that a solution meets the rules of a well-formed model, the tree prints a solution that keeps
--- all rules
+-- if the finding is that a solution meets the rules of a well-formed model, the tree prints a solution that keeps all
+-- rules
 abbrev pub MetKeepsAllRules : Type 0
 MetKeepsAllRules = (model : Model) (d : Data) (cost : ℤ) → IsWellFormed model → finding model d ≡ Meets cost
     → (printed : Printed) × (printed_in model d ≡ Some printed) × KeepsAllRules model printed cost

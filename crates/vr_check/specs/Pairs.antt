@@ -11,7 +11,7 @@ use Rattle.vr_check.specs.Findings.{spot, spot_of_vehicle, spot_of_none, where_w
 use Rattle.vr_check.specs.Lists.{node_at}
 use Rattle.vr_check.specs.declared.finding.Spot.{Spot}
 
--- in each list either no node of the pair stands or both do, the pickup first
+-- in each list either no node of the pair is present or both are, the pickup first
 abbrev pub is_served : List (List ℕ) → Pair → Bool
 is_served lists pair = list_all (λ list. serves_pair list pair) lists
 
@@ -32,7 +32,7 @@ policy_broken model lists = first_finding (policy_broken_in model lists) (below 
 abbrev pub allowed_broken_at : Model → ℕ → List ℕ → ℕ → Option Spot
 allowed_broken_at model v list k = where_wrong (not (allows_vehicle model v (node_at list k))) (spot v (k + 1))
 
--- where a visit of a list does not allow the vehicle
+-- the first visit of a list that does not allow the vehicle
 abbrev pub allowed_broken_of : Model → ℕ → List ℕ → Option Spot
 allowed_broken_of model v list = first_finding (allowed_broken_at model v list) (below (length list))
 

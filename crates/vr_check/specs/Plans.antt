@@ -18,7 +18,7 @@ use Rattle.vr_printed.specs.declared.printed.PrintedRoute.{PrintedRoute}
 abbrev pub cumul_broken_at : Line → ℕ → Plan → ℕ → Option Spot
 cumul_broken_at line v plan k = where_wrong (not (allows line k (cumul plan k))) (spot v k)
 
--- where a stop does not allow its cumul
+-- the first stop that does not allow its cumul
 abbrev pub cumul_broken : Line → ℕ → Plan → Option Spot
 cumul_broken line v plan = first_finding (cumul_broken_at line v plan) (below (length plan.cumuls))
 
@@ -29,7 +29,7 @@ is_right_slack line plan k = slack_is line plan k && within (pos 0) line.slack_m
 abbrev pub slack_broken_at : Line → ℕ → Plan → ℕ → Option Spot
 slack_broken_at line v plan k = where_wrong (not (is_right_slack line plan k)) (spot v k)
 
--- where a slack is wrong
+-- the first arc whose slack is wrong
 abbrev pub slack_broken : Line → ℕ → Plan → Option Spot
 slack_broken line v plan = first_finding (slack_broken_at line v plan) (below (length plan.slacks))
 
@@ -53,7 +53,7 @@ all_in_range line plan = list_all (starts_in_range line plan) (below (length lin
 abbrev pub all_in_time : Line → Plan → Bool
 all_in_time line plan = list_all (ends_in_time line plan) (below (length line.breaks - 1))
 
--- each break stands in a place that it may have
+-- each break lies in a place that it may have
 abbrev pub all_placed : Line → Plan → Bool
 all_placed line plan = list_all (is_placed both_sides line plan) (below (length line.breaks))
 
@@ -70,7 +70,7 @@ are_breaks_right line plan =
 abbrev pub break_broken : Line → ℕ → ℕ → Plan → Option Spot
 break_broken line d v plan = where_wrong (not (are_breaks_right line plan)) (spot v d)
 
--- where one of the three rules is broken in a plan
+-- the spot at which one of the three rules is broken in a plan
 abbrev pub plan_broken : PlanRule → Line → ℕ → ℕ → Plan → Option Spot
 plan_broken Cumul line d v plan = cumul_broken line v plan
 plan_broken Slack line d v plan = slack_broken line v plan

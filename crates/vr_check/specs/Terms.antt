@@ -21,7 +21,7 @@ use Rattle.vr_printed.specs.declared.printed.PrintedRoute.{PrintedRoute}
 use Rattle.vr_check.specs.declared.pairs.PlacesOfPair.{PlacesOfPair}
 use Rattle.vr_check.specs.declared.spans.SpanEnds.{SpanEnds}
 
--- the node stands at place k of a list
+-- the node is at place k of a list
 abbrev pub is_next : List ℕ → ℕ → ℕ → Bool
 is_next list k node = nat_lt k (length list) && (slice_index_or list k 0 == node)
 
@@ -76,7 +76,7 @@ abbrev pub widened : Option SpanEnds → ℤ → ℤ → SpanEnds
 widened None first last = record { first = first; last = last }
 widened (Some ends) first last = record { first = int_min ends.first first; last = int_max ends.last last }
 
--- the ends with a further route, where it has a plan in dimension d
+-- the ends with a further route, if it has a plan in dimension d
 abbrev pub ends_with : ℕ → Option SpanEnds → PrintedRoute → Option SpanEnds
 ends_with d ends route =
     cond (nat_lt d (length route.plans))

@@ -24,7 +24,7 @@ required_broken_at model lists node = where_wrong (is_missing model lists node) 
 abbrev pub required_broken : Model → List (List ℕ) → Option Spot
 required_broken model lists = first_finding (required_broken_at model lists) (below model.nodes)
 
--- a group has no more active nodes than it may have, and exactly as many where it has no penalty
+-- a group has no more active nodes than it may have, and exactly as many if it has no penalty
 abbrev pub has_right_number : List (List ℕ) → Group → Bool
 has_right_number lists group = fits_group lists group && has_enough group.penalty group.max (active_in lists group)
 

@@ -1,4 +1,4 @@
-//! A line of which each number is looked up where it is asked for.
+//! A line of which each number is looked up when it is asked for.
 
 ghost use Rattle.std.proofs.Props.{props};
 ghost use Rattle.std.specs.Prelude.{◌≡◌, ◌<◌, ◌≤◌, ◌+◌, ◌^◌, ◌≤ℤ◌, neg_ℤ, pos, not, length, slice_index_or};
@@ -16,7 +16,7 @@ ghost use Rattle.vr_check.specs.Kept.{IsLineOfModel};
 use vr_model::{BreakRow, Dimension, Interval, Model, StopRow};
 
 /// The line of vehicle `v` with a list in dimension `d`: what to look up, and no number of it. Stop 0 is the start of
-/// the vehicle, behind it come the visits of the list, and then the end; arc `k` leads from stop `k` to the next.
+/// the vehicle. After it come the visits of the list, and then the end. Arc `k` leads from stop `k` to the next.
 /// `vr_steps` has the line that schedules are built of, of which the check asks nothing.
 #[derive(Clone, Copy)]
 pub(crate) struct AskedLine<'a> {
@@ -34,7 +34,7 @@ fn is_within(interval: Interval, x: i64) -> bool
     interval.lo <= x && x <= interval.hi
 }
 
-// Whether a number lies in a window, where there is one.
+// Whether a number lies in a window, if there is one.
 fn is_in_window(window: Option<Interval>, x: i64) -> bool
     ensures { result ≡ in_window window x }
 {
@@ -102,7 +102,7 @@ impl<'a> AskedLine<'a> {
         self.model.dimensions.get(self.d)
     }
 
-    /// The row of a stop: what the model asks of its cumul beside the capacity and a fixed start; `None` where it has
+    /// The row of a stop: what the model asks of its cumul beside the capacity and a fixed start. `None` if it has
     /// none.
     pub(crate) fn row(&self, k: usize) -> Option<&'a StopRow>
         requires stop { k ≤ arc_count self.now }
@@ -128,7 +128,7 @@ impl<'a> AskedLine<'a> {
         stop_lets(capacity, self.row(k), x)
     }
 
-    // Whether a cumul is 0 where it must be: at the start, in a dimension that fixes it.
+    // Whether a cumul is 0 if it must be: at the start, in a dimension that fixes it.
     fn keeps_fixed_start(&self, k: usize, x: i64) -> bool
         ensures { result ≡ asked_lines.keeps_fixed_start self.now k x }
     {

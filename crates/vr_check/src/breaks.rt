@@ -33,7 +33,7 @@ impl TakenBreak<'_> {
     ghost use Rattle.vr_check.specs.Breaks as breaks;
     ghost use Rattle.vr_check.specs.Breaks.{plan_of_taken};
 
-    // Where the break starts.
+    // At which cumul the break starts.
     fn start(&self) -> i64
         ensures { result ≡ break_start (plan_of_taken self.now.taken) self.now.i }
     {
@@ -48,7 +48,7 @@ impl TakenBreak<'_> {
         rows[self.i].duration
     }
 
-    // Where the break ends.
+    // At which cumul the break ends.
     fn end(&self) -> i128
         ensures { result ≡ break_end (asked_line self.now.taken.of.asked) (plan_of_taken self.now.taken) self.now.i }
     {
@@ -65,8 +65,8 @@ impl TakenBreak<'_> {
         row.from <= self.start() && self.start() <= row.to
     }
 
-    // Whether the break lies inside an arc: it starts when the vehicle is free, after the visit from which the arc
-    // leads, or later, and ends by the cumul of the next stop.
+    // Whether the break lies inside an arc. It starts when the vehicle is free, after the visit from which the arc
+    // leads, or later. It ends by the cumul of the next stop.
     fn is_inside(&self, k: usize) -> bool
         requires arc { k < length self.now.taken.of.plan.now.slacks }
         ensures { result
@@ -107,7 +107,7 @@ impl TakenBreak<'_> {
         cumul_at(of.plan, of.asked.arcs()) <= self.start()
     }
 
-    // Whether the break stands before the first stop, after the last one, or inside an arc.
+    // Whether the break lies before the first stop, after the last one, or inside an arc.
     fn is_placed(&self) -> bool
         ensures { result ≡ schedule_tests.is_placed both_sides (asked_line self.now.taken.of.asked)
             (plan_of_taken self.now.taken) self.now.i }
@@ -189,7 +189,7 @@ impl Taken<'_> {
         true
     }
 
-    // Whether each break stands in a place that it may have.
+    // Whether each break lies in a place that it may have.
     fn all_placed(&self) -> bool
         ensures { result ≡ plans.all_placed (asked_line self.now.of.asked) (plan_of_taken self.now) }
     {
@@ -222,7 +222,7 @@ impl Taken<'_> {
     }
 }
 
-/// Whether breaks start in range, end in time, stand where they may, and fit into the slacks.
+/// Whether breaks start in range, end in time, lie in places that they may have, and fit into the slacks.
 pub(crate) fn are_breaks_right(of: &LinePlan<'_>) -> bool
     ensures { result ≡ plans.are_breaks_right (asked_line of.now.asked) (plan_of of.now.plan.now) }
 {

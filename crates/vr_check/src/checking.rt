@@ -21,10 +21,10 @@ use std::alloc::Global;
 use vr_model::{Closed, Model, NoMemory, Seq};
 use vr_printed::{Printed, printed_lists, read_printed};
 
-/// What the check finds in the solution that a tree prints: its cost where it keeps each rule of the model, else the
-/// first rule that is broken, in the order of `Rule`, with its vehicle and place. A tree of another shape breaks the
-/// first rule. Each printed plan has to be a schedule, and need not be the chosen one. `NoMemory` where there was no
-/// memory.
+/// What the check finds in the solution that a tree prints. If the solution keeps each rule of the model, that is its
+/// cost. Else it is the first rule that is broken, in the order of `Rule`, with its vehicle and place. A tree of
+/// another shape breaks the first rule. Each printed plan has to be a schedule, and need not be the chosen one.
+/// `NoMemory` if out of memory.
 pub fn check(alloc: Global, model: &Model, solution: &Value) -> Result<Finding, NoMemory>
     requires { IsWellFormed model.now }
     ensures { IfOk result (λ found. found ≡ finding model.now (view solution.now)) }
@@ -38,7 +38,7 @@ pub fn check(alloc: Global, model: &Model, solution: &Value) -> Result<Finding, 
     }
 }
 
-// What the rules on lists find, and those behind them.
+// What the rules on lists find, and those after them.
 fn lists_finding<'a>(
     alloc: Global,
     closed: Closed<'a>,
@@ -66,7 +66,7 @@ fn lists_finding<'a>(
     visits_finding(alloc, &solution)
 }
 
-// What the rules on active visits, pairs and vehicles find, and those behind them.
+// What the rules on active visits, pairs and vehicles find, and those after them.
 fn visits_finding(alloc: Global, solution: &Solution<'_>) -> Result<Finding, NoMemory>
     ensures { IfOk result (λ found. found ≡ checks.visits_finding solution.now.closed.model.now
         solution.now.printed.now solution.now.lists.now) }
@@ -94,7 +94,7 @@ fn visits_finding(alloc: Global, solution: &Solution<'_>) -> Result<Finding, NoM
     Ok(plans_finding(solution))
 }
 
-// What the rules on plans find, and those behind them.
+// What the rules on plans find, and those after them.
 fn plans_finding(solution: &Solution<'_>) -> Finding
     ensures { result ≡ checks.plans_finding solution.now.closed.model.now solution.now.printed.now }
 {

@@ -1,5 +1,5 @@
-//! The parts of the cost that lists have by themselves: arcs and fixed costs of one route, which `totals` adds up, and
-//! the penalties of all groups.
+//! The parts of the cost that lists have by themselves. These are arcs and fixed costs of one route, which `totals`
+//! adds up, and the penalties of all groups.
 
 ghost use Rattle.std.specs.Prelude.{◌≡◌, ◌^◌, ◌≤ℤ◌, ◌-ℤ◌, cond, pos};
 ghost use Rattle.vr_model.specs.routes.Costs.{penalty_for, penalty_part};

@@ -1,4 +1,4 @@
-//! What a check finds: the rules in their order, and where one is broken.
+//! What a check finds: the rules in their order, and the spot at which one is broken.
 
 ghost use Rattle.std.specs.Prelude.{◌≡◌, ◌<◌, ◌^◌};
 ghost use Rattle.vr_check.specs.Check.{rule_word};
@@ -12,7 +12,7 @@ pub enum Finding {
     Meets {
         cost: i64,
     },
-    /// The first rule that is broken, and where, as `Rule` says; -1 stands where a number does not apply.
+    /// The first rule that is broken, with its vehicle and place, as `Rule` says; a number that does not apply is -1.
     Broken {
         rule: Rule,
         vehicle: i64,
@@ -20,17 +20,17 @@ pub enum Finding {
     },
 }
 
-/// The rules of a printed solution, in the order in which they are asked. Beside each stands what vehicle and place say
-/// where it is broken; places in the nodes of a route count its start, so the first visit stands at place 1.
+/// The rules of a printed solution, in the order in which they are asked. Each says what vehicle and place mean if it
+/// is broken. Places in the nodes of a route count its start, so the first visit is at place 1.
 #[derive(Clone, Copy)]
 pub enum Rule {
-    /// The tree has the fields, kinds, words and lengths of a solution's text, nodes of the model, and the vehicles and
-    /// dimensions of the model in their order. Neither vehicle nor place.
+    /// The tree has the fields, kinds, words and lengths of a solution's text. It has nodes of the model, and the
+    /// vehicles and dimensions of the model in their order. Neither vehicle nor place.
     Shape,
     /// A used route begins at its start and ends at its end, with visits between them. The vehicle, and the place in
     /// its nodes.
     Ends,
-    /// No visit stands twice. The vehicle and the place of the later one.
+    /// No visit comes twice. The vehicle and the place of the later one.
     Once,
     /// The inactive visits, and no other nodes, are listed as dropped, ascending. Neither vehicle nor place.
     Dropped,
@@ -45,10 +45,10 @@ pub enum Rule {
     Policy,
     /// Each visit allows its vehicle. The vehicle, and the place in its nodes.
     Allowed,
-    /// Each stop allows its cumul. The vehicle and the stop, in the first dimension where it fails, which is not told.
+    /// Each stop allows its cumul. The vehicle and the stop, in the first dimension that fails, which is not reported.
     Cumul,
-    /// Each slack is what its cumuls leave, and within its bounds. The vehicle and the arc; the dimension is not told
-    /// either.
+    /// Each slack is what its cumuls leave, and within its bounds. The vehicle and the arc; the dimension is not
+    /// reported either.
     Slack,
     /// Breaks are in range, in order and in place, and fit into the slacks. The vehicle, and the number of the
     /// dimension.
@@ -64,7 +64,7 @@ pub enum Rule {
     Limits,
 }
 
-/// Where a rule is broken, as `Finding::Broken` says it: -1 stands where a number does not apply.
+/// At which spot a rule is broken, as `Finding::Broken` says it: a number that does not apply is -1.
 #[derive(Clone, Copy)]
 pub struct Spot {
     pub vehicle: i64,

@@ -1,4 +1,4 @@
-//! The rules on the printed nodes: ends, and that no visit stands twice.
+//! The rules on the printed nodes: ends, and that no visit comes twice.
 
 ghost use Rattle.std.specs.Prelude.{◌≡◌, ◌<◌, ◌≤◌, length};
 ghost use Rattle.vr_model.specs.tables.Limits.{most_vehicles};
@@ -10,7 +10,7 @@ use crate::held::{holds, is_active};
 use vr_model::{Closed, Model, Seq};
 use vr_printed::PrintedRoute;
 
-// Whether the node at a place of a route is one that may stand there.
+// Whether the node at a place of a route is one that may be there.
 fn is_right_node(model: &Model, vehicle: usize, nodes: &[u32], k: usize) -> bool
     requires vehicle { vehicle < length model.now.vehicles }
     requires place { k < length nodes.now }
@@ -26,7 +26,7 @@ fn is_right_node(model: &Model, vehicle: usize, nodes: &[u32], k: usize) -> bool
     }
 }
 
-// The first place of a route where another node should stand.
+// The first place of a route at which another node should be.
 fn wrong_node(closed: Closed<'_>, vehicle: usize, nodes: &[u32]) -> Option<Spot>
     requires { vehicle < length closed.model.now.vehicles }
     ensures { result ≡ ends_broken_of closed.entry.model.now vehicle nodes.now }
@@ -40,7 +40,7 @@ fn wrong_node(closed: Closed<'_>, vehicle: usize, nodes: &[u32]) -> Option<Spot>
     None
 }
 
-/// Where a route does not begin at its start or end at its end, or another entry is no visit.
+/// The first spot at which a route does not begin at its start or end at its end, or another entry is no visit.
 pub(crate) fn wrong_ends(closed: Closed<'_>, routes: &[PrintedRoute]) -> Option<Spot>
     requires { length routes.now ≤ length closed.model.now.vehicles }
     ensures { result ≡ ends_broken closed.entry.model.now routes.now }
@@ -54,7 +54,7 @@ pub(crate) fn wrong_ends(closed: Closed<'_>, routes: &[PrintedRoute]) -> Option<
     None
 }
 
-// Whether the visit at a place stands in an earlier list, or earlier in its list.
+// Whether the visit at a place is in an earlier list, or earlier in its list.
 fn stands_before(lists: &[Seq<u32>], vehicle: usize, list: &[u32], k: usize) -> bool
     requires vehicle { vehicle < length lists.now }
     requires place { k < length list.now }
@@ -63,7 +63,7 @@ fn stands_before(lists: &[Seq<u32>], vehicle: usize, list: &[u32], k: usize) -> 
     is_active(&lists[..vehicle], list[k]) || holds(&list[..k], list[k])
 }
 
-// The first place of a list whose visit stood earlier.
+// The first place of a list whose visit came earlier.
 fn repeated_visit(lists: &[Seq<u32>], vehicle: usize, list: &[u32]) -> Option<Spot>
     requires vehicle { vehicle < length lists.now }
     requires few { length lists.now ≤ most_vehicles }
@@ -77,7 +77,7 @@ fn repeated_visit(lists: &[Seq<u32>], vehicle: usize, list: &[u32]) -> Option<Sp
     None
 }
 
-/// Where a visit stands that stood earlier.
+/// The spot of the first visit that came earlier.
 pub(crate) fn repeated(lists: &[Seq<u32>]) -> Option<Spot>
     requires few { length lists.now ≤ most_vehicles }
     ensures { result ≡ once_broken lists.now }

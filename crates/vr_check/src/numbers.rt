@@ -28,7 +28,7 @@ pub(crate) fn times(coefficient: i64, number: i128) -> i128
     i128::from(coefficient) * number
 }
 
-// Where a printed part is not its value; `k` is its number, in byte order of the names.
+// The spot of a printed part that is not its value; `k` is its number, in byte order of the names.
 fn wrong_part(k: usize, printed: i64, value: i128) -> Option<Spot>
     requires { k < 6 }
     ensures { result ≡ part_broken k printed value }
@@ -50,8 +50,8 @@ fn earlier(first: Option<Spot>, second: Option<Spot>) -> Option<Spot>
     }
 }
 
-/// Where a printed part of the cost is not its value at the printed cumuls, the first in byte order of the names. All
-/// six are added up in any case.
+/// The spot of a printed part of the cost that is not its value at the printed cumuls. It is the first in byte order of
+/// the names. All six are added up in any case.
 pub(crate) fn wrong_parts(solution: &Solution<'_>) -> Option<Spot>
     ensures { result ≡ parts_broken solution.now.closed.model.now solution.now.printed.now }
 {
@@ -93,7 +93,7 @@ fn is_number(printed: i64, value: i128) -> bool
     i128::from(printed) == value
 }
 
-/// Where the cost is not the sum of the parts.
+/// A spot if the cost is not the sum of the parts.
 pub(crate) fn wrong_cost(printed: &Printed) -> Option<Spot>
     ensures { result ≡ cost_broken printed.now }
 {
@@ -104,8 +104,8 @@ pub(crate) fn wrong_cost(printed: &Printed) -> Option<Spot>
     }
 }
 
-/// Where the printed cost of the first solution is less than the cost. That solution is not known, so no more is asked
-/// of it.
+/// A spot if the printed cost of the first solution is less than the cost. That solution is not known, so no more is
+/// asked of it.
 pub(crate) fn wrong_first_cost(printed: &Printed) -> Option<Spot>
     ensures { result ≡ first_cost_broken printed.now }
 {
@@ -131,7 +131,7 @@ fn is_within_limits(model: &Model, printed: &Printed) -> bool
         && is_counted(1, model.search.solutions, printed.solutions)
 }
 
-/// Where tries or solutions are outside the limits of the model.
+/// A spot if tries or solutions are outside the limits of the model.
 pub(crate) fn wrong_limits(model: &Model, printed: &Printed) -> Option<Spot>
     ensures { result ≡ limits_broken model.now printed.now }
 {

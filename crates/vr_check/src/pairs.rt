@@ -15,7 +15,7 @@ use crate::held::holds;
 use std::alloc::Global;
 use vr_model::{Closed, Model, NoMemory, Pair, Policy, Seq};
 
-// Whether a node stands in a list and another one behind it.
+// Whether a node is in a list and another one after it.
 fn comes_before(list: &[u32], first: u32, second: u32) -> bool
     ensures { result ≡ moves.comes_before list.now first second }
 {
@@ -27,7 +27,7 @@ fn comes_before(list: &[u32], first: u32, second: u32) -> bool
     false
 }
 
-// Whether no node of a pair stands in a list, or both do, the pickup first.
+// Whether no node of a pair is in a list, or both are, the pickup first.
 fn serves_pair(list: &[u32], pair: &Pair) -> bool
     ensures { result ≡ rules.serves_pair list.now pair.now }
 {
@@ -42,8 +42,8 @@ fn is_served(lists: &[Seq<u32>], pair: &Pair) -> bool
     lists.iter().all(|list| serves_pair(list.as_slice(), pair))
 }
 
-/// Where one node of a pair is active and the other is not, or stands in another list, or the delivery stands before
-/// the pickup: the first pair.
+/// The first pair that is broken. One of its nodes is active and the other is not, or is in another list, or the
+/// delivery comes before the pickup.
 pub fn wrong_pair(closed: Closed<'_>, lists: &[Seq<u32>]) -> Option<Spot>
     ensures { result ≡ pair_broken closed.entry.model.now lists.now }
 {
@@ -63,8 +63,8 @@ pub(crate) struct PlacesOfPair {
     pub(crate) delivery: usize,
 }
 
-// The place of a node in a list, its length where it is absent, which does not come: the rule on pairs was asked
-// before, so a list that has a pickup has its delivery.
+// The place of a node in a list, or the list's length if the node is absent. That does not come: the rule on pairs was
+// asked before, so a list that has a pickup has its delivery.
 fn place_of(list: &[u32], node: u32) -> usize
     ensures { result ≡ rules.place_of list.now node }
 {
@@ -92,9 +92,9 @@ fn places_in(alloc: Global, model: &Model, list: &[u32]) -> Result<Seq<PlacesOfP
     Ok(places)
 }
 
-// Whether a policy lets two pairs stand at these places, as far as it asks anything where `x` is picked up first: else
-// the other order of the two is asked. Last in, first out: what is picked up while `x` is on board is delivered before
-// it. First in, first out: `x` is delivered first.
+// Whether a policy lets two pairs have these places, as far as it asks anything if `x` is picked up first. Else the
+// other order of the two is asked. Last in, first out: what is picked up while `x` is on board is delivered before it.
+// First in, first out: `x` is delivered first.
 fn are_pairs_in_order(policy: Policy, x: PlacesOfPair, y: PlacesOfPair) -> bool
     ensures { result ≡ terms.are_pairs_in_order policy x y }
 {
@@ -107,14 +107,14 @@ fn are_pairs_in_order(policy: Policy, x: PlacesOfPair, y: PlacesOfPair) -> bool
     }
 }
 
-// Whether a policy lets a pair and each of those that are picked up behind it stand at their places.
+// Whether a policy lets a pair, and each of those that are picked up after it, have their places.
 fn is_in_order(policy: Policy, x: PlacesOfPair, places: &[PlacesOfPair]) -> bool
     ensures { result ≡ terms.is_in_order policy places.now x }
 {
     places.iter().all(|&y| are_pairs_in_order(policy, x, y))
 }
 
-// Whether a policy lets each two of some pairs stand at their places.
+// Whether a policy lets each two of some pairs have their places.
 fn all_in_order(policy: Policy, places: &[PlacesOfPair]) -> bool
     ensures { result ≡ list_all (terms.is_in_order policy places.now) places.now }
 {
@@ -132,8 +132,8 @@ fn keeps_policy(alloc: Global, closed: Closed<'_>, v: usize, list: &[u32]) -> Re
     Ok(all_in_order(policy, places.as_slice()))
 }
 
-/// Where the policy of a vehicle fails: the first vehicle. It is the one rule behind `Shape` that takes memory, for the
-/// places of the pairs of a list; `NoMemory` if there is none.
+/// The first vehicle whose policy fails. It is the one rule after `Shape` that takes memory, for the places of the
+/// pairs of a list; `NoMemory` if there is none.
 pub fn wrong_policy(
     alloc: Global,
     closed: Closed<'_>,
@@ -164,8 +164,8 @@ fn refused_visit(closed: Closed<'_>, v: usize, list: &[u32]) -> Option<Spot>
     None
 }
 
-/// Where a visit stands on a vehicle that it does not allow: the first vehicle, and the first place on it. Places count
-/// the start, so the first visit stands at place 1.
+/// The first vehicle with a visit that does not allow it, and the first such place on it. Places count the start, so
+/// the first visit is at place 1.
 pub fn refused(closed: Closed<'_>, lists: &[Seq<u32>]) -> Option<Spot>
     requires { length lists.now ≡ length closed.model.now.vehicles }
     ensures { result ≡ allowed_broken closed.entry.model.now lists.now }

@@ -24,7 +24,7 @@ pub(crate) enum PlanRule {
     Break,
 }
 
-// Where a stop does not allow its cumul.
+// The first stop that does not allow its cumul.
 fn refused_cumul(of: &LinePlan<'_>) -> Option<Spot>
     ensures { result ≡ cumul_broken (asked_line of.now.asked) of.now.asked.v (plan_of of.now.plan.now) }
 {
@@ -84,7 +84,7 @@ fn is_right_slack(of: &LinePlan<'_>, k: usize) -> bool
     is_left(of, k) && is_bounded(of.asked.slack_max(), slack_at(of.plan, k))
 }
 
-// Where a slack is wrong.
+// The first arc whose slack is wrong.
 fn wrong_slack(of: &LinePlan<'_>) -> Option<Spot>
     ensures { result ≡ slack_broken (asked_line of.now.asked) of.now.asked.v (plan_of of.now.plan.now) }
 {
@@ -96,7 +96,7 @@ fn wrong_slack(of: &LinePlan<'_>) -> Option<Spot>
     None
 }
 
-// Where the breaks of a plan are wrong: what is answered as the place is the number of the dimension.
+// A spot if the breaks of a plan are wrong. What is answered as the place is the number of the dimension.
 fn wrong_breaks(of: &LinePlan<'_>) -> Option<Spot>
     ensures { result ≡ break_broken (asked_line of.now.asked) of.now.asked.d of.now.asked.v (plan_of of.now.plan.now) }
 {
@@ -107,7 +107,7 @@ fn wrong_breaks(of: &LinePlan<'_>) -> Option<Spot>
     }
 }
 
-// Where a rule is broken in a plan.
+// The spot at which a rule is broken in a plan.
 fn wrong_plan(rule: PlanRule, of: &LinePlan<'_>) -> Option<Spot>
     ensures { result ≡ plan_broken rule (asked_line of.now.asked) of.now.asked.d of.now.asked.v
         (plan_of of.now.plan.now) }
@@ -119,7 +119,7 @@ fn wrong_plan(rule: PlanRule, of: &LinePlan<'_>) -> Option<Spot>
     }
 }
 
-// Where a rule is broken in a route, dimension after dimension.
+// The spot at which a rule is broken in a route, dimension after dimension.
 fn wrong_route(rule: PlanRule, on: &VehicleRoute<'_>) -> Option<Spot>
     ensures { result ≡ route_broken rule on.now.closed.model.now on.now.v on.now.route.now }
 {
@@ -133,7 +133,7 @@ fn wrong_route(rule: PlanRule, on: &VehicleRoute<'_>) -> Option<Spot>
     None
 }
 
-/// Where a rule is broken in a plan, vehicle after vehicle.
+/// The spot at which a rule is broken in a plan, vehicle after vehicle.
 pub(crate) fn wrong_routes(rule: PlanRule, solution: &Solution<'_>) -> Option<Spot>
     ensures { result ≡ routes_broken rule solution.now.closed.model.now solution.now.routes.now }
 {

@@ -8,8 +8,8 @@ use crate::asked::AskedLine;
 use vr_model::{Closed, Seq};
 use vr_printed::{Printed, PrintedPlan, PrintedRoute};
 
-/// A printed solution, its routes, and the visits on each of them, as the rules are handed them that come behind those
-/// on lists.
+/// A printed solution, its routes, and the visits on each of them. The rules that come after those on lists are handed
+/// them.
 #[derive(Clone, Copy)]
 pub(crate) struct Solution<'a> {
     pub(crate) closed: Closed<'a>,

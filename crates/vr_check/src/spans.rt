@@ -1,5 +1,6 @@
-//! What spans cost, in 128 bits: that of one printed plan, which `totals` adds up, and in each dimension that of all
-//! used routes, from the least start to the greatest end; these added up are the global part that `numbers` compares.
+//! What spans cost, in 128 bits. `span_cost` is of one printed plan, and `totals` adds these up. In each dimension the
+//! span of all used routes costs too, from the least start to the greatest end. These costs added up are the global
+//! part that `numbers` compares.
 
 ghost use Rattle.std.specs.Prelude.{◌≡◌, ◌<◌, ◌^◌, length, pos};
 ghost use Rattle.vr_model.specs.tables.Numbers.{number_at};
@@ -83,7 +84,7 @@ fn widened(ends: Option<SpanEnds>, first: i64, last: i64) -> SpanEnds
     }
 }
 
-// The ends with a further route, where it is used: an unused one has no plans.
+// The ends with a further route, if it is used: an unused one has no plans.
 fn ends_with(ends: Option<SpanEnds>, route: &PrintedRoute, d: usize) -> Option<SpanEnds>
     requires { d < length route.now.plans → 0 < length (plan_in route.now d).cumuls }
     ensures { result ≡ terms.ends_with d ends route.now }
@@ -96,7 +97,7 @@ fn ends_with(ends: Option<SpanEnds>, route: &PrintedRoute, d: usize) -> Option<S
     }
 }
 
-// From the least start to the greatest end, 0 where no route is used.
+// From the least start to the greatest end, 0 if no route is used.
 fn span_of_ends(ends: Option<SpanEnds>) -> i128
     ensures value { result ≡ terms.span_of_ends ends }
     ensures range { IsAround (2 ^ 66) result }

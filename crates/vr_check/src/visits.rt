@@ -11,25 +11,25 @@ use crate::finding::Spot;
 use crate::held::{holds, is_active};
 use vr_model::{Closed, Group, Model, Seq};
 
-// Whether a visit stands in no list.
+// Whether a visit is in no list.
 fn is_inactive(model: &Model, lists: &[Seq<u32>], node: u32) -> bool
     ensures { result ≡ moves.is_inactive model.now lists.now node }
 {
     model.is_visit(node) && !is_active(lists, node)
 }
 
-// Whether a node stands at a place of a list.
+// Whether a node is at a place of a list.
 fn is_next(list: &[u32], k: usize, node: u32) -> bool
     ensures { result ≡ terms.is_next list.now k node }
 {
     k < list.len() && list[k] == node
 }
 
-/// Where the list of dropped visits is not that of the inactive ones, ascending.
+/// A spot if the list of dropped visits is not that of the inactive ones, ascending.
 pub(crate) fn wrong_dropped(model: &Model, lists: &[Seq<u32>], dropped: &[u32]) -> Option<Spot>
     ensures { result ≡ dropped_broken model.now lists.now dropped.now }
 {
-    // how many inactive visits were met, each of which stood at its place
+    // how many inactive visits were met, each of which was at its place
     let mut k = 0;
     for node in 0..model.nodes {
         if is_inactive(model, lists, node) {
@@ -46,7 +46,7 @@ pub(crate) fn wrong_dropped(model: &Model, lists: &[Seq<u32>], dropped: &[u32]) 
     }
 }
 
-// Whether a node stands in a group.
+// Whether a node is in a group.
 fn is_grouped(model: &Model, node: u32) -> bool
     ensures { result ≡ rules.is_grouped model.now node }
 {
@@ -57,14 +57,14 @@ fn is_grouped(model: &Model, node: u32) -> bool
         .any(|group| holds(group.nodes.as_slice(), node))
 }
 
-// Whether a node is an inactive visit that stands in no group.
+// Whether a node is an inactive visit that is in no group.
 fn is_missing(model: &Model, lists: &[Seq<u32>], node: u32) -> bool
     ensures { result ≡ visits.is_missing model.now lists.now node }
 {
     is_inactive(model, lists, node) && !is_grouped(model, node)
 }
 
-/// Where a visit in no group is inactive: the least such node.
+/// The least visit in no group that is inactive.
 pub fn missing(model: &Model, lists: &[Seq<u32>]) -> Option<Spot>
     ensures { result ≡ required_broken model.now lists.now }
 {
@@ -99,7 +99,7 @@ fn has_right_number(lists: &[Seq<u32>], group: &Group) -> bool
     }
 }
 
-/// Where too many nodes of a group are active, or without a penalty not exactly as many as may be: the first group.
+/// The first group of which too many nodes are active, or without a penalty not exactly as many as may be.
 pub fn wrong_group(closed: Closed<'_>, lists: &[Seq<u32>]) -> Option<Spot>
     ensures { result ≡ group_broken closed.entry.model.now lists.now }
 {

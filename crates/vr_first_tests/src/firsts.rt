@@ -16,7 +16,7 @@ use vr_routes::Routes;
 use vr_rules::open;
 use vr_samples::{read_model_text, routes_of};
 
-// A vehicle from node 0 to node 0: 5 from 0 to 1, 9 from 0 to 2, 4 from 1 to 2, and as much back.
+// A vehicle from node 0 to node 0. It is 5 from 0 to 1, 9 from 0 to 2, 4 from 1 to 2, and as much back.
 const TRIPLE: &str =
     r#"{"format":1,"nodes":3,"matrices":[[[0,5,9],[5,0,4],[9,4,0]]],"vehicles":[{"start":0,"end":0}]}"#;
 
@@ -43,7 +43,7 @@ fn by_savings(alloc: Global, closed: Closed<'_>, list: &[u32]) -> Result<bool, N
     Ok(are(vr_first_savings::first(alloc, closed.model)?, list))
 }
 
-// Open routes with a list of the one vehicle, where there are such.
+// Open routes with a list of the one vehicle, if there are such.
 fn open_routes(alloc: Global, closed: Closed<'_>, list: &[u32]) -> Result<Option<Routes>, NoMemory>
     ensures of_model { IfOk result (λ found. IfSome found (λ routes. routes.visits ≡ visits closed.entry.model.now)) }
     ensures lists { IfOk result (λ found. IfSome found

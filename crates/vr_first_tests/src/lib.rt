@@ -1,6 +1,6 @@
-//! Tests of the rules, of first solutions and of what is printed of solutions, through what their crates make public:
-//! that each call answers where there is memory, and worked rows. They stand in a crate of their own, so that the
-//! crates that they test are proved once.
+//! Tests of the rules, of first solutions and of what is printed of solutions, through what their crates make public.
+//! Each call answers if there is memory, and rows are worked out by hand. The tests have a crate of their own, so that
+//! the crates that they test are proved once.
 #![tactic(auto)]
 
 #[cfg(test)]

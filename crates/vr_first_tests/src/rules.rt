@@ -13,8 +13,8 @@ use vr_routes::Routes;
 use vr_rules::{cost, route_open, total};
 use vr_samples::{read_model_text, routes_of, valid_routes};
 
-// Two nodes, and 5 from one to the other. Times up to 100 with slacks up to 3; node 1 may not be visited from 5 to 8,
-// and each unit above 5 costs 2 there. The span of the vehicle costs 3 a unit, that of all vehicles 4.
+// Two nodes, and 5 from one to the other. Times go up to 100, with slacks up to 3. Node 1 may not be visited from 5 to
+// 8, and each unit above 5 costs 2 there. The span of the vehicle costs 3 a unit, that of all vehicles 4.
 const TIMED: &str =
     r#"{"format":1,"nodes":2,"matrices":[[[0,5],[5,0]]],"vehicles":[{"start":0,"end":0}],
 "dimensions":[{"name":"t","evaluators":[{"matrix":0}],"slack_max":3,"capacity":100,"fix_start":false,

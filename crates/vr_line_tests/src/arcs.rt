@@ -57,7 +57,7 @@ enum Way {
     Back,
 }
 
-// The levels at the other end of the arc, where the stop allows `all`.
+// The levels at the other end of the arc, if the stop allows `all`.
 fn crossed<L: Ledger>(
     alloc: Global,
     way: Way,

@@ -24,7 +24,7 @@ pub fn model_of(alloc: Global, fields: &str) -> Option<Model>
     }
 }
 
-/// The line in a dimension; none where the model has no such dimension or no such visit.
+/// The line in a dimension; none if the model has no such dimension or no such visit.
 pub fn line_in(alloc: Global, model: &Model, d: u32) -> Option<Line>
     requires { IsWellFormed model.now }
     ensures { IfSome result IsSoundLine }
@@ -41,7 +41,7 @@ pub fn line_in(alloc: Global, model: &Model, d: u32) -> Option<Line>
     }
 }
 
-/// The line in a dimension with these fields; none where there is no model of them.
+/// The line in a dimension with these fields; none if there is no model of them.
 pub fn line_of(alloc: Global, fields: &str) -> Option<Line>
     ensures { IfSome result IsSoundLine }
 {

@@ -1,4 +1,4 @@
-//! What is reached at the visit of a line, and walks that join what is known of it, with sets of more runs than are
+//! What is reached at the visit of a line, and walks that join what is known of it. The sets have more runs than are
 //! held in place.
 
 ghost use Rattle.std.specs.Prelude.{◌≡◌, ◌<◌, ◌≤◌, All, length};
@@ -19,8 +19,8 @@ use vr_samples::all_hold;
 use vr_spans::Spans;
 use vr_steps::{Breaks, Hop, Line};
 
-// The fields of a dimension, whether the line has a schedule in it, what is reached at the visit, and what reaches the
-// end from there.
+// The fields of a dimension, and whether the line has a schedule in it. Then what is reached at the visit, and what
+// reaches the end from there.
 type Row = (&'static str, &'static str, bool, Extent, Extent);
 
 // The arcs of transit 5 may wait up to 3, and the visit allows six runs: 0..=4, four single cumuls and 25..=100.
@@ -34,7 +34,7 @@ static ROWS: [Row; 2] = [
         false, NOTHING, (6, Some(0), Some(95))),
 ];
 
-// An arc of a line: what the stop before it and the one behind it allow, and the breaks.
+// An arc of a line: what the stop before it and the one after it allow, and the breaks.
 #[derive(Clone, Copy)]
 struct Arc<'a> {
     here: &'a Spans,

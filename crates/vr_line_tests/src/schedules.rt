@@ -11,7 +11,7 @@ use vr_reach::{Cumuls, Rows, Stops, StopsFor, write_earliest};
 use vr_samples::read_model_text;
 use vr_steps::Line;
 
-// A schedule, without cumuls where there is none.
+// A schedule, without cumuls if there is none.
 struct Wanted {
     cumuls: &'static [i64],
     slacks: &'static [i64],
@@ -222,7 +222,7 @@ fn all_find(
         && chooses(alloc, chooser, line, rule, wanted.cumuls)
 }
 
-// Whether the cumuls of the list of node 1 are found stop by stop exactly where the row says so.
+// Whether the cumuls of the list of node 1 are found stop by stop exactly if the row says so.
 fn is_early(alloc: Global, closed: Closed<'_>, row: &Row) -> bool {
     if closed.model.dimensions.len() == 0 {
         return false;

@@ -10,8 +10,8 @@ use vr_samples::all_hold;
 use vr_span::span;
 use vr_steps::Line;
 
-// The fields of a dimension without breaks, and the least span of the line in it with its schedule: without cumuls
-// where there is none.
+// The fields of a dimension without breaks, and the least span of the line in it with its schedule: without cumuls if
+// there is none.
 struct Row {
     name: &'static str,
     fields: &'static str,

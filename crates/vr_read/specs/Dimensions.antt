@@ -19,7 +19,7 @@ use Rattle.vr_read.specs.declared.dimensions.SpanCosts.{SpanCosts}
 use Rattle.vr_read.specs.Vehicles.{visit}
 use Rattle.vr_read.specs.StopRows.{stop_row, vehicle_breaks}
 
--- an evaluator, in a model of n nodes and so many matrices
+-- an evaluator, in a model of n nodes and this many matrices
 unfoldable pub evaluator : ℕ → ℕ → ReaderOf Evaluator
 evaluator n matrices path d = do
   matrix ← maybe (codes "matrix") (below matrices) path d
@@ -44,16 +44,16 @@ name earlier path d = do
 abbrev pub coefficient : ReaderOf ℤ
 coefficient = whole (pos 0) greatest_coefficient
 
--- so many numbers, each that of one of so many evaluators
+-- numbers, one for each vehicle: each is that of one of this many evaluators
 abbrev pub numbers_below : ℕ → ℕ → ReaderOf (List ℕ)
 numbers_below fleet count = array fleet fleet (λ so_far. below count)
 
--- so many visit times
+-- visit times, one for each of n nodes
 abbrev pub visit_times : ℕ → ReaderOf (List ℤ)
 visit_times n = array n n (λ so_far. whole (pos 0) greatest_value)
 
--- the evaluators of a dimension, and the number of each vehicle's one, in a model of n nodes, so many matrices and so
--- many vehicles
+-- the evaluators of a dimension, and the number of each vehicle's one, in a model of n nodes and this many matrices and
+-- vehicles
 unfoldable pub transits : ℕ → ℕ → ℕ → ReaderOf Transits
 transits n matrices fleet path d = do
   evaluators ← required (codes "evaluators") (array 1 8 (λ so_far. evaluator n matrices)) path d
@@ -69,7 +69,7 @@ bounds n fleet path d = do
   times ← optional (codes "visit") (replicate n (pos 0)) (visit_times n) path d
   Ok (record { slack_max = slack_max; capacities = capacities; fix_start = fix_start; visit = times })
 
--- the rows of the starts or of the ends of so many vehicles, in a field of this name
+-- the rows of the starts or of the ends of this many vehicles, in a field of this name
 abbrev pub vehicle_rows : List ℕ → ℕ → ReaderOf (List StopRow)
 vehicle_rows field fleet = optional field [] (array 0 100 (stop_row (codes "vehicle") (below fleet)))
 
@@ -96,7 +96,7 @@ dimension_fields =
     ∷ codes "fix_start" ∷ codes "visit" ∷ codes "nodes" ∷ codes "starts" ∷ codes "ends" ∷ codes "breaks"
     ∷ codes "span_cost" ∷ codes "global_span_cost" ∷ []
 
--- a dimension, in a model of n nodes, so many matrices and so many vehicles, which are these
+-- a dimension, in a model of n nodes, this many matrices, and a fleet of this many vehicles, which are these
 unfoldable pub dimension : ℕ → ℕ → ℕ → List Vehicle → List Dimension → ReaderOf Dimension
 dimension n matrices fleet vehicles earlier path d = do
   bytes ← required (codes "name") (name earlier) path d

@@ -14,7 +14,8 @@ use Rattle.vr_read.specs.Visits.{group, pair, allowed}
 use Rattle.vr_read.specs.Searches.{search_row, default_search}
 use Rattle.vr_read.specs.Rules.{rules}
 
--- the groups, pairs and allowed rows of visits, in a model of n nodes and so many vehicles, which are these
+-- the groups, pairs and allowed rows of visits, in a model of n nodes and a fleet of this many vehicles, which are
+-- these
 unfoldable pub visit_tables : ℕ → ℕ → List Vehicle → ReaderOf VisitTables
 visit_tables n fleet vehicles path d = do
   groups ← optional (codes "groups") [] (array 0 1000 (group n vehicles)) path d
@@ -22,8 +23,8 @@ visit_tables n fleet vehicles path d = do
   allowed_rows ← optional (codes "allowed") [] (array 0 1000 (allowed n fleet vehicles)) path d
   Ok (record { groups = groups; pairs = pairs; allowed = allowed_rows })
 
--- the fields of a model from its dimensions on, in a model of n nodes, so many matrices and so many vehicles, which are
--- these
+-- the fields of a model from its dimensions on, in a model of n nodes, this many matrices, and these vehicles, whose
+-- number is fleet
 unfoldable pub parts : ℕ → ℕ → ℕ → List Vehicle → ReaderOf ModelParts
 parts n matrices fleet vehicles path d = do
   dimensions ← optional (codes "dimensions") [] (array 0 4 (dimension n matrices fleet vehicles)) path d

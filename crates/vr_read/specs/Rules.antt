@@ -28,7 +28,7 @@ cost_rule path model v =
 abbrev pub costs_rule : List ℕ → Model → Result ⊤ Fault
 costs_rule path model = for_all (below (length model.vehicles)) (cost_rule path model)
 
--- the matrix of evaluator k of a dimension, which stands at this path, has no entry that is too large
+-- the matrix of evaluator k of a dimension, which is at this path, has no entry that is too large
 abbrev pub entry_rule : List ℕ → Model → Dimension → ℕ → Result ⊤ Fault
 entry_rule path model dimension k =
     refuse_if (is_large model (evaluator_at dimension k).matrix) LargeTransit
@@ -48,12 +48,12 @@ entries_rule_at path model d =
 abbrev pub entries_rule : List ℕ → Model → Result ⊤ Fault
 entries_rule path model = for_all (below (length model.dimensions)) (entries_rule_at path model)
 
--- dimension d does not go back where it has breaks or span costs
+-- dimension d does not go back if it has breaks or span costs
 abbrev pub transit_rule : List ℕ → Model → ℕ → Result ⊤ Fault
 transit_rule path model d =
     refuse_if (goes_back model d) NegativeTransit (item_path (name_path path (codes "dimensions")) d)
 
--- no dimension goes back where it has breaks or span costs
+-- no dimension goes back if it has breaks or span costs
 abbrev pub transits_rule : List ℕ → Model → Result ⊤ Fault
 transits_rule path model = for_all (below (length model.dimensions)) (transit_rule path model)
 

@@ -17,20 +17,20 @@ use Rattle.vr_model.specs.declared.neighbours.Neighbourhood.TheVariants.{TwoOpt,
 use Rattle.vr_model.specs.declared.neighbours.Neighbourhood.TheVariants.{RelocatePair, PairActive, PairInactive}
 use Rattle.vr_model.specs.declared.neighbours.Neighbourhood.TheVariants.{MakeActive, MakeInactive, SwapActive}
 
--- what the words of `first` stand for
+-- what the words of `first` mean
 abbrev pub strategies : List (List ℕ × First)
 strategies =
     (codes "PATH_CHEAPEST_ARC", PathCheapestArc) ∷ (codes "PARALLEL_CHEAPEST_INSERTION", ParallelCheapestInsertion)
     ∷ (codes "SAVINGS", Savings) ∷ []
 
--- what the words of `improve` stand for
+-- what the words of `improve` mean
 abbrev pub improvements : List (List ℕ × Improve)
 improvements =
     (codes "NONE", improve.None) ∷ (codes "GREEDY_DESCENT", improve.GreedyDescent)
     ∷ (codes "GUIDED_LOCAL_SEARCH", improve.GuidedLocalSearch) ∷ (codes "PATH_LNS", improve.PathLns)
     ∷ (codes "TABU_SEARCH", improve.TabuSearch) ∷ []
 
--- what the words of `neighbourhoods` stand for
+-- what the words of `neighbourhoods` mean
 abbrev pub neighbourhood_words : List (List ℕ × Neighbourhood)
 neighbourhood_words =
     (codes "two_opt", TwoOpt) ∷ (codes "or_opt", OrOpt) ∷ (codes "relocate", Relocate)
@@ -45,7 +45,7 @@ neighbourhood so_far path d = do
   fresh ← refuse_if (list_any (λ other. neighbourhood_number other == neighbourhood_number chosen) so_far) Repeated path
   Ok chosen
 
--- the search where a model says nothing of it
+-- the search if a model says nothing of it
 abbrev pub default_search : SearchRow
 default_search = record {
   first = PathCheapestArc;

@@ -37,7 +37,7 @@ limits path d = do
   soft_bound ← maybe (codes "soft") soft path d
   Ok (record { window = window; forbidden = forbidden; soft = soft_bound })
 
--- a stop row, whose key stands in no earlier row
+-- a stop row, whose key is that of no earlier row
 unfoldable pub stop_row : List ℕ → ReaderOf ℕ → List StopRow → ReaderOf StopRow
 stop_row name read_key earlier path d = do
   key ← required name read_key path d
@@ -56,7 +56,7 @@ break_row path d = do
   ordered ← refuse_if (int_lt latest earliest) Reversed path
   Ok (record { from = earliest; to = latest; duration = duration })
 
--- the breaks of one of so many vehicles, which has no earlier entry
+-- the breaks of one of this many vehicles, which has no earlier entry
 unfoldable pub vehicle_breaks : ℕ → List VehicleBreaks → ReaderOf VehicleBreaks
 vehicle_breaks vehicles earlier path d = do
   vehicle ← required (codes "vehicle") (below vehicles) path d

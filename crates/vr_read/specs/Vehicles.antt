@@ -20,15 +20,15 @@ matrix n path d = do
   rows ← array n n (λ earlier. array n n (λ so_far. whole least_value greatest_cost)) path d
   Ok (record { entries = flat_map (λ row. row) rows })
 
--- what the words of `policy` stand for
+-- what the words of `policy` mean
 abbrev pub policies : List (List ℕ × Policy)
 policies = (codes "any", Any) ∷ (codes "lifo", Lifo) ∷ (codes "fifo", Fifo) ∷ []
 
--- what the words of `schedule` stand for
+-- what the words of `schedule` mean
 abbrev pub schedule_rules : List (List ℕ × ScheduleRule)
 schedule_rules = (codes "earliest", Earliest) ∷ (codes "tight", Tight) ∷ []
 
--- where a vehicle starts and ends, in a model of n nodes
+-- the nodes at which a vehicle starts and ends, in a model of n nodes
 unfoldable pub ends : ℕ → ReaderOf (ℕ × ℕ)
 ends n path d = do
   start ← required (codes "start") (below n) path d
@@ -45,7 +45,7 @@ abbrev pub fields : Format → List (List ℕ)
 fields One = codes "start" ∷ codes "end" ∷ codes "costs" ∷ codes "fixed" ∷ codes "policy" ∷ []
 fields Two = codes "start" ∷ codes "end" ∷ codes "costs" ∷ codes "fixed" ∷ codes "policy" ∷ codes "schedule" ∷ []
 
--- a vehicle, in a model of a format and of n nodes and so many matrices
+-- a vehicle, in a model of a format and of n nodes and this many matrices
 unfoldable pub vehicle : Format → ℕ → ℕ → ReaderOf Vehicle
 vehicle format n matrices path d = do
   terminals ← ends n path d

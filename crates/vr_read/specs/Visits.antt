@@ -13,7 +13,7 @@ use Rattle.vr_model.specs.declared.records.Pair.{Pair}
 use Rattle.vr_model.specs.declared.records.Allowed.{Allowed}
 use Rattle.vr_read.specs.Vehicles.{visit}
 
--- a node of a group: a visit that stands in no earlier group, and not earlier in this one
+-- a node of a group: a visit that is in no earlier group, and not earlier in this one
 unfoldable pub group_node : ℕ → List Vehicle → List Group → List ℕ → ReaderOf ℕ
 group_node n vehicles groups so_far path d = do
   node ← visit n vehicles path d
@@ -29,11 +29,11 @@ group n vehicles earlier path d = do
   others ← known (codes "nodes" ∷ codes "penalty" ∷ codes "max" ∷ []) path d
   Ok (record { nodes = nodes; penalty = penalty; max = most })
 
--- a node stands in one of these pairs
+-- a node is in one of these pairs
 abbrev pub is_paired : List Pair → ℕ → Bool
 is_paired pairs node = list_any (λ pair. (pair.pickup == node) || (pair.delivery == node)) pairs
 
--- a pair: two visits, neither of which stands in an earlier pair or earlier in this one
+-- a pair: two visits, neither of which is in an earlier pair or earlier in this one
 unfoldable pub pair : ℕ → List Vehicle → List Pair → ReaderOf Pair
 pair n vehicles earlier path d = do
   pickup ← required (codes "pickup") (visit n vehicles) path d
@@ -44,7 +44,7 @@ pair n vehicles earlier path d = do
   others ← known (codes "pickup" ∷ codes "delivery" ∷ []) path d
   Ok (record { pickup = pickup; delivery = delivery })
 
--- one of so many vehicles, each once
+-- one of this many vehicles, each once
 unfoldable pub allowed_vehicle : ℕ → List ℕ → ReaderOf ℕ
 allowed_vehicle vehicles so_far path d = do
   vehicle ← below vehicles path d

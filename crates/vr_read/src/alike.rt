@@ -1,4 +1,4 @@
-//! Whether vehicles are alike, which is asked where the first solution is to be built by savings.
+//! Whether vehicles are alike, which is asked if the first solution is to be built by savings.
 
 ghost use Rattle.std.specs.Prelude.{◌≡◌, ◌<◌, Bool, length, option_map};
 ghost use Rattle.std.specs.List.{All, list_all};
@@ -124,8 +124,8 @@ fn is_same_schedule_rule(one: ScheduleRule, other: ScheduleRule) -> bool
     }
 }
 
-// Whether two vehicles are alike in a dimension: the same capacity, number of an evaluator (two that say the same are
-// not the same), span coefficient, start row, end row and breaks.
+// Whether two vehicles are alike in a dimension. They have the same capacity, number of an evaluator, span coefficient,
+// start row, end row and breaks. Two evaluators that say the same are not the same.
 fn are_alike_in(dimension: &Dimension, v: u32, w: u32) -> bool
     requires one { HasVehicle v dimension.now }
     requires other { HasVehicle w dimension.now }
@@ -159,8 +159,8 @@ fn are_alike_in_all(dimensions: &[Dimension], v: u32, w: u32) -> bool
     true
 }
 
-// Whether two vehicles are alike: the same start, end, number of a cost matrix, fixed cost, policy and rule of
-// schedules, and alike in each dimension.
+// Whether two vehicles are alike. They have the same start, end, number of a cost matrix, fixed cost, policy and rule
+// of schedules, and are alike in each dimension.
 fn are_alike(of: Tabled<'_>, v: u32, w: u32) -> bool
     requires one { v < length of.model.now.vehicles }
     requires other { w < length of.model.now.vehicles }

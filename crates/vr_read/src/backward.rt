@@ -1,6 +1,6 @@
-//! Dimensions that go back: negative transits where there are breaks or span costs. They are refused, since lines with
-//! breaks are sound, and no span that is paid for is negative, only where there are none (`lines_are_sound` and
-//! `costs_are_bounded` of `vr_model`).
+//! Dimensions that go back: negative transits, with breaks or span costs. They are refused, since two laws of
+//! `vr_model` hold only without them. Lines with breaks are sound (`lines_are_sound`), and no span that is paid for is
+//! negative (`costs_are_bounded`).
 
 ghost use Rattle.std.specs.Prelude.{◌≡◌, ◌<◌, ◌==◌, length, not, pos};
 ghost use Rattle.std.specs.List.{list_any};

@@ -18,8 +18,8 @@ use vr_model::limits::{
 };
 use vr_model::{Dimension, Evaluator, Seq, StopRow, Text, Vehicle, VehicleBreaks};
 
-/// An evaluator, in a model of so many nodes and matrices. Both of its fields may be absent; values that are there are
-/// one for each node, so an empty array is refused.
+/// An evaluator, in a model of this many nodes and matrices. Both of its fields may be absent. Values that are there
+/// are one for each node, so an empty array is refused.
 #[derive(Clone, Copy)]
 pub struct EvaluatorTable {
     pub nodes: u32,
@@ -30,13 +30,13 @@ pub struct EvaluatorTable {
 #[derive(Clone, Copy)]
 pub struct Capped;
 
-/// The name of a dimension, which no earlier one has: these are handed in, since the reader of a field is told of none.
+/// The name of a dimension, which no earlier one has. These are handed in, since the reader of a field knows of none.
 #[derive(Clone, Copy)]
 pub struct Name<'a> {
     pub earlier: &'a [Dimension],
 }
 
-/// A dimension, in a model of so many nodes, matrices and vehicles.
+/// A dimension, in a model of this many nodes, matrices and vehicles.
 #[derive(Clone, Copy)]
 pub struct DimensionTable<'a> {
     pub nodes: u32,

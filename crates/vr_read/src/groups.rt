@@ -10,7 +10,7 @@ use vr_json::{Array, Below, Cause, Count, Datum, Fields, ReadFail, Reader, Table
 use vr_model::limits::{GREATEST_COST, MOST_NODES};
 use vr_model::{Allowed, Group, Pair, Vehicle};
 
-/// Reads a node of a group: a visit that stands in no earlier group, and not earlier in this one.
+/// Reads a node of a group: a visit that is in no earlier group, and not earlier in this one.
 #[derive(Clone, Copy)]
 pub struct GroupNode<'a> {
     pub visit: Visit<'a>,
@@ -30,27 +30,27 @@ pub struct PairTable<'a> {
     pub visit: Visit<'a>,
 }
 
-/// Reads one of so many vehicles, each once.
+/// Reads one of this many vehicles, each once.
 #[derive(Clone, Copy)]
 pub struct AllowedVehicle {
     pub fleet: u32,
 }
 
-/// Reads the vehicles that a visit allows, in a model of so many vehicles.
+/// Reads the vehicles that a visit allows, in a model of this many vehicles.
 #[derive(Clone, Copy)]
 pub struct AllowedTable<'a> {
     pub visit: Visit<'a>,
     pub fleet: u32,
 }
 
-// Whether a number stands in a list.
+// Whether a number is in a list.
 fn is_held(numbers: &[u32], number: u32) -> bool
     ensures { result ≡ holds numbers.now number }
 {
     numbers.iter().any(|other| number == *other)
 }
 
-// Whether a node stands in some group.
+// Whether a node is in some group.
 fn is_grouped(groups: &[Group], node: u32) -> bool
     ensures { result ≡ list_any (λ group. holds group.nodes node) groups.now }
 {
@@ -59,7 +59,7 @@ fn is_grouped(groups: &[Group], node: u32) -> bool
         .any(|group| is_held(group.nodes.as_slice(), node))
 }
 
-// Whether a node stands in some pair.
+// Whether a node is in some pair.
 fn is_paired(pairs: &[Pair], node: u32) -> bool
     ensures { result ≡ visit_tables.is_paired pairs.now node }
 {

@@ -7,8 +7,8 @@ ghost use Rattle.vr_model.specs.tables.WellFormed.{IsWellFormed};
 ghost use Rattle.vr_model.specs.declared.records.Model.{Model};
 ghost use Rattle.vr_read.specs.Models.{read_model};
 
-/// A model that reading gives is well formed: each number lies in its range, each list has a length
-/// that the format allows, what must be distinct is, and no rule on the whole model is broken.
+/// A model that reading gives is well formed. Each number lies in its range, and each list has a length that the format
+/// allows. What must be distinct is, and no rule on the whole model is broken.
 pub fn read_models_are_well_formed()
     ensures { (path : List ℕ) (d : Data) (model : Model) → read_model path d ≡ Ok model → IsWellFormed model }
 {}

@@ -19,8 +19,8 @@ fn joined(alloc: Global, rows: &[Seq<i64>]) -> Result<Seq<i64>, NoMemory>
     Ok(entries)
 }
 
-/// A matrix: an array of so many arrays of so many whole numbers, in a range that holds arc costs and transits. What is
-/// asked where a vehicle or a dimension uses it is a rule on the whole model (`model_rules`).
+/// A matrix: an array of arrays of whole numbers, this many of each, in a range that holds arc costs and transits. What
+/// is asked if a vehicle or a dimension uses it is a rule on the whole model (`model_rules`).
 #[derive(Clone, Copy)]
 pub struct MatrixTable {
     pub nodes: u32,

@@ -46,8 +46,8 @@ pub struct ModelParts {
     pub search: SearchRow,
 }
 
-// Reads the groups, pairs and allowed rows of a model of so many vehicles. `visit` reads a node, and refuses starts and
-// ends.
+// Reads the groups, pairs and allowed rows of a model of this many vehicles. `visit` reads a node, and refuses starts
+// and ends.
 #[tactic(auto, unfolding(vr_json::specs::Reading::and_then, crate::specs::Models::visit_tables))]
 fn read_visit_tables(
     fields: Fields<'_, '_>,
@@ -82,8 +82,8 @@ fn read_visit_tables(
     })
 }
 
-// The fields of a model from its dimensions on, in a model of so many nodes and matrices and of
-// these vehicles, whose number is `table.fleet`.
+// The fields of a model from its dimensions on. The model has this many nodes and matrices, and these vehicles, whose
+// number is `table.fleet`.
 #[tactic(auto, unfolding(vr_json::specs::Reading::and_then, crate::specs::Models::parts))]
 fn read_parts(fields: Fields<'_, '_>, table: DimensionTable<'_>) -> Result<ModelParts, ReadFail>
     ensures { Answers result
@@ -174,12 +174,11 @@ fn read_table(fields: Fields<'_, '_>) -> Result<Model, ReadFail>
     })
 }
 
-/// The model that stands at a path (`RoutingModel` in OR-Tools): its table, and then the rules on the
-/// whole model.
+/// The model at a path (`RoutingModel` in OR-Tools): its table, and then the rules on the whole model.
 ///
-/// Refused with the first fault in the order of the table: each field in turn, absent or read, and then
-/// a field that the table does not name; and then as the rules say: `NegativeCost`, `LargeTransit`,
-/// `NegativeTransit`, `UnlikeVehicles`. A model that is given is well formed.
+/// Refused with the first fault, in the order of the table: each field in turn, absent or read. Then come a field that
+/// the table does not name, and the faults of the rules: `NegativeCost`, `LargeTransit`, `NegativeTransit`,
+/// `UnlikeVehicles`. A model that is given is well formed.
 pub fn read_model(alloc: Global, value: &Value, path: &Path) -> Result<Model, ReadFail>
     ensures found { Answers result (models.read_model path.now (view value.now)) }
     ensures well_formed { IfOk result IsWellFormed }

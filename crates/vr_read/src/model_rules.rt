@@ -20,12 +20,14 @@ use vr_json::{Cause, Path, ReadFail, refuse_if};
 use vr_model::limits::GREATEST_VALUE;
 use vr_model::{Dimension, First, Matrix, Model, NoMemory, Seq};
 
-/// Refuses a model that breaks a rule on the whole of it: `NegativeCost` at the costs of the first
-/// vehicle whose matrix has a negative entry; then `LargeTransit` at the matrix of the first
-/// evaluator whose matrix has an entry above 2^30; then `NegativeTransit` at the first dimension that
-/// has breaks or span costs and a negative transit of a vehicle between two different nodes; then
-/// `UnlikeVehicles` at `search/first` where savings are asked for, though vehicles differ or rows of
-/// allowed vehicles are there. `path` is where the model stands.
+/// Refuses a model that breaks a rule on the whole of it. `path` is that of the model. The rules, in order:
+///
+/// - `NegativeCost` at the costs of the first vehicle whose matrix has a negative entry.
+/// - `LargeTransit` at the matrix of the first evaluator whose matrix has an entry above 2^30.
+/// - `NegativeTransit` at the first dimension that has breaks or span costs, and a negative transit of a vehicle
+///   between two different nodes.
+/// - `UnlikeVehicles` at `search/first` if savings are asked for, though vehicles differ or rows of allowed vehicles
+///   are there.
 #[tactic(auto, unfolding(vr_json::specs::Reading::and_then, crate::specs::Rules::rules))]
 pub(crate) fn keep_rules(alloc: Global, of: Tabled<'_>, path: &Path) -> Result<(), ReadFail>
     ensures { Answers result (rules path.now of.entry.model.now) }
@@ -36,7 +38,7 @@ pub(crate) fn keep_rules(alloc: Global, of: Tabled<'_>, path: &Path) -> Result<(
     keep_savings(alloc, of, path)
 }
 
-// Refuses the field of entry `k` of an array where a rule is broken. The path of the entry is made only then.
+// Refuses the field of entry `k` of an array if a rule is broken. The path of the entry is made only then.
 #[tactic(auto, unfolding(vr_json::specs::Reading::refuse_if))]
 fn refuse_field(
     alloc: Global,
@@ -90,7 +92,7 @@ fn keep_costs(alloc: Global, of: Tabled<'_>, path: &Path) -> Result<(), ReadFail
     Ok(())
 }
 
-// Whether the matrix of an evaluator, where it has one, has an entry that is too large.
+// Whether the matrix of an evaluator, if it has one, has an entry that is too large.
 fn has_large_entry(model: &Model, matrix: Option<u32>) -> bool
     requires { WherePresent (λ m. m < length model.now.matrices) matrix }
     ensures { result ≡ is_large model.now matrix }
@@ -108,8 +110,8 @@ fn has_large(entries: &[i64]) -> bool
     entries.iter().any(|entry| GREATEST_VALUE < *entry)
 }
 
-// The matrix of each evaluator of a dimension, which stands at `path`, has no entry that is too large, whether a
-// vehicle uses the evaluator or not.
+// The matrix of each evaluator of a dimension, which is at `path`, has no entry that is too large. A vehicle may use
+// the evaluator or not.
 fn keep_dimension_entries(
     alloc: Global,
     model: &Model,

@@ -14,12 +14,12 @@ use vr_json::{
 use vr_model::limits::{GREATEST_LAMBDA, MOST_CUT, MOST_NEIGHBOURHOODS, MOST_TENURE, MOST_TRIES};
 use vr_model::{First, Improve, Neighbourhood, NoMemory, SearchRow, Seq};
 
-/// A neighbourhood, named by a word that stands nowhere earlier in its array.
+/// A neighbourhood, named by a word that comes nowhere earlier in its array.
 #[derive(Clone, Copy)]
 pub struct NeighbourhoodTable;
 
-/// The search: its strategy for the first solution, its improvement, its limits, the weight of
-/// penalties, its neighbourhoods, how long the chains of its cuts are, and for how long changed visits are tabu.
+/// The search: its strategy for the first solution, its improvement, its limits, the weight of penalties, its
+/// neighbourhoods. It also says how long the chains of its cuts are, and for how long changed visits are tabu.
 #[derive(Clone, Copy)]
 pub struct SearchTable;
 
@@ -57,16 +57,16 @@ const NEIGHBOURHOODS: [(&str, Neighbourhood); 11] = [
     ("swap_active", Neighbourhood::SwapActive),
 ];
 
-// How many moves or cuts a search tries at most, where a model does not say it.
+// How many moves or cuts a search tries at most, if a model does not say it.
 const TRIES: u32 = 100_000;
 
-// The greatest number of tries, and of solutions; so many solutions may be found where a model does not say how many.
+// The greatest number of tries, and of solutions. This many solutions may be found if a model does not say how many.
 const MOST: u32 = MOST_TRIES as u32;
 
-// How many visits the chain of a cut has at most, where a model does not say it.
+// How many visits the chain of a cut has at most, if a model does not say it.
 const CUT: u32 = 10;
 
-// For how many rounds a changed visit is tabu, where a model does not say it.
+// For how many rounds a changed visit is tabu, if a model does not say it.
 const TENURE: u32 = 10;
 
 // Whether two neighbourhoods are the same.
@@ -99,8 +99,8 @@ impl Reader for NeighbourhoodTable {
     }
 }
 
-/// The search where a model says nothing of it: the cheapest arc first, then greedy descent over all neighbourhoods
-/// with at most 100000 tries and 10^9 solutions; lambda is 1/10, cut and tenure are 10. An empty object is read as the
+/// The search if a model says nothing of it: the cheapest arc first, then greedy descent over all neighbourhoods. It
+/// has at most 100000 tries and 10^9 solutions; lambda is 1/10, cut and tenure are 10. An empty object is read as the
 /// same.
 pub(crate) fn default_search(alloc: Global) -> Result<SearchRow, NoMemory>
     ensures { IfOk result (λ row. row ≡ search_tables.default_search) }

@@ -24,8 +24,7 @@ pub struct IntervalTable;
 #[derive(Clone, Copy)]
 pub struct SoftTable;
 
-/// A row for a stop, whose key stands in the field that `name` names: `node` of a visit, `vehicle` of a start or an
-/// end.
+/// A row for a stop, whose key is in the field that `name` names: `node` of a visit, `vehicle` of a start or an end.
 #[derive(Clone, Copy)]
 pub struct StopTable<'a, K> {
     pub name: &'a str,
@@ -36,7 +35,7 @@ pub struct StopTable<'a, K> {
 #[derive(Clone, Copy)]
 pub struct BreakTable;
 
-/// The breaks of one of so many vehicles.
+/// The breaks of one of this many vehicles.
 #[derive(Clone, Copy)]
 pub struct VehicleBreaksTable {
     pub vehicles: u32,
@@ -143,7 +142,7 @@ impl Table for BreakTable {
         let to = fields.required("to", &CUMUL)?;
         let duration = fields.required("duration", &length)?;
         fields.known(&["from", "to", "duration"])?;
-        // this fault lies at the break as a whole, and comes behind those of its fields
+        // this fault lies at the break as a whole, and comes after those of its fields
         refuse_if(fields.alloc, to < from, Cause::Reversed, fields.path.here())?;
         Ok(BreakRow { from, to, duration })
     }

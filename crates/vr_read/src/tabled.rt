@@ -5,7 +5,7 @@ ghost use Rattle.vr_read.specs.ModelParts.{HasModelParts, HasModelParts-prop};
 use vr_model::Model;
 
 /// A model that its table gives. What the rules rest on is known of it: its matrices, vehicles and dimensions are in
-/// range; of groups, pairs, allowed rows and the search nothing is known here.
+/// range. Of groups, pairs, allowed rows and the search nothing is known here.
 #[derive(Clone, Copy)]
 pub(crate) struct Tabled<'a> {
     pub(crate) model: &'a Model,

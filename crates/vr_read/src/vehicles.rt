@@ -10,7 +10,7 @@ use vr_json::{Below, Cause, Choice, Datum, Fields, ReadFail, Reader, Table, Whol
 use vr_model::limits::GREATEST_COST;
 use vr_model::{Policy, ScheduleRule, Vehicle};
 
-/// A vehicle, in a model of this format and of so many nodes and matrices.
+/// A vehicle, in a model of this format and of this many nodes and matrices.
 #[derive(Clone, Copy)]
 pub struct VehicleTable {
     pub format: Format,
@@ -32,7 +32,7 @@ const SCHEDULE_RULES: [(&str, ScheduleRule); 2] = [
 ];
 
 impl VehicleTable {
-    // Where the vehicle starts, and where it ends.
+    // The nodes at which the vehicle starts and ends.
     #[tactic(auto, unfolding(vr_json::specs::Reading::and_then, crate::specs::Vehicles::ends))]
     fn ends(&self, fields: Fields<'_, '_>) -> Result<(u32, u32), ReadFail>
         ensures { Answers result
@@ -44,8 +44,8 @@ impl VehicleTable {
         Ok((start, end))
     }
 
-    // By which rule the vehicle chooses its schedules: the earliest where the field is absent. Format 1 has no such
-    // field, and does not look for it here: `keep_fields` refuses it.
+    // By which rule the vehicle chooses its schedules: the earliest if the field is absent. Format 1 has no such field,
+    // and does not look for it here: `keep_fields` refuses it.
     fn schedule(&self, fields: Fields<'_, '_>) -> Result<ScheduleRule, ReadFail>
         ensures { Answers result
             (vehicle_tables.schedule self.now.format fields.entry.path.now (view fields.entry.value.now)) }

@@ -43,7 +43,7 @@ static ROWS: [Row; 15] = [
     ("a pair moved together", Move::RelocatePair { p: 0, w: 0, s: 1, t: 1 }, &[1, 2, 4, 3, 5, 6, 7, 8], &[9, 10]),
 ];
 
-// Whether the list of a vehicle is this one, and each of its nodes stands there.
+// Whether the list of a vehicle is this one, and each of its nodes is at its place there.
 fn is_list(routes: &Routes, v: u32, wanted: &[u32]) -> bool {
     if v >= routes.vehicles() || routes.list(v) != wanted {
         return false;

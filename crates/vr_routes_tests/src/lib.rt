@@ -1,5 +1,5 @@
-//! Tests of lists, of routes, of the changes that moves make, and of the iterators of moves, through what `vr_model`,
-//! `vr_routes` and the crates of moves make public. They stand in a crate of their own, so that the crates that they
+//! Tests of lists, of routes, of the changes that moves make, and of the iterators of moves. They ask what `vr_model`,
+//! `vr_routes` and the crates of moves make public. The tests have a crate of their own, so that the crates that they
 //! test are proved once.
 #![tactic(auto)]
 

@@ -20,7 +20,7 @@ const TWO: &str =
 const THREE: &str = r#"{"format":1,"nodes":4,"matrices":[[[0,1,1,1],[1,0,1,1],[1,1,0,1],[1,1,1,0]]],
 "vehicles":[{"start":0,"end":0}]}"#;
 
-// The same, where visits 1 and 2 are a pair.
+// The same, with a pair of visits 1 and 2.
 const PAIR: &str = r#"{"format":1,"nodes":4,"matrices":[[[0,1,1,1],[1,0,1,1],[1,1,0,1],[1,1,1,0]]],
 "vehicles":[{"start":0,"end":0}],"pairs":[{"pickup":1,"delivery":2}]}"#;
 
@@ -33,7 +33,7 @@ const THREE_VANS: &str =
     r#"{"format":1,"nodes":4,"matrices":[[[0,1,1,1],[1,0,1,1],[1,1,0,1],[1,1,1,0]]],
 "vehicles":[{"start":0,"end":0},{"start":0,"end":0},{"start":0,"end":0}]}"#;
 
-// The number of the kind of a move, and its numbers in the order of its fields, with 0s behind them.
+// The number of the kind of a move, and its numbers in the order of its fields, with 0s after them.
 type Numbers = (u32, [u32; 4]);
 
 fn numbers_of(mv: Move) -> Numbers {

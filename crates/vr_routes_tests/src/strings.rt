@@ -14,7 +14,7 @@ use vr_strings::{
     ItemKeys, Rings, Ruin, Words, draw_step_size, draw_string, draw_turns, write_left,
 };
 
-// Seven visits on a line behind the depot: 3 and 5 are a pair, 2 is optional, and of 4 and 6 one is wanted.
+// Seven visits on a line after the depot: 3 and 5 are a pair, 2 is optional, and of 4 and 6 one is wanted.
 const TEXT: &str = r#"{"format":1,"nodes":8,"matrices":[[
 [0,1,2,3,4,5,6,7],[1,0,1,2,3,4,5,6],[2,1,0,1,2,3,4,5],[3,2,1,0,1,2,3,4],
 [4,3,2,1,0,1,2,3],[5,4,3,2,1,0,1,2],[6,5,4,3,2,1,0,1],[7,6,5,4,3,2,1,0]]],
@@ -50,7 +50,7 @@ fn have_zeros(words: &mut Words, wanted: &[u32]) -> bool {
     true
 }
 
-// The words of seed 0 behind the first ones.
+// The words of seed 0 after the first ones.
 fn words_from(first: u32) -> Words {
     let mut words = Words::of_seed(0);
     for _k in 0..first {
@@ -65,8 +65,8 @@ fn words_are_those_of_the_seed(rt: HostRuntime) {
     assert!(rt; have_zeros(&mut Words::of_seed(0), &ZEROS));
 }
 
-// A string: the word with which its draws begin, the longest string, the length of the route and the place; its first
-// place, its width, the place that stays, and the word that comes after it.
+// A string. First come the word with which its draws begin, the longest string, the length of the route and the place.
+// Then its first place, its width, the place that stays, and the word that comes after it.
 type StringRow = (&'static str, u32, [u32; 3], u32, u32, Option<u32>, u32);
 
 #[rattlefmt::skip]
@@ -108,8 +108,8 @@ fn model(alloc: Global) -> Result<Model, Fail>
     Ok(read_model_text(alloc, TEXT).ok_or("no model")?)
 }
 
-// What is left of the route of 1 to 6 without a string: the word with which its draws begin, the longest string and
-// the place.
+// What is left of the route of 1 to 6 without a string. It has the word with which its draws begin, the longest string
+// and the place.
 type LeftRow = (&'static str, u32, [u32; 2], &'static [u32]);
 
 #[rattlefmt::skip]
@@ -176,7 +176,7 @@ static TURNS: [TurnRow; 2] = [
     ("as they were shuffled", 1, &[2, 0, 5, 3, 4, 1]),
 ];
 
-// Whether these turns are drawn from the words behind the first ones.
+// Whether these turns are drawn from the words after the first ones.
 fn are_turns(
     items: &ItemKeys<'_>,
     routes: &Routes,

@@ -1,5 +1,5 @@
-//! What tests ask about: models of texts, and routes of lists; and how they go through tables of rows. The program does
-//! not stand on it.
+//! What tests ask about: models of texts, and routes of lists. It also has how tests go through tables of rows. The
+//! program does not use it.
 #![tactic(auto)]
 
 mod models;

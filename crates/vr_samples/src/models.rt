@@ -9,8 +9,8 @@ use vr_json::Path;
 use vr_model::Model;
 use vr_read::read_model;
 
-/// The model of a text, in the format of the program; `None` where the text is no JSON, reading refuses it, or there
-/// was no memory.
+/// The model of a text, in the format of the program. It is `None` if the text is no JSON, reading refuses it, or
+/// memory ran out.
 pub fn read_model_text(alloc: Global, text: &str) -> Option<Model>
     ensures { IfSome result IsWellFormed }
 {

@@ -43,7 +43,7 @@ fn seq_of(alloc: Global, numbers: &[u32]) -> Result<Seq<u32>, NoMemory>
     Ok(seq)
 }
 
-/// Routes of a model with these lists; `None` exactly where they are not valid. The only refusal is want of memory.
+/// Routes of a model with these lists; `None` exactly if they are not valid. The call fails only if out of memory.
 pub fn valid_routes(
     alloc: Global,
     model: &Model,

@@ -1,4 +1,4 @@
-//! What both judges are asked: each is opened at the routes of a row and answers the same questions, and how often it
+//! What both judges are asked. Each is opened at the routes of a row and answers the same questions, and how often it
 //! is asked is counted.
 
 ghost use Rattle.std.specs.Prelude.{◌≡◌, ◌+◌, ◌*◌, ◌<◌, ◌≤◌, IfOk, IsTrue, OnErr, OnOk};
@@ -38,7 +38,7 @@ pub(crate) enum Question {
     Search(&'static Sought),
     /// That a watcher which refuses ends the descent.
     Stopper,
-    /// How one scan with so many tries ends.
+    /// How one scan with this many tries ends.
     Scan(u64, Ended),
 }
 
@@ -114,7 +114,7 @@ impl<J: Judge> Counting<J> {
     }
 }
 
-// Whether a judge that stands at routes answers a question as it says.
+// Whether a judge that is in sync with routes answers a question as it says.
 fn is_answered<J: Judge, L: Ledger>(
     alloc: Global,
     closed: Closed<'_>,

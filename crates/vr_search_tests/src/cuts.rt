@@ -1,4 +1,4 @@
-//! What the search by cuts finds, where the construction of a first solution rebuilds.
+//! What the search by cuts finds, if the construction of a first solution rebuilds.
 
 ghost use Rattle.std.specs.Prelude.{◌≡◌, ◌≤◌, ⊤, IsTrue};
 ghost use Rattle.vr_descent.specs.Ending.{IsSearchLimit};
@@ -153,7 +153,7 @@ const MOVES: Cuts = Cuts {
 // The one order in which all visits can be.
 const PUNCTUAL: &[&[u32]] = &[&[3, 1, 2]];
 
-// Where all are taken out, one comes back alone: that is open and costs less, but is not valid.
+// If all are taken out, one comes back alone: that is open and costs less, but is not valid.
 const STAYS: Cuts = Cuts {
     cut: 10,
     tries: 1000,

@@ -1,4 +1,4 @@
-//! Filters that follow moves: a move is made where the filter lets it pass.
+//! Filters that follow moves: a move is made if the filter lets it pass.
 
 ghost use Rattle.std.specs.Prelude.{◌≡◌, ◌<◌, IsTrue, OnOk, length};
 ghost use Rattle.vr_model.specs.routes.Rules.{is_valid};
@@ -26,7 +26,7 @@ pub(crate) enum Filter {
     Dimensions,
 }
 
-// Makes a move where it is one and the filter lets it pass; answers whether that was so.
+// Makes a move if it is one and the filter lets it pass; answers whether that was so.
 fn try_move<F: PathFilter, L: Ledger>(
     closed: Closed<'_>,
     filter: &mut F,

@@ -9,10 +9,10 @@ use std::sync::ledger::Ledger;
 use vr_model::{Closed, Move, NoMemory, Steps};
 use vr_routes::{Change, Judge, Routes, Verdict};
 
-/// A move, whether it is made where it is not refused, and what is said of it.
+/// A move, whether it is made if it is not refused, and what is said of it.
 pub(crate) type Said = (Move, bool, Verdict);
 
-// What a judge says of a move, `None` where it is none. A move that is not refused is made, where that is asked.
+// What a judge says of a move, `None` if it is none. A move that is not refused is made, if that is asked.
 fn judge_move<J: Judge, L: Ledger>(
     closed: Closed<'_>,
     judge: &mut J,

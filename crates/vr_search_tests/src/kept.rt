@@ -1,5 +1,5 @@
-//! Kept cumuls: what a change makes of a list is told by them, whatever slacks may be, so that no schedule is looked
-//! for; so it is by what is kept once a change is committed. The schedules of tight vehicles are told too.
+//! Kept cumuls. What a change makes of a list is known by them, whatever slacks may be, so that no schedule is looked
+//! for. It is also known by what is kept once a change is committed. The schedules of tight vehicles are known too.
 
 ghost use Rattle.std.specs.Prelude.{◌≡◌, ◌<◌, IsTrue, OnOk};
 ghost use Rattle.vr_costfilter.specs.Kept.{AreAllKept};
@@ -119,7 +119,7 @@ pub(crate) fn tells(
 // Four of the visits before late windows.
 const LATE_LISTS: &[&[u32]] = &[&[1, 2, 3, 4, 5], &[6], &[]];
 
-// Moves of the first list: its front is turned, a stretch behind it, its end; and two visits leave.
+// Moves of the first list: its front is turned, a stretch after it, its end; and two visits leave.
 const FRONT: Move = Move::TwoOpt { v: 0, a: 0, b: 1 };
 
 const STRETCH: Move = Move::TwoOpt { v: 0, a: 1, b: 3 };

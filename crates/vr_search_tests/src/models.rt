@@ -4,7 +4,7 @@
 pub(crate) const THREE: &str = r#"{"format":1,"nodes":3,"matrices":[[[0,5,9],[5,0,4],[9,4,0]]],
 "vehicles":[{"start":0,"end":0}]}"#;
 
-/// The same, where the last node may stay away for 3.
+/// The same, but the last node may stay away for 3.
 pub(crate) const OPTIONAL: &str = r#"{"format":1,"nodes":3,"matrices":[[[0,5,9],[5,0,4],[9,4,0]]],
 "vehicles":[{"start":0,"end":0}],"groups":[{"nodes":[2],"penalty":3}]}"#;
 
@@ -24,9 +24,9 @@ pub(crate) const GAP: &str = r#"{"format":1,"nodes":3,"matrices":[[[0,5,5],[5,0,
 "dimensions":[{"name":"time","evaluators":[{"matrix":0}],"capacity":100,"slack_max":0,"fix_start":true,
 "nodes":[{"node":2,"forbidden":[[10,10]]}]}]}"#;
 
-/// Four visits, each 10 from the others, that may stay away. Node 1 has a window, node 2 a later one, node 3 five
-/// forbidden intervals, so that its set is kept beyond what is held in place, and node 4 a late window; node 4 is for
-/// the first vehicle alone.
+/// Four visits, each 10 from the others, that may stay away. Node 1 has a window, node 2 a later one, and node 4 a late
+/// one. Node 3 has five forbidden intervals, so that its set is kept beyond what is held in place. Node 4 is for the
+/// first vehicle alone.
 pub(crate) const WINDOWS: &str =
     r#"{"format":1,"nodes":5,"matrices":[[[0,10,10,10,10],[10,0,10,10,10],[10,10,0,10,10],
 [10,10,10,0,10],[10,10,10,10,0]]],"vehicles":[{"start":0,"end":0},{"start":0,"end":0}],
@@ -73,7 +73,7 @@ pub(crate) const PAID: &str = r#"{"format":1,"nodes":3,"matrices":[[[0,5,9],[5,0
 "global_span_cost":10,"nodes":[{"node":2,"soft":{"bound":4,"coefficient":3}}]}]}"#;
 
 /// Six visits, 10 from one to the next and 3 more backwards. No slack is longer than 5. Visits 3, 5 and 6 open late, 2
-/// and 4 close early, and soft bounds stand at both ends and at three visits.
+/// and 4 close early, and there are soft bounds at both ends and at three visits.
 pub(crate) const LATE: &str =
     r#"{"format":1,"nodes":7,"matrices":[[[0,10,20,30,40,50,60],[13,0,10,20,30,40,50],
 [23,13,0,10,20,30,40],[33,23,13,0,10,20,30],[43,33,23,13,0,10,20],[53,43,33,23,13,0,10],[63,53,43,33,23,13,0]]],
@@ -86,7 +86,7 @@ pub(crate) const LATE: &str =
 {"node":6,"window":[400,450],"soft":{"bound":401,"coefficient":6}}],
 "ends":[{"vehicle":0,"soft":{"bound":180,"coefficient":1}}]}]}"#;
 
-/// The same day, where the first two vehicles choose tight schedules.
+/// The same day, but the first two vehicles choose tight schedules.
 pub(crate) const LATE_TIGHT: &str =
     r#"{"format":2,"nodes":7,"matrices":[[[0,10,20,30,40,50,60],[13,0,10,20,30,40,50],
 [23,13,0,10,20,30,40],[33,23,13,0,10,20,30],[43,33,23,13,0,10,20],[53,43,33,23,13,0,10],[63,53,43,33,23,13,0]]],
@@ -99,7 +99,7 @@ pub(crate) const LATE_TIGHT: &str =
 {"node":6,"window":[400,450],"soft":{"bound":401,"coefficient":6}}],
 "ends":[{"vehicle":0,"soft":{"bound":180,"coefficient":1}}]}]}"#;
 
-/// The same day of tight vehicles, where soft bounds cost nothing.
+/// The same day of tight vehicles, but soft bounds cost nothing.
 pub(crate) const LATE_TIGHT_FREE: &str =
     r#"{"format":2,"nodes":7,"matrices":[[[0,10,20,30,40,50,60],[13,0,10,20,30,40,50],
 [23,13,0,10,20,30,40],[33,23,13,0,10,20,30],[43,33,23,13,0,10,20],[53,43,33,23,13,0,10],[63,53,43,33,23,13,0]]],
@@ -120,20 +120,21 @@ pub(crate) const SQUARE: &str =
     r#"{"format":1,"nodes":4,"matrices":[[[0,7,5,5],[7,0,5,5],[5,5,0,7],[5,5,7,0]]],
 "vehicles":[{"start":0,"end":0}]}"#;
 
-/// The same square, where the vehicle costs something, so that nothing is told of runs of moves.
+/// The same square, but the vehicle costs something, so that nothing is known of runs of moves.
 pub(crate) const PAID_SQUARE: &str =
     r#"{"format":1,"nodes":4,"matrices":[[[0,7,5,5],[7,0,5,5],[5,5,0,7],[5,5,7,0]]],
 "vehicles":[{"start":0,"end":0,"fixed":1}]}"#;
 
-/// The same square, where spans cost something and arcs nothing.
+/// The same square, but spans cost something and arcs nothing.
 pub(crate) const SPAN_SQUARE: &str =
     r#"{"format":1,"nodes":4,"matrices":[[[0,0,0,0],[0,0,0,0],[0,0,0,0],[0,0,0,0]],
 [[0,7,5,5],[7,0,5,5],[5,5,0,7],[5,5,7,0]]],"vehicles":[{"start":0,"end":0}],
 "dimensions":[{"name":"time","evaluators":[{"matrix":1}],"capacity":100,"slack_max":9,"span_cost":2,
 "global_span_cost":3}]}"#;
 
-/// A day of two vehicles, one last in first out and with a break: windows, a forbidden interval, a load, two pairs, of
-/// which one may stay away, another optional visit, one for a vehicle alone, and all parts of the cost.
+/// A day of two vehicles, one last in first out and with a break. There are windows, a forbidden interval and a load.
+/// Of two pairs one may stay away; another visit is optional, and one is for a vehicle alone. All parts of the cost are
+/// there.
 pub(crate) const DAY: &str =
     r#"{"format":1,"nodes":8,"matrices":[[[0,9,7,8,4,6,9,5],[9,0,5,4,8,7,3,6],
 [7,5,0,9,3,8,6,4],
@@ -156,7 +157,7 @@ pub(crate) const TWO_FARES: &str =
     r#"{"format":1,"nodes":3,"matrices":[[[0,9,9],[9,0,9],[9,9,0]],[[0,1,1],[1,0,1],[1,1,0]]],
 "vehicles":[{"start":0,"end":0,"costs":1},{"start":0,"end":0,"costs":0}],"pairs":[{"pickup":1,"delivery":2}]}"#;
 
-/// Three visits without waiting, each at a time of its own: node 3, then node 1, then node 2, which may also come
+/// Three visits without waiting, each at a time of its own: node 3, then node 1, then node 2. Node 2 may also come
 /// first, and then keeps the others out.
 pub(crate) const ON_TIME: &str =
     r#"{"format":1,"nodes":4,"matrices":[[[0,1,1,3],[9,0,4,9],[1,9,0,9],[9,3,1,0]]],

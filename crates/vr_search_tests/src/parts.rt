@@ -83,8 +83,8 @@ fn spans_added(alloc: Global, at: ValidChange<'_>) -> Result<i64, NoMemory>
     committed(&mut part, at.routes, at.change)
 }
 
-/// Whether a move of valid routes adds so much to a part of the cost: not where it is no move of them, or the lists
-/// after it are not valid.
+/// Whether a move of valid routes adds this much to a part of the cost. It is false if it is no move of them, or the
+/// lists after it are not valid.
 pub(crate) fn adds(
     alloc: Global,
     closed: Closed<'_>,

@@ -51,7 +51,7 @@ pub(crate) fn assert_rows(rt: &impl Abort, alloc: Global, rows: &[Row]) {
     }
 }
 
-// Whether a row is answered as it says: not where its text is no model, its lists are not valid, or memory is wanted.
+// Whether a row is answered as it says: not if its text is no model, its lists are not valid, or memory runs out.
 fn is_as_said(alloc: Global, row: &Row) -> bool {
     match read_model_text(alloc, row.text) {
         Some(model) => of_model(alloc, Closed { model: &model }, row) == Ok(true),

@@ -35,13 +35,13 @@ impl<'m> Accept for Takes<'m> {
 pub(crate) enum Ended {
     /// At the move of this place, which makes this difference.
     At(u64, i64),
-    /// Behind so many moves.
+    /// After this many moves.
     Behind(u64),
     /// With the tries.
     Cut,
 }
 
-/// Whether a scan with so many tries ends so.
+/// Whether a scan with this many tries ends in this way.
 pub(crate) fn scans<J: Judge, L: Ledger>(
     closed: Closed<'_>,
     judge: &mut J,

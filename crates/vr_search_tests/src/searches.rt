@@ -1,6 +1,6 @@
-//! Whole searches by both judges, which must find the same, and how often they ask a judge: no more often than they try
-//! moves, and less often where what a move makes at least rules it out; and at most twice a try what moves make at
-//! least. Of tabu search also which moves it makes, passes over and ends at.
+//! Whole searches by both judges, which must find the same, and how often they ask a judge. It judges no more often
+//! than moves are tried, and less often if a lower bound of a move rules it out. It is asked for such bounds at most
+//! twice a try. Of tabu search the tests also say which moves it makes, passes over and ends at.
 
 ghost use Rattle.std.specs.Prelude.{IfOk};
 ghost use Rattle.vr_descent.specs.Asking.{AsksFor};
@@ -110,8 +110,8 @@ fn found_by<J: Judge, L: Ledger>(
     }
 }
 
-// Whether a judge is asked so often in so many tries. By rebuilding, which has no bounds, a descent judges each move
-// that it tries: here no move is known to be refused, since a commit changes the one list that there is, or spans of
+// Whether a judge is asked this often in this many tries. By rebuilding, which has no bounds, a descent judges each
+// move that it tries. For no move is known to be refused here: a commit changes the one list that there is, or spans of
 // all vehicles cost something. Guided and tabu search rule some out themselves. By filters fewer are judged than tried.
 fn is_asked_enough(by: By, search: Search, asked: u64, tries: u64) -> bool {
     match (by, search) {
@@ -149,7 +149,7 @@ pub(crate) fn ends_so(routes: &Routes, report: &Report, wanted: &Wanted) -> bool
         && has_list(routes, wanted.list)
 }
 
-/// Whether a search by a judge from the routes at which it stands finds what is wanted, and asks as often as it should.
+/// Whether a search by a judge from the routes it is in sync with finds what is wanted, and asks as often as it should.
 pub(crate) fn finds<J: Judge, L: Ledger>(
     alloc: Global,
     closed: Closed<'_>,
@@ -214,8 +214,8 @@ const ALL: &[&[u32]] = &[&[1, 2, 3]];
 static TURNED: Sought = Sought { search: Search::Tabu(10, &[1, 2]), limit: FAR,
     wanted: Wanted { tries: 12, solutions: 2, end: End::Optimum, list: &[2, 1] } };
 
-// Costs of 26, 18 and 14. In the first round two moves lead to 18, and the first of them is made; the second one's
-// move changes tabu visits alone, but costs less than any before.
+// Costs of 26, 18 and 14. In the first round two moves lead to 18, and the first of them is made. The second one's move
+// changes tabu visits alone, but costs less than any before.
 #[rattlefmt::skip]
 static LED_ON: Sought = Sought { search: Search::Tabu(1, &[3, 1, 2]), limit: FAR,
     wanted: Wanted { tries: 9, solutions: 3, end: End::Optimum, list: &[3, 1, 2] } };
@@ -225,7 +225,7 @@ static LED_ON: Sought = Sought { search: Search::Tabu(1, &[3, 1, 2]), limit: FAR
 static UPHILL: Sought = Sought { search: Search::Tabu(1, &[3, 1, 2]), limit: FAR,
     wanted: Wanted { tries: 12, solutions: 4, end: End::Optimum, list: &[1, 3, 2] } };
 
-// Where visits are tabu for one round longer, the third round has no move that may be made.
+// If visits are tabu for one round longer, the third round has no move that may be made.
 #[rattlefmt::skip]
 static LONGER_TABU: Sought = Sought { search: Search::Tabu(2, &[3, 1, 2]), limit: FAR,
     wanted: Wanted { tries: 9, solutions: 3, end: End::Optimum, list: &[3, 1, 2] } };

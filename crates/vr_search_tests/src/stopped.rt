@@ -1,4 +1,4 @@
-//! What a descent leaves where a watcher wants memory in its midst.
+//! What a descent leaves if a watcher runs out of memory in its midst.
 
 ghost use Rattle.vr_descent.specs.Refused.{CanJudge};
 
@@ -14,7 +14,7 @@ use vr_routes::{Judge, Routes};
 use vr_rules::total;
 use vr_watch::{Stopper, Trace, Watch};
 
-// Whether a descent wants memory.
+// Whether a descent is out of memory.
 fn is_stopped<J: Judge, L: Ledger>(
     alloc: Global,
     closed: Closed<'_>,
@@ -29,7 +29,7 @@ fn is_stopped<J: Judge, L: Ledger>(
     Ok(descend(closed.model, judge, routes, cost, FAR, watch, steps).is_err())
 }
 
-// Writes the reports of watchers, with a stroke behind each.
+// Writes the reports of watchers, with a stroke after each.
 fn write_reports(watch: &[Box<dyn Watch>], reports: &mut Vec<u8>) -> Result<(), NoMemory> {
     for watcher in watch {
         reports.extend_from_slice(watcher.report()?.as_slice())?;
@@ -45,8 +45,8 @@ fn have_told(alloc: Global, watch: &[Box<dyn Watch>], wanted: &[u8]) -> Result<b
     Ok(reports.as_slice() == wanted)
 }
 
-/// A watcher that takes one event stands between two others: whether the move that is found then is committed, and told
-/// to the first of them alone.
+/// A watcher that takes one event is between two others. Whether the move that is found then is committed, and told to
+/// the first of them alone.
 pub(crate) fn ends_between_watchers<J: Judge, L: Ledger>(
     alloc: Global,
     closed: Closed<'_>,

@@ -43,7 +43,7 @@ const OF_TIMED: &str = r#"{"cost":135,"dropped":[],"first_cost":135,
 "routes":[{"dimensions":[{"breaks":[4],"cumuls":[0,15,25],"name":"time","slacks":[5,0]}],"nodes":[0,1,0],"vehicle":0}],
 "solutions":1,"status":"ROUTING_SUCCESS","stop":"first","tries":0}"#;
 
-// A model, a solution of it, what is found in it, as the rule, the vehicle and the place or as the cost, and a list
+// A model, a solution of it, and what is found in it: the rule, the vehicle and the place, or the cost. Last, a list
 // that it prints.
 type Row = (
     &'static str,

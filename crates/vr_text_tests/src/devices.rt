@@ -1,5 +1,5 @@
-//! What no contract of `vr_io` says: that calls which take memory succeed, what std's readers and writers give, and
-//! that a sink over a writer flushes it.
+//! What no contract of `vr_io` says. Calls which take memory succeed, a sink over a writer flushes it, and std's
+//! readers and writers give what they should.
 
 ghost use Rattle.std.specs.Prelude.{◌≤◌};
 
@@ -50,8 +50,8 @@ fn a_sink_takes_the_text(rt: HostRuntime) -> Result<(), Fail> {
     Ok(())
 }
 
-// A reader that gives one byte, then fails, then goes on; and a writer that takes at most five bytes a call, counts
-// its flushes and fails in one of them.
+// A reader that gives one byte, then fails, then goes on. And a writer that takes at most five bytes a call, counts its
+// flushes and fails in one of them.
 #[derive(Drop)]
 struct Scripted {
     calls: usize,
@@ -122,7 +122,7 @@ fn a_writer_is_flushed_after_each_write(rt: HostRuntime) {
     }
 }
 
-// What a writer took, and how it ends where it has no more room.
+// What a writer took, and how it ends if it has no more room.
 #[test]
 fn a_writer_takes_the_text(rt: HostRuntime) {
     let mut taken = Vec::new(rt.alloc());

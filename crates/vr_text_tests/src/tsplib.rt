@@ -12,7 +12,7 @@ const PLANE: &str =
     "NAME : t3\nTYPE : CVRP\nDIMENSION : 3\nEDGE_WEIGHT_TYPE : EUC_2D\nCAPACITY : 10\n\
 NODE_COORD_SECTION\n1 0 0\n2 3 4\n3 1 1\nDEMAND_SECTION\n1 0\n2 4\n3 5\nDEPOT_SECTION\n1\n-1\nEOF\n";
 
-// The same with tabs, carriage returns, empty lines, zeros behind points, and no end.
+// The same with tabs, carriage returns, empty lines, zeros after points, and no end.
 const SPACED: &str =
     "NAME\t:\tt3\r\nTYPE\t:\tCVRP\r\n\r\nDIMENSION\t:\t3.00\r\nEDGE_WEIGHT_TYPE:EUC_2D\r\n\
 COMMENT : one : of\r\nCOMMENT:\r\nCAPACITY\t:\t0010\r\n\
@@ -23,7 +23,7 @@ const PLANE_TREE: &str = "{\"dimensions\":[{\"capacity\":10,\"evaluators\":[{\"v
 \"fix_start\":true,\"name\":\"load\",\"slack_max\":0}],\"format\":1,\"matrices\":[[[0,5,1],[5,0,4],[1,4,0]]],\
 \"nodes\":3,\"vehicles\":[{\"end\":0,\"start\":0}]}";
 
-// Rows of lower weights over two lines, the depot 2, and what stands behind the end.
+// Rows of lower weights over two lines, the depot 2, and text after the end.
 const LOWER: &str =
     "TYPE : CVRP\nDIMENSION : 3\nEDGE_WEIGHT_TYPE : EXPLICIT\nEDGE_WEIGHT_FORMAT : LOWER_ROW\n\
 CAPACITY : 9\nEDGE_WEIGHT_SECTION\n7\n8 9\nDEMAND_SECTION\n3 2\n2 0\n1 1\nDEPOT_SECTION\n2\n-1\nEOF\nnothing: here\n";

@@ -31,7 +31,7 @@ enum Call {
     List,
     // the field "b", of one to three digits: how many
     Required,
-    // the same; 0 where it is not there
+    // the same; 0 if it is not there
     Optional,
     // no field but "b": 0
     Known,

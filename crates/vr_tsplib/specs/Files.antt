@@ -55,7 +55,7 @@ head_line read state line = do
   head ← read state.head line
   Ok (with_head state head)
 
--- a line with words, by where it stands; behind EOF it has no meaning
+-- a line with words, by the section it is in; after EOF it has no meaning
 abbrev pub line_at : LinePlace → State → List ℕ → Result State Flaw
 line_at place.Outside state line = head_line outside_line state line
 line_at (place.Sites left) state line = sites_line left state line
@@ -93,7 +93,7 @@ abbrev pub of_formats : Option WeightFormat → Option Distances
 of_formats None = None
 of_formats (Some format) = of_format format
 
--- how the distances are given, where the section that gives them stood
+-- how the distances are given, if the section that gives them came
 abbrev pub distances_of : WeightType → Head → Option Distances
 distances_of Euclidean head = if head.has_sites then Some distances.Plane else None
 distances_of Explicit head = if head.has_weights then of_formats head.weight_format else None

@@ -1,4 +1,4 @@
--- What is wrong with a file, and where.
+-- What is wrong with a file, and in which line.
 use Rattle.std.specs.Prelude.{◌≡◌, ℕ, Bool, List, [], Result, Ok, Err, IfOk, ⊤, if◌then◌else◌}
 use Rattle.vr_json.specs.declared.fault.Fault.{Fault}
 use Rattle.vr_json.specs.declared.fault.ReadFail.{ReadFail}
@@ -20,7 +20,7 @@ flaw_code NodeAgain = 44
 flaw_code Missing = 45
 flaw_code DepotDemand = 46
 
--- the fault of a flaw in a line: the path is `/` and the number of the line, or 0 for the file as a whole
+-- The fault of a flaw in a line. The path is `/` and the number of the line, or 0 for the file as a whole.
 abbrev pub fault_in_line : Flaw → ℕ → Fault
 fault_in_line flaw number = record { code = flaw_code flaw; path = item_path [] number }
 
@@ -33,7 +33,7 @@ at_line number (Err flaw) = Err (fault_in_line flaw number)
 unfoldable pub refuse_if : Bool → Flaw → Result ⊤ Flaw
 refuse_if wrong flaw = if wrong then Err flaw else Ok tt
 
--- What a call answers, beside what is to be read: that value or that flaw. It may want memory instead.
+-- What a call answers, beside what is to be read: that value or that flaw. It may be out of memory instead.
 pub record AnswersLine {A : Type 0} (answer : Result A LineFail) (reading : Result A Flaw) : Type 0 where
   pub value : IfOk answer (λ x. reading ≡ Ok x)
   pub flawed : (flaw : Flaw) → answer ≡ Err (Flawed flaw) → reading ≡ Err flaw

@@ -23,7 +23,7 @@ use Rattle.vr_tsplib.specs.Texts.{words, has_byte, before_byte, after_byte}
 
 -- ---- words
 
--- what the first word of a table stands for that is this one
+-- what the first word of a table means that is this one
 abbrev pub meaning : {A : Type 0} → List (List ℕ × A) → List ℕ → Option A
 meaning table word = option_map (λ w. w.1) (find (λ w. bytes_eq w.0 word) table)
 
@@ -74,7 +74,7 @@ no_head = record {
 abbrev pub nodes_of : Head → ℕ
 nodes_of head = unwrap_or head.nodes 0
 
--- a number as the value of a keyword, which must not have stood before
+-- a number as the value of a keyword, which must not have come before
 unfoldable pub once_number : Bool → ℕ → ℕ → List ℕ → Result ℕ Flaw
 once_number stood lo hi value = do
   number ← one_number (words value)
@@ -127,7 +127,7 @@ keep_weight_format head value = do
   chosen ← ok_or (meaning weight_formats word) UnknownWord
   Ok (record head { weight_format = Some chosen })
 
--- a keyword and its value; each but COMMENT stands at most once
+-- a keyword and its value; each but COMMENT comes at most once
 abbrev pub keep : Keyword → Head → List ℕ → Result Head Flaw
 keep keyword.Name head value = keep_name head
 keep keyword.Comment head value = Ok head
@@ -139,7 +139,7 @@ keep keyword.Capacity head value = keep_capacity head value
 keep keyword.EdgeWeightType head value = keep_weight_type head value
 keep keyword.EdgeWeightFormat head value = keep_weight_format head value
 
--- a line with a colon: one keyword before the first one, and its value behind it
+-- a line with a colon: one keyword before the first one, and its value after it
 unfoldable pub keyword_parts : Head → List ℕ → List ℕ → Result Head Flaw
 keyword_parts head key_text value = do
   word ← one_word (words key_text)
@@ -161,11 +161,11 @@ abbrev pub weights_wanted : Option WeightFormat → ℕ → Option ℕ
 weights_wanted None n = None
 weights_wanted (Some format) n = weights_of format n
 
--- where the next line stands where so many weights are to come
+-- the part of the file that the next line is in, if this many weights are to come
 abbrev pub weights_left : ℕ → LinePlace
 weights_left left = if left == 0 then Outside else Weights left
 
--- how many nodes there are, where a section begins that must not have stood before
+-- how many nodes there are, if a section begins that must not have come before
 unfoldable pub section_nodes : Head → Bool → Result ℕ Flaw
 section_nodes head stood = do
   fresh ← refuse_if stood Repeated
@@ -192,8 +192,8 @@ begin_depot head = do
   n ← section_nodes head head.has_depot
   Ok (record head { has_depot = true; place = Depot })
 
--- a section begins, or the file ends; each section stands at most once, and behind DIMENSION, that of the weights also
--- behind a format that has weights
+-- A section begins, or the file ends. Each section comes at most once, and after DIMENSION. That of the weights also
+-- comes after a format that has weights.
 abbrev pub begin : Heading → Head → Result Head Flaw
 begin heading.NodeCoordSection head = begin_sites head
 begin heading.EdgeWeightSection head = begin_weights head

@@ -9,13 +9,13 @@ use Rattle.vr_tsplib.specs.Texts.{lines}
 use Rattle.vr_tsplib.specs.Files.{start, read_lines, complete}
 use Rattle.vr_tsplib.specs.Trees.{tree_of}
 
--- the tree of the model of a whole file whose lines said this, with so many vehicles
+-- the tree of the model of a whole file whose lines said this, with this many vehicles
 unfoldable pub model_of_lines : ℕ → State → Result Data Fault
 model_of_lines vehicles state = do
   problem ← at_line 0 (complete state)
   Ok (tree_of vehicles state problem)
 
--- the tree of the model of a file, with so many vehicles, or the first fault of the file
+-- the tree of the model of a file, with this many vehicles, or the first fault of the file
 unfoldable pub imported : ℕ → List ℕ → Result Data Fault
 imported vehicles bytes = do
   state ← read_lines start 1 (lines bytes)

@@ -15,7 +15,7 @@ is_digit b = nat_le 48 b && nat_le b 57
 abbrev pub is_zero : ℕ → Bool
 is_zero b = b == 48
 
--- the value of digits that stand behind those of n
+-- the value of digits that come after those of n
 unfoldable pub digits_behind : ℕ → List ℕ → Option ℕ
 digits_behind n [] = Some n
 digits_behind n (b ∷ text) = if is_digit b then digits_behind (n * 10 + (b - 48)) text else None
@@ -48,16 +48,16 @@ number word = ok_or (number_of word) FaultyLine
 abbrev pub is_number : List ℕ → Bool
 is_number word = is_some (number_of word)
 
--- one word, and nothing behind it
+-- one word, and nothing after it
 unfoldable pub one_word : List (List ℕ) → Result (List ℕ) Flaw
 one_word (word ∷ []) = Ok word
 one_word _ = Err FaultyLine
 
--- one number, two numbers, three numbers, and nothing behind them
+-- one number, two numbers, three numbers, and nothing after them
 abbrev pub one_number : List (List ℕ) → Result ℤ Flaw
 one_number ws = one_word ws >>= number
 
--- the number at the front, and the words behind it
+-- the number at the front, and the words after it
 unfoldable pub first_number : List (List ℕ) → Result (ℤ × List (List ℕ)) Flaw
 first_number [] = Err FaultyLine
 first_number (word ∷ rest) = number word >>= λ z. Ok (z, rest)

@@ -12,7 +12,7 @@ pub record IsFloorRoot (n r : ℕ) : Type 0 where
   pub square_low : r * r ≤ n
   pub next_high : n < (r + 1) * (r + 1)
 
--- the whole number next to the root of n, where r is that root, rounded down
+-- the whole number next to the root of n, if r is that root, rounded down
 abbrev pub rounded : ℕ → ℕ → ℕ
 rounded n r = if nat_lt r (n - r * r) then r + 1 else r
 

@@ -29,7 +29,7 @@ has_site rows node = list_any (λ row. row.node == node) rows
 abbrev pub has_demand : List DemandRow → ℕ → Bool
 has_demand rows node = list_any (λ row. row.node == node) rows
 
--- where a node stands, which has no earlier row: the node, x and y
+-- the point of a node, which has no earlier row: the node, x and y
 unfoldable pub site_row : ℕ → List SiteRow → List (List ℕ) → Result SiteRow Flaw
 site_row n rows ws = do
   row ← three_numbers ws
@@ -56,18 +56,18 @@ are_numbers left ws = list_all is_number ws && nat_le (length ws) left
 unfoldable pub weight : List ℕ → Result ℕ Flaw
 weight word = number word >>= count_in 0 1099511627776
 
--- words as weights, behind others
+-- words as weights, after others
 unfoldable pub weights_behind : List ℕ → List (List ℕ) → Result (List ℕ) Flaw
 weights_behind earlier [] = Ok earlier
 weights_behind earlier (word ∷ rest) = weight word >>= λ w. weights_behind (earlier ++ w ∷ []) rest
 
--- a row of weights behind others, of which so many are still to come
+-- a row of weights after others, of which this many are still to come
 unfoldable pub row_behind : ℕ → List ℕ → List (List ℕ) → Result (List ℕ) Flaw
 row_behind left earlier ws = do
   shaped ← refuse_if (not (are_numbers left ws)) FaultyLine
   weights_behind earlier ws
 
--- the line of the depot, and the line of -1 behind it
+-- the line of the depot, and the line of -1 after it
 unfoldable pub depot_row : Head → List (List ℕ) → Result Head Flaw
 depot_row head ws = do
   number ← one_number ws
@@ -80,7 +80,7 @@ depot_end head ws = do
   last ← refuse_if (not (int_eq number (negsuc 0))) NodeAgain
   Ok (record head { place = Outside })
 
--- where the reading goes on behind a row, of so many that were to come
+-- the part of the file that the line after a row is in; the row was one of this many that were to come
 abbrev pub sites_left : ℕ → LinePlace
 sites_left left = if nat_le left 1 then Outside else Sites (left - 1)
 

@@ -22,7 +22,7 @@ BeginsWord (b ∷ text) = is_blank b ≡ false
 unfoldable pub words : List ℕ → List (List ℕ)
 words text = filter (λ word. not (is_empty word)) (slice_split is_blank text)
 
--- whether a byte stands in a text, and what stands before the first such byte and behind it
+-- whether a byte is in a text, and what is before the first such byte and after it
 abbrev pub has_byte : ℕ → List ℕ → Bool
 has_byte mark text = list_any (λ b. b == mark) text
 

@@ -27,7 +27,7 @@ axis_gap x y = unsigned_abs (x -ℤ y)
 abbrev pub distance : SiteRow → SiteRow → ℕ
 distance a b = nearest (axis_gap a.x b.x * axis_gap a.x b.x + axis_gap a.y b.y * axis_gap a.y b.y)
 
--- where each node stands
+-- the point of each node
 abbrev pub sites : ℕ → List SiteRow → List SiteRow
 sites n rows = map (site_of rows) (file_nodes n)
 
@@ -42,11 +42,11 @@ plane places = listed (plane_row places) places
 abbrev pub weight_at : List ℕ → ℕ → ℕ
 weight_at weights k = get_or weights k 0
 
--- the weight of two nodes in a full matrix, which stands row by row
+-- the weight of two nodes in a full matrix, which is written row by row
 abbrev pub full_weight : ℕ → List ℕ → ℕ → ℕ → ℕ
 full_weight n weights i j = weight_at weights (i * n + j)
 
--- the weight of two nodes where each node has those to all lower ones, the same both ways
+-- the weight of two nodes if each node has those to all lower ones, the same both ways
 abbrev pub lower_weight : List ℕ → ℕ → ℕ → ℕ
 lower_weight weights i j =
     let hi = max i j in if i == j then 0 else weight_at weights (hi * (hi - 1) / 2 + min i j)
@@ -84,11 +84,11 @@ loads capacity demands = object
 abbrev pub vehicle : ℕ → Data
 vehicle node = object (member (codes "end") (count node) (member (codes "start") (count node) no_members))
 
--- so many vehicles at a node
+-- this many vehicles at a node
 abbrev pub fleet : ℕ → ℕ → Data
 fleet vehicles node = listed (λ v. vehicle node) (below vehicles)
 
--- the model of a file, with so many vehicles; node i of the file is node i - 1
+-- the model of a file, with this many vehicles; node i of the file is node i - 1
 unfoldable pub tree_of : ℕ → State → Problem → Data
 tree_of vehicles state problem = object
     (member (codes "dimensions") (one (loads problem.capacity (demands problem.nodes state)))

@@ -39,7 +39,7 @@ impl State {
         }
     }
 
-    // Takes a row of coordinates, of so many that are to come.
+    // Takes a row of coordinates, of which this many are to come.
     #[tactic(auto, unfolding(vr_json::specs::Reading::and_then, crate::specs::Files::sites_line))]
     fn sites_line(&mut self, left: u32, line: &[u8]) -> Result<(), LineFail>
         ensures { AnswersLine (seen (λ u. self.new) result) (files.sites_line left self.old line.now) }
@@ -50,7 +50,7 @@ impl State {
         Ok(())
     }
 
-    // Takes the row of a demand, of so many that are to come.
+    // Takes the row of a demand, of which this many are to come.
     #[tactic(auto, unfolding(vr_json::specs::Reading::and_then, crate::specs::Files::demands_line))]
     fn demands_line(&mut self, left: u32, line: &[u8]) -> Result<(), LineFail>
         ensures { AnswersLine (seen (λ u. self.new) result) (files.demands_line left self.old line.now) }
@@ -61,8 +61,8 @@ impl State {
         Ok(())
     }
 
-    // Takes a line of weights, of which so many are to come: weights and not lines, since a line has any number of
-    // them.
+    // Takes a line of weights, of which this many are to come. They are weights and not lines, since a line has any
+    // number of them.
     fn weights_line(&mut self, left: u64, line: &[u8]) -> Result<(), LineFail>
         ensures { AnswersLine (seen (λ u. self.new) result) (files.weights_line left self.old line.now) }
     {
@@ -73,7 +73,7 @@ impl State {
         Ok(())
     }
 
-    // Takes a line with words, by where it stands; behind `EOF` it has no meaning.
+    // Takes a line with words, by the section it is in; after `EOF` it has no meaning.
     #[tactic(auto, unfolding(vr_json::specs::Reading::and_then, crate::specs::Files::head_line))]
     fn line_at(&mut self, line: &[u8]) -> Result<(), LineFail>
         ensures { AnswersLine (seen (λ u. self.new) result) (files.line_at self.old.head.place self.old line.now) }

@@ -13,15 +13,15 @@ use vr_model::{NoMemory, Text};
 /// What is wrong with a line, or with a file as a whole.
 #[derive(Clone, Copy)]
 pub enum Flaw {
-    /// The line is none that may stand there.
+    /// The line is none that may come there.
     FaultyLine,
-    /// A section, or a keyword other than `COMMENT`, stands a second time.
+    /// A section, or a keyword other than `COMMENT`, comes a second time.
     Repeated,
     /// A word is none of those that the keyword has.
     UnknownWord,
     /// A number lies outside its range.
     OutOfRange,
-    /// A node stood earlier in its section, or the number behind the depot is not -1.
+    /// A node came earlier in its section, or the number after the depot is not -1.
     NodeAgain,
     /// Something that must come earlier, or before the end, is missing.
     Missing,

@@ -1,5 +1,5 @@
-//! Keywords with their values, and the head, in which all is kept that lines say beside the rows of sections;
-//! `sections` and `rows` have the rest of its steps.
+//! Keywords with their values, and the head. The head keeps all that lines say beside the rows of sections. `sections`
+//! and `rows` have the rest of its steps.
 
 ghost use Rattle.std.specs.Prelude.{◌≡◌, ◌≤◌, IfOk};
 ghost use Rattle.vr_tsplib.specs.Heads as heads;
@@ -38,11 +38,11 @@ pub enum Heading {
 pub enum WeightType {
     /// They are distances in the plane.
     Euclidean,
-    /// They stand in the file.
+    /// They are written in the file.
     Explicit,
 }
 
-/// How weights stand in the file.
+/// How weights are written in the file.
 #[derive(Clone, Copy)]
 pub enum WeightFormat {
     /// All of them, row by row.
@@ -53,34 +53,34 @@ pub enum WeightFormat {
     Function,
 }
 
-/// Where the next line stands.
+/// In which part of the file the next line is.
 #[derive(Clone, Copy)]
 pub enum LinePlace {
     /// Outside the sections.
     Outside,
-    /// In the section of coordinates, of which so many rows are to come.
+    /// In the section of coordinates, of which this many rows are to come.
     Sites(u32),
-    /// In the section of weights, of which so many are to come.
+    /// In the section of weights, of which this many are to come.
     Weights(u64),
-    /// In the section of demands, of which so many rows are to come.
+    /// In the section of demands, of which this many rows are to come.
     Demands(u32),
     /// In the section of the depot, before its node.
     Depot,
     /// In the section of the depot, before the -1 that ends it.
     DepotEnd,
-    /// Behind the line `EOF`.
+    /// After the line `EOF`.
     Ended,
 }
 
-/// What is known beside the rows of sections: the keywords and sections that stood, the depot, and where the next line
-/// stands. What a keyword or the row of the depot says is `None` until it stood; `nodes` is what `DIMENSION` says.
+/// What is known beside the rows of sections: the keywords and sections that came, the depot, and the place of the next
+/// line. What a keyword or the row of the depot says is `None` until it came. `nodes` is what `DIMENSION` says.
 #[derive(Clone, Copy)]
 pub struct Head {
-    /// Whether `NAME` stood, and so the two below: their values are not used, but none may stand twice.
+    /// Whether `NAME` came. It and the two below are kept because none may come twice; their values are not used.
     pub name: bool,
     pub node_coord_type: bool,
     pub display_data_type: bool,
-    /// Whether `TYPE` stood; its only value is `CVRP`.
+    /// Whether `TYPE` came; its only value is `CVRP`.
     pub is_cvrp: bool,
     pub nodes: Option<u32>,
     pub capacity: Option<u64>,
@@ -110,8 +110,8 @@ const WEIGHT_FORMATS: [(&str, WeightFormat); 3] = [
     ("FUNCTION", WeightFormat::Function),
 ];
 
-// A number as the value of a keyword, which must not have stood before. Its flaws come in the order of their codes: no
-// number, then stood before, then out of range.
+// A number as the value of a keyword, which must not have come before. Its flaws come in the order of their codes: no
+// number, then came before, then out of range.
 #[tactic(auto, unfolding(vr_json::specs::Reading::and_then, crate::specs::Heads::once_number))]
 fn once_number(stood: bool, lo: u64, hi: u64, value: &[u8]) -> Result<u64, Flaw>
     ensures value { result ≡ heads.once_number stood lo hi value.now }
@@ -145,7 +145,7 @@ impl Head {
         }
     }
 
-    /// How many nodes there are; 0 before `DIMENSION`, where no row asks, since sections begin only behind it.
+    /// How many nodes there are. It is 0 before `DIMENSION`, when no row asks, since sections begin only after it.
     pub(crate) fn node_count(self) -> u32
         ensures { result ≡ heads.nodes_of self }
     {

@@ -26,10 +26,10 @@ fn model(alloc: Global, vehicles: u32, state: &State) -> Result<Value, ReadFail>
     }
 }
 
-/// The tree of the model of a TSPLIB file of type CVRP, with so many vehicles, 1 to 100.
+/// The tree of the model of a TSPLIB file of type CVRP, with this many vehicles, 1 to 100.
 ///
-/// A file with a flaw is refused, with the code of its first flaw and the path `/LINE`, the number of the line from 1;
-/// the path is `/0` where something is missing at the end of the file, and where the depot has a demand.
+/// A file with a flaw is refused, with the code of its first flaw and the path `/LINE`, the number of the line from 1.
+/// The path is `/0` if something is missing at the end of the file, or if the depot has a demand.
 pub fn import(alloc: Global, bytes: &[u8], vehicles: u32) -> Result<Value, ReadFail>
     requires some { 1 ≤ vehicles }
     requires few { vehicles ≤ most_vehicles }

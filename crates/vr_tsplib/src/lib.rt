@@ -1,14 +1,22 @@
-//! Import of routing problems from TSPLIB files of type CVRP.
+//! Import of routing problems from TSPLIB files of type CVRP. Such a file becomes the tree of a model of format 1, with
+//! as many vehicles as the caller says. A line `DIMENSION : 5`, say, makes five nodes. With `EUC_2D` their rows of
+//! coordinates make the matrix of distances.
 //!
-//! A file is read line by line, once, and what a line says is kept in a `State`: the head (keywords, which sections
-//! stood, and where the next line stands) and the rows of the sections. Nothing of the file's text is kept. The state
-//! behind each line is that of the definition `read_lines`, so the first faulty line gives the answer. A whole file
-//! becomes the tree of a model of format 1. `vr_app` calls `import`.
+//! A file is read line by line, once. What a line says is kept in a `State`: the head and the rows of the sections.
+//! The head has the keywords, which sections came, and the part of the file that the next line is in. Nothing of the
+//! file's text is kept. The state after each line is that of the definition `read_lines`, so the first faulty line
+//! gives the answer.
 //!
-//! `files` goes over the lines. Those outside sections are read by `sections`, by the keywords of `heads`; those inside
-//! by `rows` and `weights`; what stands in a line by `texts`, `words` and `numbers`. `flaws` has what is refused.
-//! `summaries` says what a whole file says, and `trees` makes the tree, with the distances of nodes in the plane, which
-//! are rounded square roots (`roots`); `imports` is all of that.
+//! `vr_app` calls `import`. This crate calls `vr_json`, which makes the tree.
+//!
+//! Start at `imports`, which is all of that: `files` goes over the lines, `summaries` says what a whole file says, and
+//! `trees` makes the tree. The other files are these:
+//!
+//! - `sections` reads lines outside sections, by the keywords of `heads`.
+//! - `rows` and `weights` read lines inside sections.
+//! - `texts`, `words` and `numbers` read what is in a line.
+//! - `flaws` has what is refused.
+//! - `roots` has rounded square roots, which are the distances of nodes in the plane.
 #![tactic(auto)]
 
 mod files;

@@ -21,7 +21,7 @@ fn is_short(text: &[u8]) -> bool
     1 <= text.len() && text.len() <= 15
 }
 
-// The value of digits; `None` where a byte is no digit.
+// The value of digits; `None` if a byte is no digit.
 fn value_of(text: &[u8]) -> Option<u64>
     requires { length text.now ≤ 15 }
     ensures value { result ≡ numbers.digits_behind 0 text.now }
@@ -53,7 +53,7 @@ fn are_zeros(text: &[u8]) -> bool
     text.iter().all(|b| *b == b'0')
 }
 
-// The value of a number without a sign; behind a point it has zeros alone, or nothing.
+// The value of a number without a sign; after a point it has zeros alone, or nothing.
 #[tactic(auto, unfolding(crate::specs::Numbers::unsigned))]
 fn unsigned(text: &[u8]) -> Option<u64>
     ensures value { result ≡ numbers.unsigned text.now }

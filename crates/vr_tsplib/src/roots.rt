@@ -10,8 +10,8 @@ use std::num::saturating_f64_to_u64;
 // of two differences add up to no more.
 const GREATEST_ROOT: u64 = 2_828_427;
 
-// The square root, rounded down. It is guessed in floating point, and looked for where that guess is another number: of
-// the tests the first keeps its square within 64 bits, and the last says that the next number's square is above `n`.
+// The square root, rounded down. It is guessed in floating point, and looked for if that guess is another number. Of
+// the tests the first keeps its square within 64 bits. The last says that the next number's square is above `n`.
 fn floor_root(n: u64) -> u64
     requires { n ≤ 8000000000000 }
     ensures { IsFloorRoot n result }
@@ -24,7 +24,7 @@ fn floor_root(n: u64) -> u64
 }
 
 // The root rounded to the nearest whole number, by the root rounded down. Halfway to the next number the square is
-// `root * root + root + 1/4`, and `n` lies above that where it is more than `root` above `root * root`.
+// `root * root + root + 1/4`. `n` lies above that if it is more than `root` above `root * root`.
 fn rounded(n: u64, root: u64) -> u64
     requires few { n ≤ 8000000000000 }
     requires root { IsFloorRoot n root }

@@ -10,7 +10,7 @@ use crate::numbers::{count_in, whole_in};
 use crate::words::{one_number, three_numbers, two_numbers};
 use vr_model::limits::GREATEST_VALUE;
 
-/// Where a node stands; nodes as the file numbers them, from 1.
+/// The point of a node; nodes as the file numbers them, from 1.
 #[derive(Clone, Copy)]
 pub struct SiteRow {
     pub node: u32,
@@ -57,7 +57,7 @@ fn has_demand(rows: &[DemandRow], node: u32) -> bool
     rows.iter().any(|row| row.node == node)
 }
 
-/// The row of coordinates that a line is, of one of `n` nodes, behind these rows.
+/// The row of coordinates that a line is, of one of `n` nodes, after these rows.
 #[tactic(auto, unfolding(vr_json::specs::Reading::and_then, crate::specs::Rows::site_row))]
 pub(crate) fn site_row(n: u32, earlier: &[SiteRow], line: &[u8]) -> Result<SiteRow, Flaw>
     ensures { result ≡ row_tables.site_row n earlier.now (words line.now) }
@@ -70,7 +70,7 @@ pub(crate) fn site_row(n: u32, earlier: &[SiteRow], line: &[u8]) -> Result<SiteR
     Ok(SiteRow { node, x, y })
 }
 
-/// The row of a demand that a line is, of one of `n` nodes, behind these rows.
+/// The row of a demand that a line is, of one of `n` nodes, after these rows.
 #[tactic(auto, unfolding(vr_json::specs::Reading::and_then, crate::specs::Rows::demand_row))]
 pub(crate) fn demand_row(n: u32, earlier: &[DemandRow], line: &[u8]) -> Result<DemandRow, Flaw>
     ensures { result ≡ row_tables.demand_row n earlier.now (words line.now) }
@@ -85,7 +85,7 @@ pub(crate) fn demand_row(n: u32, earlier: &[DemandRow], line: &[u8]) -> Result<D
     })
 }
 
-/// Where the reading goes on behind a row of coordinates, of so many that were to come.
+/// The part of the file that comes after a row of coordinates. The row was one of this many that were to come.
 pub(crate) fn sites_left(left: u32) -> LinePlace
     ensures { result ≡ row_tables.sites_left left }
 {
@@ -96,7 +96,7 @@ pub(crate) fn sites_left(left: u32) -> LinePlace
     }
 }
 
-/// Where the reading goes on behind the row of a demand, of so many that were to come.
+/// The part of the file that comes after the row of a demand. The row was one of this many that were to come.
 pub(crate) fn demands_left(left: u32) -> LinePlace
     ensures { result ≡ row_tables.demands_left left }
 {
@@ -122,7 +122,7 @@ impl Head {
         })
     }
 
-    /// With the line behind the depot, which must be -1.
+    /// With the line after the depot, which must be -1.
     #[tactic(auto, unfolding(vr_json::specs::Reading::and_then, crate::specs::Rows::depot_end))]
     pub(crate) fn depot_end(self, line: &[u8]) -> Result<Head, Flaw>
         ensures { result ≡ row_tables.depot_end self (words line.now) }

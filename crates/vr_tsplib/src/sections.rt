@@ -28,7 +28,7 @@ const HEADINGS: [(&str, Heading); 5] = [
     ("EOF", Heading::Eof),
 ];
 
-// How many weights a format has for `n` nodes; `None` where it has no section of weights.
+// How many weights a format has for `n` nodes; `None` if it has no section of weights.
 fn weights_of(format: WeightFormat, n: u32) -> Option<u64>
     ensures { result ≡ heads.weights_of format n }
 {
@@ -40,7 +40,7 @@ fn weights_of(format: WeightFormat, n: u32) -> Option<u64>
     }
 }
 
-// The same of the format in a head, `None` also where its keyword did not stand yet.
+// The same of the format in a head, `None` also if its keyword did not come yet.
 fn weights_wanted(format: Option<WeightFormat>, n: u32) -> Option<u64>
     ensures { result ≡ heads.weights_wanted format n }
 {
@@ -50,7 +50,8 @@ fn weights_wanted(format: Option<WeightFormat>, n: u32) -> Option<u64>
     }
 }
 
-/// Where the next line stands where so many weights are to come: in their section, and outside it where none are.
+/// The part of the file that the next line is in, if this many weights are to come. It is their section, and outside it
+/// if none are.
 pub(crate) fn weights_left(left: u64) -> LinePlace
     ensures { result ≡ heads.weights_left left }
 {
@@ -62,7 +63,7 @@ pub(crate) fn weights_left(left: u64) -> LinePlace
 }
 
 impl Head {
-    // How many nodes there are, where a section begins: it must not have stood before, and `DIMENSION` must.
+    // How many nodes there are, if a section begins: it must not have come before, and `DIMENSION` must.
     #[tactic(auto, unfolding(vr_json::specs::Reading::and_then, crate::specs::Heads::section_nodes))]
     fn section_nodes(self, stood: bool) -> Result<u32, Flaw>
         ensures { result ≡ heads.section_nodes self stood }
@@ -140,7 +141,7 @@ impl Head {
         }
     }
 
-    // A line with a colon, of which these are the parts before and behind the first one.
+    // A line with a colon, of which these are the parts before and after the first one.
     #[tactic(auto, unfolding(vr_json::specs::Reading::and_then, crate::specs::Heads::keyword_parts))]
     fn keyword_parts(self, name: &[u8], value: &[u8]) -> Result<Head, Flaw>
         ensures { result ≡ heads.keyword_parts self name.now value.now }

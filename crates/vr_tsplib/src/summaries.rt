@@ -12,7 +12,7 @@ use crate::rows::DemandRow;
 /// How the distances of nodes are given.
 #[derive(Clone, Copy)]
 pub enum Distances {
-    /// By where the nodes stand in the plane.
+    /// By the points of the nodes in the plane.
     Plane,
     /// By all weights, row by row.
     Full,
@@ -30,8 +30,8 @@ pub struct Problem {
     pub distances: Distances,
 }
 
-/// The demand of a node: `complete` asks that of the depot, `trees` that of each node. 0 where it has no row, which
-/// cannot be behind a whole section.
+/// The demand of a node: `complete` asks that of the depot, `trees` that of each node. It is 0 if the node has no row,
+/// which cannot be after a whole section.
 pub(crate) fn demand_of(rows: &[DemandRow], node: u32) -> u32
     ensures { result ≡ row_tables.demand_of rows.now node }
 {
@@ -74,8 +74,8 @@ fn of_formats(format: Option<WeightFormat>) -> Option<Distances>
     }
 }
 
-// How the distances are given; `None` where the section that they come from, of coordinates or of weights, did not
-// stand.
+// How the distances are given. It is `None` if the section that they come from, of coordinates or of weights, did not
+// come.
 fn distances_of(weights: WeightType, head: Head) -> Option<Distances>
     ensures { result ≡ files.distances_of weights head }
 {
@@ -88,8 +88,8 @@ fn distances_of(weights: WeightType, head: Head) -> Option<Distances>
 
 /// What a whole file says.
 ///
-/// The flaw `Missing` comes where the file ended within a section, or without something that must be there, and then
-/// `DepotDemand` where the depot has a demand.
+/// The flaw `Missing` comes if the file ended within a section, or without something that must be there. After that,
+/// `DepotDemand` comes if the depot has a demand.
 #[tactic(auto, unfolding(vr_json::specs::Reading::and_then, crate::specs::Files::complete))]
 pub(crate) fn complete(state: &State) -> Result<Problem, Flaw>
     ensures { result ≡ files.complete state.now }

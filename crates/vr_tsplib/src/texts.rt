@@ -1,11 +1,11 @@
-//! The words of a text, and what stands before and behind a mark in it.
+//! The words of a text, and what is before and after a mark in it.
 
 ghost use Rattle.std.specs.Prelude.{◌≡◌, ◌==◌, ◌≤◌, ◌<◌, [], ◌∷◌, length, MatchOption, IfNone, IfSome, true, false};
 ghost use Rattle.std.specs.List.{position_or_len};
 ghost use Rattle.vr_tsplib.specs.Texts as texts;
 ghost use Rattle.vr_tsplib.specs.Texts.{words};
 
-/// Whether a byte stands between words: a space, a tab or a carriage return.
+/// Whether a byte lies between words: a space, a tab or a carriage return.
 pub(crate) fn is_blank(b: u8) -> bool
     ensures { result ≡ texts.is_blank b }
 {
@@ -33,7 +33,7 @@ fn word_len(text: &[u8]) -> usize
     text.iter().position(|b| is_blank(*b)).unwrap_or(text.len())
 }
 
-/// The first word of a text, and what stands behind it.
+/// The first word of a text, and what is after it.
 pub(crate) fn first_word(text: &[u8]) -> Option<(&[u8], &[u8])>
     ensures words { MatchOption result (words text.now ≡ []) (λ p. words text.now ≡ p.0.now ∷ words p.1.now) }
     ensures shorter { IfSome result (λ p. length p.1.now < length text.now) }
@@ -53,7 +53,7 @@ pub(crate) fn is_wordless(text: &[u8]) -> bool
     first_word(text).is_none()
 }
 
-// The place of the first such byte; the length where there is none.
+// The place of the first such byte; the length if there is none.
 fn place_of(text: &[u8], mark: u8) -> usize
     ensures value { result ≡ position_or_len (λ b. b == mark) text.now }
     ensures within { result ≤ length text.now }
@@ -61,7 +61,7 @@ fn place_of(text: &[u8], mark: u8) -> usize
     text.iter().position(|b| *b == mark).unwrap_or(text.len())
 }
 
-/// What stands before the first such byte and behind it, where there is one.
+/// What is before the first such byte and after it, if there is one.
 pub(crate) fn cut_at(text: &[u8], mark: u8) -> Option<(&[u8], &[u8])>
     ensures none { IfNone result (texts.has_byte mark text.now ≡ false) }
     ensures some { IfSome result (λ p. texts.has_byte mark text.now ≡ true) }

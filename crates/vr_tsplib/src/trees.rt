@@ -29,7 +29,8 @@ fn distance(a: SiteRow, b: SiteRow) -> u64
     nearest_root(dx * dx + dy * dy)
 }
 
-// The row of a node; the origin where it has none, which does not come: a whole section has a row of each node.
+// The row of a node. It is the origin if the node has none, which does not come: a whole section has a row of each
+// node.
 fn site_of(rows: &[SiteRow], node: u32) -> SiteRow
     ensures { result ≡ row_tables.site_of rows.now node }
 {
@@ -41,7 +42,7 @@ fn site_of(rows: &[SiteRow], node: u32) -> SiteRow
     SiteRow { node, x: 0, y: 0 }
 }
 
-// Where each of `n` nodes stands.
+// The point of each of `n` nodes.
 fn sites(alloc: Global, n: u32, rows: &[SiteRow]) -> Result<Vec<SiteRow>, NoMemory>
     ensures { IfOk result (λ all. all.items ≡ trees.sites n rows.now) }
 {
@@ -77,8 +78,8 @@ fn plane(alloc: Global, places: &[SiteRow]) -> Result<Value, NoMemory>
     Ok(Value::Array(rows))
 }
 
-// The weight at a place of the weights; 0 behind the last, which does not come: a whole section has all that its format
-// asks.
+// The weight at a place of the weights. It is 0 after the last, which does not come: a whole section has all that its
+// format asks.
 fn weight_at(weights: &[u64], k: u64) -> u64
     ensures { result ≡ trees.weight_at weights.now k }
 {
@@ -89,7 +90,7 @@ fn weight_at(weights: &[u64], k: u64) -> u64
     }
 }
 
-/// The weights of the arcs between so many nodes, as a file has them.
+/// The weights of the arcs between this many nodes, as a file has them.
 #[derive(Clone, Copy)]
 pub(crate) struct FileWeights<'a> {
     /// Whether each node has those to all lower ones alone.
@@ -99,7 +100,7 @@ pub(crate) struct FileWeights<'a> {
     pub ghost few: { n ≤ most_nodes },
 }
 
-// The weight of two nodes, where the weights stand in a full matrix.
+// The weight of two nodes, if the weights are a full matrix.
 fn full_weight(of: &FileWeights<'_>, i: u64, j: u64) -> u64
     requires first { i < of.now.n }
     requires second { j < of.now.n }
@@ -108,8 +109,8 @@ fn full_weight(of: &FileWeights<'_>, i: u64, j: u64) -> u64
     weight_at(of.weights, i * of.n + j)
 }
 
-// The weight of two nodes, where each node has those to all lower ones: it holds both ways, and is 0 of a node with
-// itself. Node `hi` has `hi` weights, so before its row stand those of the nodes below, `hi * (hi - 1) / 2`.
+// The weight of two nodes, if each node has those to all lower ones. It holds both ways, and is 0 of a node with
+// itself. Node `hi` has `hi` weights, so before its row come those of the nodes below, `hi * (hi - 1) / 2`.
 fn lower_weight(of: &FileWeights<'_>, i: u64, j: u64) -> u64
     requires first { i < of.now.n }
     requires second { j < of.now.n }
@@ -123,7 +124,7 @@ fn lower_weight(of: &FileWeights<'_>, i: u64, j: u64) -> u64
     weight_at(of.weights, hi * hi.saturating_sub(1) / 2 + lo)
 }
 
-// The weight of two nodes, where the weights stand in the file.
+// The weight of two nodes, if the weights are in the file.
 fn weight(of: &FileWeights<'_>, i: u64, j: u64) -> u64
     requires first { i < of.now.n }
     requires second { j < of.now.n }
@@ -148,7 +149,7 @@ fn square_row(alloc: Global, of: &FileWeights<'_>, i: u64) -> Result<Value, NoMe
     Ok(Value::Array(entries))
 }
 
-// The matrix of weights that stand in the file.
+// The matrix of weights that are in the file.
 fn square(alloc: Global, of: &FileWeights<'_>) -> Result<Value, NoMemory>
     ensures { IfOk result (λ tree. view tree ≡ trees.square of.now.lower of.now.n of.now.weights.now) }
 {
@@ -222,7 +223,7 @@ fn vehicle(alloc: Global, node: u32) -> Result<Value, NoMemory>
     Ok(json!(in alloc; {"end": node, "start": node})?)
 }
 
-// So many vehicles at a node.
+// This many vehicles at a node.
 fn fleet(alloc: Global, count: u32, node: u32) -> Result<Value, NoMemory>
     ensures { IfOk result (λ tree. view tree ≡ trees.fleet count node) }
 {
@@ -233,7 +234,7 @@ fn fleet(alloc: Global, count: u32, node: u32) -> Result<Value, NoMemory>
     Ok(Value::Array(all))
 }
 
-/// The model of a file, with so many vehicles.
+/// The model of a file, with this many vehicles.
 #[tactic(auto, unfolding(crate::specs::Trees::tree_of))]
 pub(crate) fn tree(
     alloc: Global,

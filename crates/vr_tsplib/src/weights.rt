@@ -37,7 +37,7 @@ fn weight(word: &[u8]) -> Result<u64, Flaw>
     count_in(found, 0, GREATEST_COST as u64)
 }
 
-// Puts the words of a line behind the weights. After an error nothing is said of the weights.
+// Puts the words of a line after the weights. After an error nothing is said of the weights.
 fn push_weights(weights: &mut Seq<u64>, line: &[u8]) -> Result<(), LineFail>
     ensures { AnswersLine (seen (λ u. weights.new) result) (row_tables.weights_behind weights.old (words line.now)) }
 {
@@ -49,7 +49,7 @@ fn push_weights(weights: &mut Seq<u64>, line: &[u8]) -> Result<(), LineFail>
     Ok(())
 }
 
-/// Puts a row of weights, of which `left` are still to come, behind the others. All its words are looked at before any
+/// Puts a row of weights, of which `left` are still to come, after the others. All its words are looked at before any
 /// is put, since in a line `FaultyLine` comes before `OutOfRange`. After an error nothing is said of the weights.
 pub(crate) fn push_row(weights: &mut Seq<u64>, left: u64, line: &[u8]) -> Result<(), LineFail>
     ensures { AnswersLine (seen (λ u. weights.new) result) (row_tables.row_behind left weights.old (words line.now)) }

@@ -1,5 +1,5 @@
-//! Texts that are one word or one to three numbers, any other having the flaw `FaultyLine`; and what a word of a table
-//! stands for.
+//! Texts that are one word or one to three numbers; any other has the flaw `FaultyLine`. And what a word of a table
+//! means.
 
 ghost use Rattle.std.specs.Prelude.{◌≡◌, option_map, find, map};
 ghost use Rattle.std.specs.Str.{bytes_eq};
@@ -13,7 +13,7 @@ use crate::flaws::Flaw;
 use crate::numbers::number;
 use crate::texts::first_word;
 
-/// What the first word of a table stands for that is this one.
+/// What the first word of a table means that is this one.
 pub(crate) fn meaning<T: Copy>(table: &[(&str, T)], word: &[u8]) -> Option<T>
     ensures { result ≡ heads.meaning (map named table.now) word.now }
 {
@@ -44,7 +44,7 @@ pub(crate) fn one_number(text: &[u8]) -> Result<i64, Flaw>
     number(one_word(text)?)
 }
 
-// The number that is the first word of a text, and what stands behind it.
+// The number that is the first word of a text, and what is after it.
 #[tactic(auto, unfolding(vr_json::specs::Reading::and_then, crate::specs::Numbers::first_number))]
 fn first_number(text: &[u8]) -> Result<(i64, &[u8]), Flaw>
     ensures { seen (λ p. (p.0, words p.1.now)) result ≡ numbers.first_number (words text.now) }
