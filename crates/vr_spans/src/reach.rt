@@ -45,7 +45,7 @@ impl Spans {
         out.reach(self.runs.as_slice(), 0, 0, &[bounds])
     }
 
-    /// The set with every number moved by `by`; no number may leave `-LIMIT..=LIMIT`. Tests alone ask it; an arc is
+    /// The set with every number moved by `by`; no number may leave `-LIMIT..=LIMIT`. Tests alone ask it. An arc is
     /// crossed by `reach_into`, which moves, widens and meets at once.
     pub fn shift(&self, by: i64) -> Result<Spans, NoMemory>
         requires { StaysWithin by by self.now }
@@ -67,7 +67,7 @@ impl Spans {
         out.reach(self.runs.as_slice(), by, by, &ALL)
     }
 
-    /// Every number of the set plus each number from 0 to `by`, which is not negative; none may leave `-LIMIT..=LIMIT`.
+    /// Every number of the set plus each number from 0 to `by`, which is not negative. None may leave `-LIMIT..=LIMIT`.
     /// Tests alone ask it.
     pub fn grow(&self, by: i64) -> Result<Spans, NoMemory>
         requires rises { pos 0 ≤ℤ by }
