@@ -215,7 +215,7 @@ pub enum First {
     /// The cheapest insertion into any list is made first. Items in no group come before others, those with a penalty
     /// last.
     ParallelCheapestInsertion,
-    /// Each item begins as a route of its own. Routes are joined, the join that saves most first.
+    /// Routes of one item each are joined, the join that saves most first (Clarke, Wright).
     Savings,
 }
 

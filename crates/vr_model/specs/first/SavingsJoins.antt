@@ -1,5 +1,5 @@
--- The first solution by savings. Each item that may begins as a route of its own; then the join that saves most is
--- made, again and again. All vehicles are alike, so routes are judged as lists of vehicle 0.
+-- The first solution by savings (Clarke, Wright). Each item that may begins as a route of its own; then the join that
+-- saves most is made, again and again. All vehicles are alike, so routes are judged as lists of vehicle 0.
 use Rattle.std.specs.Prelude.{ℕ, zero, suc, Bool, true, false, cond, not, ◌&&◌, ◌||◌, ◌==◌, nat_lt, List, [], ◌∷◌, ◌++◌}
 use Rattle.std.specs.Prelude.{map, length, filter, take, ℤ, pos, ◌+ℤ◌, ◌-ℤ◌, neg_ℤ, int_lt, Some, None}
 use Rattle.std.specs.List.{list_all}

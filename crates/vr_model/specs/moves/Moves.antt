@@ -23,11 +23,13 @@ node_at list k = slice_index list k
 abbrev pub with_route : List (List ℕ) → ℕ → List ℕ → List (List ℕ)
 with_route lists v list = slice_set lists v list
 
--- the list with its places from a up to but not including b in reverse order
+-- The list with its places from a up to but not including b in reverse order. Of `5 6 7 8` with a = 1 and b = 3 it is
+-- `5 7 6 8`.
 abbrev pub reversed_between : List ℕ → ℕ → ℕ → List ℕ
 reversed_between list a b = take a list ++ (reverse (slice_range list a b) ++ drop b list)
 
--- the k nodes from place a on are taken out together, and put before place t of the rest
+-- The k nodes from place a on are taken out together, and put before place t of the rest. Of `5 6 7 8` with a = 1, k =
+-- 2 and t = 0 it is `6 7 5 8`.
 abbrev pub chain_moved : List ℕ → ℕ → ℕ → ℕ → List ℕ
 chain_moved list a k t =
     let rest = take a list ++ drop (a + k) list in take t rest ++ (slice_range list a (a + k) ++ drop t rest)
@@ -36,7 +38,8 @@ chain_moved list a k t =
 abbrev pub without_pair : Pair → List ℕ → List ℕ
 without_pair pair list = filter (λ node. not ((node == pair.pickup) || (node == pair.delivery))) list
 
--- the pickup of a pair is put before place s of the list, and its delivery before place t, with s <= t
+-- The pickup of a pair is put before place s of the list, and its delivery before place t, with s <= t. If s is t, the
+-- delivery comes right after the pickup.
 abbrev pub with_pair : Pair → ℕ → ℕ → List ℕ → List ℕ
 with_pair pair s t list = take s list ++ (pair.pickup ∷ (slice_range list s t ++ (pair.delivery ∷ drop t list)))
 

@@ -66,7 +66,8 @@ global_part model assignment =
     total_by (λ d. (dimension_at model d).global_span_cost *ℤ global_span assignment d)
     (below (length model.dimensions))
 
--- what a group costs with this many active nodes: nothing without a penalty
+-- What a group costs with this many active nodes; nothing without a penalty. With penalty 50, if 3 may be active and 1
+-- is, it costs 100.
 abbrev pub penalty_for : Option ℤ → ℕ → ℕ → ℤ
 penalty_for None max active = pos 0
 penalty_for (Some penalty) max active = penalty *ℤ (pos max -ℤ pos active)
@@ -75,7 +76,7 @@ penalty_for (Some penalty) max active = penalty *ℤ (pos max -ℤ pos active)
 abbrev pub penalty_part : Model → List (List ℕ) → ℤ
 penalty_part model lists = total_by (λ group. penalty_for group.penalty group.max (active_in lists group)) model.groups
 
--- what a cumul costs above a soft upper bound
+-- What a cumul costs above a soft upper bound. With bound 10 and coefficient 3, a cumul of 12 costs 6.
 abbrev pub soft_cost : Option Soft → ℤ → ℤ
 soft_cost None x = pos 0
 soft_cost (Some soft) x = soft.coefficient *ℤ int_max (pos 0) (x -ℤ soft.bound)

@@ -1,5 +1,6 @@
--- The laws of reach sets of sound lines, as statements. A stop has a level for each number of breaks taken: the cumuls
--- that are reached there. It has another backwards: the cumuls from which the end is reached with the other breaks.
+-- The laws of reach sets of sound lines, as statements. A stop has a level (label set) for each number of breaks taken:
+-- the cumuls that are reached there. It has another backwards: the cumuls from which the end is reached with the other
+-- breaks.
 use Rattle.std.specs.Prelude.{◌≡◌, ℕ, suc, ◌<◌, ◌≤◌, ◌↔◌, IsTrue, List, length, take, drop, ℤ, ◌+ℤ◌, ◌≤ℤ◌, EachIndex}
 use Rattle.std.specs.Prelude.{slice_index_or}
 use Rattle.vr_model.specs.tables.Numbers.{number_at}
@@ -31,7 +32,8 @@ abbrev pub CumulWhereLevelsMeet : Type 0
 CumulWhereLevelsMeet =
     (line : Line) → IsSound line → (k : ℕ) → k ≤ length line.arcs → (x : ℤ) → HasCumul line k x ↔ LevelsMeetAt line k x
 
--- arc k leads from the cumul y to the cumul x, with the breaks from number a on, below number b, inside it
+-- Arc k leads from the cumul y to the cumul x, with the breaks from number a on, below number b, inside it. So a label
+-- is extended along an arc (resource extension function).
 abbrev pub Crosses : Line → ℕ → ℕ → ℕ → ℤ → ℤ → Type 0
 Crosses line k a b y x =
     (plan : Plan) × KeepsRules no_side (back (front line (suc k) b) k a) plan × (cumul plan 0 ≡ y) × (cumul plan 1 ≡ x)

@@ -86,10 +86,10 @@ after_only = sides false true
 abbrev pub no_side : Sides
 no_side = sides false false
 
--- The rules of a schedule, with breaks also on these sides. The cumul of each stop is allowed. The slack of each arc is
--- what the cumuls leave, is in 0..=slack_max, and is enough for the breaks inside it. The start of each break is in
--- range, and it ends no later than the next one starts. It lies before the first stop, after the last one, or inside an
--- arc.
+-- The rules of a schedule. The cumul of each stop is allowed. The slack of each arc is what the cumuls leave, is in
+-- 0..=slack_max, and is enough for the breaks inside it. The start of each break is in range, and it ends no later than
+-- the next one starts. It lies inside an arc, or on a side that `where_else` allows: before the first stop, or after
+-- the last one.
 pub record KeepsRules (where_else : Sides) (line : Line) (plan : Plan) : Type 0 where
   pub cumul_of_each_stop : length plan.cumuls ≡ length line.allowed
   pub slack_of_each_arc : length plan.slacks ≡ length line.arcs

@@ -45,7 +45,8 @@ abbrev pub improves_augmented : Model → Lambda → Penalties → List (List �
 improves_augmented model lambda penalties lists mv = let after = apply model lists mv in
     is_valid model after && int_lt (augmented model lambda penalties after) (augmented model lambda penalties lists)
 
--- an arc is worth no more than another: its cost over one more than its penalty, compared by cross products
+-- An arc is worth no more than another, compared by cross products. Its worth is its cost over one more than its
+-- penalty: 4 for cost 12 and penalty 2.
 abbrev pub is_worth_no_more : Model → Penalties → UsedArc → UsedArc → Bool
 is_worth_no_more model penalties arc other =
     int_le (cost_of_arc model arc *ℤ pos (suc (penalty_of penalties other)))

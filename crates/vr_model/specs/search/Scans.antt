@@ -3,7 +3,7 @@ use Rattle.std.specs.Prelude.{ℕ, suc, Bool, cond, nat_lt, nat_le, List, [], �
 use Rattle.vr_model.specs.declared.neighbours.Move.{Move}
 
 -- How a scan ends. It accepts the first acceptable move, at its place from 1. It is complete after this many moves, of
--- which none is acceptable. Or it is cut for want of tries.
+-- which none is acceptable. Or it is cut, if no try is left.
 pub data Scan : Type 0 where
   Accepted : ℕ → Move → Scan
   Complete : ℕ → Scan
