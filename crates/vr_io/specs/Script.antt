@@ -42,8 +42,8 @@ pub record Taking : Type 0 where
 abbrev pub to_take : Taking → ℕ → ℕ
 to_take sink len = min sink.script.piece len
 
--- Whether a write of a piece of this length fails. It must have bytes. Then it fails if its call is to fail, or if less
--- room is left than for what the sink would take.
+-- Whether a write of a piece of this length fails. An empty piece never fails. Another fails if its call is to fail, or
+-- if less room is left than for what the sink would take.
 abbrev pub refuses : Taking → ℕ → Bool
 refuses sink len = nat_lt 0 len && (fails_next sink.script || nat_lt (sink.room - length sink.bytes) (to_take sink len))
 

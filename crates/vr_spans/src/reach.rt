@@ -91,7 +91,8 @@ impl Spans {
         out.reach(self.runs.as_slice(), 0, by, &ALL)
     }
 
-    /// Writes those numbers of `within` over `out` that are a number of this set plus one from `first` to `last`.
+    /// Writes those numbers of `within` over `out` that are a number of this set plus one from `first` to `last`. From
+    /// 1, 2 and 9 with `first` 3 and `last` 4, these are 4, 5, 6, 12 and 13, if `within` has them.
     ///
     /// This is one pass over the runs of both sets. `first` and `last` lie in `-FARTHEST..=FARTHEST`, so the sums may
     /// lie beyond `LIMIT`. `vr_steps` crosses arcs by it.
