@@ -6,12 +6,13 @@
 //! visit has a schedule exactly if what its vehicle takes, at its start and along it, fits the capacity (`laws`). With
 //! capacity 10 and 2 at the start, visits that take 3 and 5 fit; one more that takes 1 does not.
 //!
-//! Invariant: the sums of each vehicle (`loads`, which has them written by `sums`) are those of its committed list, up
-//! to each of its nodes.
+//! Invariant: the sums of each vehicle are those of its committed list, up to each of its nodes.
 //!
 //! The filter of a dimension (`vr_pathfilters`) asks the sums if the dimension is a load. `vr_judge` and `vr_ruin` ask
 //! which dimensions are loads; `vr_judge` puts their filters in front of those of other dimensions. This crate uses
-//! `vr_balance` for sums, and `vr_routes`. Read `kind` first, then `loads`.
+//! `vr_balance` for sums, and `vr_routes`.
+//!
+//! Read `kind` first, then `loads`, which has the sums of each vehicle written by `sums`.
 #![tactic(auto)]
 
 mod kind;
