@@ -1,4 +1,4 @@
--- The numbers that are drawn for a model: where its nodes stand, and when and how much their customers want.
+-- The numbers that are drawn for a model: the places of its nodes, and when and how much its customers want.
 use Rattle.std.specs.Prelude.{ℕ, zero, suc, ◌+◌, ◌%◌, List, [], ◌∷◌}
 use Rattle.rand_core.specs.Pcg32Seed.{pcg32_seed}
 use Rattle.rand_pcg.specs.Lcg.{Lcg}
@@ -10,7 +10,7 @@ use Rattle.vr_gen.specs.declared.draws.Customer.{Customer}
 abbrev pub words_of : ℕ → Lcg
 words_of number = pcg32_of_seed (pcg32_seed 16 number)
 
--- the next word modulo k, and the generator behind it
+-- the next word modulo k, and the generator after it
 abbrev pub draw : ℕ → Lcg → ℕ × Lcg
 draw k words = ((pcg32 words).0 % k, (pcg32 words).1)
 
@@ -21,7 +21,7 @@ site words =
     let y = draw 1000 x.1 in
     (record { x = x.0; y = y.0 }, y.1)
 
--- a customer: where its window begins, below 8000, and its demand, in 1..=9
+-- a customer: the begin of its window, below 8000, and its demand, in 1..=9
 abbrev pub customer : Lcg → Customer × Lcg
 customer words =
     let lo = draw 8000 words in
@@ -40,6 +40,6 @@ repeated next (suc n) words =
 abbrev pub drawn_sites : ℕ → List Site × Lcg
 drawn_sites number = repeated site 61 (words_of number)
 
--- the customers of nodes 1 to 60, drawn behind the sites
+-- the customers of nodes 1 to 60, drawn after the sites
 abbrev pub customers : ℕ → List Customer
 customers number = (repeated customer 60 (drawn_sites number).1).0

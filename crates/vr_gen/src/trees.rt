@@ -171,8 +171,8 @@ fn demands(alloc: Global, customers: &[Customer]) -> Result<Vec<u32>, NoMemory>
     Ok(all)
 }
 
-// How long it takes from node to node, as an evaluator: the distance, and the visit where the arc begins, of which
-// `services` has the length for each node but 0.
+// How long it takes from node to node, as an evaluator: the distance, and the visit at which the arc begins. `services`
+// has the length of a visit for each node but 0.
 fn transit(alloc: Global, services: &[u32]) -> Result<Value, NoMemory>
     ensures { IfOk result (λ tree. view tree ≡ trees.transit services.now) }
 {
@@ -186,7 +186,7 @@ fn times(alloc: Global, customers: &[Customer]) -> Result<Value, NoMemory>
     requires { length customers.now ≤ 60 }
     ensures { IfOk result (λ tree. view tree ≡ trees.times customers.now) }
 {
-    // how long each visit takes: it adds to transits (`values`), and a break begins behind it (`visit`)
+    // how long each visit takes: it adds to transits (`values`), and a break begins after it (`visit`)
     let services = [30u32; 60];
     let mut tree = Tree::new(alloc);
     tree.put("breaks", rests(alloc)?)?;
@@ -244,8 +244,8 @@ fn model(alloc: Global, sites: &[Site], customers: &[Customer]) -> Result<Value,
     Ok(tree.finish())
 }
 
-/// The model of a number: 61 nodes in a square, six vehicles with a break each, and customers with windows and loads,
-/// each of which may be left out at a price.
+/// The model of a number: 61 nodes in a square, six vehicles with a break each, and customers with windows and loads.
+/// Each customer may be left out at a price.
 pub fn generate(alloc: Global, number: u64) -> Result<Value, NoMemory>
     ensures { IfOk result (λ tree. view tree ≡ trees.generated number) }
 {

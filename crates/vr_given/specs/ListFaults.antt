@@ -1,4 +1,4 @@
--- The fault of lists: the first rule that they break, and where.
+-- The fault of lists: the first rule that they break, and at which vehicle and place.
 use Rattle.std.specs.Prelude.{ℕ, List, not, codes, length, Option, Some, None}
 use Rattle.vr_model.specs.tables.Numbers.{below}
 use Rattle.vr_model.specs.routes.Routes.{route, vehicles}

@@ -1,4 +1,4 @@
-//! The first rule that lists of a model break, and where.
+//! The first rule that lists of a model break, and at which vehicle and place.
 
 ghost use Rattle.std.specs.Prelude.{◌≡◌, ◌<◌, IfOk, IsTrue, length};
 ghost use Rattle.std.specs.List.{list_all};
@@ -13,8 +13,8 @@ use vr_model::{NoMemory, Seq};
 use vr_plan::Lookups;
 use vr_reach::{StopsFor, Walk, goes_through};
 
-/// The rules of lists, in the order in which they are asked. Beside each stands what vehicle and place say if it is
-/// broken; -1 stands where a number does not apply.
+/// The rules of lists, in the order in which they are asked. Each says what vehicle and place are if it is broken. A
+/// number that does not apply is -1.
 #[derive(Clone, Copy)]
 pub enum ListRule {
     /// Each visit in no group is active. The place is the least node that is not.
@@ -32,7 +32,7 @@ pub enum ListRule {
     Schedule,
 }
 
-/// The rule that lists break first, and where.
+/// The rule that lists break first, and at which vehicle and place.
 #[derive(Clone, Copy)]
 pub struct ListFault {
     pub rule: ListRule,
@@ -109,7 +109,7 @@ fn late_in(
     Ok(None)
 }
 
-// Where a used vehicle has no schedule with its list: the first vehicle, and its first dimension.
+// The first used vehicle that has no schedule with its list, and the first such dimension.
 fn late(alloc: Global, lookups: &Lookups<'_>, lists: &[Seq<u32>]) -> Result<Option<Spot>, NoMemory>
     requires { IsTrue (are_lists lookups.now.closed.model.now lists.now) }
     ensures { IfOk result (λ spot. spot ≡ list_faults.schedule_broken lookups.now.closed.model.now lists.now) }
@@ -145,8 +145,9 @@ fn vehicle_fault(
     Ok(None)
 }
 
-/// The first rule that lists of a model break, and where; `None` exactly if they are valid (`laws`). The rules are
-/// asked in the order of [`ListRule`], and of one rule the first case by vehicle, and then by place or dimension.
+/// The first rule that lists of a model break, and at which vehicle and place. It is `None` exactly if they are valid
+/// (`laws`). The rules are asked in the order of [`ListRule`]. Of one rule it is the first case by vehicle, and then by
+/// place or dimension.
 ///
 /// `NoMemory` if there is none.
 #[tactic(auto, unfolding(crate::specs::ListFaults::fault_of_lists))]

@@ -26,7 +26,7 @@ pub struct Given {
     pub wish: Option<Wish>,
 }
 
-/// Reads a model that stands in a field.
+/// Reads a model in a field.
 #[derive(Clone, Copy)]
 pub struct ModelField;
 
@@ -139,10 +139,15 @@ fn read_fields(fields: Fields<'_, '_>) -> Result<Given, ReadFail>
 
 /// What an input gives: its model, which is well formed, and routes that are lists of the model.
 ///
-/// Refused with the first fault, in this order: a fault of the field `model`, as `vr_read::read_model` says; then of
-/// `routes`, an array with a route for each vehicle (`WrongLength`): a node of the model (`OutOfRange`) that is a visit
-/// (`NotAVisit`) and in no route twice (`Repeated`); then of `refine`; then a field that is none of these three
-/// (`UnknownKey`). `NoMemory` if there is none.
+/// Refused with the first fault, in this order:
+///
+/// 1. a fault of the field `model`, as `vr_read::read_model` says;
+/// 2. of `routes`, an array with a route for each vehicle (`WrongLength`). Each entry of a route is a node of the model
+///    (`OutOfRange`) that is a visit (`NotAVisit`) and in no route twice (`Repeated`).
+/// 3. of `refine`;
+/// 4. a field that is none of these three (`UnknownKey`).
+///
+/// `NoMemory` if there is none.
 pub fn read_given(alloc: Global, value: &Value) -> Result<Given, ReadFail>
     ensures found { Answers result (givens.given_of (view value.now)) }
     ensures sound { IfOk result IsGiven }

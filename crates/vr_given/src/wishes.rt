@@ -7,7 +7,7 @@ use vr_json::{Count, Datum, Fields, ReadFail, Reader, Table, Whole};
 /// What is asked of a search that takes visits out of routes and puts them back.
 #[derive(Clone, Copy)]
 pub struct Wish {
-    /// Where its row of random words begins, 0 to 2^63 - 1.
+    /// The number with which its row of random words begins, 0 to 2^63 - 1.
     pub seed: u64,
     /// About how many visits a step takes out, 1 to 100.
     pub removed: u32,

@@ -3,23 +3,23 @@ use Rattle.std.specs.Prelude.{◌≡◌, ◌⊎◌, ◌↔◌, ◌<◌, ◌≤�
 use Rattle.std.specs.Prelude.{take}
 use Rattle.std.specs.Io.KnownBytes.{Appends}
 
--- the count of faults rose in a call, or stands at the last value of its counter
+-- the count of faults rose in a call, or is at the last value of its counter
 abbrev pub Rose : ℕ → ℕ → Type 0
 Rose old new = (old < new) ⊎ (new ≡ 2 ^ 64 - 1)
 
--- one more on a counter of 64 bits, which stands still at its last value
+-- one more on a counter of 64 bits, which stays at its last value
 abbrev pub risen : ℕ → ℕ
 risen count = min (count + 1) (2 ^ 64 - 1)
 
--- where it is known what the source had left, these bytes stood at its front, and the rest is left
+-- if it is known what the source had left, these bytes were at its front, and the rest is left
 pub record Gave (old new : Option (List ℕ)) (piece : List ℕ) : Type 0 where
   pub known : (bytes : List ℕ) → old ≡ Some bytes → (rest : List ℕ) × (bytes ≡ piece ++ rest) × (new ≡ Some rest)
 
--- where it is known what the source had left and there was room, it gave no byte exactly where none was left
+-- if it is known what the source had left and there was room, it gave no byte exactly if none was left
 pub record EndsAtEnd (old : Option (List ℕ)) (room given : ℕ) : Type 0 where
   pub known : (bytes : List ℕ) → old ≡ Some bytes → 0 < room → (given ≡ 0) ↔ (bytes ≡ [])
 
--- where it is known what the sink took, it was known before, and these bytes were taken since
+-- if it is known what the sink took, it was known before, and these bytes were taken since
 pub record Took (old new : Option (List ℕ)) (piece : List ℕ) : Type 0 where
   pub known : (after : List ℕ) → new ≡ Some after → (before : List ℕ) × (old ≡ Some before) × (after ≡ before ++ piece)
 

@@ -1,4 +1,4 @@
--- How the calls of a source or a sink in memory go that fails where it names a call.
+-- How calls of a source or a sink in memory go, if it fails at the calls that it names.
 use Rattle.std.specs.Prelude.{ℕ, List, Bool, ◌++◌, ◌-◌, ◌&&◌, ◌||◌, nat_eq, nat_lt, length, take, min, if◌then◌else◌}
 use Rattle.std.specs.List.{list_any}
 use Rattle.vr_io.specs.Edges.{risen}
@@ -38,12 +38,12 @@ pub record Taking : Type 0 where
   pub room : ℕ
   pub script : Script
 
--- how many bytes the sink would take of a piece so long
+-- how many bytes the sink would take of a piece of this length
 abbrev pub to_take : Taking → ℕ → ℕ
 to_take sink len = min sink.script.piece len
 
--- whether a write of a piece so long fails: it has bytes, and its call is to fail or less room is left than for what
--- the sink would take
+-- Whether a write of a piece of this length fails. An empty piece never fails. Another fails if its call is to fail, or
+-- if less room is left than for what the sink would take.
 abbrev pub refuses : Taking → ℕ → Bool
 refuses sink len = nat_lt 0 len && (fails_next sink.script || nat_lt (sink.room - length sink.bytes) (to_take sink len))
 

@@ -9,15 +9,15 @@ pub struct Failed;
 
 /// Where bytes come from.
 pub trait Source {
-    /// The bytes still to come, where they are known.
+    /// The bytes still to come, if they are known.
     ghost left: { Self → Option (List ℕ) };
 
-    /// How often the device has failed: a number that never falls. It may stand still at 2^64 - 1, as `Rose` allows.
+    /// How often the device has failed: a number that never falls. It may stay at 2^64 - 1, as `Rose` allows.
     ghost faults: { Self → ℕ };
 
     /// Puts some of the bytes to come at the front of `buf` and gives their number. Zero on a `buf` that is not empty
-    /// is the end of input. `Failed` comes exactly where the device failed in this call; of bytes that are known to
-    /// come none is lost then.
+    /// is the end of input. `Failed` comes exactly if the device failed in this call. Of bytes that are known to come
+    /// none is lost then.
     fn read(&mut self, buf: &mut [u8]) -> Result<usize, Failed>
         ensures bound { IfOk result (λ n. n ≤ length buf.new) }
         ensures gives { IfOk result (λ n. Gave (left self.old) (left self.new) (take n buf.new)) }
@@ -30,15 +30,15 @@ pub trait Source {
 
 /// Where bytes go to.
 pub trait Sink {
-    /// The bytes that were taken, where they are known. Where they are not, they never will be.
+    /// The bytes that were taken, if they are known. If they are not, they never will be.
     ghost written: { Self → Option (List ℕ) };
 
     /// How often the device has failed, as that of a source.
     ghost faults: { Self → ℕ };
 
-    /// Takes some bytes of the front of `piece`, at least one where there is one, and gives their number. `Failed`
-    /// comes exactly where the device failed in this call. A sink whose bytes are known has taken none then; of another
-    /// one the front of `piece` may have gone out.
+    /// Takes some bytes of the front of `piece`, at least one if there is one, and gives their number. `Failed` comes
+    /// exactly if the device failed in this call. A sink whose bytes are known has taken none then. Of another one the
+    /// front of `piece` may have gone out.
     fn write(&mut self, piece: &[u8]) -> Result<usize, Failed>
         ensures bound { IfOk result (λ n. n ≤ length piece.now) }
         ensures some { IfOk result (λ n. 0 < length piece.now → 0 < n) }

@@ -1,8 +1,8 @@
-//! Want of memory.
+//! Out of memory.
 
 use std::alloc::{AllocError, AllocFailed};
 
-/// Want of memory. No contract ties it to a refused growth. The making of a `MemSink` alone answers it; `read_all` has
+/// Out of memory. No contract ties it to a refused growth. The making of a `MemSink` alone answers it; `read_all` has
 /// `ReadError::NoMemory`.
 #[derive(Clone, Copy, Debug, PartialEq, Eq)]
 pub struct NoMemory;

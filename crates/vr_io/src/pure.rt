@@ -9,7 +9,7 @@ use crate::remaining::Remaining;
 use crate::{Failed, Sink, Source};
 use std::marker::Model;
 
-/// Gives bytes that stand in memory, as many in each call as fit. All of them are known, and it never fails.
+/// Gives bytes in memory, as many in each call as fit. All of them are known, and it never fails.
 #[derive(Drop)]
 pub struct PureSource {
     bytes: Remaining,
@@ -39,7 +39,7 @@ impl Source for PureSource {
 
     ghost faults = { λ _. 0 };
 
-    /// As the trait says. As many bytes come as there are and as `buf` has room for, which `number` says.
+    /// As the trait says. As many bytes come as there are and as `buf` has room for; `number` says it.
     fn read(&mut self, buf: &mut [u8]) -> Result<usize, Failed>
         ensures bound { IfOk result (λ n. n ≤ length buf.new) }
         ensures gives { IfOk result (λ n. Gave (Some self.old) (Some self.new) (take n buf.new)) }
@@ -54,7 +54,7 @@ impl Source for PureSource {
 }
 
 /// Keeps bytes in a room of a fixed length, which it overwrites, and never fails. Bytes beyond the room are taken and
-/// not kept; from then on it is not known what it took. `taken` counts the bytes that are kept, and `full` says that
+/// not kept. From then on it is not known what it took. `taken` counts the bytes that are kept, and `full` says that
 /// some were not: a room that is just filled is not `full`.
 #[derive(Drop)]
 pub struct PureSink {

@@ -5,8 +5,8 @@ ghost use Rattle.vr_io.specs.Script.{unused, fails_next, after_call};
 
 use std::marker::Model;
 
-// The most bytes of one call, the numbers of the calls that fail, from 0, how many calls there were, and how many of
-// them failed. Both counters stand still at 2^64 - 1.
+// How the calls of a device go: the most bytes of one call, and the numbers of the calls that fail, from 0. Beside
+// that, how many calls there were, and how many of them failed; both counters stay at 2^64 - 1.
 #[derive(Drop)]
 pub(crate) struct Script {
     piece: usize,

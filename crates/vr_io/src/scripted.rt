@@ -1,5 +1,5 @@
-//! A source and a sink in memory that move bytes in small pieces and fail at the calls that a script names: for tests
-//! of what a caller does when a device fails.
+//! A source and a sink in memory, for tests of what a caller does when a device fails. They move bytes in small pieces,
+//! and fail at the calls that a script names.
 
 ghost use Rattle.std.specs.Prelude.{◌≡◌, ◌≤◌, ◌<◌, ◌^◌, [], is_err, length, take, min, Some, IfOk, OnErr, OnOk};
 ghost use Rattle.vr_io.specs.Edges.{Rose, Gave, EndsAtEnd, Took};
@@ -14,10 +14,10 @@ use std::marker::Model;
 // The room of a sink for which none is named.
 const ROOM: usize = 1 << 20;
 
-/// Gives bytes that stand in memory, in pieces, and fails at the calls that its script names. What is left is known.
+/// Gives bytes in memory, in pieces, and fails at the calls that its script names. What is left is known.
 ///
-/// Its calls are numbered from 0. The counter of calls and that of failed calls, which is its number of faults, each
-/// stand still at 2^64 - 1.
+/// Its calls are numbered from 0. It counts its calls, and those that failed, which is its number of faults. Both
+/// counters stay at 2^64 - 1.
 #[derive(Drop)]
 pub struct MemSource {
     bytes: Remaining,
@@ -50,8 +50,8 @@ impl Source for MemSource {
 
     ghost faults = { λ s. s.script.failed };
 
-    /// As the trait says. A call fails exactly where `fails` holds its number; every other call gives as many bytes as
-    /// the least of the piece, the length of `buf` and what is left.
+    /// As the trait says. A call fails exactly if `fails` holds its number. Every other call gives as many bytes as the
+    /// least of the piece, the length of `buf` and what is left.
     fn read(&mut self, buf: &mut [u8]) -> Result<usize, Failed>
         ensures fails { is_err result ≡ fails_next self.old.script }
         ensures number { IfOk result
@@ -73,12 +73,12 @@ impl Source for MemSource {
     }
 }
 
-/// Takes bytes in pieces into a buffer of fixed capacity, and fails at the calls that its script names and where that
-/// is too small. The bytes that it took are known. The buffer is as large as `room` from the beginning, so no write
-/// takes memory.
+/// Takes bytes in pieces into a buffer of fixed capacity. It fails at the calls that its script names, and if the
+/// buffer is too small. The bytes that it took are known. The buffer is as large as `room` from the beginning, so no
+/// write takes memory.
 ///
-/// Its calls are numbered from 0. The counter of calls and that of failed calls, which is its number of faults, each
-/// stand still at 2^64 - 1.
+/// Its calls are numbered from 0. It counts its calls, and those that failed, which is its number of faults. Both
+/// counters stay at 2^64 - 1.
 #[derive(Drop)]
 pub struct MemSink {
     bytes: Vec<u8>,
@@ -138,8 +138,8 @@ impl Sink for MemSink {
     ghost faults = { λ s. s.script.failed };
 
     /// As the trait says. The bytes to take are as many as the least of the sink's piece and the length of `piece`. A
-    /// call on a piece that is not empty fails exactly where `fails` holds its number or the bytes to take do not fit
-    /// the room that is left. A call on an empty piece never fails, and is counted as any other.
+    /// call on a piece that is not empty fails in two cases alone: `fails` holds its number, or the bytes to take do
+    /// not fit the room that is left. A call on an empty piece never fails, and is counted as any other.
     fn write(&mut self, piece: &[u8]) -> Result<usize, Failed>
         ensures fails { is_err result ≡ refuses self.old (length piece.now) }
         ensures number { IfOk result (λ n. n ≡ to_take self.old (length piece.now)) }

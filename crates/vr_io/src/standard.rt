@@ -9,15 +9,15 @@ use crate::{Failed, Sink, Source};
 use std::io::{Read, Write};
 use std::marker::Model;
 
-/// A reader of std as a source, which is read once a call: an error of the reader is a fault.
+/// A reader of std as a source. It is read once a call, and an error of the reader is a fault.
 pub type StdSource<R> = StdDevice<R>;
 
-/// A writer of std as a sink, which is flushed after each write, as nobody does it later: each error of the writer or
-/// of its flush is a fault.
+/// A writer of std as a sink. It is flushed after each write, as nobody does it later. Each error of the writer or of
+/// its flush is a fault.
 pub type StdSink<W> = StdDevice<W>;
 
 /// A reader or a writer of std. As a source or a sink it tells no bytes. Contracts see it as the reader or writer and
-/// the number of its errors, a write that takes nothing among them, which stands still at 2^64 - 1.
+/// the number of its errors, which stays at 2^64 - 1. A write that takes nothing is one of the errors.
 #[derive(Drop)]
 pub struct StdDevice<D> {
     device: D,

@@ -19,7 +19,7 @@ pub enum ReadError {
     #[error("there are too many bytes")]
     TooLong,
 
-    /// Want of memory.
+    /// Out of memory.
     #[error("out of memory")]
     NoMemory,
 }
@@ -34,8 +34,8 @@ const PIECE: usize = 1 << 16;
 
 /// All bytes up to the end of input, of which there are at most `max`.
 ///
-/// `TooLong` comes exactly where more came before the end; then more than `max` bytes were taken. `ReadFault` comes
-/// exactly where the source failed in this call: no read that failed is tried again. After any error some bytes of the
+/// `TooLong` comes exactly if more came before the end; then more than `max` bytes were taken. `ReadFault` comes
+/// exactly if the source failed in this call: no read that failed is tried again. After any error some bytes of the
 /// front may be gone.
 pub fn read_all<S: Source>(alloc: Global, source: &mut S, max: u64) -> Result<Vec<u8>, ReadError>
     ensures ok { IfOk result (λ bytes. GaveAll (S.left source.old) (S.left source.new) bytes.items) }
@@ -71,7 +71,7 @@ pub fn read_all<S: Source>(alloc: Global, source: &mut S, max: u64) -> Result<Ve
     }
 }
 
-/// Writes all these bytes, and takes no memory. `WriteFault` comes exactly where the sink failed in this call: no write
+/// Writes all these bytes, and takes no memory. `WriteFault` comes exactly if the sink failed in this call: no write
 /// that failed is tried again. A front of the bytes was taken then.
 pub fn write_all<K: Sink>(sink: &mut K, bytes: &[u8]) -> Result<(), WriteFault>
     ensures ok { OnOk result (Took (K.written sink.old) (K.written sink.new) bytes.now) }

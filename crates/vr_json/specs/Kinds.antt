@@ -41,11 +41,11 @@ count_in lo hi d = whole_in (pos lo) (pos hi) d >>= λ z. Ok (nat_abs z)
 abbrev pub below_in : ℕ → Data → Result ℕ Cause
 below_in n d = whole_in (pos 0) (pos n -ℤ pos 1) d >>= λ z. Ok (nat_abs z)
 
--- a word of the code, beside what it stands for
+-- a word of the code, beside what it means
 abbrev pub named : {A : Type 0} → Bor (List ℕ) × A → List ℕ × A
 named w = (w.0.now, w.1)
 
--- a string that is one of some words, as what the first such word stands for: its kind, then its words
+-- a string that is one of some words, as what the first such word means: its kind, then its words
 abbrev pub choice_in : {A : Type 0} → List (List ℕ × A) → Data → Result A Cause
 choice_in words d = do
   s ← ok_or (as_str d) OtherKind

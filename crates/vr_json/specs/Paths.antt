@@ -1,7 +1,7 @@
 -- Paths, as bytes.
 use Rattle.std.specs.Prelude.{ℕ, List, ◌∷◌, ◌++◌, decimal}
 
--- the path of a field: `/` and its key, as it stands
+-- the path of a field: `/` and its key, as it is
 abbrev pub name_path : List ℕ → List ℕ → List ℕ
 name_path path key = path ++ 47 ∷ key
 

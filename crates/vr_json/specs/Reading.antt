@@ -32,7 +32,7 @@ unfoldable pub at_path : {A : Type 0} → List ℕ → Result A Cause → Result
 at_path path (Ok x) = Ok x
 at_path path (Err cause) = Err (fault_at cause path)
 
--- What a call answers, beside the reading that it stands for: that value or that fault. It may want memory instead.
+-- What a call answers, beside the reading that it is for: that value or that fault. It may be out of memory instead.
 pub record Answers {A : Type 0} (answer : Result A ReadFail) (reading : Result A Fault) : Type 0 where
   pub value : IfOk answer (λ x. reading ≡ Ok x)
   pub refused : (fault : Fault) → answer ≡ Err (Refused fault) → reading ≡ Err fault
@@ -48,7 +48,7 @@ Refuses cause path fail = (fault : Fault) → fail ≡ Refused fault → fault �
 
 -- ---- objects
 
--- the value of a field, if the object has it; another value than an object is refused
+-- The value of a field, if the object has it. Another value than an object is refused.
 unfoldable pub field : List ℕ → ReaderOf (Option Data)
 field key path d = at_path path (ok_or (as_object d) OtherKind) >>= λ members. Ok (get_member key members)
 

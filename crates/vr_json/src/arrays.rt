@@ -32,7 +32,7 @@ impl<R: Reader> Reader for Array<R> {
     }
 }
 
-// The array of `lo` to `hi` entries that stands at a place.
+// The array of `lo` to `hi` entries at a place.
 #[tactic(auto, unfolding(crate::specs::Reading::and_then, crate::specs::Reading::array))]
 fn array_at<R: Reader>(
     datum: Datum<'_, '_>,
@@ -90,7 +90,7 @@ impl<R: Reader> Reader for TwoEntries<R> {
     }
 }
 
-// What stands in an array of two entries. The other arm does not come, since `list` was asked for two.
+// What is in an array of two entries. The other arm does not come, since `list` was asked for two.
 #[tactic(auto, unfolding(crate::specs::Reading::and_then, crate::specs::Reading::first_two))]
 fn first_two<R: Reader>(
     alloc: Global,

@@ -1,4 +1,4 @@
-//! Why a value is refused, and where.
+//! Why a value is refused, and at which path.
 
 ghost use Rattle.std.specs.Prelude.{◌≡◌, IfOk};
 ghost use Rattle.vr_json.specs.Causes.{code_of, fault_at};
@@ -25,7 +25,7 @@ pub enum Cause {
     OutOfRange,
     /// An array or a string has another length than stated.
     WrongLength,
-    /// A value is one that it must differ from: an entry that stands earlier, or the pickup of a delivery.
+    /// A value is one that it must differ from: an earlier entry, or the pickup of a delivery.
     Repeated,
     /// A string is none of the stated words.
     UnknownWord,
@@ -39,7 +39,7 @@ pub enum Cause {
     LargeTransit,
     /// A dimension with breaks or span costs has a negative transit of a vehicle between two different nodes.
     NegativeTransit,
-    /// The vehicles differ, or rows of allowed vehicles are there, where the first solution is to be built by savings.
+    /// The first solution is to be built by savings, but the vehicles differ or rows of allowed vehicles are there.
     UnlikeVehicles,
 }
 
@@ -67,8 +67,8 @@ impl Cause {
     }
 }
 
-/// A refusal: the number of what is wrong (a [`Cause`], or a flaw of `vr_tsplib`), and the path of the value, line or
-/// file that is refused.
+/// A refusal: the number of what is wrong, and the path of the value, line or file that is refused. What is wrong is a
+/// [`Cause`], or a flaw of `vr_tsplib`.
 #[derive(Drop)]
 pub struct Fault {
     pub code: u8,
@@ -100,7 +100,7 @@ impl From<AllocError> for ReadFail {
     }
 }
 
-/// The refusal of the value at a place; `NoMemory` where there is none for the path of the place.
+/// The refusal of the value at a place; `NoMemory` if there is none for the path of the place.
 pub fn refusal(alloc: Global, cause: Cause, place: Place<'_>) -> ReadFail
     ensures { Refuses cause (place_path place.entry) result }
 {

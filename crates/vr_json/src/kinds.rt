@@ -1,5 +1,5 @@
 //! Values of one kind: whole numbers, strings, words, booleans and arrays. Readers go by `whole_in`, `flag_in`, `text`
-//! and `list`; `whole`, `flag` and `word` are asked by tests alone (`Choice` of `leaves` reads words).
+//! and `list`. Tests alone ask `whole`, `flag` and `word` (`Choice` of `leaves` reads words).
 
 ghost use Rattle.std.specs.Prelude.{◌≡◌, ◌≤ℤ◌, ◌<◌, length, map, position, IfOk, IfSome};
 ghost use Rattle.std.specs.Str.{bytes_eq};
@@ -56,8 +56,11 @@ pub(crate) fn flag_in(value: &Value) -> Result<bool, Cause>
 
 /// A whole number in `lo..=hi`.
 ///
-/// Refused at `path`: `OtherKind` where it is no number, `NotWhole` where it is no `i64` (as `5.0`,
-/// `-0` or a number from 2^63 on), `OutOfRange` outside the range; the first of these is the answer.
+/// Refused at `path`; the first of these is the answer:
+///
+/// - `OtherKind` if it is no number;
+/// - `NotWhole` if it is no `i64` (as `5.0`, `-0` or a number from 2^63 on);
+/// - `OutOfRange` if it is outside the range.
 #[tactic(auto, unfolding(crate::specs::Reading::and_then, crate::specs::Reading::at_path, crate::specs::Kinds::whole))]
 pub fn whole(alloc: Global, value: &Value, lo: i64, hi: i64, path: &Path) -> Result<i64, ReadFail>
     ensures found { Answers result (kinds.whole lo hi path.now (view value.now)) }
@@ -69,7 +72,7 @@ pub fn whole(alloc: Global, value: &Value, lo: i64, hi: i64, path: &Path) -> Res
 
 /// The entries of an array of `lo` to `hi` entries.
 ///
-/// Refused at `path`: `OtherKind` where it is no array, then `WrongLength`.
+/// Refused at `path`: `OtherKind` if it is no array, then `WrongLength`.
 #[tactic(auto, using(crate::proofs::Lists::views), unfolding(crate::specs::Reading::and_then, crate::specs::Reading::at_path, crate::specs::Reading::list))]
 pub fn list<'a>(
     alloc: Global,
@@ -94,7 +97,7 @@ pub fn list<'a>(
 
 /// A string of `lo` to `hi` bytes.
 ///
-/// Refused at `path`: `OtherKind` where it is no string, then `WrongLength`.
+/// Refused at `path`: `OtherKind` if it is no string, then `WrongLength`.
 #[tactic(auto, unfolding(crate::specs::Reading::and_then, crate::specs::Reading::at_path, crate::specs::Kinds::text))]
 pub fn text(
     alloc: Global,
@@ -117,7 +120,7 @@ pub fn text(
     }
 }
 
-/// A boolean. Refused at `path`, as `OtherKind`, where it is none.
+/// A boolean. Refused at `path`, as `OtherKind`, if it is none.
 #[tactic(auto, unfolding(crate::specs::Reading::at_path, crate::specs::Kinds::flag))]
 pub fn flag(alloc: Global, value: &Value, path: &Path) -> Result<bool, ReadFail>
     ensures { Answers result (kinds.flag path.now (view value.now)) }
@@ -127,7 +130,7 @@ pub fn flag(alloc: Global, value: &Value, path: &Path) -> Result<bool, ReadFail>
 
 /// The number, from 0, of the first of `words` that the value is.
 ///
-/// Refused at `path`: `OtherKind` where it is no string, then `UnknownWord` where it is no such word.
+/// Refused at `path`: `OtherKind` if it is no string, then `UnknownWord` if it is no such word.
 #[tactic(auto, unfolding(crate::specs::Reading::at_path, crate::specs::Kinds::word))]
 pub fn word(alloc: Global, value: &Value, words: &[&str], path: &Path) -> Result<usize, ReadFail>
     ensures found { Answers result (kinds.word (map (λ w. w.now) words.now) path.now (view value.now)) }

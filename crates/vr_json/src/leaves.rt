@@ -42,7 +42,7 @@ pub struct TextOf {
     pub hi: usize,
 }
 
-/// A string that is one of some words, as what the word stands for.
+/// A string that is one of some words, as what the word means.
 #[derive(Clone, Copy)]
 pub struct Choice<'a, T> {
     pub words: &'a [(&'a str, T)],
@@ -121,7 +121,7 @@ impl Reader for TextOf {
     }
 }
 
-// What the first of some words that is this text stands for.
+// What the first of some words that is this text means.
 fn meaning<T: Copy>(words: &[(&str, T)], text: &str) -> Option<T>
     ensures { result
         ≡ option_map (λ w. w.1) (find (λ w. bytes_eq w.0 text.now) (map named words.now)) }
@@ -134,7 +134,7 @@ fn meaning<T: Copy>(words: &[(&str, T)], text: &str) -> Option<T>
     None
 }
 
-// What the word stands for that the value is.
+// What the word means that the value is.
 #[tactic(auto, unfolding(crate::specs::Reading::and_then))]
 fn choice_in<T: Copy>(value: &Value, words: &[(&str, T)]) -> Result<T, Cause>
     ensures { result ≡ kinds.choice_in (map named words.now) (view value.now) }

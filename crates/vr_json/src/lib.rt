@@ -1,19 +1,24 @@
 //! Readers of the fields of a JSON value, and a builder of JSON trees.
 //!
-//! A reader is a value that reads one kind: a number in a range, a word, an array of something, an object by a table of
-//! its fields. Each stands beside its definition (`specs/`): it answers the value, or the code of the fault and the
-//! path where it stands, and the first fault in the order of the table is the answer; where memory runs out, it answers
-//! that instead (`ReadFail`). A tree is built field by field, in any order, and `to_line` prints it, its keys in the
-//! order of bytes (`tree`).
+//! A reader is a value that reads one kind. It may be a number in a range, a word, an array of something, or an object
+//! by a table of its fields. A tree is built field by field, in any order. `to_line` prints it, its keys in the order
+//! of bytes (`tree`).
 //!
-//! `reader` has the trait of readers and what one is handed. `leaves` reads numbers, booleans and texts over the calls
-//! of `kinds`, and words by itself (`Choice`); `arrays` reads arrays entry by entry; `table` reads objects, over the
-//! calls of `fields`. `fault` has the causes and the refusal, `path` where a value stands, and `place` that with at
-//! most one step more, whose text is made only where it is asked for.
+//! Each reader is beside its definition (`specs/`). It answers the value, or the code of the fault and the path of what
+//! is refused. The first fault in the order of the table is the answer. If memory runs out, it answers that instead
+//! (`ReadFail`).
 //!
-//! `vr_read`, `vr_printed` and `vr_app` (the object of a check) read by it; `vr_gen`, `vr_print`, `vr_tsplib` and
-//! `vr_app` build trees by it; `vr_print` prints solutions, and `vr_app` all else. [`Cause`] has the faults of models
-//! too; `vr_tsplib` gives flaws of its own as [`Fault`]s.
+//! `vr_read`, `vr_printed`, `vr_given` and `vr_app` (the object of a check) read by it. `vr_gen`, `vr_print`,
+//! `vr_tsplib` and `vr_app` build trees by it; `vr_print` prints solutions, and `vr_app` all else. [`Cause`] has the
+//! faults of models too. `vr_tsplib` gives flaws of its own as [`Fault`]s. This crate takes lists and texts from
+//! `vr_model`.
+//!
+//! Read `reader` first, which has the trait of readers and what one is handed. Then:
+//!
+//! - `leaves` reads numbers, booleans and texts over the calls of `kinds`, and words by itself (`Choice`);
+//! - `arrays` reads arrays entry by entry, and `table` reads objects, over the calls of `fields`;
+//! - `fault` has the causes and the refusal, and `path` says at which path of a tree a value is;
+//! - `place` is a path with at most one step more, whose text is made only when it is asked for.
 #![tactic(auto)]
 
 mod arrays;

@@ -1,4 +1,4 @@
-//! Where a value stands in a JSON tree.
+//! At which path of a JSON tree a value is.
 
 ghost use Rattle.std.specs.Prelude.{◌≡◌, [], IfOk};
 ghost use Rattle.vr_json.specs.Paths.{item_path, name_path};
@@ -10,8 +10,8 @@ use std::fmt::Write;
 use std::marker::Model;
 use vr_model::{NoMemory, Text};
 
-/// The path of a value: empty for the top value; each field adds `/` and its key as it stands, each
-/// entry of an array `/` and its number from 0.
+/// The path of a value: empty for the top value. Each field adds `/` and its key as it is, each entry of an array `/`
+/// and its number from 0. So entry 2 of the field `nodes` of an object at the top has the path `/nodes/2`.
 #[derive(Drop)]
 pub struct Path {
     alloc: Global,
@@ -102,7 +102,7 @@ impl Path {
         }
     }
 
-    // The path as it stands.
+    // The path as it is.
     pub(crate) fn as_str(&self) -> &str
         ensures { result.now ≡ self.now }
     {

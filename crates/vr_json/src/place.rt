@@ -1,4 +1,4 @@
-//! A place below a path, whose text is made only where it is asked for.
+//! A place below a path, whose text is made only when it is asked for.
 
 ghost use Rattle.std.specs.Prelude.{◌≡◌, IfOk};
 ghost use Rattle.vr_json.specs.Places.{place_path};
@@ -17,8 +17,8 @@ pub enum Step<'a> {
     Entry(usize),
 }
 
-/// A place: a path and at most one more step. It holds no memory of its own, so readers pass places on: those of arrays
-/// and objects make the path of one for what stands below it, that of a text (`TextOf`) makes it in any case, and the
+/// A place: a path and at most one more step. It holds no memory of its own, so readers pass places on. Those of arrays
+/// and objects make the path of one, for what is below it. That of a text (`TextOf`) makes it in any case, and the
 /// others for a fault alone.
 #[derive(Clone, Copy)]
 pub struct Place<'a> {

@@ -12,7 +12,7 @@ use crate::{Cause, Place, ReadFail};
 use serde_json::Value;
 use std::alloc::Global;
 
-/// A value at the place where it stands, and the memory for what is read of it.
+/// A value, the place at which it is, and the memory for what is read of it.
 #[derive(Clone, Copy)]
 pub struct Datum<'v, 'p> {
     pub alloc: Global,
@@ -21,14 +21,14 @@ pub struct Datum<'v, 'p> {
 }
 
 impl Datum<'_, '_> {
-    /// What was read of the value, where a refusal lies at its place.
+    /// What was read of the value. A refusal is at its place.
     pub fn settle<T>(self, outcome: Result<T, Cause>) -> Result<T, ReadFail>
         ensures { Answers result (at_path (place_path self.entry.place) outcome) }
     {
         settle(self.alloc, outcome, self.place)
     }
 
-    /// Refuses the value where a rule is broken.
+    /// Refuses the value if a rule is broken.
     pub fn refuse_if(self, broken: bool, cause: Cause) -> Result<(), ReadFail>
         ensures { Answers result (reading.refuse_if broken cause (place_path self.entry.place)) }
     {
@@ -46,8 +46,8 @@ pub trait Reader {
     /// What it reads by its definition, of the entries before a value, its path and its tree: an item, or a fault.
     ghost reads: { Self → List Self.Item → List ℕ → Data → Result Self.Item FaultOf };
 
-    /// What the value is. `earlier` are the entries before it, where it is an entry of an `Array` or a `ForEach`, else
-    /// none; readers ask them that refuse a value for the second time.
+    /// What the value is. `earlier` are the entries before it, if it is an entry of an `Array` or a `ForEach`; else
+    /// there are none. Readers ask them that refuse a value for the second time.
     fn read(&self, earlier: &[Self::Item], datum: Datum<'_, '_>) -> Result<Self::Item, ReadFail>
         ensures { Answers result
             (reads self.now earlier.now (place_path datum.entry.place) (view datum.entry.value.now)) };
@@ -70,7 +70,7 @@ pub(crate) fn read_alone<R: Reader>(
     reader.read(&[], datum)
 }
 
-/// What was read at a place, where a refusal lies at that very place: `Datum::settle`, for who has no `Datum`.
+/// What was read at a place; a refusal is at that very place. It is `Datum::settle` for who has no `Datum`.
 #[tactic(auto, unfolding(crate::specs::Reading::at_path))]
 pub fn settle<T>(alloc: Global, outcome: Result<T, Cause>, place: Place<'_>) -> Result<T, ReadFail>
     ensures { Answers result (at_path (place_path place.entry) outcome) }
@@ -81,7 +81,7 @@ pub fn settle<T>(alloc: Global, outcome: Result<T, Cause>, place: Place<'_>) -> 
     }
 }
 
-/// Refuses the value at a place where a rule is broken: `Datum::refuse_if`, for who has no `Datum`.
+/// Refuses the value at a place if a rule is broken: `Datum::refuse_if` for who has no `Datum`.
 #[tactic(auto, unfolding(crate::specs::Reading::refuse_if))]
 pub fn refuse_if(
     alloc: Global,

@@ -14,8 +14,8 @@ use serde_json::Value;
 use std::alloc::Global;
 use vr_model::Seq;
 
-/// The fields of a value that stands at a path. A value that is no object has none, and is refused by each call that
-/// looks for a field or at their names.
+/// The fields of a value at a path. A value that is no object has none. Each call that looks for a field, or at their
+/// names, refuses it.
 #[derive(Clone, Copy)]
 pub struct Fields<'v, 'p> {
     pub alloc: Global,
@@ -26,8 +26,10 @@ pub struct Fields<'v, 'p> {
 impl Fields<'_, '_> {
     /// A field that must be there.
     ///
-    /// Refused as the reader says; with the cause `Absent`, at the path of the field, where the object has no such
-    /// field; with the cause `OtherKind` where the value is no object.
+    /// Refused as the reader says, and besides:
+    ///
+    /// - with the cause `Absent`, at the path of the field, if the object has no such field;
+    /// - with the cause `OtherKind` if the value is no object.
     #[tactic(auto, unfolding(crate::specs::Reading::and_then, crate::specs::Reading::required, crate::specs::Reading::if_present))]
     pub fn required<R: Reader>(self, name: &str, reader: &R) -> Result<R::Item, ReadFail>
         ensures { Answers result
@@ -41,7 +43,7 @@ impl Fields<'_, '_> {
 
     /// A field that may be absent, with its value then.
     ///
-    /// Refused as the reader says, and with the cause `OtherKind` where the value is no object.
+    /// Refused as the reader says, and with the cause `OtherKind` if the value is no object.
     #[tactic(auto, unfolding(crate::specs::Reading::and_then, crate::specs::Reading::optional, crate::specs::Reading::if_present))]
     pub fn optional<R: Reader>(
         self,
@@ -73,7 +75,7 @@ impl Fields<'_, '_> {
 
     /// A field that may be absent, with no value then.
     ///
-    /// Refused as the reader says, and with the cause `OtherKind` where the value is no object.
+    /// Refused as the reader says, and with the cause `OtherKind` if the value is no object.
     #[tactic(auto, unfolding(crate::specs::Reading::and_then, crate::specs::Reading::maybe, crate::specs::Reading::if_present, crate::specs::Reading::present))]
     pub fn maybe<R: Reader>(self, name: &str, reader: &R) -> Result<Option<R::Item>, ReadFail>
         ensures { Answers result
@@ -96,7 +98,7 @@ impl Fields<'_, '_> {
         known(self.alloc, self.value, names, self.path)
     }
 
-    /// Refuses the field of this name where a rule is broken.
+    /// Refuses the field of this name if a rule is broken.
     pub fn refuse_if(self, broken: bool, cause: Cause, name: &str) -> Result<(), ReadFail>
         ensures { Answers result (reading.refuse_if broken cause (name_path self.entry.path.now name.now)) }
     {
@@ -114,8 +116,8 @@ pub trait Table {
     /// What it reads by its definition, as that of a `Reader`.
     ghost reads: { Self → List Self.Row → List ℕ → Data → Result Self.Row FaultOf };
 
-    /// The row of these fields, beside the rows that stand before it in its array. The order of its calls is the order
-    /// of the faults; that no other field is there (`known`) is asked behind all fields.
+    /// The row of these fields, beside the rows that come before it in its array. The order of its calls is the order
+    /// of the faults. That no other field is there (`known`) is asked after all fields.
     fn read(&self, earlier: &[Self::Row], fields: Fields<'_, '_>) -> Result<Self::Row, ReadFail>
         ensures { Answers result
             (reads self.now earlier.now fields.entry.path.now (view fields.entry.value.now)) };

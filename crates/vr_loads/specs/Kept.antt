@@ -25,8 +25,8 @@ pub record IsTotalAlong (f : ℕ → ℤ) (nodes : List ℕ) (total : ℤ) : Typ
 abbrev pub nothing_carried : Carried
 nothing_carried = record { evaluator = 0; room = pos 0; sums = [] }
 
--- what is kept of vehicle v with a list: its evaluator, how much it may take along the list, and the sums of what it
--- takes
+-- What is kept of vehicle v with a list: its evaluator, and how much it may take along the list. The sums of what it
+-- takes are kept too.
 pub record IsCarried (model : Model) (d v : ℕ) (list : List ℕ) (carried : Carried) : Type 0 where
   pub evaluator_is : carried.evaluator ≡ evaluator_number (dimension_at model d) v
   pub room_is : carried.room

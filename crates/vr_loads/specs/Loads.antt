@@ -50,8 +50,8 @@ value_of model d e node = number_at (evaluator_at (dimension_at model d) e).valu
 abbrev pub taken : Model → ℕ → ℕ → ℕ → ℤ
 taken model d v node = value_of model d (evaluator_number (dimension_at model d) v) node
 
--- what vehicle v carries at its end with a list, where it takes nothing along to its start: what it takes at the start
--- and at each visit
+-- What vehicle v carries at its end with a list, if it has nothing before its start. That is what it takes at the start
+-- and at each visit.
 abbrev pub load_of : Model → ℕ → ℕ → List ℕ → ℤ
 load_of model d v list = taken model d v (vehicle_at model v).start +ℤ total_by (taken model d v) list
 
@@ -60,7 +60,7 @@ abbrev pub can_carry : Model → ℕ → ℕ → List ℕ → Bool
 can_carry model d v list =
     is_empty list || int_le (load_of model d v list) (number_at (dimension_at model d).capacities v)
 
--- in a load, a vehicle can drive a list exactly where it can carry what it takes
+-- in a load, a vehicle can drive a list exactly if it can carry what it takes
 abbrev pub LoadsDecide : Type 0
 LoadsDecide = (model : Model) (d v : ℕ) → HasLoad model d → v < length model.vehicles → (list : List ℕ)
     → (is_empty list || is_feasible (line model d v list)) ≡ can_carry model d v list

@@ -8,9 +8,9 @@ ghost use Rattle.vr_loads.specs.Loads.{is_load_dimension as asks_nothing, only_a
 
 use vr_model::{Dimension, Evaluator, Model};
 
-/// Whether dimension `d` is a load: it has no slack, no rows of stops and no breaks, and each of its evaluators gives
-/// values of nodes alone, none of them negative. (With slack sums would tell as well; such a dimension is walked as any
-/// other.)
+/// Whether dimension `d` is a load: it has no slack, no rows of stops and no breaks. Each of its evaluators gives
+/// values of nodes alone, none of them negative. (With slack, sums would tell as well; such a dimension is walked as
+/// any other.)
 pub fn is_load(model: &Model, d: u32) -> bool
     requires dimension { d < length model.now.dimensions }
     ensures { result ≡ is_load_in model.now d }

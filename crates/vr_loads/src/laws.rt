@@ -2,7 +2,7 @@
 
 ghost use Rattle.vr_loads.specs.Loads.{LoadsDecide};
 
-/// In a load, a vehicle can drive a list exactly where it can carry what it takes.
+/// In a load, a vehicle can drive a list exactly if it can carry what it takes.
 pub fn loads_decide()
     ensures { LoadsDecide }
 {}

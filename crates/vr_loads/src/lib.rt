@@ -1,12 +1,18 @@
-//! Dimensions that are loads: whether a vehicle can carry what it takes along a list is told by sums that are kept of
-//! the committed lists, with one subtraction for each piece of a change that is of a vehicle with the same evaluator.
+//! Dimensions that are loads. Sums that are kept of the committed lists tell whether a vehicle can carry what it takes
+//! along a list. Each piece of a change takes one subtraction, if it is of a vehicle with the same evaluator.
 //!
-//! A dimension is a load where it has no slack, no rows of stops and no breaks, and its evaluators give values of nodes
-//! alone, none of them negative (`kind`): then no cumul of a line is greater than the last, and the line of a list with
-//! a visit has a schedule exactly where what its vehicle takes at its start and along the list fits the capacity
-//! (`laws`). Invariant: the sums of each vehicle (`loads`, which has them written by `sums`) are those of its committed
-//! list, up to each of its nodes. The filter of a dimension (`vr_pathfilters`) asks them where it is a load, and
-//! `vr_judge` which dimensions are loads, to put their filters in front of those of other dimensions.
+//! A dimension is a load (`kind`) if it has no slack, no rows of stops and no breaks. Besides, its evaluators give
+//! values of nodes alone, none of them negative. Then no cumul of a line is greater than the last. So a list with a
+//! visit has a schedule exactly if what its vehicle takes, at its start and along it, fits the capacity (`laws`). With
+//! capacity 10 and 2 at the start, visits that take 3 and 5 fit; one more that takes 1 does not.
+//!
+//! Invariant: the sums of each vehicle are those of its committed list, up to each of its nodes.
+//!
+//! The filter of a dimension (`vr_pathfilters`) asks the sums if the dimension is a load. `vr_judge` and `vr_ruin` ask
+//! which dimensions are loads; `vr_judge` puts their filters in front of those of other dimensions. This crate uses
+//! `vr_balance` for sums, and `vr_routes`.
+//!
+//! Read `kind` first, then `loads`, which has the sums of each vehicle written by `sums`.
 #![tactic(auto)]
 
 mod kind;

@@ -56,8 +56,8 @@ impl Carried {
     }
 }
 
-/// What is kept of the lists of all vehicles in a dimension that is a load: sums of what they take. With them a change
-/// is judged in a time that does not depend on how long the lists are, where the vehicles have the same evaluator.
+/// What is kept of the lists of all vehicles in a dimension that is a load: sums of what they take. If the vehicles of
+/// a change have the same evaluator, judging it takes a time that does not depend on how long the lists are.
 #[derive(Drop)]
 pub struct Loads {
     vehicles: Vec<Carried>,
@@ -73,7 +73,7 @@ impl Model for Loads {
 }
 
 impl Loads {
-    /// The sums of the lists of routes in dimension `d`. The only refusal is want of memory.
+    /// The sums of the lists of routes in dimension `d`. It fails only when out of memory.
     pub fn open(
         alloc: Global,
         model: &RoutingModel,
@@ -135,11 +135,11 @@ impl Loads {
         if sum <= self.vehicles[v as usize].room {
             return true;
         }
-        // a vehicle that is not used takes nothing, also where it would take too much at its start
+        // a vehicle that is not used takes nothing, even if it would take too much at its start
         Piece::nodes_in(pieces) == 0
     }
 
-    // What an evaluator gives for the nodes of a piece, added up: by one subtraction where the sums are kept by it.
+    // What an evaluator gives for the nodes of a piece, added up: by one subtraction if the sums are kept by it.
     #[inline]
     fn along(
         &self,

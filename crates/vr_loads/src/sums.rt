@@ -24,7 +24,7 @@ pub fn write_sums(model: &RoutingModel, d: u32, evaluator: u32, list: &[u32], su
     }
 }
 
-/// What an evaluator gives for the nodes of a list, added up: asked of lists whose sums are by another evaluator.
+/// What an evaluator gives for the nodes of a list, added up. It is asked of lists whose sums are by another evaluator.
 pub fn sum_of(model: &RoutingModel, d: u32, evaluator: u32, list: &[u32]) -> i64
     requires load { HasLoad model.now d }
     requires evaluator { evaluator < length (dimension_at model.now d).evaluators }

@@ -1,6 +1,6 @@
 -- How 'there is a schedule' becomes a test that computes: each line has finitely many candidates, and they are
--- searched.
--- Read first Testing, then ScheduleTests, Boxes, ChosenSchedule. Definitions need these lemmas, so they stand here.
+-- searched. Read first Testing, then ScheduleTests, Boxes, ChosenSchedule. These lemmas are among the definitions,
+-- which need them.
 pub mod Testing
 pub mod ScheduleTests
 pub mod Boxes

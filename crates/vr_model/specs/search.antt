@@ -1,6 +1,5 @@
--- The searches that improve a solution.
--- Read first Scans, then Outcomes (where a search stands, how it ends), Descents, GuidedSearches. The others state
--- laws.
+-- The searches that improve a solution. Read first Scans, then Outcomes (the state of a search, and how it ends),
+-- Descents, GuidedSearches. The others state laws.
 pub mod Scans
 pub mod Outcomes
 pub mod Descents

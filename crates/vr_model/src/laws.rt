@@ -1,7 +1,11 @@
 //! Laws over the definitions. A call has no code: its contract is the law. Nothing calls them: a proof that needs a law
-//! names the proof of it. What a law asks of its lines stands in `specs/schedules`: where stops are reached or the end
-//! is reached from them, but for the two tests of that, lines are sound (`SoundLines`); where a rule chooses or
-//! narrows, they have one stop more than arcs.
+//! names the proof of it.
+//!
+//! What a law asks of its lines is in `specs/schedules`:
+//!
+//! - Laws of what is reached, or of what the end is reached from, ask that lines are sound (`SoundLines`). The two that
+//!   speak of tests of this do not.
+//! - Laws of what a rule chooses or narrows ask for one stop more than arcs.
 
 ghost use Rattle.vr_model.specs.routes.AssignmentLaws.{ChosenPlansAreThere, OpenMeetsItsLines};
 ghost use Rattle.vr_model.specs.routes.CostLaws.{CostsAreBounded};
@@ -19,7 +23,7 @@ ghost use Rattle.vr_model.specs.schedules.RuleLaws.{NarrowedKeepsRules, Narrowed
 ghost use Rattle.vr_model.specs.schedules.SoundLines.{LinesAreSound};
 ghost use Rattle.vr_model.specs.tables.Limits.{LimitsAsDefined};
 
-/// The rules of a schedule hold exactly where their tests pass.
+/// The rules of a schedule hold exactly if their tests pass.
 pub fn rules_as_tested()
     ensures { RulesAsTested }
 {}
@@ -34,13 +38,12 @@ pub fn chosen_is_least()
     ensures { ChosenIsLeast }
 {}
 
-/// There is a chosen schedule exactly where a line is feasible.
+/// There is a chosen schedule exactly if a line is feasible.
 pub fn chosen_where_feasible()
     ensures { ChosenWhereFeasible }
 {}
 
-/// Where the cumuls before a stop are settled, its least cumul may be put in, and the chosen schedule
-/// stays the same.
+/// If the cumuls before a stop are settled, its least cumul may be put in, and the chosen schedule stays the same.
 pub fn least_cumul_may_be_pinned()
     ensures { LeastCumulMayBePinned }
 {}
@@ -55,20 +58,20 @@ pub fn end_reached_as_tested()
     ensures { EndReachedAsTested }
 {}
 
-/// The line of a well-formed model with a list of distinct visits that is not empty is sound: it has one stop more than
-/// arcs, no negative visit time, breaks of at least 1, and no negative transit where there are breaks.
+/// The line of a well-formed model is sound, if its list is of distinct visits and not empty. It has one stop more than
+/// arcs, no negative visit time, and breaks of at least 1. If it has breaks, it has no negative transit.
 pub fn lines_are_sound()
     ensures { LinesAreSound }
 {}
 
-/// At each stop, a sound line is feasible exactly where some cumul is reached with some number of breaks taken, and the
-/// end is reached from it with the others.
+/// At any stop, a sound line is feasible exactly if the levels of the stop meet. They meet at a cumul that is reached
+/// with some number of breaks taken, and from which the end is reached with the others.
 pub fn feasible_where_levels_meet()
     ensures { FeasibleWhereLevelsMeet }
 {}
 
-/// Some schedule of a sound line has a cumul at a stop exactly where the cumul is reached there with some number of
-/// breaks taken, and the end is reached from it with the others.
+/// Some schedule of a sound line has a cumul at a stop exactly if the levels of the stop meet at it. The cumul is then
+/// reached with some number of breaks taken, and the end is reached from it with the others.
 pub fn cumul_where_levels_meet()
     ensures { CumulWhereLevelsMeet }
 {}
@@ -78,18 +81,17 @@ pub fn reached_by_crossing()
     ensures { ReachedByCrossing }
 {}
 
-/// The end is reached from what the arc of a stop leads from, to what the end is reached from at
-/// the stop behind.
+/// The end is reached from what the arc of a stop leads from, to what the end is reached from at the next stop.
 pub fn end_reached_by_crossing()
     ensures { EndReachedByCrossing }
 {}
 
-/// The first stop is reached at what it allows, where the breaks taken fit before.
+/// The first stop is reached at what it allows, if the breaks taken fit before.
 pub fn reached_at_start()
     ensures { ReachedAtStart }
 {}
 
-/// The end is reached at what it allows, where the other breaks fit after.
+/// The end is reached at what it allows, if the other breaks fit after.
 pub fn reached_at_end()
     ensures { ReachedAtEnd }
 {}
@@ -111,8 +113,7 @@ pub fn costs_are_bounded()
     ensures { CostsAreBounded }
 {}
 
-/// A move is in the list of all moves exactly where its numbers meet the condition of its
-/// neighbourhood.
+/// A move is in the list of all moves exactly if its numbers meet the condition of its neighbourhood.
 pub fn moves_as_tested()
     ensures { MovesAsTested }
 {}
@@ -122,7 +123,7 @@ pub fn moves_change_lists()
     ensures { MovesChangeLists }
 {}
 
-/// The lists after a move are lists of the model, so no visit stands twice in them.
+/// The lists after a move are lists of the model, so no visit is in them twice.
 pub fn moves_keep_lists()
     ensures { MovesKeepLists }
 {}
@@ -137,8 +138,8 @@ pub fn least_is_first<A>()
     ensures { LeastIsFirst A }
 {}
 
-/// A scan accepts the first acceptable move where it may try that far, is complete where no move is
-/// acceptable and it may try them all, and is cut else.
+/// A scan accepts the first acceptable move if it may try that far. It is complete if no move is acceptable and it may
+/// try them all. Else it is cut.
 pub fn scan_ends()
     ensures { ScanEnds }
 {}
@@ -165,7 +166,7 @@ pub fn chosen_under_is_chosen()
     ensures { ChosenUnderIsChosen }
 {}
 
-/// There is a chosen schedule under a rule exactly where a line is feasible.
+/// There is a chosen schedule under a rule exactly if a line is feasible.
 pub fn chosen_under_where_feasible()
     ensures { ChosenUnderWhereFeasible }
 {}
@@ -180,7 +181,7 @@ pub fn narrowed_keeps_rules()
     ensures { NarrowedKeepsRules }
 {}
 
-/// Where the least end and the latest start with it are known, the tight rule narrows the line to them.
+/// If the least end and the latest start with it are known, the tight rule narrows the line to them.
 pub fn narrowed_to_ends()
     ensures { NarrowedToEnds }
 {}

@@ -62,7 +62,7 @@ pub const MOST_PAIRS: u32 = 500;
 /// How many bytes the name of a dimension has at most.
 pub const MOST_NAME_BYTES: u32 = 64;
 
-/// How many bytes an input has at most, a model or any other, 64 MiB: `vr_app` holds it to this.
+/// How many bytes an input has at most, a model or any other: 64 MiB. `vr_app` holds it to this.
 pub const MOST_INPUT_BYTES: u64 = 67_108_864;
 
 /// How many neighbourhoods there are.

@@ -1,5 +1,4 @@
-//! What a model and its rows say of nodes, arcs and vehicles. Each look-up stands at the smallest
-//! record that answers it.
+//! What a model and its rows say of nodes, arcs and vehicles. Each look-up is at the smallest record that answers it.
 
 ghost use Rattle.std.specs.Prelude.{ℕ, ◌≡◌, ◌<◌, ◌^◌, ◌*◌, ◌+◌, ◌==◌, ◌||◌, ◌⊎◌, length, pos, neg_ℤ, ◌≤ℤ◌, find, Some};
 ghost use Rattle.std.specs.List.{All};
@@ -29,7 +28,7 @@ impl Matrix {
 }
 
 impl Evaluator {
-    /// The value of a node, 0 where there are no values.
+    /// The value of a node, 0 if there are no values.
     #[inline]
     pub fn value(&self, node: u32) -> i64
         requires { (length self.now.values ≡ 0) ⊎ (node < length self.now.values) }
@@ -44,9 +43,11 @@ impl Evaluator {
         }
     }
 
-    /// What it gives from node `i` to node `j` of a model, in `-2^31..=2^40 + 2^30`: the entry of its matrix and the
-    /// value of node `i`, each 0 where it is absent. `vr_read` asks it of a model that is not yet known to be well
-    /// formed; others ask `Model::transit` and `Model::transit_by`, which are in a smaller range.
+    /// What it gives from node `i` to node `j` of a model, in `-2^31..=2^40 + 2^30`. That is the entry of its matrix
+    /// and the value of node `i`, added up; each is 0 if it is absent.
+    ///
+    /// `vr_read` asks it of a model that is not yet known to be well formed. Others ask `Model::transit` and
+    /// `Model::transit_by`, which are in a smaller range.
     #[inline]
     pub fn transit(&self, model: &Model, i: u32, j: u32) -> i64
         requires evaluator { IsEvaluator model.now self.now }
@@ -60,8 +61,8 @@ impl Evaluator {
 }
 
 impl StopRow {
-    /// The row of a key, the first of several, which a well-formed model does not have: of a visit by its node, of a
-    /// start or an end by its vehicle.
+    /// The row of a key: of a visit by its node, of a start or an end by its vehicle. It is the first of several, but a
+    /// well-formed model has no key twice.
     pub fn of_key(rows: &Seq<StopRow>, key: u32) -> Option<&StopRow>
         ensures value { option_copied result ≡ row_of rows.now key }
         ensures valid { All IsStopRow rows.now → WherePresent IsStopRow (option_copied result) }
@@ -82,7 +83,7 @@ impl Dimension {
         self.evaluators.get(number as usize)
     }
 
-    /// The breaks of vehicle `v`, in the order in which they are taken; none where it has no entry
+    /// The breaks of vehicle `v`, in the order in which they are taken; none if it has no entry
     /// (`RoutingDimension::GetBreakIntervalsOfVehicle` in OR-Tools).
     pub fn breaks_of(&self, v: u32) -> &[BreakRow]
         ensures { result.now ≡ breaks_of_vehicle self.now v }
@@ -120,9 +121,9 @@ impl Model {
         self.matrix_part(Some(costs), i, j)
     }
 
-    /// The transit of vehicle `v` from node `i` to node `j` in dimension `d`, in `-2^31..=2^31`: the
-    /// entry of the evaluator's matrix and the value of node `i`, each 0 where it is absent
-    /// (`RoutingDimension::GetTransitValue` in OR-Tools).
+    /// The transit of vehicle `v` from node `i` to node `j` in dimension `d`, in `-2^31..=2^31`
+    /// (`RoutingDimension::GetTransitValue` in OR-Tools). It is the entry of the evaluator's matrix and the value of
+    /// node `i`, added up; each is 0 if it is absent.
     #[inline]
     pub fn transit(&self, d: u32, v: u32, i: u32, j: u32) -> i64
         requires well_formed { IsWellFormed self.now }
@@ -139,7 +140,7 @@ impl Model {
     }
 
     /// The transit from node `i` to node `j` of whichever vehicle has this evaluator in some dimension, in
-    /// `-2^31..=2^31`, where the caller has looked the evaluator up.
+    /// `-2^31..=2^31`. It is for a caller that has looked the evaluator up.
     #[inline]
     pub fn transit_by(&self, evaluator: &Evaluator, i: u32, j: u32) -> i64
         requires well_formed { IsWellFormed self.now }
@@ -154,7 +155,7 @@ impl Model {
         evaluator.transit(self, i, j)
     }
 
-    /// An entry of the matrix of a number, 0 where there is no number.
+    /// An entry of the matrix of a number, 0 if there is no number.
     #[inline]
     fn matrix_part(&self, matrix: Option<u32>, i: u32, j: u32) -> i64
         requires matrices { All (IsMatrix self.now.nodes) self.now.matrices }
@@ -170,8 +171,7 @@ impl Model {
         }
     }
 
-    /// Whether vehicle `v` may visit a node: where the node has a row of allowed vehicles, those of the
-    /// row alone.
+    /// Whether vehicle `v` may visit a node. If the node has a row of allowed vehicles, those of the row alone may.
     pub fn allows_vehicle(&self, v: u32, node: u32) -> bool
         ensures { result ≡ allows_vehicle_of self.now v node }
     {

@@ -1,9 +1,9 @@
-//! Want of memory, the refusal that calls which allocate may answer.
+//! Out of memory: the error that calls which allocate may answer.
 
 use std::alloc::{AllocError, AllocFailed};
 
-/// Want of memory. No contract ties it to a refused growth; of other refusals only a count of sharers that is full
-/// (`vr_plan::Lookups::share`) comes as it, and in tests an event that `vr_watch::Stopper` refuses.
+/// Out of memory. No contract ties it to a refused growth. Of other refusals only two come as it: a count of sharers
+/// that is full (`vr_plan::Lookups::share`), and in tests an event that `vr_watch::Stopper` refuses.
 #[derive(Clone, Copy, Debug, PartialEq, Eq)]
 pub struct NoMemory;
 

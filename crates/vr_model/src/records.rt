@@ -28,17 +28,17 @@ pub struct Model {
 /// A number for each ordered pair of nodes.
 #[derive(Drop)]
 pub struct Matrix {
-    /// The entries row by row, in `-2^30..=2^40`: not negative where they are arc costs, and at most
-    /// `2^30` where a dimension uses them.
+    /// The entries row by row, in `-2^30..=2^40`. Arc costs are not negative. Entries that a dimension uses are at most
+    /// `2^30`.
     pub entries: Seq<i64>,
 }
 
 /// A vehicle.
 #[derive(Clone, Copy)]
 pub struct Vehicle {
-    /// The node where its route begins.
+    /// The node at which its route begins.
     pub start: u32,
-    /// The node where its route ends.
+    /// The node at which its route ends.
     pub end: u32,
     /// The number of the matrix of its arc costs (`SetArcCostEvaluatorOfVehicle` in OR-Tools).
     pub costs: u32,
@@ -59,8 +59,8 @@ pub enum Policy {
     Fifo,
 }
 
-/// By which rule a vehicle chooses one of its schedules, in each dimension. Of several with the cumuls that a rule asks
-/// for it is the one with the least break starts, compared from the first on.
+/// By which rule a vehicle chooses one of its schedules, in each dimension. If several have the cumuls that a rule asks
+/// for, it is the one with the least break starts, compared from the first on.
 #[derive(Clone, Copy)]
 pub enum ScheduleRule {
     /// The least cumuls, compared from the start on.
@@ -85,8 +85,8 @@ pub struct Dimension {
     pub capacities: Seq<i64>,
     /// Whether each cumul of a start is 0 (`fix_start_cumul_to_zero` in OR-Tools).
     pub fix_start: bool,
-    /// For each node its visit time, in `0..=2^30`: a break on the arc from a node begins no earlier
-    /// than that long after the cumul there.
+    /// For each node its visit time, in `0..=2^30`. A break on the arc from a node begins no earlier than that long
+    /// after the cumul there.
     pub visit: Seq<i64>,
     /// Rows of visits, by node; up to 1000.
     pub nodes: Seq<StopRow>,
@@ -103,8 +103,7 @@ pub struct Dimension {
     pub global_span_cost: i64,
 }
 
-/// What a dimension adds on an arc: the entry of the matrix, and the value of the node where the arc
-/// begins.
+/// What a dimension adds on an arc: the entry of the matrix, and the value of the node at which the arc begins.
 #[derive(Drop)]
 pub struct Evaluator {
     /// The number of a matrix, or none.
@@ -118,14 +117,14 @@ pub struct Evaluator {
 pub struct StopRow {
     /// The node of a visit, or the vehicle of a start or an end.
     pub key: u32,
-    /// Where the cumul lies (`CumulVar(index).SetRange` in OR-Tools).
+    /// The cumul lies in it (`CumulVar(index).SetRange` in OR-Tools).
     pub window: Option<Interval>,
-    /// Where it does not lie; up to 16 intervals (`RemoveInterval` in OR-Tools).
+    /// The cumul lies in none of these; up to 16 intervals (`RemoveInterval` in OR-Tools).
     pub forbidden: Seq<Interval>,
     pub soft: Option<Soft>,
 }
 
-/// The numbers from `lo` to `hi`, both included, where `0 <= lo <= hi` and `hi` is up to the horizon.
+/// The numbers from `lo` to `hi`, both included, with `0 <= lo <= hi` and `hi` up to the horizon.
 #[derive(Clone, Copy)]
 pub struct Interval {
     pub lo: i64,
@@ -149,8 +148,8 @@ pub struct VehicleBreaks {
     pub rows: Seq<BreakRow>,
 }
 
-/// A break: it begins in `from..=to`, with `0 <= from <= to`, and takes `duration`, at least 1; all up
-/// to the horizon.
+/// A break. It begins in `from..=to`, with `0 <= from <= to`, and takes `duration`, at least 1; all are up to the
+/// horizon.
 #[derive(Clone, Copy, Default)]
 pub struct BreakRow {
     pub from: i64,
@@ -198,9 +197,9 @@ pub struct SearchRow {
     pub p: i64,
     /// The denominator of lambda, in `1..=1000`.
     pub q: i64,
-    /// The neighbourhoods in the order in which their moves are tried, none twice; `PathLns` does not ask for them.
+    /// The neighbourhoods in the order in which their moves are tried, none twice. `PathLns` does not ask for them.
     pub neighbourhoods: Seq<Neighbourhood>,
-    /// How many visits the chain of a cut has at most, in `1..=100`: `PathLns` takes these out of a list, and the other
+    /// How many visits the chain of a cut has at most, in `1..=100`. `PathLns` takes these out of a list, and the other
     /// nodes of their pairs beside them.
     pub cut: u32,
     /// For how many rounds `TabuSearch` holds a changed visit tabu, in `1..=1000`.
@@ -210,13 +209,13 @@ pub struct SearchRow {
 /// How the first solution is built (`FirstSolutionStrategy` in OR-Tools).
 #[derive(Clone, Copy)]
 pub enum First {
-    /// Vehicle after vehicle, the item of the cheapest arc is appended, of those in no group first, of those with a
+    /// Vehicle after vehicle, the item of the cheapest arc is appended. Items in no group come first, those with a
     /// penalty last.
     PathCheapestArc,
-    /// The cheapest insertion into any list is made first, of items in no group before others, of those with a penalty
+    /// The cheapest insertion into any list is made first. Items in no group come before others, those with a penalty
     /// last.
     ParallelCheapestInsertion,
-    /// Routes of one item each are joined where that saves most.
+    /// Routes of one item each are joined, the join that saves most first (Clarke, Wright).
     Savings,
 }
 
@@ -226,17 +225,17 @@ pub enum Improve {
     None,
     /// The first move that costs less is made, again and again.
     GreedyDescent,
-    /// The same by the cost with penalised arcs; where none is left, arcs are penalised and it goes on.
+    /// The same by the cost with penalised arcs. If no such move is left, arcs are penalised and it goes on.
     GuidedLocalSearch,
-    /// A chain of a list is taken out, and items that stand in no list are inserted as long as one may be; the first
-    /// such cut whose lists cost less is kept, again and again.
+    /// A chain of a list is taken out, and items that are in no list are inserted as long as one may be. The first such
+    /// cut whose lists cost less is kept, again and again.
     PathLns,
-    /// Of the moves that are not tabu or lead to the cheapest lists so far the best is made, also where it costs more.
+    /// The best move is made, even if it costs more. A tabu move counts only if it leads to the cheapest lists so far.
     TabuSearch,
 }
 
-/// The six parts of the cost of a solution. None is negative where the lists are valid; what `vr_printed` reads as
-/// parts may be any numbers.
+/// The six parts of the cost of a solution. None is negative if the lists are valid. What `vr_printed` reads as parts
+/// may be any numbers.
 #[derive(Clone, Copy)]
 pub struct Parts {
     /// The arc costs of the used vehicles.

@@ -83,7 +83,7 @@ impl<T> Seq<T> {
         self.items.iter()
     }
 
-    /// Puts a value at the end. Where memory is wanting the list stays as it was, and the value is dropped.
+    /// Puts a value at the end. When out of memory, the list stays as it was, and the value is dropped.
     pub fn push(&mut self, t: T) -> Result<(), NoMemory>
     where
         T: Drop,
@@ -94,7 +94,7 @@ impl<T> Seq<T> {
         Ok(())
     }
 
-    /// Takes the last value out, where there is one. Tests alone call it.
+    /// Takes the last value out, if there is one. Tests alone call it.
     pub fn pop(&mut self) -> Option<T>
         ensures none { IfNone result (self.old ≡ []) }
         ensures some { IfSome result (λ t. self.old ≡ self.new ++ t ∷ []) }
@@ -102,8 +102,8 @@ impl<T> Seq<T> {
         self.items.pop()
     }
 
-    /// Puts a value before the value at a place, or at the end. Where memory is wanting the list stays as it was, and
-    /// the value is dropped. Tests alone call it.
+    /// Puts a value before the value at a place, or at the end. When out of memory, the list stays as it was, and the
+    /// value is dropped. Tests alone call it.
     pub fn insert(&mut self, k: usize, t: T) -> Result<(), NoMemory>
     where
         T: Drop,
@@ -115,7 +115,7 @@ impl<T> Seq<T> {
         Ok(())
     }
 
-    /// Puts copies of values at the end, in order. Where memory is wanting the list stays as it was.
+    /// Puts copies of values at the end, in order. When out of memory, the list stays as it was.
     pub fn extend_from_slice(&mut self, more: &[T]) -> Result<(), NoMemory>
     where
         T: Copy,
@@ -126,7 +126,7 @@ impl<T> Seq<T> {
         Ok(())
     }
 
-    /// Takes the value at a place out. Those behind it move one place to the front. Tests alone call it.
+    /// Takes the value at a place out. Those after it move one place to the front. Tests alone call it.
     pub fn remove(&mut self, k: usize) -> T
         requires { k < length self.old }
         ensures value { slice_get self.old k ≡ Some result }

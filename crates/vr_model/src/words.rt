@@ -21,7 +21,7 @@ impl Model for Text {
 }
 
 impl Text {
-    /// A copy of a text. `NoMemory` is for want of memory alone.
+    /// A copy of a text. `NoMemory` means out of memory, nothing else.
     pub fn from_str(alloc: Global, s: &str) -> Result<Text, NoMemory>
         ensures { IfOk result (λ t. t ≡ s.now) }
     {

@@ -12,9 +12,9 @@ use crate::part::CostPart;
 use vr_model::NoMemory;
 use vr_routes::{Change, Routes};
 
-/// A part of the cost that takes no memory once it is opened: its difference is told as a plain number, and any change
-/// is ready. Each such part is a [`CostPart`] too, which never answers `NoMemory`: tests alone ask it so, `vr_judge` by
-/// the two calls of this trait.
+/// A part of the cost that takes no memory once it is opened. Its difference is a plain number, and any change is
+/// ready. Each such part is a [`CostPart`] too, which never answers `NoMemory`. Tests alone ask it so; `vr_judge` asks
+/// by the two calls of this trait.
 pub trait InfallibleCost {
     /// The model, which no call changes.
     ghost model: { Self → RoutingModel };
@@ -25,7 +25,7 @@ pub trait InfallibleCost {
     /// These are the lists that the part has committed, valid lists of its model.
     ghost stands_at: { Self → Tours → Type 0 };
 
-    /// What a change of the committed lists adds to the part, also where the lists after it are not valid. A part may
+    /// What a change of the committed lists adds to the part, even if the lists after it are not valid. A part may
     /// write over scratch of its own for it, which contracts do not see.
     fn added(&mut self, routes: &Routes, change: &Change) -> i64
         requires stands { stands_at self.old routes.now }
@@ -35,8 +35,8 @@ pub trait InfallibleCost {
         ensures range { IsAddedByChange result }
         ensures stays { self.new ≡ self.old };
 
-    /// Commits the lists after a change, as `CostPart::commit` does, which calls it; nothing is made ready before. It
-    /// is called before the routes are changed.
+    /// Commits the lists after a change. `CostPart::commit` calls it and does as it does, but nothing is made ready
+    /// before. It is called before the routes are changed.
     fn commit_lists(&mut self, routes: &Routes, change: &Change)
         requires stands { stands_at self.old routes.now }
         requires made { IsMadeOn routes.now change.now }

@@ -1,12 +1,18 @@
-//! What the cost terms of routes have in common: the trait of each term, sums over the lists of vehicles, and lists
-//! after a splice.
+//! What the cost terms of routes have in common. Each term has the trait of this crate, and `difference` says what a
+//! change adds to its value. The value is that of the definition, on whole lists.
 //!
-//! A term stands at committed lists (`part`): `difference` says what a change adds to its value, which is the
-//! definition's on the whole lists after the change less that before it. A term that is a sum over vehicles (`lists`:
-//! `ListCost`) looks at the changed lists alone, each a splice (`vr_routes::Splice`) of the list before it; `splices`
-//! says whether such a list is empty, since a vehicle that is not used pays for no arc and no fixed cost. A term that
-//! takes no memory says so once for all of its calls (`infallible`: `InfallibleCost`). `vr_arccosts`, `vr_usecosts` and
-//! `vr_costfilter` have the terms, and `vr_judge` adds them up.
+//! A term is in sync with committed lists, and `difference` goes from these: it is the value after the change less that
+//! before it.
+//!
+//! `vr_arccosts`, `vr_usecosts` and `vr_costfilter` have the terms, `vr_bounds` keeps bounds beside the first, and
+//! `vr_judge` adds them up. This crate uses `vr_routes`.
+//!
+//! Read `part` first, which has the trait. Then:
+//!
+//! - `lists` (`ListCost`) has terms that are sums over vehicles. They look at the changed lists alone, each a splice
+//!   (`vr_routes::Splice`) of the list before it.
+//! - `splices` says whether such a list is empty: a vehicle that is not used pays for no arc and no fixed cost.
+//! - `infallible` (`InfallibleCost`) has terms that take no memory, and say so once for all of their calls.
 #![tactic(auto)]
 
 mod infallible;

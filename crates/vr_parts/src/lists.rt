@@ -16,7 +16,7 @@ ghost use Rattle.vr_parts.specs.Sums.{sum_over_routes};
 use vr_routes::{Change, Routes, Splice};
 
 /// A part of the cost that adds up what each vehicle's list costs by itself: arc costs and fixed costs are such. Soft
-/// upper bounds and spans are such a sum too, but may want memory (`PlanCost` of `vr_costfilter`).
+/// upper bounds and spans are such a sum too, but may run out of memory (`PlanCost` of `vr_costfilter`).
 pub trait ListCost {
     /// The model.
     ghost of_model: { Self → RoutingModel };

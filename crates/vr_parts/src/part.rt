@@ -39,7 +39,7 @@ pub trait CostPart {
         ensures stands { stands_at self.new routes.now }
         ensures model { model self.new ≡ model self.old };
 
-    /// Makes a change of the committed lists ready: all that may want memory is done here, so that all parts are ready
+    /// Makes a change of the committed lists ready. All that may run out of memory is done here, so all parts are ready
     /// before the first one commits. After `NoMemory` no change is ready.
     fn prepare(&mut self, routes: &Routes, change: &Change) -> Result<(), NoMemory>
         requires stands { stands_at self.old routes.now }

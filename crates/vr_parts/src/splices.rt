@@ -6,7 +6,7 @@ ghost use Rattle.vr_parts.specs.Splices.{spliced, MayBeSpliced};
 
 use vr_routes::{Piece, Routes, Splice};
 
-/// Whether a list has no nodes after a splice. Its pieces are looked at only where no node stays at either end.
+/// Whether a list has no nodes after a splice. Its pieces are looked at only if no node stays at either end.
 /// `vr_arccosts` and `vr_usecosts` ask it: an empty list is that of a vehicle that is not used, which pays for neither
 /// arcs nor its use.
 #[inline(always)]

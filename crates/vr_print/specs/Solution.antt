@@ -33,12 +33,12 @@ abbrev pub used_plans_tree : Model → Assignment → ℕ → Data
 used_plans_tree model assignment v =
     array (items_of (map (dimension_tree model assignment v) (below (length model.dimensions))))
 
--- the plans of vehicle v; none where its list is empty
+-- the plans of vehicle v; none if its list is empty
 abbrev pub plans_tree : Model → Assignment → ℕ → Data
 plans_tree model assignment v =
     if is_empty (route assignment.lists v) then array no_items else used_plans_tree model assignment v
 
--- the nodes of a route from its start to its end; none where the list is empty
+-- the nodes of a route from its start to its end; none if the list is empty
 abbrev pub route_nodes : Model → ℕ → List ℕ → List ℕ
 route_nodes model v [] = []
 route_nodes model v (x ∷ xs) = stops model v (x ∷ xs)
@@ -71,8 +71,8 @@ word_of stop.Optimum = codes "optimum"
 word_of stop.Tries = codes "tries"
 word_of stop.Solutions = codes "solutions"
 
--- a solution: the sum of the parts of its cost, the visits that are dropped, what the first solution cost, the parts,
--- the routes, and the report of the search
+-- A solution. It has the sum of the parts of its cost, the visits that are dropped, and what the first solution cost.
+-- The parts, the routes and the report of the search come with them.
 unfoldable pub tree_of : Parts → List ℕ → Data → ℤ → Report → Data
 tree_of parts dropped routes first_cost report = object
     (member (codes "cost") (whole (sum_of parts))

@@ -28,7 +28,7 @@ pub(crate) fn counts(alloc: Global, nodes: &[u32]) -> Result<Value, NoMemory>
 }
 
 /// An array of whole numbers, in their order: of cumuls, slacks or starts of breaks. `vr_app` asks it too, for the
-/// schedules that `spans` writes. The only refusal is want of memory.
+/// schedules that `spans` writes. It fails only when out of memory.
 pub fn wholes(alloc: Global, values: &[i64]) -> Result<Value, NoMemory>
     ensures { IfOk result (λ v. view v ≡ numbers.wholes values.now) }
 {

@@ -20,8 +20,8 @@ use vr_plan::{Plan, schedule};
 use vr_routes::Routes;
 use vr_steps::Line;
 
-// The plan that the rule of vehicle `v` chooses for a list in dimension `d`, empty where the list has no schedule,
-// which does not come, since the routes are valid; no clause here asks for that.
+// The plan that the rule of vehicle `v` chooses for a list in dimension `d`. It is empty if the list has no schedule.
+// That does not come, since the routes are valid; no clause here asks for that.
 fn chosen_plan(
     alloc: Global,
     closed: Closed<'_>,
@@ -99,7 +99,7 @@ fn used_plans_tree(alloc: Global, of: &RouteOf<'_, '_>) -> Result<Value, NoMemor
     Ok(Value::Array(trees))
 }
 
-/// The chosen plans of a vehicle, one in each dimension; none where it is not used.
+/// The chosen plans of a vehicle, one in each dimension; none if it is not used.
 pub(crate) fn plans_tree(alloc: Global, of: &RouteOf<'_, '_>) -> Result<Value, NoMemory>
     ensures { let assignment = assigned of.now.closed.model.now of.now.routes.now.lists in
         IfOk result (λ tree. view tree ≡ solution.plans_tree of.now.closed.model.now assignment of.now.v) }

@@ -1,4 +1,4 @@
-//! The trees of routes, and the visits that stand in none.
+//! The trees of routes, and the visits that are in none.
 
 ghost use Rattle.std.specs.Prelude.{◌≡◌, ◌<◌, ◌++◌, ◌&&◌, ◌∷◌, [], cond, not, IfOk, IsTrue, OnOk, length};
 ghost use Rattle.serde_json.specs.View.{view};
@@ -16,7 +16,7 @@ use vr_json::Tree;
 use vr_model::{Closed, Model, NoMemory};
 use vr_routes::Routes;
 
-// The nodes of a route from its start to its end, none where its list is empty.
+// The nodes of a route from its start to its end; none if its list is empty.
 fn route_nodes(
     alloc: Global,
     model: &Model,
@@ -82,7 +82,7 @@ pub(crate) fn routes_tree(
     Ok(Value::Array(trees))
 }
 
-// Adds the node, where it is a visit that stands in no list.
+// Adds the node, if it is a visit that is in no list.
 fn note_inactive(
     model: &Model,
     routes: &Routes,
@@ -98,8 +98,8 @@ fn note_inactive(
     Ok(())
 }
 
-/// The visits that stand in no list, ascending. The model says which nodes are visits, and the lists which are active:
-/// the inactive visits that routes keep are not asked, since no clause here says that they are those of this model.
+/// The visits that are in no list, ascending. The model says which nodes are visits, and the lists which are active.
+/// The inactive visits that routes keep are not asked, since no clause here says that they are those of this model.
 pub(crate) fn inactive(alloc: Global, model: &Model, routes: &Routes) -> Result<Vec<u32>, NoMemory>
     ensures { IfOk result (λ nodes. nodes.items ≡ inactive model.now routes.now.lists) }
 {

@@ -131,12 +131,16 @@ fn parts_of(alloc: Global, lookups: &Lookups<'_>, routes: &Routes) -> Result<Par
     rules.cost(routes)
 }
 
-/// The tree of valid routes of a model: their cost with its six parts, the visits that are dropped, ascending, and for
-/// each vehicle its nodes from start to end and, in each dimension, the cumuls, slacks and break starts of the schedule
-/// that its rule chooses; beside these what the first solution cost and how the search went. It looks the model up for
-/// that: tests alone ask it, and the program, which has it looked up, asks `solution_line_over`.
+/// The tree of valid routes of a model. It has:
 ///
-/// `NoMemory` where there was no memory.
+/// - their cost with its six parts, and the visits that are dropped, ascending;
+/// - for each vehicle its nodes from start to end;
+/// - with them, in each dimension, the cumuls, slacks and break starts of the schedule that its rule chooses;
+/// - what the first solution cost, and how the search went.
+///
+/// It looks the model up for that. Tests alone ask it. The program has it looked up, and asks `solution_line_over`.
+///
+/// `NoMemory` if memory is out.
 pub fn solution_tree(
     alloc: Global,
     model: &Model,
@@ -176,7 +180,7 @@ pub fn solution_line_over(
 /// The line of valid routes of a model: the text of their tree, and a line feed. Reading it gives the tree back. Tests
 /// alone ask it.
 ///
-/// `NoMemory` where there was no memory.
+/// `NoMemory` if memory is out.
 pub fn solution_line(
     alloc: Global,
     model: &Model,

@@ -15,8 +15,8 @@ use Rattle.vr_printed.specs.declared.printed.Printed.{Printed}
 use Rattle.vr_printed.specs.declared.printed.PrintedRoute.{PrintedRoute}
 use Rattle.vr_printed.specs.declared.printed.PrintedPlan.{PrintedPlan}
 
--- a plan of vehicle v in a dimension has its name, a cumul for each of so many stops, a slack for each arc between
--- them, and a start for each break
+-- A plan of vehicle v in a dimension has its name, and a cumul for each stop. It has a slack for each arc between them,
+-- and a start for each break.
 abbrev pub is_plan_shaped : Dimension → ℕ → ℕ → PrintedPlan → Bool
 is_plan_shaped dimension v stops plan = bytes_eq plan.name dimension.name
     && ((length plan.cumuls == stops)
@@ -56,11 +56,11 @@ abbrev pub are_routes_shaped : Model → List PrintedRoute → Bool
 are_routes_shaped model routes = (length routes == length model.vehicles)
     && list_all (is_shaped_at model routes) (below (length routes))
 
--- a solution that was read, where its routes have the shape that the model asks for
+-- a solution that was read, if its routes have the shape that the model asks for
 abbrev pub where_shaped : Model → Result Printed Fault → Option Printed
 where_shaped model (Err fault) = None
 where_shaped model (Ok printed) = cond (are_routes_shaped model printed.routes) (Some printed) None
 
--- the solution that a tree prints, where it has the right shape
+-- the solution that a tree prints, if it has the right shape
 unfoldable pub printed_in : Model → Data → Option Printed
 printed_in model d = where_shaped model (solution model.nodes [] d)

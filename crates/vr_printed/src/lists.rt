@@ -7,7 +7,8 @@ use crate::PrintedRoute;
 use std::alloc::Global;
 use vr_model::{NoMemory, Seq};
 
-// The nodes between the ends of a route, none of fewer than three; whether they are visits is not asked here.
+// The nodes between the ends of a route; none of a route of fewer than three. Whether they are visits is not asked
+// here.
 fn visits_of(alloc: Global, nodes: &[u32]) -> Result<Seq<u32>, NoMemory>
     ensures { IfOk result (λ list. list ≡ visits_between nodes.now) }
 {
@@ -18,8 +19,7 @@ fn visits_of(alloc: Global, nodes: &[u32]) -> Result<Seq<u32>, NoMemory>
     Ok(list)
 }
 
-/// The visits of each route in order, without its ends; none of an unused vehicle. `NoMemory` where there was no
-/// memory.
+/// The visits of each route in order, without its ends; none of an unused vehicle. `NoMemory` if memory is out.
 pub fn printed_lists(alloc: Global, routes: &[PrintedRoute]) -> Result<Seq<Seq<u32>>, NoMemory>
     ensures { IfOk result (λ lists. lists ≡ lists_of routes.now) }
 {

@@ -1,5 +1,5 @@
-//! A printed solution, as its tree says it. How many routes, plans, cumuls, slacks and breaks there are is as said here
-//! where the shape was found right (`shape`), so in each that `read_printed` gives.
+//! A printed solution, as its tree says it. The comments here say how many routes, plans, cumuls, slacks and breaks
+//! there are. That holds if the shape was found right (`shape`), so in each solution that `read_printed` gives.
 
 use vr_model::{Parts, Seq, Text};
 
@@ -21,9 +21,9 @@ pub struct PrintedPlan {
 pub struct PrintedRoute {
     /// The number that is printed as the vehicle's.
     pub vehicle: i64,
-    /// The nodes from the start to the end, none where the vehicle is unused.
+    /// The nodes from the start to the end; none if the vehicle is unused.
     pub nodes: Seq<u32>,
-    /// A plan for each dimension, none where the vehicle is unused.
+    /// A plan for each dimension; none if the vehicle is unused.
     pub plans: Seq<PrintedPlan>,
 }
 

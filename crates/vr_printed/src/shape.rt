@@ -89,8 +89,8 @@ fn are_routes_shaped(model: &Model, routes: &[PrintedRoute]) -> bool
     routes.len() == model.vehicles.len() && is_each_shaped(model, routes)
 }
 
-// The solution that a tree prints, whatever the model asks of its routes. It is refused where the tree has other
-// fields, kinds or words, or a node that is not below `nodes`.
+// The solution that a tree prints, whatever the model asks of its routes. It is refused if the tree has other fields,
+// kinds or words, or a node that is not below `nodes`.
 fn read_tables(alloc: Global, nodes: u32, solution: &Value) -> Result<Printed, ReadFail>
     ensures { Answers result (solution_table nodes [] (view solution.now)) }
 {
@@ -115,9 +115,13 @@ fn shaped(model: &Model, printed: Printed) -> Option<Printed>
     }
 }
 
-/// The solution that a tree prints, `None` where the tree has not the fields, kinds, words and lengths of a solution of
-/// the model, a node that the model does not have, or not its vehicles and dimensions in order. `NoMemory` where there
-/// was no memory.
+/// The solution that a tree prints, or `None` if the tree is not one of the model. That is so in three cases:
+///
+/// - it has not the fields, kinds, words and lengths of a solution of the model;
+/// - it has a node that the model does not have;
+/// - it has not the vehicles and dimensions of the model in order.
+///
+/// `NoMemory` if memory is out.
 pub fn read_printed(
     alloc: Global,
     model: &Model,

@@ -10,7 +10,7 @@ use vr_model::Parts;
 #[derive(Clone, Copy)]
 pub struct PlanTable;
 
-/// A route, in a model of so many nodes.
+/// A route, in a model of `nodes` nodes.
 #[derive(Clone, Copy)]
 pub struct RouteTable {
     pub nodes: u32,
@@ -20,13 +20,13 @@ pub struct RouteTable {
 #[derive(Clone, Copy)]
 pub struct PartsTable;
 
-/// A solution, in a model of so many nodes. Of its fields `status` and `stop` the word is asked, and not kept.
+/// A solution, in a model of `nodes` nodes. Of its fields `status` and `stop` the word is asked, and not kept.
 #[derive(Clone, Copy)]
 pub struct SolutionTable {
     pub nodes: u32,
 }
 
-// Any whole number of 64 bits: what it has to be, the rules of the check say.
+// Any whole number of 64 bits. The rules of the check say what it has to be.
 const ANY_WHOLE: Whole = Whole {
     lo: i64::MIN,
     hi: i64::MAX,

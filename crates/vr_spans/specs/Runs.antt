@@ -22,8 +22,8 @@ abbrev pub has : List Run → ℤ → Bool
 has [] x = false
 has (r ∷ rs) x = in_run r x || has rs x
 
--- the runs are not empty, they end at the limit or before, the first begins at m or later, and each later one leaves
--- out a number after the one before
+-- The runs are not empty, and they end at the limit or before. The first begins at m or later, and each later one
+-- leaves out a number after the one before.
 abbrev pub IsNormalFrom : ℤ → List Run → Type 0
 IsNormalFrom m [] = Unit {0}
 IsNormalFrom m (r ∷ rs) = (m ≤ℤ r.lo) × (r.lo ≤ℤ r.hi) × (r.hi ≤ℤ limit) × IsNormalFrom (r.hi +ℤ pos 2) rs
@@ -40,7 +40,7 @@ IsRun r = (neg_ℤ limit ≤ℤ r.lo) × (r.lo ≤ℤ r.hi) × (r.hi ≤ℤ limi
 abbrev pub in_limits : ℤ → Bool
 in_limits x = int_le (neg_ℤ limit) x && int_le x limit
 
--- the numbers of the set stay within the limits where they are moved by first, and where they are moved by last
+-- the numbers of the set stay within the limits when they are moved by first, and when they are moved by last
 abbrev pub StaysWithin : ℤ → ℤ → List Run → Type 0
 StaysWithin first last rs = (x : ℤ) → has rs x ≡ true → (neg_ℤ limit ≤ℤ (x +ℤ first)) × ((x +ℤ last) ≤ℤ limit)
 

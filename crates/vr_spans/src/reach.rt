@@ -45,7 +45,7 @@ impl Spans {
         out.reach(self.runs.as_slice(), 0, 0, &[bounds])
     }
 
-    /// The set with every number moved by `by`; no number may leave `-LIMIT..=LIMIT`. Tests alone ask it; an arc is
+    /// The set with every number moved by `by`; no number may leave `-LIMIT..=LIMIT`. Tests alone ask it. An arc is
     /// crossed by `reach_into`, which moves, widens and meets at once.
     pub fn shift(&self, by: i64) -> Result<Spans, NoMemory>
         requires { StaysWithin by by self.now }
@@ -67,7 +67,7 @@ impl Spans {
         out.reach(self.runs.as_slice(), by, by, &ALL)
     }
 
-    /// Every number of the set plus each number from 0 to `by`, which is not negative; none may leave `-LIMIT..=LIMIT`.
+    /// Every number of the set plus each number from 0 to `by`, which is not negative. None may leave `-LIMIT..=LIMIT`.
     /// Tests alone ask it.
     pub fn grow(&self, by: i64) -> Result<Spans, NoMemory>
         requires rises { pos 0 ≤ℤ by }
@@ -91,7 +91,8 @@ impl Spans {
         out.reach(self.runs.as_slice(), 0, by, &ALL)
     }
 
-    /// Writes those numbers of `within` over `out` that are a number of this set plus one from `first` to `last`.
+    /// Writes those numbers of `within` over `out` that are a number of this set plus one from `first` to `last`. From
+    /// 1, 2 and 9 with `first` 3 and `last` 4, these are 4, 5, 6, 12 and 13, if `within` has them.
     ///
     /// This is one pass over the runs of both sets. `first` and `last` lie in `-FARTHEST..=FARTHEST`, so the sums may
     /// lie beyond `LIMIT`. `vr_steps` crosses arcs by it.

@@ -28,7 +28,7 @@ traced events = flat_map event_line events
 
 -- ---- the tally
 
--- a counter of 64 bits, which stands still at its last value
+-- a counter of 64 bits, which stays at its last value
 abbrev pub capped_count : ℕ → ℕ
 capped_count n = min n (2 ^ 64 - 1)
 
@@ -52,7 +52,7 @@ event_count is_such events = length (filter (λ event. is_such event.kind) event
 abbrev pub costs : List Event → List ℤ
 costs events = map (λ event. event.cost) events
 
--- the line of a tally: so many moves and rounds, and the least cost
+-- the line of a tally: how many moves and rounds, and the least cost
 abbrev pub tally_line : ℕ → ℕ → ℤ → List ℕ
 tally_line moves rounds best =
     codes "moves " ++ (decimal moves ++ (codes " rounds " ++ (decimal rounds
@@ -98,6 +98,6 @@ tallied_after so_far events =
 
 -- ---- a stopper
 
--- a stopper that has so many events left to take reports nothing after any events
+-- a stopper that has this many events left to take reports nothing after any events
 abbrev pub silent : ℕ → List Event → List ℕ
 silent left later = []

@@ -20,15 +20,15 @@ pub record Reported {W : Type 0} (after : W → List Event → List ℕ) (old ne
     Type 0 where
   pub heard : (later : List Event) → reports after new later ≡ reports after old (events ++ later)
 
--- so many watchers at the front were told this event, and the others were not
+-- some watchers at the front, as many as `front` says, were told this event, and the others were not
 pub record ReportedToSome {W : Type 0} (after : W → List Event → List ℕ) (old new : List W) (event : Event) :
     Type 0 where
   pub front : ℕ
   pub heard : (later : List Event) →
       reports after new later ≡ reports after (take front old) (event ∷ later) ++ reports after (drop front old) later
 
--- of these events each watcher was told those in front; of the event in hand, if there was one, so many watchers at the
--- front were told
+-- Of these events each watcher was told those in front. Of the event in hand, if there was one, some watchers at the
+-- front were told, as many as `front` says.
 pub record ReportedInPart {W : Type 0} (after : W → List Event → List ℕ) (old new : List W) (events : List Event) :
     Type 0 where
   pub told : List Event

@@ -17,7 +17,7 @@ fn tell(watcher: &mut Watcher, event: Event) -> Result<(), NoMemory>
     Ok(())
 }
 
-// Tells each watcher of an event, in order. Where memory is wanting, the first few were told, and no other.
+// Tells each watcher of an event, in order. When memory is out, the first few were told, and no other.
 fn tell_each(watch: &mut [Watcher], event: Event) -> Result<(), NoMemory>
     ensures told { OnOk result (Reported (λ w later. after w later) watch.old watch.new (event ∷ [])) }
     ensures some_told { OnErr result (ReportedToSome (λ w later. after w later) watch.old watch.new event) }
@@ -28,8 +28,8 @@ fn tell_each(watch: &mut [Watcher], event: Event) -> Result<(), NoMemory>
     Ok(())
 }
 
-/// Tells each watcher of an event, in order. Where memory is wanting, the first few were told, and no other: this is
-/// said here as searches say it of all their events (`ReportedInPart`).
+/// Tells each watcher of an event, in order. When memory is out, the first few were told, and no other. That is said
+/// here as searches say it of all their events (`ReportedInPart`).
 pub fn note_all(watch: &mut Vec<Box<dyn Watch>>, event: Event) -> Result<(), NoMemory>
     ensures told { OnOk result (Reported (λ w later. after w later) watch.old.items watch.new.items (event ∷ [])) }
     ensures told_in_part { OnErr result (ReportedInPart (λ w. after w) watch.old.items watch.new.items (event ∷ [])) }

@@ -11,8 +11,9 @@ use std::alloc::Global;
 use std::marker::Model;
 use vr_model::{Event, Kind, NoMemory, Seq};
 
-/// Reports in one line how many moves were made or cuts kept, how many rounds of raised penalties there were, and the
-/// least cost of all events, 0 where there is none. Both counters stand still at 2^64 - 1.
+/// Reports in one line what a search did: how many moves were made or cuts kept, and how many rounds of raised
+/// penalties there were. The line ends with the least cost of all events, or 0 if there was none. Both counters stay at
+/// 2^64 - 1.
 #[derive(Drop)]
 pub struct Tally {
     alloc: Global,

@@ -9,8 +9,8 @@ use std::alloc::Global;
 use std::marker::Model;
 use vr_model::{Event, NoMemory, Seq};
 
-/// Takes so many events, answers want of memory to each further one, and reports nothing. Tests try out with it how a
-/// search ends where memory is wanting; the program makes none.
+/// Takes a given number of events, answers `NoMemory` to each further one, and reports nothing. Tests try out with it
+/// how a search ends when memory is out; the program makes none.
 #[derive(Drop)]
 pub struct Stopper {
     alloc: Global,
@@ -37,7 +37,7 @@ impl Stopper {
 impl Watch for Stopper {
     ghost after = { silent };
 
-    /// Answers want of memory exactly where no event more is to be taken.
+    /// Answers `NoMemory` exactly if no event more is to be taken.
     fn note(&mut self, event: Event) -> Result<(), NoMemory>
         ensures noted { OnOk result (Hears silent self.old self.new event) }
         ensures as_before { OnErr result (HearsNothing silent self.old self.new) }

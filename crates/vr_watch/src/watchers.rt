@@ -12,12 +12,12 @@ pub trait Watch: Drop {
     /// The bytes that the report would be if these events were noted next.
     ghost after: { Self → List Occurrence → List ℕ };
 
-    /// Notes an event. The only refusal is want of memory; the watcher is as before then.
+    /// Notes an event. It fails only when out of memory; the watcher is as before then.
     fn note(&mut self, event: Event) -> Result<(), NoMemory>
         ensures noted { OnOk result (Hears after self.old self.new event) }
         ensures as_before { OnErr result (HearsNothing after self.old self.new) };
 
-    /// The bytes that there are to say of the events noted so far. The only refusal is want of memory.
+    /// The bytes that there are to say of the events noted so far. It fails only when out of memory.
     fn report(&self) -> Result<Seq<u8>, NoMemory>
         ensures { IfOk result (λ text. text ≡ after self.now []) };
 }

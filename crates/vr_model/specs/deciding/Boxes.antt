@@ -36,7 +36,7 @@ lex_same x y xs ys e h = or_right (int_lt x y) _ (and_both (int_le x y) _ (test_
 split_first : (x y : ℤ) → x ≤ℤ y → (x ≡ y) ⊎ (x <ℤ y)
 split_first x y h = Prim.grind (arith, ints)
 
--- a list in a box with one side more: its first entry is lo, or it lies in the box whose first side begins one later
+-- a list of a box whose first entry is above lo lies in the box whose first side begins one later
 later : (lo : ℤ) (n : ℕ) (box : List (ℤ × ℕ)) (y : ℤ) (ys : List ℤ) → InBox ((lo, suc n) ∷ box) (y ∷ ys) → lo <ℤ y
     → InBox ((lo +ℤ pos 1, n) ∷ box) (y ∷ ys)
 later lo n box y ys h more = ((omega (arith, ints, more), omega (arith, ints, h.0.1)), h.1)

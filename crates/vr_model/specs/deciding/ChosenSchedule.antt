@@ -164,8 +164,8 @@ plan_from sides more line (inl r) = inl (
 plan_from sides more line (inr none) =
     inr (λ other s m. none (plan_key other) (key_in_box sides line other s) (key_passes sides more line other s m))
 
--- the least plan that keeps the rules and passes a further test, or that there is none: the plans that keep the rules
--- lie in a finite box, which is searched
+-- The least plan that keeps the rules and passes a further test, or that there is none. The plans that keep the rules
+-- lie in a finite box, which is searched.
 pub find_plan : (sides : Sides) (more : Plan → Bool) (line : Line) → ((plan : Plan) × IsLeastPlan sides more line plan)
     ⊎ NoPlan sides more line
 find_plan sides more line = plan_from sides more line (least_in_box (box_of line) (key_test sides more line))

@@ -15,7 +15,7 @@ use Rattle.vr_model.specs.deciding.Testing.{range_list_any, all_passed, or_left,
 abbrev pub slack_is : Line → Plan → ℕ → Bool
 slack_is line plan k = is_same_number (slack plan k) ((cumul plan (suc k) -ℤ cumul plan k) -ℤ (arc_at line k).transit)
 
--- break i stands before the first stop or after the last one, where breaks may stand there, or inside an arc
+-- break i lies before the first stop or after the last one, if breaks may lie on that side, or inside an arc
 abbrev pub is_placed : Sides → Line → Plan → ℕ → Bool
 is_placed sides line plan i =
     (sides.may_precede && is_before line plan i)

@@ -1,5 +1,5 @@
--- The first solution by parallel cheapest insertion: of the insertions that may be made, into any list, those of the
--- least class come first, and of these the cheapest one.
+-- The first solution by parallel cheapest insertion. Of the insertions that may be made, into any list, those of the
+-- least class come first. Of these, the cheapest one is made.
 use Rattle.std.specs.Prelude.{ℕ, zero, suc, List, [], ◌∷◌, map, length, filter, insert, slice_index, ℤ, pos, ◌-ℤ◌}
 use Rattle.std.specs.Prelude.{Option, Some, None}
 use Rattle.vr_model.specs.tables.Numbers.{from_to, each}
@@ -54,12 +54,12 @@ next_inserted model lists =
     let open_ones = filter (λ insertion. is_open model (inserted lists insertion)) (insertions model lists) in
     least_by (insertion_key model lists) open_ones
 
--- items are inserted as long as one may be, at most so many
+-- items are inserted as long as one may be, up to a given number
 abbrev pub rebuilt : Model → ℕ → List (List ℕ) → List (List ℕ)
 rebuilt model zero lists = lists
 rebuilt model (suc more) lists =
     elim (next_inserted model lists) [ None ↦ lists | Some insertion ↦ rebuilt model more (inserted lists insertion) ]
 
--- items are inserted into empty lists; no more can be inserted than there are
+-- Items are inserted into empty lists. No more can be inserted than there are.
 abbrev pub parallel_cheapest_insertion : Model → List (List ℕ)
 parallel_cheapest_insertion model = rebuilt model (length (items model)) (empty_lists model)

@@ -7,6 +7,6 @@ abbrev pub better : {A : Type 0} → (A → List ℤ) → Option A → A → Opt
 better key None y = Some y
 better key (Some best) y = Some (cond (is_lex_less (key y) (key best)) y best)
 
--- the first entry of a list whose key is least, where keys are compared in lexicographic order
+-- the first entry of a list whose key is least, in lexicographic order of keys
 abbrev pub least_by : {A : Type 0} → (A → List ℤ) → List A → Option A
 least_by key xs = fold (better key) None xs

@@ -18,6 +18,6 @@ build_by Savings model = savings model
 unfoldable pub build : Model → List (List ℕ)
 build model = build_by model.search.first model
 
--- the first solution: those lists, where they are valid
+-- the first solution: those lists, if they are valid
 unfoldable pub first_lists : Model → Option (List (List ℕ))
 first_lists model = cond (is_valid model (build model)) (Some (build model)) None

@@ -47,7 +47,7 @@ node_class model node = cond (is_grouped model node) (cond (must_fill model node
 abbrev pub class : Model → List ℕ → ℕ
 class model nodes = fold (λ best node. min best (node_class model node)) 2 nodes
 
--- the items that stand in no list
+-- the items that are in no list
 abbrev pub unplaced : Model → List (List ℕ) → List (List ℕ)
 unplaced model lists = filter (λ item. not (is_active lists (first_node item))) (items model)
 

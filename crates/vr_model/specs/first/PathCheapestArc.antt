@@ -13,7 +13,7 @@ use Rattle.vr_model.specs.declared.records.Model.{Model}
 abbrev pub appended : List (List ℕ) → ℕ → List ℕ → List (List ℕ)
 appended lists v item = with_route lists v (route lists v ++ item)
 
--- the last node of the list of vehicle v, its start where the list is empty
+-- the last node of the list of vehicle v, or its start if the list is empty
 abbrev pub tail_node : Model → List (List ℕ) → ℕ → ℕ
 tail_node model lists v = cond (is_empty (route lists v)) (vehicle_at model v).start (last_node (route lists v))
 
@@ -27,13 +27,13 @@ abbrev pub next_appended : Model → List (List ℕ) → ℕ → Option (List �
 next_appended model lists v =
     least_by (append_key model lists v) (filter (λ item. is_open model (appended lists v item)) (unplaced model lists))
 
--- items are appended to the list of vehicle v as long as one may be, at most so many
+-- items are appended to the list of vehicle v as long as one may be, up to a given number
 abbrev pub filled : Model → ℕ → ℕ → List (List ℕ) → List (List ℕ)
 filled model v zero lists = lists
 filled model v (suc more) lists =
     elim (next_appended model lists v) [ None ↦ lists | Some item ↦ filled model v more (appended lists v item) ]
 
--- the lists of each vehicle in turn are filled; no more items can be appended than there are
+-- The lists of each vehicle in turn are filled. No more items can be appended than there are.
 abbrev pub path_cheapest_arc : Model → List (List ℕ)
 path_cheapest_arc model =
     fold (λ lists v. filled model v (length (items model)) lists) (empty_lists model) (below (length model.vehicles))

@@ -1,5 +1,5 @@
--- The first solution by savings: each item that may begins as a route of its own, and routes are joined where that
--- saves most. All vehicles are alike, so routes are judged as lists of vehicle 0.
+-- The first solution by savings (Clarke, Wright). Each item that may begins as a route of its own; then the join that
+-- saves most is made, again and again. All vehicles are alike, so routes are judged as lists of vehicle 0.
 use Rattle.std.specs.Prelude.{ℕ, zero, suc, Bool, true, false, cond, not, ◌&&◌, ◌||◌, ◌==◌, nat_lt, List, [], ◌∷◌, ◌++◌}
 use Rattle.std.specs.Prelude.{map, length, filter, take, ℤ, pos, ◌+ℤ◌, ◌-ℤ◌, neg_ℤ, int_lt, Some, None}
 use Rattle.std.specs.List.{list_all}
@@ -18,13 +18,13 @@ items_by_class model = each (from_to 0 3) λ c. filter (λ item. class model ite
 abbrev pub may_begin : Model → List (List ℕ) → List ℕ → Bool
 may_begin model routes item = is_route_open model 0 item && list_all (fits_group (routes ++ item ∷ [])) model.groups
 
--- each item in turn becomes a route where it may, behind the routes so far; the others are left out
+-- Each item in turn becomes a route, if it may, after the routes so far. The others are left out.
 abbrev pub single_routes : Model → List (List ℕ) → List (List ℕ) → List (List ℕ)
 single_routes model routes [] = routes
 single_routes model routes (item ∷ rest) =
     single_routes model (cond (may_begin model routes item) (routes ++ item ∷ []) routes) rest
 
--- two routes to be joined, the one behind the other
+-- two routes to be joined, one after the other
 pub record Join : Type 0 where
   pub front : List ℕ
   pub back : List ℕ
@@ -49,7 +49,7 @@ abbrev pub joins : Model → List (List ℕ) → List Join
 joins model routes =
     filter (may_join model) (each routes λ front. map (λ back. record { front = front; back = back }) routes)
 
--- the greatest saving comes first, then the least last node in front, then the least first node behind
+-- the greatest saving comes first, then the least last node of the front, then the least first node of the back
 abbrev pub join_key : Model → Join → List ℤ
 join_key model join = neg_ℤ (saving model join) ∷ pos (last_node join.front) ∷ pos (first_node join.back) ∷ []
 
@@ -65,7 +65,7 @@ after_join routes join = joined_route join ∷ filter (λ list. not (is_part_of 
 abbrev pub is_wanted : Model → List (List ℕ) → Join → Bool
 is_wanted model routes join = int_lt (pos 0) (saving model join) || nat_lt (length model.vehicles) (length routes)
 
--- routes are joined as long as the best join is wanted, at most so often
+-- routes are joined as long as the best join is wanted, up to a given number of times
 abbrev pub merged : Model → ℕ → List (List ℕ) → List (List ℕ)
 merged model zero routes = routes
 merged model (suc more) routes = elim (least_by (join_key model) (joins model routes)) [
@@ -82,8 +82,8 @@ ranked model routes =
     each (from_to 0 3) λ c. each (visits model) λ node. filter (λ list. (class model list == c)
     && (first_node list == node)) routes
 
--- the first routes become the lists of the vehicles in turn; each join leaves one route less, so no more joins can be
--- made than there are routes
+-- The first routes become the lists of the vehicles in turn. Each join leaves one route less, so no more joins can be
+-- made than there are routes.
 abbrev pub savings : Model → List (List ℕ)
 savings model = let singles = single_routes model [] (items_by_class model) in
     take (length model.vehicles) (ranked model (merged model (length singles) singles) ++ empty_lists model)

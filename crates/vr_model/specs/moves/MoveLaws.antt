@@ -12,7 +12,7 @@ abbrev pub MovesChangeLists : Type 0
 MovesChangeLists = (model : Model) (lists : List (List ℕ)) (mv : Move) → IsTrue (are_lists model lists)
     → IsTrue (is_move model lists mv) → apply model lists mv ≢ lists
 
--- the lists after a move are lists of the model, so no visit stands twice in them
+-- the lists after a move are lists of the model, so no visit is in them twice
 abbrev pub MovesKeepLists : Type 0
 MovesKeepLists = (model : Model) → IsWellFormed model → (lists : List (List ℕ)) (mv : Move)
     → IsTrue (are_lists model lists) → IsTrue (is_move model lists mv) → IsTrue (are_lists model (apply model lists mv))

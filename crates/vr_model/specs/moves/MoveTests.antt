@@ -23,11 +23,12 @@ is_place lists v a = nat_lt a (length (route lists v))
 abbrev pub is_gap : List (List ℕ) → ℕ → ℕ → Bool
 is_gap lists v t = nat_le t (length (route lists v))
 
--- u is a visit that stands in no list
+-- u is a visit that is in no list
 abbrev pub is_inactive : Model → List (List ℕ) → ℕ → Bool
 is_inactive model lists u = is_visit model u && not (is_active lists u)
 
--- p is the number of a pair, w a vehicle, and s and t, in this order, places or the end of a list of length n
+-- There are a pair p and a vehicle w. In a list of length n, s and t are places or the end, and t does not come before
+-- s.
 abbrev pub may_put_pair : Model → List (List ℕ) → ℕ → ℕ → ℕ → ℕ → ℕ → Bool
 may_put_pair model lists p w n s t = nat_lt p (length model.pairs) && (is_vehicle lists w && (nat_le s t && nat_le t n))
 

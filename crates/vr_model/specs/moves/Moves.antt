@@ -23,11 +23,13 @@ node_at list k = slice_index list k
 abbrev pub with_route : List (List ℕ) → ℕ → List ℕ → List (List ℕ)
 with_route lists v list = slice_set lists v list
 
--- the list with its places from a up to but not including b in reverse order
+-- The list with its places from a up to but not including b in reverse order. Of `5 6 7 8` with a = 1 and b = 3 it is
+-- `5 7 6 8`.
 abbrev pub reversed_between : List ℕ → ℕ → ℕ → List ℕ
 reversed_between list a b = take a list ++ (reverse (slice_range list a b) ++ drop b list)
 
--- the k nodes from place a on are taken out together, and put before place t of the rest
+-- The k nodes from place a on are taken out together, and put before place t of the rest. Of `5 6 7 8` with a = 1, k =
+-- 2 and t = 0 it is `6 7 5 8`.
 abbrev pub chain_moved : List ℕ → ℕ → ℕ → ℕ → List ℕ
 chain_moved list a k t =
     let rest = take a list ++ drop (a + k) list in take t rest ++ (slice_range list a (a + k) ++ drop t rest)
@@ -36,7 +38,8 @@ chain_moved list a k t =
 abbrev pub without_pair : Pair → List ℕ → List ℕ
 without_pair pair list = filter (λ node. not ((node == pair.pickup) || (node == pair.delivery))) list
 
--- the pickup of a pair is put before place s of the list, and its delivery before place t, where s <= t
+-- The pickup of a pair is put before place s of the list, and its delivery before place t, with s <= t. If s is t, the
+-- delivery comes right after the pickup.
 abbrev pub with_pair : Pair → ℕ → ℕ → List ℕ → List ℕ
 with_pair pair s t list = take s list ++ (pair.pickup ∷ (slice_range list s t ++ (pair.delivery ∷ drop t list)))
 
@@ -61,17 +64,17 @@ apply model lists (MakeActive u w t) = with_route lists w (insert (route lists w
 apply model lists (MakeInactive v a) = with_route lists v (remove (route lists v) a)
 apply model lists (SwapActive v a u) = with_route lists v (slice_set (route lists v) a u)
 
--- x stands in the list and y behind it
+-- x is in the list, and y after it
 abbrev pub comes_before : List ℕ → ℕ → ℕ → Bool
 comes_before [] x y = false
 comes_before (z ∷ zs) x y = cond (z == x) (holds zs y) (comes_before zs x y)
 
--- both nodes of pair p stand in one list, and the pickup comes first
+-- both nodes of pair p are in one list, and the pickup comes first
 abbrev pub is_pair_served : Model → List (List ℕ) → ℕ → Bool
 is_pair_served model lists p =
     list_any (λ list. comes_before list (pair_at model p).pickup (pair_at model p).delivery) lists
 
--- both nodes of pair p stand in one list
+-- both nodes of pair p are in one list
 abbrev pub is_pair_together : Model → List (List ℕ) → ℕ → Bool
 is_pair_together model lists p =
     list_any (λ list. holds list (pair_at model p).pickup && holds list (pair_at model p).delivery) lists
@@ -101,20 +104,20 @@ has_chain list a k = nat_le (a + k) (length list)
 abbrev pub is_other : ℕ → ℕ → Bool
 is_other x y = not (x == y)
 
--- some visit stands before place a of one list or before place b of another: a cross of two empty fronts changes
--- nothing
+-- Some visit comes before place a of one list or before place b of another. A cross of two empty fronts changes
+-- nothing.
 abbrev pub has_some_front : ℕ → ℕ → Bool
 has_some_front a b = not ((a == 0) && (b == 0))
 
--- the places in list w with which an exchange may change place a of list v: in the same list only those behind a
+-- the places in list w with which an exchange may change place a of list v: in the same list only those after a
 abbrev pub places_behind : List (List ℕ) → ℕ → ℕ → ℕ → List ℕ
 places_behind lists v a w = from_to (cond (v == w) (suc a) 0) (length (route lists w))
 
--- the places before which the delivery of a pair can be put, where its pickup is put before place s
+-- the places before which the delivery of a pair can be put, if its pickup is put before place s
 abbrev pub gaps_from : List ℕ → ℕ → List ℕ
 gaps_from list s = from_to s (suc (length list))
 
--- the pair is not where it would be put
+-- putting the pair there changes the list
 abbrev pub changes_the_list : Pair → List ℕ → List ℕ → ℕ → ℕ → Bool
 changes_the_list pair list rest s t = not (is_same (with_pair pair s t rest) list)
 
@@ -151,7 +154,7 @@ moves_in model lists all.MakeInactive = each (vehicles lists) λ v. map (MakeIna
 moves_in model lists all.SwapActive =
     each (vehicles lists) λ v. each (places (route lists v)) λ a. map (SwapActive v a) (inactive model lists)
 
--- all neighbourhoods, in the order in which a model has them that leaves their field out; an empty field has none
+-- All neighbourhoods, in the order of a model that leaves their field out. An empty field has none.
 abbrev pub all_neighbourhoods : List Neighbourhood
 all_neighbourhoods =
     all.TwoOpt ∷ all.OrOpt ∷ all.Relocate ∷ all.Exchange ∷ all.Cross ∷ all.RelocatePair ∷ all.PairActive

@@ -7,7 +7,7 @@ use Rattle.vr_model.specs.routes.Rules.{is_open}
 use Rattle.vr_model.specs.routes.Costs.{Assignment, plan_at, assigned}
 use Rattle.vr_model.specs.declared.records.Model.{Model}
 
--- an assignment has plans for each vehicle: one in each dimension where its list is not empty, else none
+-- an assignment has plans for each vehicle: one in each dimension if its list is not empty, else none
 pub record HasPlans (model : Model) (assignment : Assignment) : Type 0 where
   pub of_each_vehicle : length assignment.plans ≡ length assignment.lists
   pub in_each_dimension : (v : ℕ) → v < length assignment.lists

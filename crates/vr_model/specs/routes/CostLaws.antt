@@ -6,9 +6,8 @@ use Rattle.vr_model.specs.routes.Costs.{parts_at, assigned, sum_of, cost}
 use Rattle.vr_model.specs.declared.records.Model.{Model}
 use Rattle.vr_model.specs.declared.records.Parts.{Parts}
 
--- no part is negative, each has its bound, and so has their sum: at most 1000 visits in the lists of at most 100
--- vehicles have 1100 arcs and 1200 stops in each of 4 dimensions, and there are at most 1000 groups of at most 1000
--- nodes
+-- No part is negative, each has its bound, and so has their sum. At most 1000 visits in the lists of at most 100
+-- vehicles have 1100 arcs and 1200 stops in each of 4 dimensions. There are at most 1000 groups of at most 1000 nodes.
 pub record AreBounded (parts : Parts) : Type 0 where
   pub arcs : IsIn (pos 0) (pos (1100 * 2 ^ 40)) parts.arcs
   pub fixed : IsIn (pos 0) (pos (100 * 2 ^ 40)) parts.fixed

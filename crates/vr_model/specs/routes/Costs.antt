@@ -16,7 +16,7 @@ use Rattle.vr_model.specs.declared.records.StopRow.{StopRow}
 use Rattle.vr_model.specs.declared.records.Soft.{Soft}
 use Rattle.vr_model.specs.declared.records.Parts.{Parts}
 
--- an assignment: the lists, and for each vehicle a plan in each dimension, none where its list is empty
+-- an assignment: the lists, and for each vehicle a plan in each dimension, none if its list is empty
 pub record Assignment : Type 0 where
   pub lists : List (List ℕ)
   pub plans : List (List Plan)
@@ -54,7 +54,7 @@ arcs_part model lists = total_by (λ v. route_cost model v (route lists v)) (veh
 abbrev pub fixed_part : Model → List (List ℕ) → ℤ
 fixed_part model lists = total_by (λ v. (vehicle_at model v).fixed) (used_vehicles lists)
 
--- from the least start to the greatest end of the used vehicles in dimension d, 0 where none is used
+-- from the least start to the greatest end of the used vehicles in dimension d, 0 if none is used
 abbrev pub global_span : Assignment → ℕ → ℤ
 global_span assignment d =
     let used = used_vehicles assignment.lists in
@@ -66,7 +66,8 @@ global_part model assignment =
     total_by (λ d. (dimension_at model d).global_span_cost *ℤ global_span assignment d)
     (below (length model.dimensions))
 
--- what a group costs with this many active nodes: nothing without a penalty
+-- What a group costs with this many active nodes; nothing without a penalty. With penalty 50, if 3 may be active and 1
+-- is, it costs 100.
 abbrev pub penalty_for : Option ℤ → ℕ → ℕ → ℤ
 penalty_for None max active = pos 0
 penalty_for (Some penalty) max active = penalty *ℤ (pos max -ℤ pos active)
@@ -75,7 +76,7 @@ penalty_for (Some penalty) max active = penalty *ℤ (pos max -ℤ pos active)
 abbrev pub penalty_part : Model → List (List ℕ) → ℤ
 penalty_part model lists = total_by (λ group. penalty_for group.penalty group.max (active_in lists group)) model.groups
 
--- what a cumul costs above a soft upper bound
+-- What a cumul costs above a soft upper bound. With bound 10 and coefficient 3, a cumul of 12 costs 6.
 abbrev pub soft_cost : Option Soft → ℤ → ℤ
 soft_cost None x = pos 0
 soft_cost (Some soft) x = soft.coefficient *ℤ int_max (pos 0) (x -ℤ soft.bound)
@@ -120,8 +121,8 @@ parts_at model assignment = record {
 abbrev pub sum_of : Parts → ℤ
 sum_of parts = total (parts.arcs ∷ parts.fixed ∷ parts.global ∷ parts.penalty ∷ parts.soft ∷ parts.span ∷ [])
 
--- the plans that are chosen for the list of vehicle v, one in each dimension, without entries where no schedule is
--- chosen; none where the list is empty
+-- The plans that are chosen for the list of vehicle v, one in each dimension, or none if the list is empty. If no
+-- schedule is chosen, the plan has no entries.
 abbrev pub chosen_plans : Model → ℕ → List ℕ → List Plan
 chosen_plans model v [] = []
 chosen_plans model v (x ∷ xs) =

@@ -10,7 +10,7 @@ use Rattle.vr_model.specs.declared.records.Model.{Model}
 abbrev pub route : List (List ℕ) → ℕ → List ℕ
 route lists v = slice_index_or lists v []
 
--- a number stands in a list
+-- a number is in a list
 abbrev pub holds : List ℕ → ℕ → Bool
 holds xs x = list_any (λ y. x == y) xs
 
@@ -18,7 +18,7 @@ holds xs x = list_any (λ y. x == y) xs
 abbrev pub is_same : List ℕ → List ℕ → Bool
 is_same xs ys = are_same_by (λ x y. x == y) xs ys
 
--- no number stands twice
+-- no number is in the list twice
 abbrev pub is_distinct : List ℕ → Bool
 is_distinct [] = true
 is_distinct (x ∷ xs) = not (holds xs x) && is_distinct xs
@@ -42,11 +42,11 @@ vehicles lists = below (length lists)
 abbrev pub used_vehicles : List (List ℕ) → List ℕ
 used_vehicles lists = filter (λ v. not (is_empty (route lists v))) (vehicles lists)
 
--- a visit is active where it stands in some list
+-- a visit is active if it is in some list
 abbrev pub is_active : List (List ℕ) → ℕ → Bool
 is_active lists node = list_any (λ list. holds list node) lists
 
--- the visits that stand in no list, ascending
+-- the visits that are in no list, ascending
 abbrev pub inactive : Model → List (List ℕ) → List ℕ
 inactive model lists = filter (λ node. not (is_active lists node)) (visits model)
 
@@ -69,7 +69,7 @@ arcs_from v node (next ∷ rest) = record { vehicle = v; origin = node; target =
 abbrev pub arcs_between : Model → ℕ → List ℕ → List UsedArc
 arcs_between model v list = arcs_from v (vehicle_at model v).start (list ++ (vehicle_at model v).end ∷ [])
 
--- the arcs that vehicle v takes with this list, none where the list is empty
+-- the arcs that vehicle v takes with this list, none if the list is empty
 abbrev pub arcs_of : Model → ℕ → List ℕ → List UsedArc
 arcs_of model v [] = []
 arcs_of model v (x ∷ xs) = arcs_between model v (x ∷ xs)

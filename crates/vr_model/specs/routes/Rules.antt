@@ -15,17 +15,17 @@ use Rattle.vr_model.specs.declared.records.Allowed.{Allowed}
 use Rattle.vr_model.specs.declared.records.Policy.{Policy}
 use Rattle.vr_model.specs.declared.records.Policy.TheVariants.{Any, Lifo, Fifo}
 
--- where a node of the pair stands in the list, both do, the pickup first
+-- if a node of the pair is in the list, both are, the pickup first
 abbrev pub serves_pair : List ℕ → Pair → Bool
 serves_pair list pair =
     not (holds list pair.pickup || holds list pair.delivery) || comes_before list pair.pickup pair.delivery
 
--- the place of a node in a list, the length of the list where it is absent
+-- the place of a node in a list, or the length of the list if it is absent
 abbrev pub place_of : List ℕ → ℕ → ℕ
 place_of list node = position_or_len (λ x. x == node) list
 
--- what a policy asks of the pairs x and y of a list: nothing more; that a pair whose pickup lies inside another ends
--- inside it, last in first out; or that the deliveries come in the order of the pickups, first in first out
+-- What a policy asks of the pairs x and y of a list. It may ask nothing more. Last in, first out: a pair whose pickup
+-- lies inside another ends inside it. First in, first out: the deliveries come in the order of the pickups.
 abbrev pub policy_allows : Policy → List ℕ → Pair → Pair → Bool
 policy_allows Any list x y = true
 policy_allows Lifo list x y =
@@ -55,8 +55,8 @@ row_allows_vehicle (Some row) v = holds row.vehicles v
 abbrev pub allows_vehicle : Model → ℕ → ℕ → Bool
 allows_vehicle model v node = row_allows_vehicle (find (λ row. row.node == node) model.allowed) v
 
--- the list of vehicle v is empty, or its line in each dimension is feasible, each pair with a node in it is served in
--- order, the policy of the vehicle holds, and each visit allows the vehicle
+-- The list of vehicle v is empty, or it keeps all rules on one route. Its line in each dimension is feasible. Each pair
+-- with a node in it is served in order, and the policy of the vehicle holds. Each visit allows the vehicle.
 abbrev pub is_route_open : Model → ℕ → List ℕ → Bool
 is_route_open model v list = is_empty list
     || (list_all (λ d. is_feasible (line model d v list)) (below (length model.dimensions))
@@ -77,7 +77,7 @@ unfoldable pub is_open : Model → List (List ℕ) → Bool
 is_open model lists = list_all (λ v. is_route_open model v (route lists v)) (vehicles lists)
     && list_all (fits_group lists) model.groups
 
--- the node stands in a group
+-- the node is in a group
 abbrev pub is_grouped : Model → ℕ → Bool
 is_grouped model node = list_any (λ group. holds group.nodes node) model.groups
 
@@ -90,8 +90,8 @@ has_enough (Some penalty) max active = true
 abbrev pub has_required : Model → List (List ℕ) → Bool
 has_required model lists = list_all (λ node. is_grouped model node || is_active lists node) (visits model)
 
--- lists of the model that are open, where each visit in no group is active, and each group without a penalty has
--- exactly as many active nodes as it may have
+-- The lists are lists of the model, and they are open. Each visit in no group is active. Each group without a penalty
+-- has exactly as many active nodes as it may have.
 unfoldable pub is_valid : Model → List (List ℕ) → Bool
 is_valid model lists = are_lists model lists
     && (is_open model lists

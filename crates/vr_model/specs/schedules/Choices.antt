@@ -10,8 +10,8 @@ use Rattle.vr_model.specs.deciding.ChosenSchedule.{find_plan, find_chosen}
 abbrev pub found_plan : (line : Line) → ((plan : Plan) × IsChosen line plan) ⊎ ¬ IsFeasible line → Option Plan
 found_plan line found = elim found [ inl r ↦ Some r.0 | inr none ↦ None ]
 
--- the chosen schedule, where there is one: `find_chosen` gives it with a proof that it is chosen, or a proof that the
--- line has no schedule
+-- The chosen schedule, if there is one. `find_chosen` gives it with a proof that it is chosen, or a proof that the line
+-- has no schedule.
 abbrev pub chosen : Line → Option Plan
 chosen line = found_plan line (find_chosen line)
 

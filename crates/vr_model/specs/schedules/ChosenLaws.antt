@@ -7,7 +7,7 @@ use Rattle.vr_model.specs.schedules.Schedules.{ReachesEnd, cumul}
 use Rattle.vr_model.specs.deciding.ScheduleTests.{keeps_schedule_rules}
 use Rattle.vr_model.specs.schedules.Choices.{chosen, is_feasible, is_reached, reaches_end}
 
--- the rules of a schedule hold exactly where their tests pass
+-- the rules of a schedule hold exactly if their tests pass
 abbrev pub RulesAsTested : Type 0
 RulesAsTested =
     (where_else : Sides) (line : Line) (plan : Plan) → IsTrue (keeps_schedule_rules where_else line plan)
@@ -21,7 +21,7 @@ OneChosen = (line : Line) (plan other : Plan) → IsChosen line plan → IsChose
 abbrev pub ChosenIsLeast : Type 0
 ChosenIsLeast = (line : Line) (plan : Plan) → (chosen line ≡ Some plan) ↔ IsChosen line plan
 
--- and it gives one exactly where the line is feasible
+-- the function gives a schedule exactly if the line is feasible
 abbrev pub ChosenWhereFeasible : Type 0
 ChosenWhereFeasible = (line : Line) → IsTrue (is_feasible line) ↔ IsFeasible line
 
@@ -32,7 +32,7 @@ ReachedAsTested = (line : Line) (k b : ℕ) (x : ℤ) → IsTrue (is_reached lin
 abbrev pub EndReachedAsTested : Type 0
 EndReachedAsTested = (line : Line) (k b : ℕ) (x : ℤ) → IsTrue (reaches_end line k b x) ↔ ReachesEnd line k b x
 
--- the line whose stop k allows x alone, or nothing where it did not allow x
+-- the line whose stop k allows x alone, or nothing if it did not allow x
 abbrev pub pinned : Line → ℕ → ℤ → Line
 pinned line k x =
     record line {
@@ -45,8 +45,8 @@ abbrev pub IsSettledBefore : Line → ℕ → Type 0
 IsSettledBefore line k =
     (plan other : Plan) → IsSchedule line plan → IsSchedule line other → (i : ℕ) → i < k → cumul plan i ≡ cumul other i
 
--- where the cumuls before stop k are settled, the least cumul of stop k may be put in: what is chosen then is chosen of
--- the line too
+-- If the cumuls before stop k are settled, the least cumul of stop k may be put in. What is chosen then is chosen of
+-- the line too.
 abbrev pub LeastCumulMayBePinned : Type 0
 LeastCumulMayBePinned = (line : Line) (k : ℕ) (x : ℤ) → k < length line.allowed → IsSettledBefore line k
     → ((other : Plan) → IsSchedule line other → x ≤ℤ cumul other k) → (plan : Plan) → IsChosen (pinned line k x) plan

@@ -1,5 +1,6 @@
--- The laws of reach sets of sound lines, as statements: the levels of a line are, for each stop and each number of
--- breaks taken, the cumuls that are reached there, and those from which the end is reached with the other breaks.
+-- The laws of reach sets of sound lines, as statements. A stop has a level (label set) for each number of breaks taken:
+-- the cumuls that are reached there. It has another backwards: the cumuls from which the end is reached with the other
+-- breaks.
 use Rattle.std.specs.Prelude.{◌≡◌, ℕ, suc, ◌<◌, ◌≤◌, ◌↔◌, IsTrue, List, length, take, drop, ℤ, ◌+ℤ◌, ◌≤ℤ◌, EachIndex}
 use Rattle.std.specs.Prelude.{slice_index_or}
 use Rattle.vr_model.specs.tables.Numbers.{number_at}
@@ -13,7 +14,7 @@ use Rattle.vr_model.specs.declared.records.BreakRow.{BreakRow}
 abbrev pub LevelsMeet : Line → ℕ → Type 0
 LevelsMeet line k = (b : ℕ) × (b ≤ length line.breaks) × (x : ℤ) × IsReached line k b x × ReachesEnd line k b x
 
--- at each stop, a line is feasible exactly where its levels meet
+-- a sound line is feasible exactly if the levels of a stop meet, at any stop
 abbrev pub FeasibleWhereLevelsMeet : Type 0
 FeasibleWhereLevelsMeet =
     (line : Line) → IsSound line → (k : ℕ) → k ≤ length line.arcs → IsFeasible line ↔ LevelsMeet line k
@@ -26,12 +27,13 @@ HasCumul line k x = (plan : Plan) × IsSchedule line plan × (cumul plan k ≡ x
 abbrev pub LevelsMeetAt : Line → ℕ → ℤ → Type 0
 LevelsMeetAt line k x = (b : ℕ) × (b ≤ length line.breaks) × IsReached line k b x × ReachesEnd line k b x
 
--- a schedule has the cumul x at a stop exactly where the levels of the stop meet at x
+-- some schedule of a sound line has the cumul x at a stop exactly if the levels of the stop meet at x
 abbrev pub CumulWhereLevelsMeet : Type 0
 CumulWhereLevelsMeet =
     (line : Line) → IsSound line → (k : ℕ) → k ≤ length line.arcs → (x : ℤ) → HasCumul line k x ↔ LevelsMeetAt line k x
 
--- arc k leads from the cumul y to the cumul x, with the breaks from number a on, below number b, inside it
+-- Arc k leads from the cumul y to the cumul x, with the breaks from number a on, below number b, inside it. So a label
+-- is extended along an arc (resource extension function).
 abbrev pub Crosses : Line → ℕ → ℕ → ℕ → ℤ → ℤ → Type 0
 Crosses line k a b y x =
     (plan : Plan) × KeepsRules no_side (back (front line (suc k) b) k a) plan × (cumul plan 0 ≡ y) × (cumul plan 1 ≡ x)
@@ -42,8 +44,8 @@ ReachedByCrossing =
     (line : Line) → IsSound line → (k b : ℕ) → suc k ≤ length line.arcs → b ≤ length line.breaks → (x : ℤ)
     → IsReached line (suc k) b x ↔ (a : ℕ) × (a ≤ b) × (y : ℤ) × IsReached line k a y × Crosses line k a b y x
 
--- the end is reached from what arc k leads from, to a cumul of the next stop from which the end is reached with the
--- breaks that are left
+-- The end is reached from what arc k leads from, to a cumul of the next stop. From that the end is reached with the
+-- breaks that are left.
 abbrev pub EndReachedByCrossing : Type 0
 EndReachedByCrossing =
     (line : Line) → IsSound line → (k a : ℕ) → suc k ≤ length line.arcs → a ≤ length line.breaks → (y : ℤ)
@@ -68,12 +70,12 @@ FitBefore rows x =
 abbrev pub FitAfter : List BreakRow → ℤ → Type 0
 FitAfter rows x = (starts : List ℤ) × AreStarts rows starts × EachIndex rows (λ i. x ≤ℤ number_at starts i)
 
--- the first stop is reached at what it allows, where the first b breaks can be taken before
+-- the first stop is reached at what it allows, if the first b breaks can be taken before
 abbrev pub ReachedAtStart : Type 0
 ReachedAtStart = (line : Line) → IsSound line → (b : ℕ) → b ≤ length line.breaks → (x : ℤ)
     → IsReached line 0 b x ↔ IsTrue (allows line 0 x) × FitBefore (take b line.breaks) x
 
--- the end is reached at what the last stop allows, where the breaks after the first b can be taken after
+-- the end is reached at what the last stop allows, if the breaks after the first b can be taken after
 abbrev pub ReachedAtEnd : Type 0
 ReachedAtEnd = (line : Line) → IsSound line → (b : ℕ) → b ≤ length line.breaks → (x : ℤ)
     → ReachesEnd line (length line.arcs) b x ↔ IsTrue (allows line (length line.arcs) x)

@@ -10,7 +10,7 @@ use Rattle.vr_model.specs.declared.records.Interval.{Interval}
 use Rattle.vr_model.specs.declared.records.StopRow.{StopRow}
 use Rattle.vr_model.specs.declared.records.BreakRow.{BreakRow}
 
--- an arc of a line: its transit, and the visit time of the node where it begins
+-- an arc of a line: its transit, and the visit time of the node at which it begins
 pub record Arc : Type 0 where
   pub transit : ℤ
   pub visit : ℤ
@@ -22,7 +22,7 @@ pub record Line : Type 0 where
   pub slack_max : ℤ
   pub breaks : List BreakRow
 
--- x lies in the window, where there is one
+-- x lies in the window, if there is one
 abbrev pub in_window : Option Interval → ℤ → Bool
 in_window None x = true
 in_window (Some window) x = within window.lo window.hi x
@@ -37,7 +37,7 @@ row_allows (Some row) x =
 abbrev pub stop_allows : ℤ → Option StopRow → ℤ → Bool
 stop_allows capacity row x = within (pos 0) capacity x && row_allows row x
 
--- the same at a start, which is 0 where the dimension fixes it
+-- the same at a start, which is 0 if the dimension fixes it
 abbrev pub start_allows : Dimension → ℤ → Option StopRow → ℤ → Bool
 start_allows dimension capacity row x =
     stop_allows capacity row x && (not dimension.fix_start || is_same_number x (pos 0))
@@ -47,7 +47,7 @@ abbrev pub stop_rows : Dimension → ℕ → List ℕ → List (Option StopRow)
 stop_rows dimension v list =
     row_of dimension.starts v ∷ (map (row_of dimension.nodes) list ++ row_of dimension.ends v ∷ [])
 
--- what an arc of vehicle v asks in dimension d: its transit, and the visit time of the node where it begins
+-- what an arc of vehicle v asks in dimension d: its transit, and the visit time of the node at which it begins
 abbrev pub line_arc : Model → ℕ → ℕ → UsedArc → Arc
 line_arc model d v arc = record {
   transit = transit model d v arc.origin arc.target;

@@ -18,15 +18,15 @@ use Rattle.vr_model.specs.declared.records.ScheduleRule.TheVariants.{Earliest, T
 abbrev pub measures : (Plan → ℤ) → Line → ℤ → Bool
 measures measure line x = was_found (find_plan both_sides (λ plan. is_same_number x (measure plan)) line)
 
--- the number that was found, 0 where there is none
+-- the number that was found, 0 if there is none
 abbrev pub number_found : (test : ℤ → Bool) → LeastFound test → ℤ
 number_found test found = elim found [ inl r ↦ r.0 | inr none ↦ pos 0 ]
 
--- the least measure in 0..=horizon of the schedules of a line, 0 where there is none
+-- the least measure in 0..=horizon of the schedules of a line, 0 if there is none
 abbrev pub least_of : (Plan → ℤ) → Line → ℤ
 least_of measure line = number_found (measures measure line) (find_least (measures measure line))
 
--- the least cumul at the end of all schedules of a line, 0 where there is none
+-- the least cumul at the end of all schedules of a line, 0 if there is none
 abbrev pub least_end : Line → ℤ
 least_end line = least_of (end_of line) line
 
@@ -34,11 +34,12 @@ least_end line = least_of (end_of line) line
 abbrev pub before_horizon : Plan → ℤ
 before_horizon plan = horizon -ℤ cumul plan 0
 
--- the greatest cumul at the start of all schedules of a line, the horizon where there is none
+-- the greatest cumul at the start of all schedules of a line, the horizon if there is none
 abbrev pub latest_start : Line → ℤ
 latest_start line = horizon -ℤ least_of before_horizon line
 
--- the line whose end allows e alone, and whose start allows s alone, or nothing where they did not allow these
+-- The line whose end allows e alone, and whose start allows s alone. A stop that did not allow its number allows
+-- nothing.
 abbrev pub between : Line → ℤ → ℤ → Line
 between line s e = pinned (pinned line (length line.arcs) e) 0 s
 
@@ -46,13 +47,13 @@ between line s e = pinned (pinned line (length line.arcs) e) 0 s
 abbrev pub ending_first : Line → Line
 ending_first line = pinned line (length line.arcs) (least_end line)
 
--- the line narrowed by a rule: itself; or its end narrowed to the least cumul that schedules have there, and its start
--- to the greatest that schedules with this end have there
+-- The line narrowed by a rule. The earliest rule leaves it as it is. The tight rule narrows its end to the least cumul
+-- that schedules have there. It then narrows its start to the greatest that schedules with this end have.
 abbrev pub narrowed : ScheduleRule → Line → Line
 narrowed Earliest line = line
 narrowed Tight line = between line (latest_start (ending_first line)) (least_end line)
 
--- the chosen schedule under a rule, where there is one
+-- the chosen schedule under a rule, if there is one
 abbrev pub chosen_under : ScheduleRule → Line → Option Plan
 chosen_under rule line = chosen (narrowed rule line)
 

@@ -21,7 +21,7 @@ abbrev pub ChosenUnderIsChosen : Type 0
 ChosenUnderIsChosen = (rule : ScheduleRule) (line : Line) → HasStops line → (plan : Plan)
     → (chosen_under rule line ≡ Some plan) ↔ IsChosenUnder rule line plan
 
--- and it gives one exactly where the line is feasible
+-- the function gives a schedule exactly if the line is feasible
 abbrev pub ChosenUnderWhereFeasible : Type 0
 ChosenUnderWhereFeasible = (rule : ScheduleRule) (line : Line) → HasStops line
     → IsTrue (is_some (chosen_under rule line)) ↔ IsFeasible line
@@ -36,7 +36,7 @@ abbrev pub NarrowedKeepsRules : Type 0
 NarrowedKeepsRules = (rule : ScheduleRule) (line : Line) → HasStops line → (plan : Plan)
     → IsSchedule (narrowed rule line) plan → IsSchedule line plan
 
--- where the least end and the latest start are known, the tight rule narrows the line to them
+-- if the least end and the latest start are known, the tight rule narrows the line to them
 abbrev pub NarrowedToEnds : Type 0
 NarrowedToEnds = (line : Line) → HasStops line → (s e : ℤ) → IsLeastEnd line e → IsLatestStart line e s
     → narrowed Tight line ≡ between line s e

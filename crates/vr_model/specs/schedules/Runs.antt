@@ -1,6 +1,6 @@
 -- Runs: sets of numbers in their normal form, as lists of runs in order. The twin of this file is `Runs` of the crate
--- of sets of numbers, with the same normal form over its own type of runs and its own bounds: neither crate stands on
--- the other, and where both are there the law at the end joins them.
+-- of sets of numbers. It has the same normal form, over its own type of runs and its own bounds. Neither crate uses the
+-- other; if both are there, the law at the end joins them.
 use Rattle.std.specs.Prelude.{◌≡◌, Bool, List, [], ◌∷◌, length, ℤ, pos, ◌+ℤ◌, ◌≤ℤ◌, IsTrue}
 use Rattle.std.specs.List.{list_any}
 use Rattle.vr_model.specs.tables.Numbers.{within, horizon}
@@ -11,8 +11,8 @@ pub record RunEnds (R : Type 0) : Type 0 where
   pub lo : R → ℤ
   pub hi : R → ℤ
 
--- the runs are not empty, the first begins at `low` or later, at least one number is missing between neighbours, and
--- the last ends at `top` or before
+-- The runs are not empty, and at least one number is missing between neighbours. The first begins at `low` or later,
+-- and the last ends at `top` or before.
 abbrev pub IsNormalFrom : {R : Type 0} → RunEnds R → ℤ → ℤ → List R → Type 0
 IsNormalFrom ends low top [] = Unit {0}
 IsNormalFrom ends low top (run ∷ rest) =

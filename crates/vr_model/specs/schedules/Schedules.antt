@@ -19,8 +19,8 @@ cumul plan k = number_at plan.cumuls k
 abbrev pub slack : Plan → ℕ → ℤ
 slack plan k = number_at plan.slacks k
 
--- Stop k allows the cumul x, which lies in 0..=horizon: in the line of a well-formed model each allowed
--- number does, as no capacity is above the horizon; so each line has finitely many candidates for a schedule.
+-- Stop k allows the cumul x, which lies in 0..=horizon. In the line of a well-formed model each allowed number does, as
+-- no capacity is above the horizon. So each line has finitely many candidates for a schedule.
 abbrev pub allows : Line → ℕ → ℤ → Bool
 allows line k x = within (pos 0) horizon x && slice_index_or line.allowed k (λ _. false) x
 
@@ -38,11 +38,11 @@ no_break = record { from = pos 0; to = pos 0; duration = pos 0 }
 abbrev pub break_at : Line → ℕ → BreakRow
 break_at line i = slice_index_or line.breaks i no_break
 
--- where break i starts
+-- the start of break i
 abbrev pub break_start : Plan → ℕ → ℤ
 break_start plan i = number_at plan.breaks i
 
--- where break i ends
+-- the end of break i
 abbrev pub break_end : Line → Plan → ℕ → ℤ
 break_end line plan i = break_start plan i +ℤ (break_at line i).duration
 
@@ -54,8 +54,8 @@ is_before line plan i = int_le (break_end line plan i) (cumul plan 0)
 abbrev pub is_after : Line → Plan → ℕ → Bool
 is_after line plan i = int_le (cumul plan (length line.arcs)) (break_start plan i)
 
--- break i lies inside arc k: it starts no earlier than the visit at the arc's start ends, and ends no later than the
--- cumul at the arc's end
+-- Break i lies inside arc k. It starts no earlier than the visit at the arc's start ends, and ends no later than the
+-- cumul at the arc's end.
 abbrev pub is_inside : Line → Plan → ℕ → ℕ → Bool
 is_inside line plan i k =
     int_le (cumul plan k +ℤ (arc_at line k).visit) (break_start plan i)
@@ -66,7 +66,7 @@ abbrev pub break_time : Line → Plan → ℕ → ℤ
 break_time line plan k =
     total_by (λ i. cond (is_inside line plan i k) (break_at line i).duration (pos 0)) (below (length line.breaks))
 
--- where breaks may stand beside the arcs: before the first stop, and after the last one
+-- on which sides of the arcs breaks may lie too: before the first stop, and after the last one
 pub record Sides : Type 0 where
   pub may_precede : Bool
   pub may_follow : Bool
@@ -86,10 +86,10 @@ after_only = sides false true
 abbrev pub no_side : Sides
 no_side = sides false false
 
--- The rules of a schedule, where breaks may stand at these sides. Rules on an index speak of each stop, each arc,
--- or each break: its cumul is allowed; its slack is what the cumuls leave, and is in 0..=slack_max; its start is
--- in range; it ends no later than the next one starts; it stands before the first stop, after the last one, or inside
--- an arc; the slack of an arc is enough for the breaks inside it.
+-- The rules of a schedule. The cumul of each stop is allowed. The slack of each arc is what the cumuls leave, is in
+-- 0..=slack_max, and is enough for the breaks inside it. The start of each break is in range, and it ends no later than
+-- the next one starts. It lies inside an arc, or on a side that `where_else` allows: before the first stop, or after
+-- the last one.
 pub record KeepsRules (where_else : Sides) (line : Line) (plan : Plan) : Type 0 where
   pub cumul_of_each_stop : length plan.cumuls ≡ length line.allowed
   pub slack_of_each_arc : length plan.slacks ≡ length line.arcs
@@ -106,11 +106,11 @@ pub record KeepsRules (where_else : Sides) (line : Line) (plan : Plan) : Type 0 
       ⊎ (k : ℕ) × (k < length line.arcs) × IsTrue (is_inside line plan i k))
   pub slacks_carry_breaks : EachIndex line.arcs (λ k. break_time line plan k ≤ℤ slack plan k)
 
--- a schedule of a line: all the rules, and breaks may stand at both sides
+-- a schedule of a line: all the rules hold, and breaks may lie on both sides
 abbrev pub IsSchedule : Line → Plan → Type 0
 IsSchedule line plan = KeepsRules both_sides line plan
 
--- a line is feasible where it has a schedule
+-- a line is feasible if it has a schedule
 abbrev pub IsFeasible : Line → Type 0
 IsFeasible line = (plan : Plan) × IsSchedule line plan
 
@@ -132,14 +132,13 @@ back line k b = record {
   breaks = drop b line.breaks;
 }
 
--- stop k is reached at x with the first b breaks taken: some plan of the stops up to k has the cumul x there, and
--- each of these breaks ends at or before the first stop or stands inside an arc before stop k
+-- Stop k is reached at x with the first b breaks taken: some plan of the stops up to k has the cumul x there. Each of
+-- these breaks ends at or before the first stop, or lies inside an arc before stop k.
 abbrev pub IsReached : Line → ℕ → ℕ → ℤ → Type 0
 IsReached line k b x = (plan : Plan) × KeepsRules before_only (front line k b) plan × (cumul plan k ≡ x)
 
--- the end is reached from x at stop k with the breaks after the first b taken: some plan of the stops from k on
--- has the cumul x at stop k, and each of these breaks stands inside an arc from stop k on or starts at or after the
--- last stop
+-- The end is reached from x at stop k with the breaks after the first b taken. Some plan of the stops from k on has the
+-- cumul x at stop k. Each of these breaks lies inside an arc from stop k on, or starts at or after the last stop.
 abbrev pub ReachesEnd : Line → ℕ → ℕ → ℤ → Type 0
 ReachesEnd line k b x = (plan : Plan) × KeepsRules after_only (back line k b) plan × (cumul plan 0 ≡ x)
 

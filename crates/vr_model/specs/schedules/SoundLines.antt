@@ -8,8 +8,8 @@ use Rattle.vr_model.specs.schedules.Lines.{Line, line}
 use Rattle.vr_model.specs.schedules.Schedules.{arc_at, break_at}
 use Rattle.vr_model.specs.declared.records.Model.{Model}
 
--- one stop more than arcs; visit times that are not negative; breaks of at least 1; and no negative transit where there
--- are breaks
+-- There is one stop more than arcs. Visit times are not negative, and breaks are of at least 1. If there are breaks, no
+-- transit is negative.
 pub record IsSound (line : Line) : Type 0 where
   pub stops : length line.allowed ≡ suc (length line.arcs)
   pub visits : EachIndex line.arcs (λ k. pos 0 ≤ℤ (arc_at line k).visit)

@@ -27,8 +27,8 @@ pub record IsLeastBetween (line : Line) (s e : ℤ) (plan : Plan) : Type 0 where
   pub least : (other : Plan) → IsSchedule line other → cumul other 0 ≡ s → end_of line other ≡ e
       → IsTrue (is_no_later plan other)
 
--- the tight schedule: its end is the least of all, its start the greatest with that end, and it is the least of those
--- with both
+-- The tight schedule. Its end is the least of all, and its start the greatest with that end. Of the schedules with both
+-- it is the least.
 pub record IsTight (line : Line) (plan : Plan) : Type 0 where
   pub s : ℤ
   pub e : ℤ

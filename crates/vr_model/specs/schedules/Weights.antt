@@ -1,5 +1,5 @@
--- The weight of changed lists: how many images of runs a walk takes, in each changed list, from where it leaves the old
--- list to where it meets it again, and how many runs meet there.
+-- The weight of changed lists: how many images of runs a walk takes in them, and how many runs meet at its end. In each
+-- changed list the walk begins when it leaves the old list, and ends when it meets it again.
 use Rattle.std.specs.Prelude.{ℕ, zero, suc, ◌+◌, ◌-◌, ◌*◌, Bool, cond, not, ◌&&◌, ◌||◌, ◌==◌, List, length, reverse, ℤ}
 use Rattle.std.specs.Prelude.{pos, ◌-ℤ◌, sum_by, nat_abs}
 use Rattle.std.specs.List.{common_prefix_len}
@@ -34,15 +34,16 @@ shared_back xs ys = shared_front (reverse xs) (reverse ys)
 abbrev pub over_breaks : Line → (ℕ → ℕ) → ℕ
 over_breaks line f = sum_by f (below (suc (length line.breaks)))
 
--- the weight of a walk over the arcs from stop a to stop e: for each arc and each number of breaks taken before it, the
--- runs that are reached there, once for each number of further breaks; and once the runs of both sides at stop e
+-- The weight of a walk over the arcs from stop a to stop e. For each arc and each number of breaks taken before it, the
+-- runs that are reached there count, once for each number of further breaks. The runs of both sides at stop e count
+-- once.
 abbrev pub walk_weight : Line → ℕ → ℕ → ℕ
 walk_weight line a e =
     sum_by (λ k. over_breaks line λ b. runs (is_reached line k b) * (length line.breaks - b + 1)) (from_to a e)
     + over_breaks line (λ b. runs (is_reached line e b) + runs (reaches_end line e b))
 
--- the weight of one list after a change: nothing where it is empty or as before; else of the walk from the last stop
--- that both lists share at the front to the first that both share at the back
+-- The weight of one list after a change: nothing if it is empty or as before. Else it is that of a walk. The walk goes
+-- from the last stop that both lists share at the front to the first that both share at the back.
 abbrev pub list_weight : Model → ℕ → ℕ → List ℕ → List ℕ → ℕ
 list_weight model d v old new = cond (is_empty new || is_same old new) 0
     (walk_weight (line model d v new) (shared_front old new) (length new + 1 - shared_back old new))

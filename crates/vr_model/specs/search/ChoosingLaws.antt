@@ -8,7 +8,7 @@ use Rattle.vr_model.specs.search.Scans.{Scan, scan}
 use Rattle.vr_model.specs.search.Scans.Scan.{Accepted, Complete, Cut}
 use Rattle.vr_model.specs.declared.neighbours.Move.{Move}
 
--- the entry stands in the list, no entry has a lesser key, and each entry before it has a greater one
+-- the entry is in the list, no entry has a lesser key, and each entry before it has a greater one
 pub record IsFirstLeast {A : Type 0} (key : A → List ℤ) (xs : List A) (best : A) : Type 0 where
   pub place : ℕ
   pub in_list : place < length xs
@@ -20,7 +20,7 @@ pub record IsFirstLeast {A : Type 0} (key : A → List ℤ) (xs : List A) (best 
 abbrev pub LeastIsFirst : Type 0 → Type 0
 LeastIsFirst A = (key : A → List ℤ) (xs : List A) → MatchOption (least_by key xs) (xs ≡ []) (IsFirstLeast key xs)
 
--- the first acceptable move of a list stands at place k, from 1
+-- the first acceptable move of a list is at place k, from 1
 pub record IsFirstAcceptable (ms : List Move) (acceptable : Move → Bool) (k : ℕ) (mv : Move) : Type 0 where
   pub from_one : 1 ≤ k
   pub in_list : k ≤ length ms
@@ -32,8 +32,8 @@ pub record IsFirstAcceptable (ms : List Move) (acceptable : Move → Bool) (k : 
 abbrev pub NoneAcceptable : List Move → (Move → Bool) → Type 0
 NoneAcceptable ms acceptable = All (λ mv. acceptable mv ≡ false) ms
 
--- A scan that may try `rest` moves accepts the first acceptable move, where it stands at a place up to `rest`. It is
--- complete where no move is acceptable and there are at most `rest`. Else it is cut.
+-- A scan that may try `rest` moves accepts the first acceptable move, if its place is at most `rest`. It is complete if
+-- no move is acceptable and there are at most `rest`. Else it is cut.
 abbrev pub EndsAs : List Move → (Move → Bool) → ℕ → Scan → Type 0
 EndsAs ms acceptable rest (Accepted k mv) = IsFirstAcceptable ms acceptable k mv × (k ≤ rest)
 EndsAs ms acceptable rest (Complete n) = NoneAcceptable ms acceptable × (n ≡ length ms) × (n ≤ rest)
@@ -41,6 +41,6 @@ EndsAs ms acceptable rest Cut =
     ((k : ℕ) × (mv : Move) × IsFirstAcceptable ms acceptable k mv × (rest < k))
     ⊎ (NoneAcceptable ms acceptable × (rest < length ms))
 
--- each scan ends so
+-- each scan ends as `EndsAs` says
 abbrev pub ScanEnds : Type 0
 ScanEnds = (ms : List Move) (acceptable : Move → Bool) (rest : ℕ) → EndsAs ms acceptable rest (scan ms acceptable rest)

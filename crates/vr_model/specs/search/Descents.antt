@@ -13,7 +13,7 @@ use Rattle.vr_model.specs.declared.search.Limit.{Limit}
 use Rattle.vr_model.specs.declared.search.Kind.TheVariants as kind
 use Rattle.vr_model.specs.declared.neighbours.Move.{Move}
 
--- a move is acceptable where the lists after it are valid and cost less
+-- a move is acceptable if the lists after it are valid and cost less
 abbrev pub makes_cheaper : Model → List (List ℕ) → Move → Bool
 makes_cheaper model lists mv =
     let after = apply model lists mv in is_valid model after && int_lt (cost model after) (cost model lists)
@@ -25,8 +25,8 @@ descended model limit again state (Accepted n mv) =
 descended model limit again state (Complete n) = ended (tried state n) Optimum
 descended model limit again state Cut = ended (tried state (limit.tries - state.used)) Tries
 
--- Greedy descent from where a search stands, by at most so many scans. Each scan that does not end the search uses a
--- try, so with one scan more than there are tries left the bound is never met.
+-- Greedy descent from a state, by at most a given number of scans. Each scan that does not end the search uses a try.
+-- So with one scan more than there are tries left the bound is never met.
 unfoldable pub descent_from : Model → Limit → ℕ → SearchState → Outcome
 descent_from model limit zero state = ended state Tries
 descent_from model limit (suc scans) state = elim (state.found == limit.solutions) [

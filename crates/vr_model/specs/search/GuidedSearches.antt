@@ -1,5 +1,5 @@
--- Guided local search: at a local optimum the arcs of the greatest worth get penalties, and the descent goes on by
--- the cost with the penalised arcs added.
+-- Guided local search. At a local optimum the arcs of the greatest utility (Voudouris, Tsang) get penalties; an arc's
+-- utility is called its worth here. The descent goes on by the cost with the penalised arcs added.
 use Rattle.std.specs.Prelude.{ℕ, zero, suc, ◌-◌, Bool, true, false, cond, not, ◌&&◌, ◌||◌, ◌==◌, List, ℤ, pos, ◌+ℤ◌}
 use Rattle.std.specs.Prelude.{◌*ℤ◌, int_lt, int_le}
 use Rattle.std.specs.List.{list_all, list_any}
@@ -40,12 +40,13 @@ penalised model penalties lists =
 unfoldable pub augmented : Model → Lambda → Penalties → List (List ℕ) → ℤ
 augmented model lambda penalties lists = (lambda.q *ℤ cost model lists) +ℤ (lambda.p *ℤ penalised model penalties lists)
 
--- a move is acceptable where the lists after it are valid and have a lesser augmented cost
+-- a move is acceptable if the lists after it are valid and have a lesser augmented cost
 abbrev pub improves_augmented : Model → Lambda → Penalties → List (List ℕ) → Move → Bool
 improves_augmented model lambda penalties lists mv = let after = apply model lists mv in
     is_valid model after && int_lt (augmented model lambda penalties after) (augmented model lambda penalties lists)
 
--- an arc is worth no more than another: its cost over one more than its penalty, compared by cross products
+-- An arc is worth no more than another, compared by cross products. Its worth is its cost over one more than its
+-- penalty: 4 for cost 12 and penalty 2.
 abbrev pub is_worth_no_more : Model → Penalties → UsedArc → UsedArc → Bool
 is_worth_no_more model penalties arc other =
     int_le (cost_of_arc model arc *ℤ pos (suc (penalty_of penalties other)))
@@ -71,8 +72,8 @@ raised model penalties lists origin target =
 abbrev pub has_costly_arc : Model → List (List ℕ) → Bool
 has_costly_arc model lists = list_any (λ arc. int_lt (pos 0) (cost_of_arc model arc)) (used_arcs model lists)
 
--- guided search is at its end where there was no move to try, or where no used arc has a cost above 0: then penalties
--- change nothing
+-- Guided search is at its end if there was no move to try, or if no used arc has a cost above 0. In the second case
+-- penalties change nothing.
 abbrev pub is_at_end : Model → SearchState → ℕ → Bool
 is_at_end model state n = (n == 0) || not (has_costly_arc model state.lists)
 
@@ -87,8 +88,8 @@ guided_on model limit again penalties state (Complete n) = elim (is_at_end model
 ]
 guided_on model limit again penalties state Cut = ended (tried state (limit.tries - state.used)) Tries
 
--- Guided local search from where a search stands, by at most so many scans. Each scan that does not end the search
--- uses a try, so with one scan more than there are tries left the bound is never met.
+-- Guided local search from a state, by at most a given number of scans. Each scan that does not end the search uses a
+-- try. So with one scan more than there are tries left the bound is never met.
 unfoldable pub guided_from : Model → Limit → Lambda → ℕ → Penalties → SearchState → Outcome
 guided_from model limit lambda zero penalties state = ended state Tries
 guided_from model limit lambda (suc scans) penalties state = elim (state.found == limit.solutions) [

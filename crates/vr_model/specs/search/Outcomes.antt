@@ -1,4 +1,4 @@
--- Where a search stands, and how it ends.
+-- The state of a search, and how it ends.
 use Rattle.std.specs.Prelude.{ℕ, suc, ◌+◌, cond, List, [], ◌∷◌, int_lt}
 use Rattle.vr_model.specs.moves.Moves.{apply}
 use Rattle.vr_model.specs.routes.Costs.{cost}
@@ -10,7 +10,7 @@ use Rattle.vr_model.specs.declared.search.Kind.{Kind}
 use Rattle.vr_model.specs.declared.search.Kind.TheVariants as kind
 use Rattle.vr_model.specs.declared.neighbours.Move.{Move}
 
--- where a search stands: the lists, the best lists so far, the tries used and the solutions found
+-- the state of a search: the lists, the best lists so far, the tries used and the solutions found
 pub record SearchState : Type 0 where
   pub lists : List (List ℕ)
   pub best : List (List ℕ)
@@ -32,11 +32,11 @@ begun lists = record { lists = lists; best = lists; used = 0; found = 1 }
 abbrev pub cheaper : Model → List (List ℕ) → List (List ℕ) → List (List ℕ)
 cheaper model old new = cond (int_lt (cost model new) (cost model old)) new old
 
--- after so many more tries
+-- the state after n more tries
 abbrev pub tried : SearchState → ℕ → SearchState
 tried state n = record state { used = state.used + n }
 
--- after the move at place n of a scan was accepted
+-- the state after the move at place n of a scan was accepted
 abbrev pub accepted : Model → SearchState → ℕ → Move → SearchState
 accepted model state n mv = let after = apply model state.lists mv in
     record { lists = after; best = cheaper model state.best after; used = state.used + n; found = suc state.found }
@@ -50,7 +50,7 @@ ended state stop = record {
   events = [];
 }
 
--- the event of this kind where a search stands
+-- the event of this kind at a state of the search
 abbrev pub event_at : Model → SearchState → Kind → Event
 event_at model state kind = record { tries = state.used; kind = kind; cost = cost model state.lists }
 

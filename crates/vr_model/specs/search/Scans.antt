@@ -2,15 +2,15 @@
 use Rattle.std.specs.Prelude.{ℕ, suc, Bool, cond, nat_lt, nat_le, List, [], ◌∷◌}
 use Rattle.vr_model.specs.declared.neighbours.Move.{Move}
 
--- how a scan ends: at the first acceptable move and its place from 1, at the end of so many moves of which none is
--- acceptable, or for want of tries
+-- How a scan ends. It accepts the first acceptable move, at its place from 1. It is complete after this many moves, of
+-- which none is acceptable. Or it is cut, if no try is left.
 pub data Scan : Type 0 where
   Accepted : ℕ → Move → Scan
   Complete : ℕ → Scan
   Cut : Scan
 
--- the scan of the moves behind the first `place` ones, of which none was acceptable; at most `rest` moves in all may be
--- tried
+-- The scan of the moves after the first `place` ones, of which none was acceptable. At most `rest` moves in all may be
+-- tried.
 abbrev pub scan_from : ℕ → (Move → Bool) → ℕ → List Move → Scan
 scan_from place acceptable rest [] = cond (nat_lt rest place) Cut (Complete place)
 scan_from place acceptable rest (m ∷ ms) =

@@ -1,5 +1,5 @@
--- The limits of a model. Times, loads and distances are in units of the model's own; no model that is read has a number
--- outside these, and what every layer above promises counts on them.
+-- The limits of a model. Times, loads and distances are in units of the model's own. No model that is read has a number
+-- outside these limits, and what every layer above promises counts on them.
 use Rattle.std.specs.Prelude.{◌≡◌, ℕ, ℤ, pos, negsuc}
 use Rattle.vr_model.specs.tables.Numbers.{horizon}
 use Rattle.vr_model.specs.declared.limits.TheConstants.{HORIZON, GREATEST_COST, LEAST_VALUE, GREATEST_VALUE}

@@ -39,7 +39,7 @@ greatest_entry = greatest_value
 abbrev pub evaluator_at : Dimension → ℕ → Evaluator
 evaluator_at dimension k = slice_index_or dimension.evaluators k no_evaluator
 
--- the matrix, where there is one, has an entry above the greatest
+-- there is a matrix, and it has an entry above the greatest
 abbrev pub is_large : Model → Option ℕ → Bool
 is_large model None = false
 is_large model (Some m) = list_any (int_lt greatest_entry) (matrix_at model m).entries

@@ -1,5 +1,5 @@
--- The rows of a model, by their numbers. A number that no row has gives an empty row, so that each
--- definition answers for each number; of a well-formed model no definition asks for such a number.
+-- The rows of a model, by their numbers. A number that no row has gives an empty row, so that each definition answers
+-- for each number. Of a well-formed model no definition asks for such a number.
 use Rattle.std.specs.Prelude.{ℕ, ◌+◌, ◌*◌, Bool, false, ◌&&◌, ◌||◌, not, ◌==◌, nat_lt, List, [], ℤ, pos, ◌+ℤ◌, Option}
 use Rattle.std.specs.Prelude.{Some, None, find, filter, slice_index_or, option_map, unwrap_or}
 use Rattle.std.specs.List.{list_any}
@@ -62,7 +62,7 @@ pair_at model p = slice_index_or model.pairs p (record { pickup = 0; delivery = 
 abbrev pub arc_cost : Model → ℕ → ℕ → ℕ → ℤ
 arc_cost model v i j = entry model (vehicle_at model v).costs i j
 
--- what the matrix of an evaluator gives, 0 where it has none
+-- what the matrix of an evaluator gives, 0 if it has none
 abbrev pub matrix_part : Model → Option ℕ → ℕ → ℕ → ℤ
 matrix_part model None i j = pos 0
 matrix_part model (Some m) i j = entry model m i j

@@ -1,4 +1,4 @@
--- Well-formed models: each that reading gives is one. Each range, length and distinctness is said once, each node that
+-- Well-formed models: each that reading gives is one. Each range, length and distinctness is said once. Each node that
 -- must be a visit is one, and no rule on the whole model is broken.
 use Rattle.std.specs.Prelude.{◌≡◌, ℕ, ◌*◌, ◌<◌, ◌≤◌, ◌⊎◌, Bool, true, false, not, ◌&&◌, IsTrue, List, [], ◌∷◌, map}
 use Rattle.std.specs.Prelude.{length, ℤ, pos, ◌≤ℤ◌, Option, Some, None}
@@ -38,7 +38,7 @@ pub record IsIn (lo hi : ℤ) (x : ℤ) : Type 0 where
   pub at_least : lo ≤ℤ x
   pub at_most : x ≤ℤ hi
 
--- what is said of a value that may be absent holds where it is there
+-- what is said of a value that may be absent holds, if it is there
 abbrev pub WherePresent : {A : Type 0} → (A → Type 0) → Option A → Type 0
 WherePresent P None = Unit {0}
 WherePresent P (Some x) = P x
@@ -111,7 +111,7 @@ pub record AreVehicleRows (model : Model) (rows : List StopRow) : Type 0 where
   pub no_key_twice : IsTrue (is_distinct (map (λ row. row.key) rows))
   pub each_row : All IsStopRow rows
 
--- a dimension of a model; the lists by vehicle and by node are full, also where the model file leaves them out
+-- A dimension of a model. The lists by vehicle and by node are full, even if the model file leaves them out.
 pub record IsDimension (model : Model) (dimension : Dimension) : Type 0 where
   pub length_of_name : HasLength 1 most_name_bytes dimension.name
   pub number_of_evaluators : HasLength 1 most_evaluators dimension.evaluators

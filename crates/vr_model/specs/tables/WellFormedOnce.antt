@@ -5,13 +5,13 @@ use mathlib.Core.HLevel.{Unit-prop}
 use Rattle.vr_model.specs.tables.WellFormed.{IsWellFormed, WherePresent}
 use Rattle.vr_model.specs.declared.records.Model.{Model}
 
--- where a statement has one proof at most of each value, it has one at most of a value that may be absent
+-- if a statement has one proof at most of each value, it has one at most of a value that may be absent
 pub WherePresent-prop : {A : Type 0} (P : A → Type 0) (o : Option A) → ((x : A) → IsProp (P x))
     → IsProp (WherePresent P o)
 WherePresent-prop P None once = Unit-prop
 WherePresent-prop P (Some x) once = once x
 
--- a length is nothing or that of all in one way at most, where there is something
+-- if there is something, a length is in one way at most: nothing, or that of all
 pub one_of-prop : (k n : ℕ) → 1 ≤ n → IsProp ((k ≡ 0) ⊎ (k ≡ n))
 one_of-prop k n some (inl p) (inl q) = let once : IsProp (k ≡ 0) = Prim.hlevel props in λ i. inl (once p q i)
 one_of-prop k n some (inl p) (inr q) = absurd (Prim.omega (arith, some, p, q))
