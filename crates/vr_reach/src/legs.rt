@@ -11,8 +11,9 @@ use crate::stops::ListStops;
 use vr_spans::Run;
 use vr_steps::Levels;
 
-// Two stops of a list of a vehicle, the levels at which the first is reached, and those from which the end is reached
-// at the last; and the run that each visit allows the vehicle, by its node, where none allows more than one.
+// Two stops of a list of a vehicle and their levels. At those of `from` the first stop is reached; from those of `to`,
+// at the last stop, the end is. `runs` has the run that each visit allows the vehicle, by its node, if none allows more
+// than one.
 #[derive(Clone, Copy)]
 pub(crate) struct Leg<'m, 'l, 's, 'r> {
     pub(crate) stops: ListStops<'m, 'l, 's>,

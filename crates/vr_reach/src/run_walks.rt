@@ -15,7 +15,7 @@ use vr_model::Evaluator;
 use vr_spans::Run;
 use vr_steps::Levels;
 
-// A list of a vehicle, where no visit and not the end allows more than one run: the runs, and what the arcs take. The
+// A list of a vehicle, whose visits and end allow no more than one run each: the runs, and what the arcs take. The
 // earliest cumuls are found along one too (`early`).
 #[derive(Clone, Copy)]
 pub(crate) struct RunLine<'m, 'l, 's> {
@@ -52,8 +52,8 @@ impl RunLine<'_, '_, '_> {
     }
 }
 
-// A leg of such a list: two stops, the levels at which the first is reached, and those from which the end is reached at
-// the last.
+// A leg of such a list: two stops and their levels. At those of `from` the first stop is reached; from those of `to`,
+// at the last stop, the end is.
 #[derive(Clone, Copy)]
 pub(crate) struct RunWalk<'m, 'l, 's, 'r> {
     pub(crate) line: RunLine<'m, 'l, 's>,

@@ -10,7 +10,7 @@ use std::marker::Model;
 pub struct Splice<'a> {
     /// The place of the first node that goes.
     pub front: usize,
-    /// The place behind the last one.
+    /// The place after the last one.
     pub behind: usize,
     /// The nodes that come.
     pub middle: &'a [u32],

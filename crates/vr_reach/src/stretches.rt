@@ -1,7 +1,7 @@
-//! What two lists share at their ends, between which they differ: a walk leaves the rows at the last stop of the shared
-//! front and meets them at the first one of the shared back (`walking`), and of the rows forward levels are written
-//! anew behind the shared front and backward ones before the shared back (`changed`). A splice may put nodes back where
-//! they were, so more may be shared than it says.
+//! What two lists share at their ends, between which they differ. A walk leaves the rows at the last stop of the shared
+//! front and meets them at the first one of the shared back (`walking`). Of the rows, forward levels are written anew
+//! after the shared front, backward ones before the shared back (`changed`). A splice may put nodes back at the places
+//! that they had, so more may be shared than it says.
 
 ghost use Rattle.std.specs.Prelude.{◌+◌, ◌≤◌, length};
 ghost use Rattle.vr_reach.specs.Stretches.{SharesFront, SharesBack, DifferAtFront, DifferAtBack, IsStretchBetween};
