@@ -18,8 +18,7 @@ use vr_model::Steps;
 // Whether the line of a list is feasible, if walks along a leg without a break on the way tell:
 // - It is not if what is reached with no break taken misses all from which the end is reached with all of them taken.
 //   Breaks can but narrow both.
-// - It is if a walk that begins with some number of breaks taken comes to a cumul from which the others lead to the
-//   end.
+// - It is if such a walk after some number of breaks comes to a cumul from which the end is reached with the others.
 //
 // Nothing is told if neither is so, or if at first not exactly one run is reached with no break taken. It counts a try
 // for each arc that such a walk goes over.
@@ -49,8 +48,8 @@ pub(crate) fn told_without_breaks<L: Ledger>(walk: &RunWalk, tries: &mut Steps<L
     None
 }
 
-// Whether such a walk, with one break or more taken before it, comes to a cumul from which the other breaks lead to the
-// end. If not, nothing is told.
+// Whether such a walk, with one break or more taken before it, comes to a cumul from which the end is reached with the
+// others. If not, nothing is told.
 fn goes_with_some<L: Ledger>(walk: &RunWalk, tries: &mut Steps<L>) -> bool
     ensures goes { IsTrue result → IsFeasible (line_along walk.now) }
     ensures exact { IsTrue result ↔ ((taken : ℕ) × (1 ≤ taken) × (taken ≤ length (line_along walk.now).breaks)

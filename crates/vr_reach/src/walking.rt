@@ -223,9 +223,9 @@ fn walk_uncounted<L: Ledger, M: Ledger>(
     walk_through(leg, walk, &mut steps, &mut tries)
 }
 
-// The levels at which the last stop of a shared front is reached: of the nodes that a list shares with the one whose
-// rows are known. With no node shared that stop is the start. Its levels are those of `ends`, since of the rows of an
-// empty list nothing is said.
+// What a walk begins with: the levels at which the last stop of the shared front is reached. The front is what a list
+// shares with the one whose rows are known. With no node shared that stop is the start. Its levels are those of `ends`,
+// since of the rows of an empty list nothing is said.
 pub(crate) fn levels_before<'a>(ends: &'a Ends, rows: &'a Rows, front: usize) -> &'a Levels
     requires row { 0 < front → front < length rows.now.forward }
     ensures start { front ≡ 0 → result.now ≡ ends.now.start_levels }
@@ -237,8 +237,8 @@ pub(crate) fn levels_before<'a>(ends: &'a Ends, rows: &'a Rows, front: usize) ->
     rows.forward(front)
 }
 
-// The levels from which the end is reached at the first stop of a shared back: of the nodes that a list shares with the
-// one of `n` visits whose rows are known. If they share none, they are the levels of the end.
+// What a walk meets: the levels from which the end is reached at the first stop of the shared back. The back is what a
+// list shares with the one of `n` visits whose rows are known. With no node shared that stop is the end.
 pub(crate) fn levels_behind<'a>(ends: &'a Ends, rows: &'a Rows, n: usize, back: usize) -> &'a Levels
     requires few { back ≤ n }
     requires row { 0 < back → n - back + 1 < length rows.now.backward }
