@@ -11,8 +11,8 @@ use Rattle.vr_model.specs.schedules.Weights.{list_weight}
 use Rattle.vr_model.specs.declared.records.Dimension.{Dimension}
 use Rattle.vr_model.specs.declared.records.Model.{Model}
 
--- the same dimension with a fixed start, no waiting, a capacity as large as can be for the first vehicle, and no rows
--- of stops and no breaks
+-- the same dimension, which asks nothing else. It has a fixed start, no waiting, a capacity as large as can be for the
+-- first vehicle, no rows of stops and no breaks
 abbrev pub asking_nothing_else : Dimension → Dimension
 asking_nothing_else dimension = record dimension {
   slack_max = pos 0;
@@ -24,7 +24,7 @@ asking_nothing_else dimension = record dimension {
   breaks = [];
 }
 
--- the first vehicle goes from node 0 to node 0, and in the first dimension the way between any two nodes takes 5, and
+-- the first vehicle goes from node 0 to node 0. In the first dimension the way between any two nodes takes 5, and
 -- nothing else is asked
 pub record IsEven (model : Model) : Type 0 where
   pub well_formed : IsWellFormed model

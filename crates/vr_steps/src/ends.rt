@@ -100,7 +100,8 @@ fn fit_behind(set: &Spans, rows: &[BreakRow]) -> bool
     false
 }
 
-// Writes the levels of the stop where a walk in that direction begins over `out`: on from a start, or back from an end.
+// Writes the levels of the stop at which a walk in that direction begins over `out`: on from a start, or back from an
+// end.
 fn write_all(way: Way, allowed: &Spans, breaks: &Breaks, out: &mut Levels) -> Result<(), NoMemory>
     requires breaks { All IsBreak breaks.now }
     requires few { length breaks.now ≤ 8 }
