@@ -27,7 +27,7 @@ pub record IsFirstShortest (line : Defined) (s e : ℤ) : Type 0 where
   pub least : (other : Plan) → IsSchedule line other → (e -ℤ s) ≤ℤ span line other
   pub earliest : (other : Plan) → IsSchedule line other → span line other ≡ (e -ℤ s) → s ≤ℤ cumul other 0
 
--- the first start and the first cumul of the piece are the ends of a schedule of the least span, and none of this span
+-- the first start and the first cumul of the piece are the ends of a schedule of the least span. None of this span
 -- starts earlier
 abbrev pub IsShortestWay : Line → Piece → Type 0
 IsShortestWay line piece = (defined : Defined) → IsLineOf defined line → IsFirstShortest defined piece.first piece.lo
