@@ -45,7 +45,7 @@ pub record AreNumbersBy (number : ℕ → ℕ) (nodes : ℕ) (numbers : List ℕ
 abbrev pub AreMarksOf : Allowed → List Bool → Type 0
 AreMarksOf row marks = (v : ℕ) → slice_index_or marks v false ≡ holds row.vehicles v
 
--- the vehicles of each row are
+-- the vehicles of each row are marked
 pub record AreRowMarks (model : Model) (marks : List (List Bool)) : Type 0 where
   pub one_of_each : length marks ≡ length model.allowed
   pub each : (k : ℕ) (other : Allowed) → k < length model.allowed

@@ -1,6 +1,6 @@
-//! What is asked of one list by itself, and what is looked up once of each node. Of a list it is the place of each
-//! node, and whether its pairs are served in order and as the policy of the vehicle asks. The list 7, 3, 9 serves a
-//! pair that is picked up at 7 and delivered at 9; it does not serve one from 9 to 3.
+//! What is asked of one list by itself, and what is looked up once of each node. Of a list it is each node's place, and
+//! whether its pairs are served in order and as the policy of the vehicle asks. The list 7, 3, 9 serves a pair that is
+//! picked up at 7 and delivered at 9. It does not serve one from 9 to 3.
 //!
 //! `NodeTables` (`nodes`) has the group and the pair of each node and the vehicles that may visit it, as rows that a
 //! node points into. `keeps_pairs` (`pairs`) writes down the place of each node in a list (`places`), over room that

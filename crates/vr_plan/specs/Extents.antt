@@ -1,4 +1,4 @@
--- From when to when the chosen schedules of lists reach in one dimension.
+-- From which cumul to which the chosen schedules of lists reach in one dimension.
 use Rattle.std.specs.Prelude.{◌≡◌, ℕ, ◌<◌, not, List, length, map, filter, ℤ, pos, ◌-ℤ◌, ◌*ℤ◌, Option, Some, None}
 use Rattle.std.specs.Int.{int_max, int_min}
 use Rattle.vr_model.specs.tables.Numbers.{below, horizon}
@@ -26,7 +26,7 @@ abbrev pub start_beside : Option Extent → ℤ → ℤ
 start_beside None x = x
 start_beside (Some extent) x = int_min extent.start x
 
--- the greater of its end and a cumul
+-- the greater of the end of an extent, if there is one, and a cumul
 abbrev pub last_beside : Option Extent → ℤ → ℤ
 last_beside None x = x
 last_beside (Some extent) x = int_max extent.last x

@@ -90,7 +90,8 @@ IsLeastOf line cumuls i ready n best = (defined : Line) → IsLineOf defined lin
     (first_at line.hops cumuls (slice_index_or line.breaks i no_break) ready)
     (stands_at line.hops cumuls (slice_index_or line.breaks i no_break) ready) n best
 
--- the least of those in all places
+-- the least start of break i in all places, and none before ready. The line, as the code holds it, has a schedule with
+-- it
 abbrev pub IsLeastStart : Made → List ℤ → ℕ → ℤ → Option ℤ → Type 0
 IsLeastStart line cumuls i ready best = IsLeastOf line cumuls i ready (suc (length cumuls)) best
 

@@ -25,7 +25,7 @@ pub record IsTable (model : Model) (d : ℕ) (table : Table) : Type 0 where
   pub free : IsTrue table.is_free → (v : ℕ) (list : List ℕ) → PaysNothing (dimension_at model d) v list
   pub hard : IsTrue table.is_hard → CostsNoSoft (dimension_at model d)
 
--- the same of each dimension
+-- what is looked up of each dimension of a model
 pub record AreTables (model : Model) (tables : List Table) : Type 0 where
   pub one_of_each : length tables ≡ length model.dimensions
   pub each : (d : ℕ) (other : Table) → d < length tables → IsTable model d (slice_index_or tables d other)

@@ -3,8 +3,8 @@
 //! Each stop in turn is settled at the least cumul that is reached there and from which the end is reached (`cumuls`).
 //! The tight schedule is found in the same way, on a narrower line. Its end is first narrowed to its least cumul, and
 //! then its start to its greatest (`ends`, over the copies that `narrow` makes). Take a visit that is 30 away and opens
-//! at 100: `earliest` starts at 0 and waits 70, `tight` starts at 70. Once the cumuls are settled, the break starts
-//! are, break by break (`starts`).
+//! at 100, with waiting allowed. Then `earliest` starts at 0 and waits 70, and `tight` starts at 70. Once the cumuls
+//! are settled, the break starts are, break by break (`starts`).
 //!
 //! Invariant: the line that allows the settled cumuls alone keeps the same chosen schedule. That is what the proof
 //! carries from stop to stop.

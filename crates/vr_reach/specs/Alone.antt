@@ -30,8 +30,8 @@ pub record GoesAlone (line : Line) (from to : List (List Run)) (a e b : ℕ) : T
   pub led : IsLedToWithoutBreaks line (has (level_at from b)) a (e - a) cumul
   pub reaches : IsTrue (has (level_at to b) cumul)
 
--- what no walk without a break tells. Some cumul of stop e that is reached with no break taken is one from which the
--- end is reached with all of them taken. And with no number of breaks does such a walk go all the way
+-- no walk without a break tells. Some cumul of stop e that is reached with no break taken is one from which the end is
+-- reached with all of them taken. And with no number of breaks does such a walk go all the way
 pub record IsUndecided (line : Line) (from to : List (List Run)) (a e : ℕ) : Type 0 where
   pub cumul : ℤ
   pub reached : IsReached line e 0 cumul

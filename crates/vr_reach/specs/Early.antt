@@ -29,7 +29,8 @@ pub record IsEarliestBehind (cumul t s : ℤ) (allowed : Run) (next : ℤ) : Typ
   pub most : next ≤ℤ allowed.hi
   pub slack : (next -ℤ (cumul +ℤ t)) ≤ℤ s
 
--- there is one: the earliest that it allows from there on is no later than its latest, and leaves no greater slack
+-- whether there is such a cumul. The earliest that the stop allows from there on is no later than its latest, and
+-- leaves no greater slack
 abbrev pub has_cumul_behind : ℤ → ℤ → ℤ → Run → Bool
 has_cumul_behind cumul t s allowed = let next = int_max (cumul +ℤ t) allowed.lo in
     int_le next allowed.hi && int_le (next -ℤ (cumul +ℤ t)) s

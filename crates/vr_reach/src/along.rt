@@ -44,7 +44,7 @@ pub(crate) fn write_ahead(
     reach_on(stops, 1, rows)
 }
 
-// The same, if at least one is known.
+// The same, with at least one known.
 fn reach_on(stops: &ListStops, known: usize, rows: &mut [Levels]) -> Result<(), NoMemory>
     requires begun { 0 < known }
     requires known { AreFirstOn stops.now.of known rows.old }
@@ -83,7 +83,7 @@ fn write_back(stops: &ListStops, known: usize, rows: &mut [Levels]) -> Result<()
     reach_back(stops, 1, rows)
 }
 
-// The same, if at least one is known.
+// The same, with at least one known.
 fn reach_back(stops: &ListStops, known: usize, rows: &mut [Levels]) -> Result<(), NoMemory>
     requires begun { 0 < known }
     requires known { AreLastOn stops.now.of known rows.old }

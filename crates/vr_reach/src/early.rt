@@ -66,6 +66,9 @@ pub fn single_runs<'s>(stops: &StopsFor<'_, 's>) -> Option<StopRuns<'s>>
 
 /// Writes the cumuls of the earliest schedule of a list over others, if they are found stop by stop. Each is then the
 /// least that the one before leaves. They are found so exactly if there is a schedule and three conditions hold:
+/// - The vehicle has no breaks.
+/// - No stop allows more than one run of cumuls.
+/// - No slack would be too great (else a stop before would have to be later than its least).
 ///
 /// False exactly if they are not found so, also if there is no schedule. Then nothing is said of the cumuls.
 pub fn write_earliest(stops: &StopsFor, list: &[u32], cumuls: &mut Cumuls) -> bool
@@ -131,9 +134,9 @@ fn drive(line: &RunLine, start: Run, cumuls: &mut Cumuls) -> bool
     true
 }
 
-/// The least cumul of the next stop after an arc from a cumul. Nothing exactly if the stop allows none that is reached,
-/// or if the slack would be too great. Cumuls are in `0..=2^36`, transits within 2^31. `vr_costfilter` asks it too, of
-/// stops with floors.
+/// The least cumul of the next stop after an arc from a cumul. From 10 over a transit of 5 to a stop that opens at 20
+/// it is 20, if a slack of 5 is allowed. Nothing exactly if the stop allows none that is reached, or if the slack would
+/// be too great. Cumuls are in `0..=2^36`, transits within 2^31. `vr_costfilter` asks it too, of stops with floors.
 #[inline]
 pub fn earliest_behind(cumul: i64, transit: i64, slack: i64, allowed: Run) -> Option<i64>
     requires cumul { IsIn (pos 0) horizon cumul }

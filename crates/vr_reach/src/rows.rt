@@ -18,7 +18,8 @@ use vr_model::NoMemory;
 use vr_steps::{Levels, Line};
 
 /// The forward and backward levels of each stop of a line. For `b` breaks taken, forward levels have the cumuls that
-/// are reached at the stop. Backward levels have those from which the end is reached with the other breaks taken.
+/// are reached at the stop. Backward levels have those from which the end is reached with the other breaks taken. Take
+/// a stop that is reached at 10 to 50, and from which the end is reached at 0 to 40. Schedules pass it at 10 to 40.
 ///
 /// Rows may be built anew in place. That takes memory only in three cases:
 /// - the line has more stops than any before,

@@ -205,7 +205,8 @@ pub fn slack_of(closed: Closed<'_>, d: u32) -> i64
     closed.model.dimensions.get(d as usize).slack_max
 }
 
-// The run at the end of an arc, of what is allowed there. It has no number if the arc leads to none.
+// The run at the end of an arc, of what is allowed there. It has no number if the arc leads to none. A run of 0 to 10,
+// a transit of 5 and a slack of 2 lead to 5 to 17. If 8 to 20 is allowed, 8 to 17 is left.
 #[inline]
 fn run_behind(run: Run, transit: i64, slack: i64, allowed: Run) -> Run
     requires run { IsCumulRun run }

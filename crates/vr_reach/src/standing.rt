@@ -1,5 +1,5 @@
-//! Walks through what an insertion changes in a list whose rows are known. They go at once, if it is known what both
-//! lists share. Or they go stop by stop, by levels that `vr_first_insert` keeps, which alone calls these.
+//! Walks through what an insertion changes in a list whose rows are known. They go at once if it is known what both
+//! lists share. Else they go stop by stop, by levels that `vr_first_insert` keeps, which alone calls these.
 
 ghost use Rattle.std.specs.Prelude.{◌≡◌, ◌+◌, ◌≤◌, IsTrue, length, IfOk, OnOk};
 ghost use Rattle.vr_model.specs.schedules.Choices.{is_feasible};

@@ -8,7 +8,7 @@ ghost use Rattle.vr_reach.specs.Stretches.{SharesFront, SharesBack, DifferAtFron
 
 use crate::spliced::Spliced;
 
-/// How many nodes two lists share at the front and at the back.
+/// How many nodes two lists share at the front and at the back. Of 1, 2, 3, 4 and 1, 9, 3, 4 these are one and two.
 #[derive(Clone, Copy)]
 pub struct Stretch {
     /// The nodes that both begin with.

@@ -119,6 +119,10 @@ fn walk_by_sets<L: Ledger>(
 /// changed list.
 ///
 /// One run is enough if neither a visit nor the end allows more, and one run is reached when the walk leaves the rows:
+/// - A vehicle without breaks: the walk carries one run in place of sets.
+/// - A vehicle with breaks: walks of one run without a break are tried before the one with sets. There is at most one
+///   for each number of breaks taken before it. They tell of most moves, and count a try for each arc that they go
+///   over, none of which lies outside the changed stretch.
 ///
 /// `NoMemory` if memory was needed and there was none. It is taken only if a set has more than four runs, or the
 /// vehicle has breaks.

@@ -1,5 +1,5 @@
-//! What is reached at a stop, moved from stop to stop. A walk goes along a whole line. Or it goes along a changed or
-//! growing one, from a stop that it shares with a line whose levels are known.
+//! What is reached at a stop, moved from stop to stop. A walk goes along a whole line. It may also go along a changed
+//! or growing line, from a stop that this shares with one whose levels are known.
 
 ghost use Rattle.std.specs.Prelude.{◌≡◌, ◌+◌, ◌<◌, ◌≤◌, ◌↔◌, ℕ, [], ◌∷◌, All, IsTrue, IfOk, OnOk, OnErr, length};
 ghost use Rattle.vr_model.specs.schedules.Lines.{Line as Defined};

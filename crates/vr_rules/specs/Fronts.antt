@@ -66,6 +66,6 @@ pub record AreFronts (model : Model) (v : ℕ) (list : List ℕ) (fronts : List 
   pub one_of_each : length fronts ≡ length model.dimensions
   pub each : (d : ℕ) (other : Front) → d < length fronts → IsFrontOf model d v list (slice_index_or fronts d other)
 
--- the same of the fronts as the code holds them
+-- the fronts of a list of vehicle v in each dimension, as the code holds them
 abbrev pub AreFrontsOf : Model → ℕ → List ℕ → Fronts → Type 0
 AreFrontsOf model v list fronts = AreFronts model v list fronts.each.items

@@ -17,7 +17,8 @@ IsReachedFrom line k s x = (start : ℤ) × (s ≤ℤ start) × IsReached (pinne
 abbrev pub AreReachedPieces : Defined → ℕ → List Piece → Type 0
 AreReachedPieces line k pieces = (s x : ℤ) → IsTrue (have_from pieces s x) ↔ IsReachedFrom line k s x
 
--- the same at a stop of a line as the code holds it
+-- the pieces have the cumuls that are reached at stop k of a line as the code holds it. Each is had from the starts
+-- from which it is reached
 abbrev pub AreReachedPiecesAt : Line → ℕ → List Piece → Type 0
 AreReachedPiecesAt line k pieces = (defined : Defined) → IsLineOf defined line → AreReachedPieces defined k pieces
 

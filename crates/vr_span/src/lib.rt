@@ -11,8 +11,7 @@
 //! the first of the shortest pieces says (`shortest`). It is the chosen one of the line narrowed to these ends
 //! (`least`).
 //!
-//! Invariant: at each stop, a cumul is in a piece that starts it at `s` or later exactly if some way comes there from
-//! `s` or later.
+//! Invariant: at each stop, a piece reaches a cumul from `s` or later exactly if some way from `s` or later does.
 //!
 //! Who calls it: `vr_app` asks it of each used route of a solution, in each dimension in which no vehicle has breaks,
 //! for the word `spans`. The line is one of `vr_steps`, and `vr_plan` narrows it and chooses its schedule.

@@ -36,7 +36,7 @@ pub record IsEven (model : Model) : Type 0 where
   pub visits : (i : ℕ) → number_at (dimension_at model 0).visit i ≡ pos 0
   pub transits : (i j : ℕ) → i < model.nodes → j < model.nodes → i ≢ j → transit model 0 0 i j ≡ pos 5
 
--- there are such models
+-- there is an even model
 abbrev pub SomeModelIsEven : Type 0
 SomeModelIsEven = (model : Model) × IsEven model
 
@@ -55,6 +55,6 @@ OfEachSwap claim = (model : Model) → IsEven model → (front back : List ℕ) 
 abbrev pub SwapWeighsFive : Type 0
 SwapWeighsFive = OfEachSwap (λ model old new. list_weight model 0 0 old new ≡ 5)
 
--- and the list has a schedule afterwards
+-- two neighbours that change places in a list leave it a schedule
 abbrev pub SwapIsFeasible : Type 0
 SwapIsFeasible = OfEachSwap (λ model old new. IsTrue (is_feasible (line model 0 0 new)))

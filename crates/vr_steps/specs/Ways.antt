@@ -38,7 +38,7 @@ abbrev pub IsBegunBy : Way → List Run → List BreakRow → ℕ → List Run �
 IsBegunBy On allowed breaks b set = FitsBefore allowed (take b breaks) set
 IsBegunBy Back allowed breaks b set = FitsAfter allowed (drop b breaks) set
 
--- the levels of the stop at which it begins
+-- the levels of the stop at which a walk in that direction begins
 abbrev pub AreBegunBy : Way → List Run → List BreakRow → List (List Run) → Type 0
 AreBegunBy On allowed breaks levels = AreStartLevels allowed breaks levels
 AreBegunBy Back allowed breaks levels = AreEndLevels allowed breaks levels

@@ -9,10 +9,11 @@ ghost use Rattle.vr_steps.specs.Fits.{IsBoundFound, IsEarliest, IsLatest};
 use vr_model::BreakRow;
 use vr_model::limits::HORIZON;
 
-// No bound, if there is no break, and so is its negative: every moment that matters lies between them.
+// The bound if there is no break, and its negative the lower one: every moment that matters lies between them.
 const FAR: i64 = 1 << 42;
 
-/// What breaks that are taken one after another come to.
+/// What breaks that are taken one after another come to. Take a break of 30 that starts in 0 to 100, and then one of 20
+/// that starts in 60 to 120. They are 50 long, are begun by 90, and are over at 80 at the earliest.
 #[derive(Clone, Copy, Debug, PartialEq, Eq)]
 pub struct Chain {
     /// How long they are together.

@@ -9,9 +9,9 @@ pub fn some_model_is_even()
     ensures { SomeModelIsEven }
 {}
 
-/// There two neighbours that change places in a list of this vehicle weigh five, however long the list is. They weigh
-/// three arcs of one run each, and one run of both sides when the walk rejoins the list. The list has a schedule
-/// afterwards.
+/// In such a model two neighbours that change places in a list of this vehicle weigh five, however long the list is.
+/// They weigh three arcs of one run each, and one run of both sides when the walk rejoins the list. The list has a
+/// schedule afterwards.
 pub fn swap_weighs_five()
     ensures weight { SwapWeighsFive }
     ensures feasible { SwapIsFeasible }
