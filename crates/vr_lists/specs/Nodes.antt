@@ -8,7 +8,7 @@ use Rattle.vr_model.specs.declared.records.Model.{Model}
 use Rattle.vr_model.specs.declared.records.Group.{Group}
 use Rattle.vr_model.specs.declared.records.Allowed.{Allowed}
 
--- the number of the group of a node, that of all groups where it is in none
+-- the number of the group of a node, that of all groups if it is in none
 abbrev pub group_number : Model → ℕ → ℕ
 group_number model node = position_or_len (λ group. holds group.nodes node) model.groups
 
@@ -28,15 +28,15 @@ pub record AreNumbers (model : Model) (numbers : List ℕ) : Type 0 where
   pub long : length numbers ≡ model.nodes
   pub each : (node : ℕ) → node < model.nodes → node_number numbers node ≡ group_number model node
 
--- the number of the row of a node among the rows of allowed vehicles, that of all rows where it has none
+-- the number of the row of a node among the rows of allowed vehicles, that of all rows if it has none
 abbrev pub row_number : Model → ℕ → ℕ
 row_number model node = position_or_len (λ row. row.node == node) model.allowed
 
--- the number of the pair of a node, that of all pairs where it is in none
+-- the number of the pair of a node, that of all pairs if it is in none
 abbrev pub pair_number : Model → ℕ → ℕ
 pair_number model node = position_or_len (λ pair. (pair.pickup == node) || (pair.delivery == node)) model.pairs
 
--- each of so many nodes has the number that is its
+-- each of this many nodes has the number that is its
 pub record AreNumbersBy (number : ℕ → ℕ) (nodes : ℕ) (numbers : List ℕ) : Type 0 where
   pub long : length numbers ≡ nodes
   pub each : (node : ℕ) → node < nodes → node_number numbers node ≡ number node
@@ -45,7 +45,7 @@ pub record AreNumbersBy (number : ℕ → ℕ) (nodes : ℕ) (numbers : List ℕ
 abbrev pub AreMarksOf : Allowed → List Bool → Type 0
 AreMarksOf row marks = (v : ℕ) → slice_index_or marks v false ≡ holds row.vehicles v
 
--- the vehicles of each row are
+-- the vehicles of each row are marked
 pub record AreRowMarks (model : Model) (marks : List (List Bool)) : Type 0 where
   pub one_of_each : length marks ≡ length model.allowed
   pub each : (k : ℕ) (other : Allowed) → k < length model.allowed

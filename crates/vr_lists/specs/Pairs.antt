@@ -13,7 +13,7 @@ use Rattle.vr_lists.specs.declared.pairs.Served.{Served}
 abbrev pub keeps_pairs : Model → ℕ → List ℕ → Bool
 keeps_pairs model v list = list_all (serves_pair list) model.pairs && keeps_policy model v list
 
--- where a pair stands in a list
+-- the places of the two nodes of a pair in a list
 abbrev pub served_at : List ℕ → Pair → Served
 served_at list pair = record { pickup = place_of list pair.pickup; delivery = place_of list pair.delivery }
 

@@ -12,9 +12,9 @@ use std::alloc::Global;
 use std::marker::Model;
 use vr_model::{Allowed, Closed, Model as RoutingModel, NoMemory, Pair, Seq};
 
-/// The group and the pair of each node of a model, and the vehicles that may visit it, looked up once in groups, pairs
-/// and rows of allowed vehicles. Contracts see the model. An answer about a node takes no memory, and no longer in a
-/// large model than in a small one.
+/// The group and the pair of each node of a model, and the vehicles that may visit it. They are looked up once in
+/// groups, pairs and rows of allowed vehicles. Contracts see the model. An answer about a node takes no memory, and no
+/// longer in a large model than in a small one.
 #[derive(Drop)]
 pub struct NodeTables<'m> {
     model: &'m RoutingModel,
@@ -41,7 +41,7 @@ impl<'m> Model for NodeTables<'m> {
 }
 
 impl<'m> NodeTables<'m> {
-    /// The tables of a model. The only refusal is want of memory.
+    /// The tables of a model. It fails only if it is out of memory.
     pub fn open(alloc: Global, model: &'m RoutingModel) -> Result<NodeTables<'m>, NoMemory>
         requires { IsWellFormed model.now }
         ensures { IfOk result (λ tables. tables ≡ model.now) }
@@ -61,12 +61,12 @@ impl<'m> NodeTables<'m> {
         ensures model { result.now ≡ self.now }
         ensures well_formed { IsWellFormed self.now }
     {
-        // what holds of the model is known where the tables are read too
+        // what holds of the model is known if the tables are read too
         let _ = &self.groups;
         self.model
     }
 
-    /// The number of the group of a node, that of all groups where it is in none.
+    /// The number of the group of a node, that of all groups if it is in none.
     pub fn group_number(&self, node: u32) -> u32
         ensures { result ≡ group_number_of self.now node }
     {
@@ -80,7 +80,7 @@ impl<'m> NodeTables<'m> {
         (self.group_number(node) as usize) < self.model.groups.len()
     }
 
-    // The number of the pair of a node, that of all pairs where it is in none.
+    // The number of the pair of a node, that of all pairs if it is in none.
     fn pair_number(&self, node: u32) -> u32
         ensures { result ≡ pair_number self.now node }
     {
@@ -98,14 +98,14 @@ impl<'m> NodeTables<'m> {
         None
     }
 
-    // The number of the row of a node, that of all rows where it has none.
+    // The number of the row of a node, that of all rows if it has none.
     fn row_number(&self, node: u32) -> u32
         ensures { result ≡ row_number_of self.now node }
     {
         number_or(&self.rows, node, self.model.allowed.len() as u32)
     }
 
-    /// Whether vehicle `v` may visit a node (`SetAllowedVehiclesForIndex` in OR-Tools); any may where it has no row.
+    /// Whether vehicle `v` may visit a node (`SetAllowedVehiclesForIndex` in OR-Tools); any may if it has no row.
     pub fn allows_vehicle(&self, v: u32, node: u32) -> bool
         ensures { result ≡ allows_vehicle_of self.now v node }
     {
@@ -124,7 +124,7 @@ impl<'m> NodeTables<'m> {
     }
 }
 
-// The number at a place, or another where there is none.
+// The number at a place, or another if there is none.
 fn number_or(numbers: &Seq<u32>, place: u32, none: u32) -> u32
     ensures { result ≡ slice_index_or numbers.now place none }
 {
@@ -134,7 +134,7 @@ fn number_or(numbers: &Seq<u32>, place: u32, none: u32) -> u32
     none
 }
 
-// The mark at a place, where there is one.
+// The mark at a place, if there is one.
 fn is_marked(marks: &Seq<bool>, place: u32) -> bool
     ensures { result ≡ slice_index_or marks.now place false }
 {
@@ -165,7 +165,7 @@ fn no_numbers(alloc: Global, model: &RoutingModel) -> Result<Vec<u32>, NoMemory>
 }
 
 // Writes over the numbers of the groups of all nodes, from the last group to the first. The first group with a node
-// counts then, as in the definition; a model has no node in two, nor in two pairs, nor with two rows.
+// counts then, as in the definition. A model has no node in two, nor in two pairs, nor with two rows.
 fn write_groups(closed: Closed<'_>, numbers: &mut [u32])
     requires long { length numbers.old ≡ closed.model.now.nodes }
     ensures { AreNumbers closed.entry.model.now numbers.new }
@@ -228,8 +228,8 @@ fn pair_numbers(alloc: Global, closed: Closed<'_>) -> Result<Seq<u32>, NoMemory>
     Ok(Seq::from(numbers))
 }
 
-/// For each node of a model the number of its group, that of all groups where it is in none. It goes once over the
-/// groups. The only refusal is want of memory.
+/// For each node of a model the number of its group, that of all groups if it is in none. It goes once over the groups.
+/// It fails only if it is out of memory.
 pub fn group_numbers(alloc: Global, model: &RoutingModel) -> Result<Seq<u32>, NoMemory>
     requires { IsWellFormed model.now }
     ensures { IfOk result (AreNumbers model.now) }
@@ -239,7 +239,7 @@ pub fn group_numbers(alloc: Global, model: &RoutingModel) -> Result<Seq<u32>, No
     Ok(Seq::from(numbers))
 }
 
-// So many places without a mark.
+// As many places as asked for, without a mark.
 fn no_marks(alloc: Global, places: usize) -> Result<Vec<bool>, NoMemory>
     ensures { IfOk result (λ marks. marks.items ≡ replicate places false) }
 {

@@ -14,15 +14,15 @@ use crate::places::write_places;
 use arrayvec::ArrayVec;
 use vr_model::{Closed, Model, Pair, Policy};
 
-// Where the nodes of a pair stand in a list.
+// The places of the two nodes of a pair in a list.
 #[derive(Clone, Copy, Default)]
 struct Served {
     pickup: u32,
     delivery: u32,
 }
 
-/// Where the nodes of a model stand in a list, written over for each list. It has room for the largest model in place,
-/// 4 kilobytes, and takes no memory.
+/// The places of the nodes of a model in a list, written over for each list. It has room for the largest model in
+/// place, 4 kilobytes, and takes no memory.
 #[derive(Drop)]
 pub struct PairPlaces {
     // the place of each node, of which those of a model's nodes are written
@@ -69,7 +69,7 @@ fn serves_all(closed: Closed<'_>, list: &[u32], places: &[u32]) -> bool
     true
 }
 
-// Writes the pairs of the list over those that were served, by their places. A pair is in the list where its pickup is,
+// Writes the pairs of the list over those that were served, by their places. A pair is in the list if its pickup is,
 // since each is served (`serves_all` is asked before).
 fn write_served(
     closed: Closed<'_>,
@@ -114,8 +114,9 @@ fn asks_nothing(policy: Policy) -> bool
     }
 }
 
-// Whether a policy allows x beside y, of which it asks only where y is picked up behind x: under `Lifo` a y that is
-// picked up in front of the delivery of x is delivered in front of that too, under `Fifo` each y is delivered behind x.
+// Whether a policy allows x beside y. It asks something only if y is picked up after x:
+// - `Lifo`: a y that is picked up before the delivery of x is delivered before that too.
+// - `Fifo`: each y is delivered after x.
 fn allows(policy: Policy, x: Served, y: Served) -> bool
     ensures { result ≡ places_allow policy x y }
 {
@@ -142,11 +143,11 @@ fn allows_all(policy: Policy, served: &[Served]) -> bool
     served.iter().all(|&x| allows_each(policy, served, x))
 }
 
-/// Whether a list of distinct visits of vehicle `v` serves each pair in order, and keeps the policy of the vehicle
-/// (`AddPickupAndDelivery` and `SetPickupAndDeliveryPolicyOfVehicle` in OR-Tools).
+/// Whether a list of distinct visits of vehicle `v` serves each pair in order, and keeps the policy of the vehicle. In
+/// OR-Tools these are `AddPickupAndDelivery` and `SetPickupAndDeliveryPolicyOfVehicle`.
 ///
-/// It marks the place of each node once, and then looks at each pair of the model, and at each two pairs of the list
-/// where the policy asks something of them. A model without pairs costs nothing.
+/// It marks the place of each node once, and then looks at each pair of the model. If the policy asks something of two
+/// pairs, it looks at each two of the list. A model without pairs costs nothing.
 pub fn keeps_pairs(model: &Model, v: u32, list: &[u32], places: &mut PairPlaces) -> bool
     requires well_formed { IsWellFormed model.now }
     requires vehicle { v < length model.now.vehicles }

@@ -1,4 +1,4 @@
--- From where to where the chosen schedules of lists reach in one dimension.
+-- From which cumul to which the chosen schedules of lists reach in one dimension.
 use Rattle.std.specs.Prelude.{◌≡◌, ℕ, ◌<◌, not, List, length, map, filter, ℤ, pos, ◌-ℤ◌, ◌*ℤ◌, Option, Some, None}
 use Rattle.std.specs.Int.{int_max, int_min}
 use Rattle.vr_model.specs.tables.Numbers.{below, horizon}
@@ -21,12 +21,12 @@ pub record IsExtent (model : Model) (lists : List (List ℕ)) (d : ℕ) (used : 
   pub start : extent.start ≡ least (map (λ v. start_with model d v (route lists v)) used)
   pub last : extent.last ≡ greatest (map (λ v. last_with model d v (route lists v)) used)
 
--- the lesser of the start of an extent, where there is one, and a cumul
+-- the lesser of the start of an extent, if there is one, and a cumul
 abbrev pub start_beside : Option Extent → ℤ → ℤ
 start_beside None x = x
 start_beside (Some extent) x = int_min extent.start x
 
--- the greater of its end and a cumul
+-- the greater of the end of an extent, if there is one, and a cumul
 abbrev pub last_beside : Option Extent → ℤ → ℤ
 last_beside None x = x
 last_beside (Some extent) x = int_max extent.last x
@@ -36,7 +36,7 @@ pub record IsWider (before : Option Extent) (timing : Timing) (extent : Extent) 
   pub start : extent.start ≡ start_beside before timing.start
   pub last : extent.last ≡ last_beside before timing.last
 
--- from the start of an extent to its end, 0 where there is none
+-- from the start of an extent to its end, 0 if there is none
 abbrev pub length_of : Option Extent → ℤ
 length_of None = pos 0
 length_of (Some extent) = extent.last -ℤ extent.start

@@ -13,7 +13,7 @@ use Rattle.vr_steps.specs.Lines.{IsLineOf}
 use Rattle.vr_plan.specs.Plans.{no_hop}
 use Rattle.vr_plan.specs.Settled.{IsOnly}
 
--- each set has its cumul alone, where the set of its stop has it
+-- each set has its cumul alone, if the set of its stop has it
 pub record AreOnly (allowed : List (List Run)) (cumuls : List ℤ) (sets : List (List Run)) : Type 0 where
   pub one_of_each : length sets ≡ length allowed
   pub each : (k : ℕ) → k < length sets
@@ -37,24 +37,25 @@ at_start row x = record { from = x; to = x; duration = row.duration }
 abbrev pub row_pinned : Line → ℕ → ℤ → Line
 row_pinned line i x = record line { breaks = set line.breaks i (at_start (break_at line i) x) }
 
--- where a place of a break begins: before the first stop, inside arc k, or after the last stop
+-- when a place of a break begins: before the first stop, inside arc k, or after the last stop
 abbrev pub place_begin : List Hop → List ℤ → ℕ → ℤ
 place_begin hops cumuls zero = pos 0
 place_begin hops cumuls (suc k) =
     if nat_lt k (length hops) then number_at cumuls k +ℤ (slice_index_or hops k no_hop).visit
     else number_at cumuls (length hops)
 
--- the first start of a break in a place, where it may not start before ready
+-- the first start of a break in a place, and none before ready
 abbrev pub first_at : List Hop → List ℤ → BreakRow → ℤ → ℕ → ℤ
 first_at hops cumuls row ready place = int_max (int_max row.from ready) (place_begin hops cumuls place)
 
--- a start that was tried: it is there where it is no later than `to` and the line has a schedule with it
+-- a start that was tried. It is there exactly if it is no later than `to` and the line has a schedule with it
 abbrev pub IsTried : Line → ℕ → ℤ → ℤ → Option ℤ → Type 0
 IsTried line i to first None = first ≤ℤ to → IsFeasible (row_pinned line i first) → ⊥
 IsTried line i to first (Some x) = (x ≡ first) × (first ≤ℤ to) × IsFeasible (row_pinned line i first)
 
--- A break that is so long and starts at x may stand in a place: it ends before the first stop, or by the end of arc k,
--- whose slack is enough for it. After the last stop it may in any case.
+-- Whether a break of this length that starts at x may be in a place. Before the first stop it may if it ends by then.
+-- Inside arc k it may if it ends by the end of the arc, whose slack is enough for it. After the last stop it may in any
+-- case.
 abbrev pub may_stand : List Hop → List ℤ → ℤ → ℤ → ℕ → Bool
 may_stand hops cumuls long x zero = int_le (x +ℤ long) (number_at cumuls 0)
 may_stand hops cumuls long x (suc k) =
@@ -62,7 +63,7 @@ may_stand hops cumuls long x (suc k) =
     && int_le (number_at cumuls k +ℤ (slice_index_or hops k no_hop).transit) (number_at cumuls (suc k) -ℤ long)
     else true
 
--- a break may stand in a place with its first start there
+-- a break may be in a place with its first start there
 abbrev pub stands_at : List Hop → List ℤ → BreakRow → ℤ → ℕ → Bool
 stands_at hops cumuls row ready place =
     may_stand hops cumuls row.duration (first_at hops cumuls row ready place) place
@@ -72,8 +73,8 @@ abbrev pub is_earlier : ℤ → Option ℤ → Bool
 is_earlier x None = true
 is_earlier x (Some best) = int_lt x best
 
--- the least of the starts in those of the first n places in which the break may stand that are no later than `to` and
--- with which the line has a schedule
+-- the least of the first starts in the first n places, of those in which the break may be. It is no later than `to`,
+-- and the line has a schedule with it
 abbrev pub IsLeastTried : Line → ℕ → ℤ → (ℕ → ℤ) → (ℕ → Bool) → ℕ → Option ℤ → Type 0
 IsLeastTried line i to firsts stands n None = (p : ℕ) → p < n → firsts p ≤ℤ to → IsTrue (stands p)
     → IsFeasible (row_pinned line i (firsts p)) → ⊥
@@ -81,15 +82,16 @@ IsLeastTried line i to firsts stands n (Some x) = ((p : ℕ) × (p < n) × (x �
     × IsFeasible (row_pinned line i x)
     × ((p : ℕ) → p < n → firsts p ≤ℤ to → IsTrue (stands p) → IsFeasible (row_pinned line i (firsts p)) → x ≤ℤ firsts p)
 
--- the least of the starts in the first n places of break i, where it may not start before ready, with which a line has
--- a schedule that the code holds so
+-- the least start of break i in the first n places, and none before ready. The line, as the code holds it, has a
+-- schedule with it
 abbrev pub IsLeastOf : Made → List ℤ → ℕ → ℤ → ℕ → Option ℤ → Type 0
 IsLeastOf line cumuls i ready n best = (defined : Line) → IsLineOf defined line →
     IsLeastTried defined i (slice_index_or line.breaks i no_break).to
     (first_at line.hops cumuls (slice_index_or line.breaks i no_break) ready)
     (stands_at line.hops cumuls (slice_index_or line.breaks i no_break) ready) n best
 
--- the least of those in all places
+-- the least start of break i in all places, and none before ready. The line, as the code holds it, has a schedule with
+-- it
 abbrev pub IsLeastStart : Made → List ℤ → ℕ → ℤ → Option ℤ → Type 0
 IsLeastStart line cumuls i ready best = IsLeastOf line cumuls i ready (suc (length cumuls)) best
 

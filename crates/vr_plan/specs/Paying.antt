@@ -1,4 +1,4 @@
--- Where schedules of a list cost nothing.
+-- When schedules of a list cost nothing.
 use Rattle.std.specs.Prelude.{◌≡◌, ℕ, Bool, false, not, ◌&&◌, ◌||◌, List, ℤ, pos, Option, Some, None, is_some}
 use Rattle.std.specs.List.{list_all, list_any}
 use Rattle.std.specs.Ordering.{int_eq}
@@ -17,7 +17,7 @@ has_soft (Some row) = is_some row.soft
 abbrev pub visits_soft : Dimension → List ℕ → Bool
 visits_soft dimension list = list_any (λ node. has_soft (row_of dimension.nodes node)) list
 
--- schedules of a list may cost something by themselves: the span of vehicle v has a coefficient, or some stop of the
+-- schedules of a list may cost something by themselves. The span of vehicle v has a coefficient, or some stop of the
 -- list has a soft upper bound
 abbrev pub may_pay_alone : Dimension → ℕ → List ℕ → Bool
 may_pay_alone dimension v list = not (int_eq (number_at dimension.span_costs v) (pos 0))

@@ -29,22 +29,22 @@ as_defined plan = record { cumuls = plan.cumuls; slacks = plan.slacks; breaks = 
 abbrev pub cumuls_of : Wanted → List ℤ
 cumuls_of plan = plan.cumuls
 
--- the plan is the chosen schedule of the line, and none is there where the line has no schedule
+-- the plan is the chosen schedule of the line, and none is there if the line has no schedule
 abbrev pub IsChosenPlan : Line → Option Plan → Type 0
 IsChosenPlan line found = (defined : Defined) → IsLineOf defined line → option_map as_defined found ≡ chosen defined
 
--- the cumuls are those of the chosen schedule of the line, and none are there where the line has no schedule
+-- the cumuls are those of the chosen schedule of the line, and none are there if the line has no schedule
 abbrev pub AreChosenCumuls : Line → Option (List ℤ) → Type 0
 AreChosenCumuls line found = (defined : Defined) → IsLineOf defined line → found ≡ option_map cumuls_of (chosen defined)
 
 -- ---- under a rule
 
--- the plan is the schedule of the line that is chosen under the rule, and none is there where the line has no schedule
+-- the plan is the schedule of the line that is chosen under the rule, and none is there if the line has no schedule
 abbrev pub IsChosenPlanUnder : ScheduleRule → Line → Option Plan → Type 0
 IsChosenPlanUnder rule line found =
     (defined : Defined) → IsLineOf defined line → option_map as_defined found ≡ chosen_under rule defined
 
--- the cumuls are those of the schedule that is chosen under the rule, and none are there where the line has no schedule
+-- the cumuls are those of the schedule that is chosen under the rule, and none are there if the line has no schedule
 abbrev pub AreChosenCumulsUnder : ScheduleRule → Line → Option (List ℤ) → Type 0
 AreChosenCumulsUnder rule line found =
     (defined : Defined) → IsLineOf defined line → found ≡ option_map cumuls_of (chosen_under rule defined)

@@ -11,7 +11,7 @@ use Rattle.vr_steps.specs.declared.lines.Line.{Line}
 use Rattle.vr_steps.specs.Lines.{IsLineOf}
 use Rattle.vr_steps.specs.Reached.{AreReached}
 
--- the set has x alone, where the other has it
+-- the set has x alone, if the other has it
 abbrev pub IsOnly : List Run → ℤ → List Run → Type 0
 IsOnly allowed x only = (y : ℤ) → has only y ≡ (has allowed y && is_same_number x y)
 
@@ -19,11 +19,11 @@ IsOnly allowed x only = (y : ℤ) → has only y ≡ (has allowed y && is_same_n
 abbrev pub IsUnfeasible : Line → Type 0
 IsUnfeasible line = (defined : Defined) → IsLineOf defined line → IsFeasible defined → ⊥
 
--- P holds where it goes on
+-- P holds if it goes on
 abbrev pub Goes : Type 0 → Bool → Type 0
 Goes P goes = goes ≡ true → P
 
--- A line that differs in the stops up to k alone, where each of its schedules has the settled cumuls. It is sound and
+-- A line that differs in the stops up to k alone. Each of its schedules has the settled cumuls. It is sound and
 -- feasible, what is chosen of it is chosen of the line, and the levels are what it reaches at stop k.
 pub record IsNarrowed (defined : Defined) (k : ℕ) (cumuls : List ℤ) (here : List (List Run)) (narrow : Defined)
     : Type 0 where

@@ -10,7 +10,7 @@ abbrev pub HaveCumuls : Line → List ℤ → Type 0
 HaveCumuls line cumuls = (defined : Defined) → IsLineOf defined line → (q : Plan) → IsSchedule defined q → q.cumuls
     ≡ cumuls
 
--- where the line has a schedule, the chosen one has these break starts
+-- if the line has a schedule, the chosen one has these break starts
 abbrev pub HaveStarts : Line → List ℤ → Type 0
 HaveStarts line starts = (defined : Defined) → IsLineOf defined line → IsFeasible defined → (plan : Plan)
     × IsChosen defined plan × (plan.breaks ≡ starts)

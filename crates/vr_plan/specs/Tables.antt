@@ -14,8 +14,9 @@ use Rattle.vr_plan.specs.declared.tables.Table.{Table}
 abbrev pub keys_of : List StopRow → List ℕ
 keys_of rows = map (λ row. row.key) rows
 
--- what the stops of dimension d ask, for each node the place of its row, whether the dimension is free, where no list
--- pays anything by itself, and whether no stop has a soft upper bound, where soft upper bounds cost no list anything
+-- what is looked up of dimension d. It has what the stops ask, and for each node the place of its row. It tells whether
+-- the dimension is free: then no list pays anything by itself. It tells whether no stop has a soft upper bound: then
+-- these cost no list anything
 pub record IsTable (model : Model) (d : ℕ) (table : Table) : Type 0 where
   pub stops_ask : AreStops model d table.stops
   pub places : ArePlaces model.nodes (keys_of (dimension_at model d).nodes) table.row_places.items
@@ -24,7 +25,7 @@ pub record IsTable (model : Model) (d : ℕ) (table : Table) : Type 0 where
   pub free : IsTrue table.is_free → (v : ℕ) (list : List ℕ) → PaysNothing (dimension_at model d) v list
   pub hard : IsTrue table.is_hard → CostsNoSoft (dimension_at model d)
 
--- the same of each dimension
+-- what is looked up of each dimension of a model
 pub record AreTables (model : Model) (tables : List Table) : Type 0 where
   pub one_of_each : length tables ≡ length model.dimensions
   pub each : (d : ℕ) (other : Table) → d < length tables → IsTable model d (slice_index_or tables d other)

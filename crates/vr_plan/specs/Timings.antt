@@ -26,15 +26,15 @@ soft_of dimension v list cumuls = total_by (λ stop. row_cost stop.0 stop.1) (zi
 abbrev pub soft_with : Model → ℕ → ℕ → List ℕ → ℤ
 soft_with model d v list = soft_of (dimension_at model d) v list (chosen_plan_of model d v list).cumuls
 
--- the cumul of its start
+-- the cumul of the start of vehicle v with a list
 abbrev pub start_with : Model → ℕ → ℕ → List ℕ → ℤ
 start_with model d v list = cumul (chosen_plan_of model d v list) 0
 
--- the cumul of its end
+-- the cumul of the end of vehicle v with a list
 abbrev pub last_with : Model → ℕ → ℕ → List ℕ → ℤ
 last_with model d v list = cumul (chosen_plan_of model d v list) (suc (length list))
 
--- what its span costs
+-- what the span of vehicle v with a list costs
 abbrev pub span_with : Model → ℕ → ℕ → List ℕ → ℤ
 span_with model d v list = number_at (dimension_at model d).span_costs v
     *ℤ (last_with model d v list -ℤ start_with model d v list)

@@ -18,12 +18,15 @@ use vr_model::{NoMemory, ScheduleRule, Seq};
 use vr_reach::Sweep;
 use vr_steps::Line;
 
-/// The chosen cumuls of one line after another, where `schedule` makes a new plan for each. Contracts see those that
-/// are kept.
+/// The chosen cumuls of one line after another, written over each time; `schedule` makes a new plan for each. Contracts
+/// see those that are kept.
 ///
-/// They are chosen in places that are written over, which takes memory only where a line has more stops than any
-/// before, a vehicle has breaks, or a set more runs than its place has room for. Under `Tight` a narrower line is made
-/// each time besides, and swept back in a place of its own.
+/// The places are written over. That takes memory only in three cases:
+/// - a line has more stops than any before,
+/// - a vehicle has breaks,
+/// - a set has more runs than its place has room for.
+///
+/// Under `Tight` a narrower line is made each time besides, and swept back in a place of its own.
 #[derive(Drop)]
 pub struct Chooser {
     // what is reached at each stop, from one end of a line or the other
@@ -52,9 +55,9 @@ impl Chooser {
         }
     }
 
-    /// Writes the cumuls of the schedule of a line that is chosen under a rule over those that are kept: one for each
-    /// stop, in `0..=2^36`. `false` exactly where the line has no schedule; then, and after `NoMemory`, nothing is said
-    /// of what is kept. The breaks are taken into account, and their starts are not looked for.
+    /// Writes the cumuls of the schedule of a line that is chosen under a rule over those that are kept. There is one
+    /// for each stop, in `0..=2^36`. `false` exactly if the line has no schedule; then, and after `NoMemory`, nothing
+    /// is said of what is kept. The breaks are taken into account, and their starts are not looked for.
     pub fn choose(
         &mut self,
         alloc: Global,
@@ -73,7 +76,7 @@ impl Chooser {
         }
     }
 
-    // The tight cumuls: those that are least where the ends of the line are narrowed.
+    // The tight cumuls: those that are least once the ends of the line are narrowed.
     fn choose_tight(&mut self, alloc: Global, sound: SoundLine<'_>) -> Result<bool, NoMemory>
         ensures chosen { IfOk result (λ goes.
             AreChosenCumulsUnder Tight sound.entry.line.now (then_some goes self.new)) }

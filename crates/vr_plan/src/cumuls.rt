@@ -15,8 +15,8 @@ use vr_reach::{Sweep, least_shared};
 use vr_spans::{Run, Spans};
 use vr_steps::{Levels, Way, cross_uncounted, start_levels_into};
 
-// Sets that are written over while cumuls are settled: the settled cumul alone, and what is reached from it at this
-// stop and at the next one.
+// Sets that are written over while cumuls are settled. They have the settled cumul alone, and what is reached from it
+// at this stop and at the next one.
 #[derive(Drop)]
 pub(crate) struct Scratch {
     only: Spans,
@@ -35,7 +35,7 @@ impl Scratch {
     }
 }
 
-// The cumuls of the chosen schedule of a line, by what its end is reached from; `None` exactly where the line has no
+// The cumuls of the chosen schedule of a line, by what its end is reached from; `None` exactly if the line has no
 // schedule.
 pub(crate) fn settled_cumuls(
     alloc: Global,
@@ -79,8 +79,8 @@ fn begin(
 }
 
 // Settles the cumul of each stop, one after another: the least that schedules with the cumuls before it have there.
-// Answers whether there is a schedule, which the start tells already. Each arc is crossed twice: to all that the stop
-// allows, for the least of it, and then to this cumul alone, from which it goes on.
+// Answers whether there is a schedule, which the start tells already. Each arc is crossed twice. The first time it is
+// to all that the stop allows, for the least of it. The second time it is to this cumul alone, from which it goes on.
 pub(crate) fn settle(
     sound: SoundLine<'_>,
     behind: &Sweep,

@@ -16,8 +16,8 @@ use vr_reach::{Sweep, greatest_shared, least_shared};
 use vr_spans::Spans;
 use vr_steps::{Levels, Line, end_levels, start_levels};
 
-// The least cumul at the end of all schedules of a line, by what its last stop is reached at; `None` exactly where it
-// has no schedule.
+// The least cumul at the end of all schedules of a line, by what its last stop is reached at; `None` exactly if it has
+// no schedule.
 fn least_end(alloc: Global, sound: SoundLine<'_>, ahead: &Levels) -> Result<Option<i64>, NoMemory>
     requires ahead { IsForwardRow sound.line.now (length sound.line.now.hops) ahead.now }
     ensures some { IfOk result (λ end. IfSome end (IsLeastEndOf sound.entry.line.now)) }
@@ -31,7 +31,7 @@ fn least_end(alloc: Global, sound: SoundLine<'_>, ahead: &Levels) -> Result<Opti
 }
 
 // The greatest cumul at the start of all schedules of a line, by what the end is reached from at its first stop; `None`
-// exactly where it has no schedule.
+// exactly if it has no schedule.
 fn latest_start(
     alloc: Global,
     sound: SoundLine<'_>,
@@ -50,7 +50,7 @@ fn latest_start(
 }
 
 // The line whose end allows its least cumul alone, and whose start the greatest with it, by what the last stop is
-// reached at; `None` only where the line has no schedule.
+// reached at; `None` only if the line has no schedule.
 pub(crate) fn tight_line(
     alloc: Global,
     sound: SoundLine<'_>,

@@ -1,4 +1,4 @@
-//! From where to where the schedules of several routes reach in one dimension, and what that costs.
+//! From which cumul to which the schedules of several routes reach in one dimension, and what that costs.
 
 ghost use Rattle.std.specs.Prelude.{◌≡◌, ◌*ℤ◌, pos, IfSome};
 ghost use Rattle.vr_model.specs.tables.WellFormed.{IsIn};

@@ -11,8 +11,8 @@ use std::rc::Rc;
 use vr_lists::NodeTables;
 use vr_model::{Closed, Model as RoutingModel, NoMemory};
 
-/// What is looked up once of a model, where OR-Tools calls `CloseModel`: what the stops of each dimension ask, and the
-/// group, the pair and the allowed vehicles of each node.
+/// What is looked up once of a model, as OR-Tools does in `CloseModel`. It is what the stops of each dimension ask, and
+/// the group, the pair and the allowed vehicles of each node.
 ///
 /// Those who ask it share it, and none of them writes to it. It goes with the last of them.
 #[derive(Drop)]
@@ -83,7 +83,7 @@ impl<'m> LookedUp<'m> {
 
 impl<'m> Lookups<'m> {
     /// What is looked up of a model: once in a run by `vr_app`, and by calls of other crates that are handed a model
-    /// alone. The only refusal is want of memory.
+    /// alone. It fails only if it is out of memory.
     pub fn open(alloc: Global, closed: Closed<'m>) -> Result<Lookups<'m>, NoMemory>
         ensures { IfOk result (λ lookups. lookups.closed.model.now ≡ closed.entry.model.now) }
     {
@@ -93,8 +93,8 @@ impl<'m> Lookups<'m> {
         })
     }
 
-    /// The same for one more who asks it. It looks nothing up and takes no memory; `NoMemory` only where as many share
-    /// it as can be counted.
+    /// The same for one more who asks it. It looks nothing up and takes no memory; `NoMemory` only if as many share it
+    /// as can be counted.
     pub fn share(&self) -> Result<Lookups<'m>, NoMemory>
         ensures { IfOk result (λ lookups. lookups.closed.model.now ≡ self.now.closed.model.now) }
     {

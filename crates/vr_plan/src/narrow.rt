@@ -55,8 +55,7 @@ fn only_sets(alloc: Global, sound: SoundLine<'_>, cumuls: &[i64]) -> Result<Seq<
     Ok(sets)
 }
 
-/// Lets stop `k` allow `x` alone, where it allowed it, and nothing where it did not. The only refusal is want of
-/// memory.
+/// Lets stop `k` allow `x` alone if it allowed it, and nothing if it did not. It fails only if it is out of memory.
 pub fn pin(alloc: Global, line: &mut Line, k: usize, x: i64) -> Result<(), NoMemory>
     requires sound { IsSoundLine line.old }
     requires place { k < length line.old.allowed }
@@ -71,7 +70,7 @@ pub fn pin(alloc: Global, line: &mut Line, k: usize, x: i64) -> Result<(), NoMem
     Ok(())
 }
 
-/// The same line anew. The only refusal is want of memory.
+/// The same line anew. It fails only if it is out of memory.
 pub fn same_line(alloc: Global, line: &Line) -> Result<Line, NoMemory>
     requires { length line.now.breaks ≤ 8 }
     ensures { IfOk result (λ same. same ≡ line.now) }

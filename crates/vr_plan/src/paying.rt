@@ -1,5 +1,5 @@
-//! Whether the schedules of a list, or of any list in a dimension, may cost anything by themselves: by soft upper
-//! bounds and by the spans of vehicles, global spans left out.
+//! Whether the schedules of a list, or of any list in a dimension, may cost anything by themselves. They may by soft
+//! upper bounds and by the spans of vehicles; global spans are left out.
 
 ghost use Rattle.std.specs.Prelude.{◌≡◌, ◌<◌, All, IsTrue, length};
 ghost use Rattle.std.specs.List.{list_all};
@@ -13,10 +13,11 @@ ghost use Rattle.vr_plan.specs.Tables.{keys_of, IsTable};
 use crate::tables::{Table, row_of};
 use vr_model::{Dimension, Model, Seq, StopRow};
 
-/// Whether schedules of a list may cost anything by themselves in dimension `d`: the vehicle has a coefficient of spans
-/// that is not 0, or some stop has a soft upper bound. Where nothing may, `PlanCost` of `vr_costfilter` does not ask
-/// `timing_of` for the list (`GlobalSpan` does, where global spans cost anything), and `vr_rules`, which asks for both
-/// at once, does not where global spans cost nothing either.
+/// Whether schedules of a list may cost anything by themselves in dimension `d`. They may if the vehicle has a
+/// coefficient of spans that is not 0, or if some stop has a soft upper bound.
+///
+/// If they may not, `PlanCost` of `vr_costfilter` does not ask `timing_of` for the list. `GlobalSpan` does, if global
+/// spans cost anything. `vr_rules` asks for both at once; it does not ask if global spans cost nothing either.
 pub fn may_pay_alone(model: &Model, table: &Table, d: u32, v: u32, list: &[u32]) -> bool
     requires well_formed { IsWellFormed model.now }
     requires dimension { d < length model.now.dimensions }
@@ -38,7 +39,7 @@ pub(crate) fn is_free(dimension: &Dimension) -> bool
     are_zero(&dimension.span_costs) && is_hard(dimension)
 }
 
-// Whether no stop of a dimension has a soft upper bound. Where it is so, of a tight schedule the two ends alone matter:
+// Whether no stop of a dimension has a soft upper bound. If so, of a tight schedule the two ends alone matter:
 // `vr_costfilter` asks it (`Table::is_hard`) and keeps no cumuls between them.
 pub(crate) fn is_hard(dimension: &Dimension) -> bool
     ensures { result ≡ is_hard dimension.now }

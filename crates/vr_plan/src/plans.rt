@@ -10,8 +10,8 @@ use std::alloc::Global;
 use vr_model::{NoMemory, Seq};
 use vr_steps::Hop;
 
-/// A schedule of a line: the cumul of each stop, the slack of each arc, and the start of each break
-/// (`RoutingDimension::CumulVar`, `RoutingDimension::SlackVar` and the break intervals in OR-Tools).
+/// A schedule of a line: the cumul of each stop, the slack of each arc, and the start of each break. In OR-Tools these
+/// are `RoutingDimension::CumulVar`, `RoutingDimension::SlackVar` and the break intervals.
 #[derive(Drop)]
 pub struct Plan {
     /// The cumul of each stop in `0..=2^36`: of the start, of each visit in order, and of the end.

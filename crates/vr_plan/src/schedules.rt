@@ -19,10 +19,10 @@ use vr_model::{NoMemory, ScheduleRule, Seq};
 use vr_reach::{Rows, Sweep};
 use vr_steps::{Levels, Line};
 
-/// The schedule of a line that is chosen under a rule. Under `Earliest` it is the one whose cumuls, compared from the
-/// start on, are least, and of those with equal cumuls the one whose break starts, compared in order, are least. Under
-/// `Tight` it is the same of those schedules whose end is least and, with it, the start greatest. `None` exactly where
-/// the line has no schedule.
+/// The schedule of a line that is chosen under a rule; `None` exactly if the line has no schedule.
+/// - `Earliest`: the one whose cumuls, compared from the start on, are least. Of those with equal cumuls it is the one
+///   whose break starts, compared in order, are least.
+/// - `Tight`: the same of those schedules whose end is least and, with it, the start greatest.
 pub fn schedule(alloc: Global, line: &Line, rule: ScheduleRule) -> Result<Option<Plan>, NoMemory>
     requires sound { IsSoundLine line.now }
     ensures chosen { IfOk result (IsChosenPlanUnder rule line.now) }
@@ -36,8 +36,8 @@ pub fn schedule(alloc: Global, line: &Line, rule: ScheduleRule) -> Result<Option
     }
 }
 
-/// The schedule of a line that is chosen under a rule, over the rows of the line, as `schedule` answers it; for who has
-/// the rows. In this repository tests alone call it.
+/// The schedule of a line that is chosen under a rule, as `schedule` answers it, for who has the rows of the line. In
+/// this repository tests alone call it.
 pub fn schedule_over(
     alloc: Global,
     line: &Line,
@@ -56,9 +56,9 @@ pub fn schedule_over(
     }
 }
 
-/// The cumuls of the schedule of a line that is chosen under a rule, one for each stop; `None` exactly where the line
-/// has no schedule. The breaks are taken into account, and their starts are not looked for. In this repository tests
-/// alone ask it; a `Timer` asks a [`Chooser`] of its own.
+/// The cumuls of the schedule of a line that is chosen under a rule, one for each stop; `None` exactly if the line has
+/// no schedule. The breaks are taken into account, and their starts are not looked for. In this repository tests alone
+/// ask it; a `Timer` asks a [`Chooser`] of its own.
 pub fn chosen_cumuls(
     alloc: Global,
     line: &Line,
@@ -100,7 +100,7 @@ fn tight(alloc: Global, sound: SoundLine<'_>) -> Result<Option<Plan>, NoMemory>
     tight_ahead(alloc, sound, ahead.levels(line.hops.len()))
 }
 
-// The tight schedule of a line, by what its last stop is reached at: the earliest where its ends are narrowed.
+// The tight schedule of a line, by what its last stop is reached at: the earliest once its ends are narrowed.
 fn tight_ahead(
     alloc: Global,
     sound: SoundLine<'_>,

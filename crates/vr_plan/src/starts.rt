@@ -46,7 +46,7 @@ fn can_start(line: &mut Line, walk: &mut Walk, i: usize, first: i64) -> Result<b
     Ok(can)
 }
 
-// The start that is tried, where it is not above `to` and the line has a schedule whose break `i` starts there.
+// The start that is tried, if it is not above `to` and the line has a schedule whose break `i` starts there.
 fn try_start(
     line: &mut Line,
     walk: &mut Walk,
@@ -74,7 +74,7 @@ fn try_start(
     Ok(Some(first))
 }
 
-// Where a place of a break begins: place 0 is before the first stop, place `k + 1` inside arc `k`, and the last one
+// When a place of a break begins. Place 0 is before the first stop, place `k + 1` inside arc `k`, and the last one
 // after the last stop.
 fn place_begin(hops: &[Hop], cumuls: &[i64], place: usize) -> i64
     requires stops { length cumuls.now ≡ suc (length hops.now) }
@@ -92,8 +92,9 @@ fn place_begin(hops: &[Hop], cumuls: &[i64], place: usize) -> i64
     cumuls[hops.len()]
 }
 
-// Whether a break that is so long and starts at `first` may stand in a place: it ends before the first stop, or by the
-// end of arc `k`, whose slack is enough for it. After the last stop it may in any case.
+// Whether a break of length `long` that starts at `first` may be in a place. Before the first stop it may if it ends by
+// then. Inside arc `k` it may if it ends by the end of the arc, whose slack is enough for it. After the last stop it
+// may in any case.
 fn may_stand(hops: &[Hop], cumuls: &[i64], long: i64, first: i64, place: usize) -> bool
     requires stops { length cumuls.now ≡ suc (length hops.now) }
     requires range { All (IsIn (pos 0) horizon) cumuls.now }
@@ -111,8 +112,8 @@ fn may_stand(hops: &[Hop], cumuls: &[i64], long: i64, first: i64, place: usize) 
     true
 }
 
-// Whether a break that is so long and starts at `first` ends by the end of an arc between two cumuls, and the slack of
-// the arc is enough for it.
+// Whether a break of length `long` that starts at `first` fits an arc between two cumuls. It ends by the end of the
+// arc, and the slack of the arc is enough for it.
 fn fits_arc(hop: Hop, from: i64, to: i64, long: i64, first: i64) -> bool
     requires hop { IsSoundHop hop }
     requires from { IsIn (pos 0) horizon from }
@@ -134,8 +135,8 @@ fn is_earlier(first: i64, best: Option<i64>) -> bool
     }
 }
 
-// The lesser of the best start so far and the first one in a place. A walk along the line is asked only where that is
-// earlier, and the break may stand there.
+// The lesser of the best start so far and the first one in a place. A walk along the line is asked only if that is
+// earlier, and the break may be there.
 fn best_with(
     line: &mut Line,
     walk: &mut Walk,
@@ -169,7 +170,7 @@ fn best_with(
     Ok(lesser(best, try_start(line, walk, i, row.to, first)?))
 }
 
-// The least start that schedules of the line have for break `i`, `None` where there is no schedule. It may not start
+// The least start that schedules of the line have for break `i`, `None` if there is no schedule. It may not start
 // before `ready`, when the break before it is over. The cumuls are settled, so in each place the first moment alone is
 // tried: what starts later there could start then.
 fn least_start(
@@ -216,8 +217,8 @@ fn fix_start(line: &mut Line, i: usize, first: i64) -> i64
     first + row.duration
 }
 
-// Settles the start of each break of a line whose schedules have these cumuls, one after another: the least that
-// schedules with the starts before have there. Answers whether there is a schedule.
+// Settles the start of each break of a line whose schedules have these cumuls, one after another. Each is the least
+// that schedules with the starts before have there. Answers whether there is a schedule.
 fn settle_starts(
     line: &mut Line,
     walk: &mut Walk,
@@ -243,8 +244,8 @@ fn settle_starts(
     Ok(true)
 }
 
-// The break starts of the chosen schedule of a line, which has these cumuls; `None` only where the line has no
-// schedule, which does not come, since the cumuls are those of a schedule.
+// The break starts of the chosen schedule of a line, which has these cumuls; `None` only if the line has no schedule.
+// That does not come, since the cumuls are those of a schedule.
 pub(crate) fn chosen_starts(
     alloc: Global,
     sound: SoundLine<'_>,
@@ -262,7 +263,7 @@ pub(crate) fn chosen_starts(
     starts_of(alloc, &mut narrow, cumuls)
 }
 
-// The break starts of the chosen schedule of a line whose schedules have these cumuls; `None` only where it has none.
+// The break starts of the chosen schedule of a line whose schedules have these cumuls; `None` only if it has none.
 fn starts_of(alloc: Global, line: &mut Line, cumuls: &[i64]) -> Result<Option<Seq<i64>>, NoMemory>
     requires sound { IsSoundLine line.old }
     requires stops { length cumuls.now ≡ suc (length line.old.hops) }

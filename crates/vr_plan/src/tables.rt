@@ -19,10 +19,10 @@ use vr_reach::Stops;
 pub struct Table {
     /// What its stops ask.
     pub stops: Stops,
-    /// For each node the place of its row among the rows of visits, the number of rows where it has none.
+    /// For each node the place of its row among the rows of visits, the number of rows if it has none.
     pub row_places: Vec<u32>,
-    /// Whether no schedule of any list may cost anything by itself: no vehicle has a coefficient of spans that is not
-    /// 0, and no stop a soft upper bound.
+    /// Whether no schedule of any list may cost anything by itself. That is: no vehicle has a coefficient of spans that
+    /// is not 0, and no stop a soft upper bound.
     pub is_free: bool,
     /// Whether no stop has a soft upper bound.
     pub is_hard: bool,
@@ -50,7 +50,7 @@ fn keys_of(alloc: Global, rows: &Seq<StopRow>) -> Result<Vec<u32>, NoMemory>
     Ok(keys)
 }
 
-// For each node the place of its row among the rows of visits of dimension `d`, the number of rows where it has none.
+// For each node the place of its row among the rows of visits of dimension `d`, the number of rows if it has none.
 fn row_places(alloc: Global, closed: Closed<'_>, d: u32) -> Result<Vec<u32>, NoMemory>
     requires dimension { d < length closed.model.now.dimensions }
     ensures { IfOk result (λ places.
@@ -64,8 +64,8 @@ fn row_places(alloc: Global, closed: Closed<'_>, d: u32) -> Result<Vec<u32>, NoM
     Ok(places)
 }
 
-/// The row of a node among rows, by the places that were looked up, where `StopRow::of_key` would search the rows;
-/// `None` where the node has none, whose place is the number of rows.
+/// The row of a node among rows, by the places that were looked up; `StopRow::of_key` would search the rows. `None` if
+/// the node has none, whose place is the number of rows.
 pub fn row_of<'r>(rows: &'r Seq<StopRow>, places: &[u32], node: u32) -> Option<&'r StopRow>
     requires places { ArePlaces (length places.now) (keys_of_rows rows.now) places.now }
     requires node { node < length places.now }
@@ -88,7 +88,7 @@ fn table_of(alloc: Global, closed: Closed<'_>, d: u32) -> Result<Table, NoMemory
     })
 }
 
-/// What is looked up of all dimensions, for `Lookups`; beside it tests alone ask. The only refusal is want of memory.
+/// What is looked up of all dimensions, for `Lookups`; beside it tests alone ask. It fails only if it is out of memory.
 pub fn tables_of(alloc: Global, model: &Model) -> Result<Vec<Table>, NoMemory>
     requires { IsWellFormed model.now }
     ensures { IfOk result (λ tables. AreTables model.now tables.items) }

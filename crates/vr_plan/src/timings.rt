@@ -41,7 +41,7 @@ pub struct Timing {
 #[derive(Drop)]
 pub struct Timer {
     alloc: Global,
-    // the cumuls, where they are found stop by stop
+    // the cumuls, if they are found stop by stop
     early: Cumuls,
     // else the line of the list, and what chooses its cumuls
     line: Line,
@@ -66,8 +66,8 @@ impl Timer {
     }
 }
 
-/// What the schedule comes to that the rule of vehicle `v` chooses for a list of distinct visits in dimension `d`.
-/// Where there is no schedule, all is 0. The only refusal is want of memory.
+/// What the schedule comes to that the rule of vehicle `v` chooses for a list of distinct visits in dimension `d`. If
+/// there is no schedule, all is 0. It fails only if it is out of memory.
 pub fn timing_of(
     model: &Model,
     table: &Table,
@@ -109,8 +109,8 @@ pub fn timing_of(
     Ok(timing_at(closed, table, d, v, list, timer.chooser.cumuls()))
 }
 
-// Writes the cumuls of the chosen schedule of a list over others, where the rule of its vehicle is that they are least
-// and they are found stop by stop. Where they are not, also for want of a schedule, a chooser is asked next.
+// Writes the cumuls of the chosen schedule of a list over others, if its vehicle's rule is `Earliest` and they are
+// found stop by stop. If they are not, also if there is no schedule, a chooser is asked next.
 fn write_early(
     closed: Closed<'_>,
     table: &Table,

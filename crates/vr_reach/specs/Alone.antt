@@ -22,23 +22,23 @@ abbrev pub IsLedToWithoutBreaks : Line → (ℤ → Bool) → ℕ → ℕ → �
 IsLedToWithoutBreaks line set k zero y = IsTrue (set y)
 IsLedToWithoutBreaks line set k (suc n) y = (x : ℤ) × IsLedToWithoutBreaks line set k n x × Follows line (k + n) x y
 
--- with b breaks taken one run is all that there is at stop a, and it leads without a break to a cumul of stop e from
--- which the end is reached with as many
+-- with b breaks taken one run is all that there is at stop a. It leads without a break to a cumul of stop e from which
+-- the end is reached with as many
 pub record GoesAlone (line : Line) (from to : List (List Run)) (a e b : ℕ) : Type 0 where
   pub one : IsTrue (is_run (level_at from b))
   pub cumul : ℤ
   pub led : IsLedToWithoutBreaks line (has (level_at from b)) a (e - a) cumul
   pub reaches : IsTrue (has (level_at to b) cumul)
 
--- what no walk without a break tells: some cumul of stop e that is reached with no break taken is one from which the
--- end is reached with all of them taken, and with no number of breaks does such a walk go all the way
+-- no walk without a break tells. Some cumul of stop e that is reached with no break taken is one from which the end is
+-- reached with all of them taken. And with no number of breaks does such a walk go all the way
 pub record IsUndecided (line : Line) (from to : List (List Run)) (a e : ℕ) : Type 0 where
   pub cumul : ℤ
   pub reached : IsReached line e 0 cumul
   pub reaches : ReachesEnd line e (length line.breaks) cumul
   pub none : (b : ℕ) → b ≤ length line.breaks → GoesAlone line from to a e b → ⊥
 
--- walks without a break are tried: the end of the vehicle allows one run at most, and with no break taken one run is
+-- walks without a break are tried. The end of the vehicle allows one run at most, and with no break taken one run is
 -- all that there is
 abbrev pub may_go_alone : Model → ℕ → ℕ → List (List Run) → Bool
 may_go_alone model d v from = is_one_run (allowed_by model d v End) && is_run (level_at from 0)

@@ -5,19 +5,19 @@ use Rattle.vr_reach.specs.declared.driven.Driven.{Driven}
 use Rattle.vr_reach.specs.KnownRows.{AreFirstRows, AreLastRows, AreReachedRows, AreReachingRows, IsReachingFrom}
 use Rattle.vr_reach.specs.Standing.{IsReachedAt}
 
--- what it reaches at stop k
+-- the levels are what a list that is driven reaches at stop k
 abbrev pub IsReachedOn : Driven → ℕ → List (List Run) → Type 0
 IsReachedOn of k levels = IsReachedAt of.closed.model.now of.d of.v of.list.now k levels
 
--- what its end is reached from at stop k
+-- the levels are what the end of a list that is driven is reached from at stop k
 abbrev pub IsReachingOn : Driven → ℕ → List (List Run) → Type 0
 IsReachingOn of k levels = IsReachingFrom of.closed.model.now of.d of.v of.list.now k levels
 
--- what it reaches at each stop
+-- the levels are what a list that is driven reaches at each stop
 abbrev pub AreReachedOn : Driven → List (List (List Run)) → Type 0
 AreReachedOn of rows = AreReachedRows of.closed.model.now of.d of.v of.list.now rows
 
--- what its end is reached from at each stop
+-- the levels are what the end of a list that is driven is reached from at each stop
 abbrev pub AreReachingOn : Driven → List (List (List Run)) → Type 0
 AreReachingOn of rows = AreReachingRows of.closed.model.now of.d of.v of.list.now rows
 

@@ -15,21 +15,22 @@ use Rattle.vr_reach.specs.VisitRuns.{have_stops_one_run}
 abbrev pub slack_left : Line → List ℤ → ℕ → ℤ
 slack_left line cumuls k = (number_at cumuls (suc k) -ℤ number_at cumuls k) -ℤ (arc_at line k).transit
 
--- cumuls of the stops up to k: each is allowed, each arc leaves a slack within its bounds, and no schedule has an
--- earlier one at any of these stops
+-- cumuls of the stops up to k, none of which can be earlier. Each is allowed, each arc leaves a slack within its
+-- bounds, and no schedule has an earlier one at any of these stops
 pub record AreEarly (line : Line) (k : ℕ) (cumuls : List ℤ) : Type 0 where
   pub many : length cumuls ≡ suc k
   pub allowed : (i : ℕ) → i ≤ k → IsTrue (allows line i (number_at cumuls i))
   pub slacks : (i : ℕ) → i < k → IsIn (pos 0) line.slack_max (slack_left line cumuls i)
   pub least : (plan : Plan) → IsSchedule line plan → (i : ℕ) → i ≤ k → number_at cumuls i ≤ℤ cumul plan i
 
--- the least cumul of a stop behind an arc that takes t, and at most s more, from a cumul
+-- the least cumul of a stop after an arc that takes t, and at most s more, from a cumul
 pub record IsEarliestBehind (cumul t s : ℤ) (allowed : Run) (next : ℤ) : Type 0 where
   pub least : next ≡ int_max (cumul +ℤ t) allowed.lo
   pub most : next ≤ℤ allowed.hi
   pub slack : (next -ℤ (cumul +ℤ t)) ≤ℤ s
 
--- there is one: the earliest that it allows from there on is no later than its latest, and leaves no greater slack
+-- whether there is such a cumul. The earliest that the stop allows from there on is no later than its latest, and
+-- leaves no greater slack
 abbrev pub has_cumul_behind : ℤ → ℤ → ℤ → Run → Bool
 has_cumul_behind cumul t s allowed = let next = int_max (cumul +ℤ t) allowed.lo in
     int_le next allowed.hi && int_le (next -ℤ (cumul +ℤ t)) s
@@ -43,16 +44,16 @@ pub record IsEarliestPassing (test : ℤ → Bool) (x : ℤ) : Type 0 where
 abbrev pub allows_from : Line → ℕ → ℤ → ℤ → Bool
 allows_from line k x y = allows line (suc k) y && int_le (x +ℤ (arc_at line k).transit) y
 
--- cumuls of the stops up to k, found stop by stop: the earliest that the start allows, and then each the earliest that
--- its stop allows behind the one before, with no slack greater than it may be
+-- cumuls of the stops up to k, found stop by stop. The first is the earliest that the start allows. Each next one is
+-- the earliest that its stop allows after the one before, with no slack greater than it may be
 pub record AreFoundInTurn (line : Line) (k : ℕ) (cumuls : List ℤ) : Type 0 where
   pub many : length cumuls ≡ suc k
   pub start : IsEarliestPassing (allows line 0) (number_at cumuls 0)
   pub next : (i : ℕ) → i < k → IsEarliestPassing (allows_from line i (number_at cumuls i)) (number_at cumuls (suc i))
   pub slacks : (i : ℕ) → i < k → slack_left line cumuls i ≤ℤ line.slack_max
 
--- cumuls of a list of vehicle v can be found so: it has no breaks in dimension d, no stop allows it more than one run
--- of cumuls, and there are such cumuls
+-- cumuls of a list of vehicle v can be found so. The vehicle has no breaks in dimension d, no stop allows it more than
+-- one run of cumuls, and there are such cumuls
 pub record CanBeFoundInTurn (model : Model) (d v : ℕ) (list : List ℕ) : Type 0 where
   pub runs : IsTrue (have_stops_one_run model d v)
   pub cumuls : List ℤ

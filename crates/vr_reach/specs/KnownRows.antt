@@ -32,11 +32,11 @@ pub record AreRowsOf (model : Model) (d v : ℕ) (list : List ℕ) (rows : BothW
   pub forward : AreReachedRows model d v list rows.forward
   pub backward : AreReachingRows model d v list rows.backward
 
--- the same, where the list is not empty
+-- the rows are those of the line of a list, if it is not empty
 abbrev pub AreRowsIfUsed : Model → ℕ → ℕ → List ℕ → BothWays → Type 0
 AreRowsIfUsed model d v list rows = is_empty list ≡ false → AreRowsOf model d v list rows
 
--- a list of the vehicle, with its rows where it is not empty
+-- a list of the vehicle, with its rows if it is not empty
 abbrev pub IsKnownList : StopsFor → KnownList → Type 0
 IsKnownList stops known = AreRowsIfUsed stops.closed.model.now stops.d stops.v known.list.now known.rows.now
 

@@ -3,6 +3,6 @@ use Rattle.vr_model.specs.schedules.Lines.{Line}
 use Rattle.vr_reach.specs.VehicleStops.{line_of}
 use Rattle.vr_reach.specs.declared.legs.Leg.{Leg}
 
--- the line of its list
+-- the line of the list of a leg
 abbrev pub line_of_leg : Leg → Line
 line_of_leg leg = line_of leg.stops.of

@@ -10,7 +10,7 @@ pub IsNormalFrom-prop : (m : ℤ) (rs : List Run) → IsProp (IsNormalFrom m rs)
 IsNormalFrom-prop m [] = Unit-prop
 IsNormalFrom-prop m (r ∷ rs) = let rest = IsNormalFrom-prop (r.hi +ℤ pos 2) rs in Prim.hlevel (props, rest)
 
--- and a value that may be absent passes a test of that kind so
+-- a value that may be absent passes a test in one way at most, if each value does
 pub IfSome-prop : {A : Type 0} (o : Option A) (P : A → Type 0) → ((x : A) → IsProp (P x)) → IsProp (IfSome o P)
 IfSome-prop None P once = Unit-prop
 IfSome-prop (Some x) P once = once x

@@ -7,7 +7,7 @@ use Rattle.vr_reach.specs.declared.single.Between.{Between}
 use Rattle.vr_reach.specs.Singles.{IsOnlyRun}
 use Rattle.vr_reach.specs.VehicleStops.{line_of}
 
--- the line along which it goes
+-- the line along which a walk of one run goes
 abbrev pub line_along : RunWalk → Line
 line_along walk = line_of walk.line.of
 

@@ -28,13 +28,13 @@ is_run set = length set == 1
 abbrev pub are_runs : List BreakRow → List (List Run) → List (List Run) → Bool
 are_runs breaks from to = is_empty breaks && is_run (level_at from 0) && is_run (level_at to 0)
 
--- there is one run to walk with between two levels: the vehicle has no breaks, its end allows no more than one, and
+-- there is one run to walk with between two levels. The vehicle has no breaks, its end allows no more than one, and
 -- both levels are of one
 abbrev pub is_one_run_each : Model → ℕ → ℕ → List (List Run) → List (List Run) → Bool
 is_one_run_each model d v from to = is_one_run (allowed_by model d v End)
     && are_runs (breaks_of (dimension_at model d) v) from to
 
--- each number of the run is reached at stop k with b breaks taken; where b is 0, no other number is
+-- each number of the run is reached at stop k with b breaks taken; if b is 0, no other number is
 pub record IsReachedRun (line : Line) (k b : ℕ) (run : Run) : Type 0 where
   pub reached : (x : ℤ) → IsTrue (in_run run x) → IsReached line k b x
   pub all : b ≡ 0 → (x : ℤ) → IsReached line k b x → IsTrue (in_run run x)

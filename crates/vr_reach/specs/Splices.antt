@@ -4,6 +4,6 @@ use Rattle.vr_reach.specs.Spliced.{spliced}
 use Rattle.vr_reach.specs.declared.known.KnownList.{KnownList}
 use Rattle.vr_reach.specs.declared.spliced.Splice.{Splice}
 
--- the list that is made of it
+-- the list that a splice makes of a known one
 abbrev pub spliced_by : KnownList → Splice → List ℕ
 spliced_by known splice = spliced known.list.now splice.front splice.behind splice.middle.now

@@ -35,7 +35,7 @@ pub record AreEndsOf (model : Model) (d v : ℕ) (ends : Ends) : Type 0 where
   pub end_is : (list : List ℕ) → IsUsed model list
       → AreReachingEnd (line model d v list) (suc (length list)) ends.end_levels
 
--- the ends of each vehicle, and what visits allow it, with the runs of that where none allows more than one
+-- the ends of each vehicle, and what visits allow it, with the runs of that if none allows more than one
 pub record AreStops (model : Model) (d : ℕ) (stops : Stops) : Type 0 where
   pub ends_of_each : length stops.ends.items ≡ length model.vehicles
   pub ends : (v : ℕ) (other : Ends) → v < length stops.ends.items

@@ -20,11 +20,11 @@ pub record SharesEnds (old new : List ℕ) (shared : Stretch) : Type 0 where
   pub back : SharesBack old new shared.back
   pub apart : shared.front + shared.back ≤ length new
 
--- the nodes behind those that both lists share at the front differ
+-- the nodes after those that both lists share at the front differ
 abbrev pub DifferAtFront : List ℕ → List ℕ → ℕ → Type 0
 DifferAtFront old new a = a < length old → a < length new → slice_index old a ≢ slice_index new a
 
--- the nodes before those that both lists share at the back differ, where they are not among the first a
+-- the nodes before those that both lists share at the back differ, unless they are among the first a
 abbrev pub DifferAtBack : List ℕ → List ℕ → ℕ → ℕ → Type 0
 DifferAtBack old new a z = a + z < length old → a + z < length new
     → slice_index old (length old - 1 - z) ≢ slice_index new (length new - 1 - z)

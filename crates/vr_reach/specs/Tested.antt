@@ -1,4 +1,4 @@
--- What is reached at a stop of a line, and from where its end is, by the tests of the definitions.
+-- What is reached at a stop of a line, and what reaches its end from there, by the tests of the definitions.
 use Rattle.std.specs.Prelude.{◌≡◌, ℕ, ◌≤◌, List, length, ℤ}
 use Rattle.vr_spans.specs.declared.runs.Run.{Run}
 use Rattle.vr_spans.specs.Runs.{has}

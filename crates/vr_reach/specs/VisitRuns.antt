@@ -1,4 +1,4 @@
--- The one run of cumuls that a stop allows, where it allows no more than one.
+-- The one run of cumuls that a stop allows, if it allows no more than one.
 use Rattle.std.specs.Prelude.{◌≡◌, ℕ, ◌<◌, Bool, false, ◌&&◌, nat_le, IfSome, IsTrue, List, [], Option, None, is_some}
 use Rattle.std.specs.Prelude.{length, slice_index_or, ℤ, pos}
 use Rattle.std.specs.List.{list_all}
@@ -22,7 +22,7 @@ pub record HasCumulEnds (run : Run) : Type 0 where
   pub lo : IsIn (pos 0) horizon run.lo
   pub hi : IsIn (pos 0) horizon run.hi
 
--- the run has the numbers of the set, and its ends are cumuls where those are
+-- the run has the numbers of the set, and its ends are cumuls if those are
 pub record IsRunOf (set : List Run) (run : Run) : Type 0 where
   pub exact : (x : ℤ) → has set x ≡ in_run run x
   pub ends : IsCumuls set → HasCumulEnds run
@@ -37,12 +37,12 @@ pub record AreRunsOfSets (sets : List (List Run)) (runs : List Run) : Type 0 whe
 abbrev pub is_single : List Run → Bool
 is_single set = nat_le (length set) 1
 
--- a run for each set, known exactly where no set is of more than one
+-- a run for each set, known exactly if no set is of more than one
 pub record AreKnownRuns (sets : List (List Run)) (found : Option (List Run)) : Type 0 where
   pub runs : IfSome found (AreRunsOfSets sets)
   pub known : is_some found ≡ list_all is_single sets
 
--- for each table of sets a run for each set, known exactly where no set is of more than one
+-- for each table of sets a run for each set, known exactly if no set is of more than one
 pub record AreRunTables (tables : List (List (List Run))) (found : List (Option (List Run))) : Type 0 where
   pub one_of_each : length found ≡ length tables
   pub each : (k : ℕ) → k < length tables
@@ -53,7 +53,7 @@ pub record IsRunFor (test : ℤ → Bool) (run : Run) : Type 0 where
   pub exact : (x : ℤ) → in_run run x ≡ test x
   pub ends : HasCumulEnds run
 
--- the run of a node has the cumuls that it allows vehicle v, where it is a visit
+-- the run of a node has the cumuls that it allows vehicle v, if it is a visit
 abbrev pub IsRunOfNode : Model → ℕ → ℕ → ℕ → Run → Type 0
 IsRunOfNode model d v node run = IsTrue (is_visit model node)
     → IsRunFor (stop_allows (capacity_of model d v) (row_of (dimension_at model d).nodes node)) run

@@ -15,7 +15,7 @@ pub record IsSetOf (test : ℤ → Bool) (set : List Run) : Type 0 where
   pub cumuls : IsCumuls set
   pub normal : IsNormal set
 
--- the set of a node has the cumuls that it allows under a capacity, where it is a visit, and none where it is not
+-- the set of a node has the cumuls that it allows under a capacity if it is a visit, and none if it is not
 pub record IsSetOfNode (model : Model) (d : ℕ) (capacity : ℤ) (node : ℕ) (set : List Run) : Type 0 where
   pub visit : IsTrue (is_visit model node)
       → IsSetOf (stop_allows capacity (row_of (dimension_at model d).nodes node)) set

@@ -1,4 +1,4 @@
--- Where a walk meets the rows of a line.
+-- The place at which a walk meets the rows of a line.
 use Rattle.std.specs.Prelude.{◌≡◌, ℕ, ◌≤◌, List, length, sum_by}
 use Rattle.vr_model.specs.declared.records.BreakRow.{BreakRow}
 use Rattle.vr_spans.specs.declared.runs.Run.{Run}

@@ -1,4 +1,4 @@
-//! Levels along a list, straight from what its stops ask, where those of some stops are known already.
+//! Levels along a list, straight from what its stops ask. Those of some stops may be known already.
 
 ghost use Rattle.std.specs.Prelude.{◌≡◌, ◌+◌, ◌<◌, ◌≤◌, suc, OnOk, length, take, drop};
 ghost use Rattle.vr_reach.specs.DrivenRows.{AreFirstOn, AreLastOn, AreReachedOn, AreReachingOn};
@@ -9,7 +9,7 @@ use vr_model::NoMemory;
 use vr_steps::{Levels, Way, cross_uncounted, end_levels_into, start_levels_into};
 
 // Writes what a list reaches at its first stop. It is found anew, in place: a copy of `Ends::start_levels` would take
-// memory each time where there are breaks.
+// memory each time if there are breaks.
 fn write_start(stops: &ListStops, row: &mut Levels) -> Result<(), NoMemory>
     ensures { OnOk result (IsReachedOn stops.now.of 0 row.new) }
 {
@@ -27,7 +27,7 @@ fn write_end(stops: &ListStops, row: &mut Levels) -> Result<(), NoMemory>
     Ok(())
 }
 
-/// Writes what a list reaches at each stop over the rows, of which the first `known` are those of the list.
+/// Writes what a list reaches at each stop over the rows. The first `known` of these are those of the list already.
 pub(crate) fn write_ahead(
     stops: &ListStops,
     known: usize,
@@ -44,7 +44,7 @@ pub(crate) fn write_ahead(
     reach_on(stops, 1, rows)
 }
 
-// The same, where at least one is known.
+// The same, with at least one known.
 fn reach_on(stops: &ListStops, known: usize, rows: &mut [Levels]) -> Result<(), NoMemory>
     requires begun { 0 < known }
     requires known { AreFirstOn stops.now.of known rows.old }
@@ -68,8 +68,8 @@ fn reach_on(stops: &ListStops, known: usize, rows: &mut [Levels]) -> Result<(), 
     Ok(())
 }
 
-// Writes what the end is reached from at each stop of a list over the rows, of which the last `known` are those of the
-// list.
+// Writes what the end is reached from at each stop of a list over the rows. The last `known` of these are those of the
+// list already.
 fn write_back(stops: &ListStops, known: usize, rows: &mut [Levels]) -> Result<(), NoMemory>
     requires known { AreLastOn stops.now.of known rows.old }
     requires long { length rows.old ≡ suc (suc (length stops.now.of.list.now)) }
@@ -83,7 +83,7 @@ fn write_back(stops: &ListStops, known: usize, rows: &mut [Levels]) -> Result<()
     reach_back(stops, 1, rows)
 }
 
-// The same, where at least one is known.
+// The same, with at least one known.
 fn reach_back(stops: &ListStops, known: usize, rows: &mut [Levels]) -> Result<(), NoMemory>
     requires begun { 0 < known }
     requires known { AreLastOn stops.now.of known rows.old }
@@ -108,8 +108,8 @@ fn reach_back(stops: &ListStops, known: usize, rows: &mut [Levels]) -> Result<()
     Ok(())
 }
 
-/// Writes what the end is reached from at each stop of a list over the levels from place `first` on, of which the last
-/// `known` are those of the list.
+/// Writes what the end is reached from at each stop of a list over the levels from place `first` on. The last `known`
+/// of these are those of the list already.
 pub(crate) fn write_behind(
     stops: &ListStops,
     known: usize,

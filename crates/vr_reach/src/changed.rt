@@ -13,11 +13,10 @@ use crate::stretches::Stretch;
 use std::alloc::Global;
 use vr_model::NoMemory;
 
-/// Writes the rows of a vehicle with a list in a dimension over others, where the list is not empty; of an empty one
-/// they stay as they are, and nothing is said of them. After `NoMemory` nothing is said of the rows.
+/// Writes the rows of a vehicle with a list in a dimension over others, if the list is not empty. Of an empty one they
+/// stay as they are, and nothing is said of them. After `NoMemory` nothing is said of the rows.
 ///
-/// It takes memory only where a list has more stops than any before, a vehicle has breaks, or a set more than four
-/// runs.
+/// It takes memory only if a list has more stops than any before, a vehicle has breaks, or a set more than four runs.
 pub fn write_rows(
     alloc: Global,
     stops: &StopsFor,
@@ -33,9 +32,9 @@ pub fn write_rows(
 }
 
 /// Writes the rows of a list over those of another, as `write_rows` does. What both lists reach at stops that they
-/// share at the front stays, and so does what their end is reached from at those that they share at the back, unless
-/// the list is longer than all before: then that is written anew at all stops. `vr_first_insert` alone calls it with a
-/// list before.
+/// share at the front stays. So does what their end is reached from at stops that they share at the back, unless the
+/// list is longer than all before. Then that is written anew at all stops. `vr_first_insert` alone calls it with a list
+/// before.
 pub fn rewrite_rows(
     alloc: Global,
     stops: &StopsFor,
@@ -60,8 +59,8 @@ pub fn rewrite_rows(
     rows.rewrite(alloc, &asked, ahead, behind)
 }
 
-// How many rows of the list before stay, where so many nodes at one end of it do: one more, that of the start or of the
-// end, but none of an empty list, of whose rows nothing is said.
+// How many rows of the list before stay if this many nodes at one end of it do. It is one more, that of the start or of
+// the end. Of an empty list it is none, since of its rows nothing is said.
 fn known_with(list: &[u32], nodes: usize) -> usize
     requires { nodes ≤ length list.now }
     ensures empty { list.now ≡ [] → result ≡ 0 }

@@ -6,15 +6,15 @@ ghost use Rattle.vr_reach.specs.Lists.{IsUsed};
 use crate::spliced::Spliced;
 use vr_model::Closed;
 
-// Vehicle `v` in dimension `d`, both of which there are: what is looked up of them once is asked with it.
+// Vehicle `v` in dimension `d`, both of which exist. With it is asked what is looked up of them once.
 #[derive(Clone, Copy)]
 pub(crate) struct VehicleIn<'m> {
     pub(crate) closed: Closed<'m>,
     pub(crate) d: u32,
     pub(crate) v: u32,
-    // There is the dimension.
+    // The dimension exists.
     pub ghost dimension: { d < length closed.model.now.dimensions },
-    // There is the vehicle.
+    // The vehicle exists.
     pub ghost vehicle: { v < length closed.model.now.vehicles },
 }
 
@@ -25,9 +25,9 @@ pub(crate) struct Driven<'m, 'l> {
     pub(crate) d: u32,
     pub(crate) v: u32,
     pub(crate) list: &'l Spliced<'l>,
-    // There is the dimension.
+    // The dimension exists.
     pub ghost dimension: { d < length closed.model.now.dimensions },
-    // There is the vehicle.
+    // The vehicle exists.
     pub ghost vehicle: { v < length closed.model.now.vehicles },
     // The list has distinct visits of the model, one at least.
     pub ghost used: { IsUsed closed.model.now list.now },

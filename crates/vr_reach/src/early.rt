@@ -1,5 +1,5 @@
-//! The earliest cumuls along a list: where each stop allows one run, there are no breaks and no slack would be too
-//! great, the rule `earliest` chooses them.
+//! The earliest cumuls along a list. They are what the rule `earliest` chooses if each stop allows one run, there are
+//! no breaks and no slack would be too great.
 
 ghost use Rattle.std.specs.Prelude.{◌≡◌, ◌↔◌, ◌+◌, ◌<◌, ◌≤◌, ◌≤ℤ◌, ◌^◌, suc, All, IfSome, IsTrue, is_some, [], length};
 ghost use Rattle.std.specs.Prelude.{List, ℤ, neg_ℤ, pos};
@@ -37,8 +37,8 @@ pub struct StopRuns<'a> {
     pub finish: Ahead,
 }
 
-/// The run of cumuls that each stop of a vehicle allows, nothing exactly where it has breaks or some stop allows more
-/// than one. `vr_costfilter` asks it too, for all lists of a vehicle.
+/// The run of cumuls that each stop of a vehicle allows, nothing exactly if it has breaks or some stop allows more than
+/// one. `vr_costfilter` asks it too, for all lists of a vehicle.
 pub fn single_runs<'s>(stops: &StopsFor<'_, 's>) -> Option<StopRuns<'s>>
     requires { AreStopsFor stops.now }
     ensures no_breaks { IfSome result (λ runs.
@@ -64,10 +64,13 @@ pub fn single_runs<'s>(stops: &StopsFor<'_, 's>) -> Option<StopRuns<'s>>
     })
 }
 
-/// Writes the cumuls of the earliest schedule of a list over others, where they are found stop by stop, each the least
-/// that the one before leaves: where the vehicle has no breaks, no stop allows more than one run of cumuls, and no
-/// slack would be too great (else a stop before would have to be later than its least). False exactly where they are
-/// not found so, also where there is no schedule; then nothing is said of the cumuls.
+/// Writes the cumuls of the earliest schedule of a list over others, if they are found stop by stop. Each is then the
+/// least that the one before leaves. They are found so exactly if there is a schedule and three conditions hold:
+/// - The vehicle has no breaks.
+/// - No stop allows more than one run of cumuls.
+/// - No slack would be too great (else a stop before would have to be later than its least).
+///
+/// False exactly if they are not found so, also if there is no schedule. Then nothing is said of the cumuls.
 pub fn write_earliest(stops: &StopsFor, list: &[u32], cumuls: &mut Cumuls) -> bool
     requires stops { AreStopsFor stops.now }
     requires used { IsUsed stops.now.closed.model.now list.now }
@@ -103,7 +106,7 @@ pub fn write_earliest(stops: &StopsFor, list: &[u32], cumuls: &mut Cumuls) -> bo
     }
 }
 
-// Writes the earliest cumuls of all stops, where each can be had from the one before.
+// Writes the earliest cumuls of all stops, if each can be had from the one before.
 fn drive(line: &RunLine, start: Run, cumuls: &mut Cumuls) -> bool
     requires few { length line.now.of.list.now ≤ 1000 }
     requires start { IsRunFor (allowed_by line.now.of.closed.model.now line.now.of.d line.now.of.v Start) start }
@@ -131,9 +134,9 @@ fn drive(line: &RunLine, start: Run, cumuls: &mut Cumuls) -> bool
     true
 }
 
-/// The least cumul of a stop behind an arc from a cumul, nothing exactly where the stop allows none that is reached, or
-/// where the slack would be too great. Cumuls are in `0..=2^36`, transits within 2^31. `vr_costfilter` asks it too, of
-/// stops with floors.
+/// The least cumul of the next stop after an arc from a cumul. From 10 over a transit of 5 to a stop that opens at 20
+/// it is 20, if a slack of 5 is allowed. Nothing exactly if the stop allows none that is reached, or if the slack would
+/// be too great. Cumuls are in `0..=2^36`, transits within 2^31. `vr_costfilter` asks it too, of stops with floors.
 #[inline]
 pub fn earliest_behind(cumul: i64, transit: i64, slack: i64, allowed: Run) -> Option<i64>
     requires cumul { IsIn (pos 0) horizon cumul }

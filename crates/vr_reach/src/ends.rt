@@ -10,8 +10,8 @@ use vr_model::{Closed, NoMemory};
 use vr_spans::Spans;
 use vr_steps::{Breaks, Levels, StopName, allowed_at, end_levels, start_levels};
 
-// What is asked of a vehicle in a dimension whatever its list is: its breaks, the cumuls that its start and its end
-// allow, and the levels of both.
+// What is asked of a vehicle in a dimension whatever its list is. It has its breaks, the cumuls that its start and its
+// end allow, and the levels of both.
 #[derive(Drop)]
 pub(crate) struct Ends {
     pub(crate) breaks: Breaks,

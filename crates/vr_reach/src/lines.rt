@@ -19,8 +19,8 @@ use vr_steps::{Breaks, Hop, Line};
 /// Writes the line of a vehicle with a list in a dimension over another line, as `Line::build` makes it. After
 /// `NoMemory` nothing is said of the line.
 ///
-/// It takes memory only where a line has more stops than any before, or a set more than four runs. `vr_plan::timing_of`
-/// alone asks it, where it has not found the chosen cumuls without a line.
+/// It takes memory only if a line has more stops than any before, or a set more than four runs. `vr_plan::timing_of`
+/// alone asks it, when it has not found the chosen cumuls without a line.
 pub fn write_line(stops: &StopsFor, list: &[u32], out: &mut Line) -> Result<(), NoMemory>
     requires stops { AreStopsFor stops.now }
     requires used { IsUsed stops.now.closed.model.now list.now }

@@ -15,11 +15,13 @@ use crate::single::{carry_run, run_at};
 use std::sync::ledger::Ledger;
 use vr_model::Steps;
 
-// Whether the line of a list is feasible, where walks along a leg without a break on the way tell: it is not where what
-// is reached with no break taken misses all from which the end is reached with all of them taken (breaks can but narrow
-// both), and it is where a walk with some number of breaks taken before it comes to a cumul from which the end is
-// reached with the others. Nothing is told where at first not exactly one run is reached with no break taken, and where
-// neither is so. It counts a try for each arc that such a walk goes over.
+// Whether the line of a list is feasible, if walks along a leg without a break on the way tell:
+// - It is not if what is reached with no break taken misses all from which the end is reached with all of them taken.
+//   Breaks can but narrow both.
+// - It is if such a walk after some number of breaks comes to a cumul from which the end is reached with the others.
+//
+// Nothing is told if neither is so, or if at first not exactly one run is reached with no break taken. It counts a try
+// for each arc that such a walk goes over.
 pub(crate) fn told_without_breaks<L: Ledger>(walk: &RunWalk, tries: &mut Steps<L>) -> Option<bool>
     ensures told { IfSome result (λ passed. passed ≡ is_feasible (line_along walk.now)) }
     ensures untold { result ≡ None → IsTrue (is_run (level_at walk.now.from.now 0))
@@ -46,8 +48,8 @@ pub(crate) fn told_without_breaks<L: Ledger>(walk: &RunWalk, tries: &mut Steps<L
     None
 }
 
-// Whether such a walk comes to a cumul from which the end is reached with the other breaks, where one break is taken
-// before it or more; where not, nothing is told.
+// Whether such a walk, with one break or more taken before it, comes to a cumul from which the end is reached with the
+// others. If not, nothing is told.
 fn goes_with_some<L: Ledger>(walk: &RunWalk, tries: &mut Steps<L>) -> bool
     ensures goes { IsTrue result → IsFeasible (line_along walk.now) }
     ensures exact { IsTrue result ↔ ((taken : ℕ) × (1 ≤ taken) × (taken ≤ length (line_along walk.now).breaks)
@@ -64,7 +66,7 @@ fn goes_with_some<L: Ledger>(walk: &RunWalk, tries: &mut Steps<L>) -> bool
     false
 }
 
-// The same with so many breaks taken before it; false too where not exactly one run is there to begin with.
+// The same with `taken` breaks taken before it. False too if not exactly one run is there to begin with.
 fn goes_with<L: Ledger>(walk: &RunWalk, taken: usize, tries: &mut Steps<L>) -> bool
     requires { taken ≤ length (line_along walk.now).breaks }
     ensures goes { IsTrue result → IsFeasible (line_along walk.now) }

@@ -17,11 +17,14 @@ use std::marker::Model;
 use vr_model::NoMemory;
 use vr_steps::{Levels, Line};
 
-/// The forward and backward levels of each stop of a line: with `b` breaks taken, the cumuls that are reached at the
-/// stop, and those from which the end is reached with the other breaks taken.
+/// The forward and backward levels of each stop of a line. For `b` breaks taken, forward levels have the cumuls that
+/// are reached at the stop. Backward levels have those from which the end is reached with the other breaks taken. Take
+/// a stop that is reached at 10 to 50, and from which the end is reached at 0 to 40. Schedules pass it at 10 to 40.
 ///
-/// Rows may be built anew in place, which takes memory only where the line has more stops than any before, its vehicle
-/// has breaks, or a set more runs than its place has room for.
+/// Rows may be built anew in place. That takes memory only in three cases:
+/// - the line has more stops than any before,
+/// - its vehicle has breaks,
+/// - a set has more runs than its place has room for.
 #[derive(Drop)]
 pub struct Rows {
     // from the start on: the forward levels
@@ -49,7 +52,7 @@ impl Rows {
         }
     }
 
-    /// No rows, with room for those of lines of so many stops.
+    /// No rows, with room for those of lines of up to `stops` stops.
     pub fn with_room(alloc: Global, stops: usize) -> Result<Rows, NoMemory>
         ensures { IfOk result (λ rows. rows ≡ record { forward = []; backward = [] }) }
     {
@@ -80,8 +83,8 @@ impl Rows {
         Ok(())
     }
 
-    /// Writes the rows of a list of a vehicle over these, of which the first `ahead` and the last `behind` are those of
-    /// the list. After `NoMemory` nothing is said of them.
+    /// Writes the rows of a list of a vehicle over these. The first `ahead` forward levels and the last `behind`
+    /// backward ones are those of the list already. After `NoMemory` nothing is said of them.
     pub(crate) fn rewrite(
         &mut self,
         alloc: Global,

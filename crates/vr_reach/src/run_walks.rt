@@ -15,7 +15,7 @@ use vr_model::Evaluator;
 use vr_spans::Run;
 use vr_steps::Levels;
 
-// A list of a vehicle, where no visit and not the end allows more than one run: the runs, and what the arcs take. The
+// A list of a vehicle, whose visits and end allow no more than one run each: the runs, and what the arcs take. The
 // earliest cumuls are found along one too (`early`).
 #[derive(Clone, Copy)]
 pub(crate) struct RunLine<'m, 'l, 's> {
@@ -52,8 +52,8 @@ impl RunLine<'_, '_, '_> {
     }
 }
 
-// A leg of such a list: two stops, the levels at which the first is reached, and those from which the end is reached at
-// the last.
+// A leg of such a list: two of its stops, and what is known at both. `from` is what is reached at stop `begin`, `to` is
+// what the end is reached from at stop `last`.
 #[derive(Clone, Copy)]
 pub(crate) struct RunWalk<'m, 'l, 's, 'r> {
     pub(crate) line: RunLine<'m, 'l, 's>,
@@ -63,10 +63,10 @@ pub(crate) struct RunWalk<'m, 'l, 's, 'r> {
     pub(crate) to: &'r Levels,
     // The leg has an arc.
     pub ghost order: { begin < last },
-    // There is its last stop.
+    // Its last stop exists.
     pub ghost within: { last ≤ suc (length line.of.list.now) },
-    // The first stop is reached so.
+    // The first stop is reached at `from`.
     pub ghost begun: { IsReachedBy (line_of line.of) begin from.now } by { Prim.hlevel props },
-    // The end is reached so from the last.
+    // From `to` at the last stop the end is reached.
     pub ghost met: { IsReachingBy (line_of line.of) last to.now } by { Prim.hlevel props },
 }

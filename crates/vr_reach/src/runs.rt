@@ -1,4 +1,4 @@
-//! The one run of cumuls that each visit allows, where none allows more than one, and what runs share.
+//! The one run of cumuls that each visit allows, if none allows more than one, and what runs share.
 
 ghost use Rattle.std.specs.Prelude.{◌≡◌, IfOk, IfSome, IsTrue, is_some, ◌↔◌, ◌≤ℤ◌, [], ◌∷◌};
 ghost use Rattle.vr_spans.specs.Runs.{ShareANumber};
@@ -8,7 +8,7 @@ use std::alloc::Global;
 use vr_model::{NoMemory, Seq};
 use vr_spans::{Run, Spans};
 
-// For each table of sets the run of each set, or nothing where a set is of more than one.
+// For each table of sets the run of each set, or nothing if a set is of more than one.
 pub(crate) fn run_tables(
     alloc: Global,
     tables: &Seq<Seq<Spans>>,
@@ -22,7 +22,7 @@ pub(crate) fn run_tables(
     Ok(found)
 }
 
-// The run of each set, nothing where a set is of more than one.
+// The run of each set, nothing if a set is of more than one.
 fn runs_of(alloc: Global, sets: &Seq<Spans>) -> Result<Option<Seq<Run>>, NoMemory>
     ensures { IfOk result (AreKnownRuns sets.now) }
 {
@@ -36,7 +36,7 @@ fn runs_of(alloc: Global, sets: &Seq<Spans>) -> Result<Option<Seq<Run>>, NoMemor
     Ok(Some(runs))
 }
 
-// The run that has the numbers of a set, one without numbers where the set is empty, nothing where it has several runs.
+// The run that has the numbers of a set. It has no number if the set is empty; nothing if the set has several runs.
 pub(crate) fn run_of(set: &Spans) -> Option<Run>
     ensures run { IfSome result (IsRunOf set.now) }
     ensures known { is_some result ≡ is_single set.now }

@@ -40,7 +40,7 @@ pub struct Ahead {
     pub allowed: Run,
 }
 
-// Where a walk stands: a node, and the run that is reached there.
+// The stop that a walk is at: its node, and the run that is reached there.
 #[derive(Clone, Copy)]
 pub(crate) struct Stand {
     pub(crate) node: u32,
@@ -54,7 +54,7 @@ pub(crate) struct Between {
     pub(crate) to: Run,
 }
 
-// The runs at the two ends of a leg; nothing where there are breaks, or the levels of one end are not just one run.
+// The runs at the two ends of a leg. Nothing if there are breaks, or if the levels of one end are not just one run.
 pub(crate) fn runs_between(ends: &Ends, walk: &RunWalk) -> Option<Between>
     requires { ends.now.breaks ≡ (line_along walk.now).breaks }
     ensures runs { IfSome result (AreRunsBetween walk.now) }
@@ -68,7 +68,7 @@ pub(crate) fn runs_between(ends: &Ends, walk: &RunWalk) -> Option<Between>
     Some(Between { from, to })
 }
 
-// The run that the set where `b` breaks were taken is, nothing where it is none or more than one.
+// The one run of the set for `b` breaks taken, nothing if it has none or more than one.
 #[inline]
 pub(crate) fn run_at(levels: &Levels, b: usize) -> Option<Run>
     requires taken { b < length levels.now }
@@ -83,7 +83,7 @@ pub(crate) fn run_at(levels: &Levels, b: usize) -> Option<Run>
     Some(set.run(0))
 }
 
-// The end of vehicle `v`, of which `ends` are the ends, nothing where it allows more than one run.
+// The end of vehicle `v`, of which `ends` are the ends, nothing if it allows more than one run.
 pub(crate) fn finish_of(model: &Model, v: u32, ends: &Ends) -> Option<Ahead>
     requires vehicle { v < length model.now.vehicles }
     ensures finish { (d : ℕ) → AreEndSets model.now d v ends.now → IfSome result (IsFinish model.now d v) }
@@ -95,8 +95,8 @@ pub(crate) fn finish_of(model: &Model, v: u32, ends: &Ends) -> Option<Ahead>
     Some(Ahead { node, allowed })
 }
 
-// Whether the line of a list is feasible, where there are no breaks: found by a walk along a leg that carries one run.
-// It counts as `passes_along` says: a step for each arc that it goes over, and two where it joins the rows.
+// Whether the line of a list is feasible, if there are no breaks: found by a walk along a leg that carries one run. It
+// counts as `passes_along` says: a step for each arc that it goes over, and two when it joins the rows.
 pub(crate) fn walk_by_runs<L: Ledger>(
     walk: &RunWalk,
     between: Between,
@@ -116,10 +116,12 @@ pub(crate) fn walk_by_runs<L: Ledger>(
     runs_share(run, between.to)
 }
 
-// The run at the last stop of a leg, where a walk without breaks begins with run `from` at its first stop. Where `from`
-// is all that is reached there with so many breaks taken, each number of this run is reached with as many; where none
-// are taken, no other number is. It has no number where nothing is reached on the way; then the walk stops there. It
-// counts one in `steps` (for `probing` a try) for each arc that it goes over.
+// The run at the last stop of a leg, of a walk without breaks that begins with run `from` at its first stop. If nothing
+// is reached on the way, the run has no number, and the walk stops there. It counts one in `steps` (for `probing` a
+// try) for each arc that it goes over.
+//
+// If `from` is all that is reached there with some number of breaks taken, each number of this run is reached with as
+// many. If none are taken, no other number is.
 pub(crate) fn carry_run<L: Ledger>(walk: &RunWalk, from: Run, steps: &mut Steps<L>) -> Run
     requires { IsCumulRun from }
     ensures cumuls { result.lo ≤ℤ result.hi → IsCumulRun result }
@@ -147,7 +149,7 @@ pub(crate) fn carry_run<L: Ledger>(walk: &RunWalk, from: Run, steps: &mut Steps<
     here.run
 }
 
-// The stop behind the arc from stop `k` of a list.
+// The stop after the arc from stop `k` of a list.
 #[inline]
 pub(crate) fn stop_ahead(line: &RunLine, k: usize) -> Ahead
     requires { k ≤ length line.now.of.list.now }
@@ -167,8 +169,8 @@ pub(crate) fn stop_ahead(line: &RunLine, k: usize) -> Ahead
     line.finish
 }
 
-// The stop behind the arc from stop `k`, and the run that is reached there without a break on the way. It has no number
-// where none is.
+// The stop after the arc from stop `k`, and the run that is reached there without a break on the way. It has no number
+// if none is reached.
 #[inline]
 fn cross_by_run(line: &RunLine, k: usize, here: Stand) -> Stand
     requires arc { k ≤ length line.now.of.list.now }
@@ -203,7 +205,8 @@ pub fn slack_of(closed: Closed<'_>, d: u32) -> i64
     closed.model.dimensions.get(d as usize).slack_max
 }
 
-// The run at the end of an arc, of what is allowed there: it has no number where the arc leads to none.
+// The run at the end of an arc, of what is allowed there. It has no number if the arc leads to none. A run of 0 to 10,
+// a transit of 5 and a slack of 2 lead to 5 to 17. If 8 to 20 is allowed, 8 to 17 is left.
 #[inline]
 fn run_behind(run: Run, transit: i64, slack: i64, allowed: Run) -> Run
     requires run { IsCumulRun run }

@@ -5,12 +5,13 @@ ghost use Rattle.vr_reach.specs.Spliced.{spliced};
 
 use std::marker::Model;
 
-/// Nodes that take the place of some others in a list.
+/// Nodes that take the place of some others in a list. In the list 1, 2, 3, 4 a 9 from place 1 up to place 3 makes 1,
+/// 9, 4.
 #[derive(Clone, Copy)]
 pub struct Splice<'a> {
     /// The place of the first node that goes.
     pub front: usize,
-    /// The place behind the last one.
+    /// The place after the last one.
     pub behind: usize,
     /// The nodes that come.
     pub middle: &'a [u32],

@@ -1,5 +1,5 @@
-//! Walks through what an insertion changes in a list whose rows are known: at once, where it is known what both lists
-//! share, or stop by stop, by levels that `vr_first_insert` keeps, which alone calls these.
+//! Walks through what an insertion changes in a list whose rows are known. They go at once if it is known what both
+//! lists share. Else they go stop by stop, by levels that `vr_first_insert` keeps, which alone calls these.
 
 ghost use Rattle.std.specs.Prelude.{◌≡◌, ◌+◌, ◌≤◌, IsTrue, length, IfOk, OnOk};
 ghost use Rattle.vr_model.specs.schedules.Choices.{is_feasible};
@@ -21,10 +21,15 @@ use crate::walks::Walk;
 use vr_model::NoMemory;
 use vr_steps::Levels;
 
-/// Whether the line of a list of a vehicle is feasible, found by a walk through all of it but nodes at its ends that it
-/// shares with the list before, whose rows are known. Unlike `passes_along` it is handed how many these are (both may
-/// share more), has the list written out, and counts no steps, and the list before need not be feasible. Afterwards
-/// nothing is said of where the walk stands.
+/// Whether the line of a list of a vehicle is feasible. It is found by a walk through all of it but nodes that it
+/// shares at its ends with the list before. The rows of that one are known. Afterwards nothing is said of the walk's
+/// levels.
+///
+/// It differs from `passes_along` in four ways:
+/// - It is handed how many nodes both share (there may be more).
+/// - It has the list written out.
+/// - It counts no steps.
+/// - The list before need not be feasible.
 ///
 /// `NoMemory` as of `passes_along`.
 pub fn goes_between(
@@ -56,8 +61,8 @@ pub fn goes_between(
     goes_along(&leg, walk)
 }
 
-/// Writes what a list of a vehicle reaches behind its first `front` nodes and one arc more over `here`, where it
-/// shares those nodes with another list, whose rows are known. Afterwards nothing is said of where the walk stands.
+/// Writes over `here` what a list of a vehicle reaches one arc after its first `front` nodes. It shares those nodes
+/// with another list, whose rows are known. Afterwards nothing is said of the walk's levels.
 ///
 /// `NoMemory` as of `passes_along`.
 pub fn leave_rows(
@@ -85,8 +90,8 @@ pub fn leave_rows(
     Ok(())
 }
 
-/// Moves what is reached at stop `k` of a list of a vehicle on to the next stop. Afterwards nothing is said of where
-/// the walk stands.
+/// Moves what is reached at stop `k` of a list of a vehicle on to the next stop. Afterwards nothing is said of the
+/// walk's levels.
 ///
 /// `NoMemory` as of `passes_along`.
 pub fn go_on(
@@ -109,9 +114,9 @@ pub fn go_on(
     Ok(())
 }
 
-/// Whether the line of a list of a vehicle is feasible, found by a walk from stop `k`, where `here` is reached, to
-/// its last `back` nodes, which it shares with the list before, whose rows are known. Afterwards nothing is said of
-/// where the walk stands.
+/// Whether the line of a list of a vehicle is feasible. It is found by a walk from stop `k`, at which `here` is
+/// reached, to its last `back` nodes. It shares these with the list before, whose rows are known. Afterwards nothing is
+/// said of the walk's levels.
 ///
 /// `NoMemory` as of `passes_along`.
 pub fn goes_from(
@@ -167,7 +172,7 @@ fn none_reached(levels: &Levels) -> bool
     true
 }
 
-// Lets a walk stand behind the arc from a stop of a list.
+// Lets a walk cross the arc from a stop of a list: it has the levels of the next stop then.
 fn cross_arc(stops: &ListStops, k: usize, from: &Levels, walk: &mut Walk) -> Result<(), NoMemory>
     requires stop { k ≤ length stops.now.of.list.now }
     requires from { IsReachedOn stops.now.of k from.now }

@@ -21,18 +21,19 @@ use vr_model::{Closed, NoMemory, Seq};
 use vr_spans::{Run, Spans};
 use vr_steps::{Hop, hop};
 
-/// What all stops that vehicles may have in one dimension ask, looked up once for all lists: of each vehicle its breaks
-/// and what its start and its end allow, and the cumuls that each visit allows under the capacity of each vehicle.
+/// What all stops that vehicles may have in one dimension ask, looked up once for all lists. Of each vehicle it has the
+/// breaks, and what the start and the end allow. Of each visit it has the cumuls that it allows under the capacity of
+/// each vehicle.
 #[derive(Drop)]
 pub struct Stops {
     pub(crate) ends: Vec<Ends>,
     pub(crate) visits: VisitSets,
-    // for each table of visits the run that each allows, where none allows more than one
+    // for each table of visits the run that each allows, if none allows more than one
     pub(crate) runs: Seq<Option<Seq<Run>>>,
 }
 
 impl Stops {
-    /// The stops of dimension `d`. The only refusal is want of memory.
+    /// The stops of dimension `d`. It fails only if it is out of memory.
     pub fn build(alloc: Global, closed: Closed<'_>, d: u32) -> Result<Stops, NoMemory>
         requires dimension { d < length closed.model.now.dimensions }
         ensures { IfOk result (AreStops closed.entry.model.now d) }
@@ -43,7 +44,7 @@ impl Stops {
         Ok(Stops { ends, visits, runs })
     }
 
-    // The run that each visit allows vehicle `v`, nothing where some visit allows more than one.
+    // The run that each visit allows vehicle `v`, nothing if some visit allows more than one.
     #[inline]
     pub(crate) fn runs_of(&self, v: u32) -> Option<&[Run]>
         requires vehicle { v < length self.now.visits.table_of }
@@ -75,7 +76,7 @@ pub struct StopsFor<'m, 's> {
 }
 
 impl<'s> StopsFor<'_, 's> {
-    // The run that each visit allows the vehicle, nothing where some visit allows more than one.
+    // The run that each visit allows the vehicle, nothing if some visit allows more than one.
     #[inline]
     pub(crate) fn runs(&self) -> Option<&'s [Run]>
         requires { AreStopsFor self.now }
@@ -86,7 +87,8 @@ impl<'s> StopsFor<'_, 's> {
     }
 }
 
-// What its start, its end and its breaks ask a vehicle that drives a list, and the cumuls that each visit allows it.
+// What a vehicle that drives a list is asked by its start, its end and its breaks, and the cumuls that each visit
+// allows it.
 #[derive(Clone, Copy)]
 pub(crate) struct ListStops<'m, 'l, 's> {
     pub(crate) of: Driven<'m, 'l>,

@@ -1,14 +1,14 @@
-//! What two lists share at their ends, between which they differ: a walk leaves the rows at the last stop of the shared
-//! front and meets them at the first one of the shared back (`walking`), and of the rows forward levels are written
-//! anew behind the shared front and backward ones before the shared back (`changed`). A splice may put nodes back where
-//! they were, so more may be shared than it says.
+//! What two lists share at their ends, between which they differ. A walk leaves the rows at the last stop of the shared
+//! front and meets them at the first one of the shared back (`walking`). Of the rows, forward levels are written anew
+//! after the shared front, backward ones before the shared back (`changed`). A splice may put nodes back at the places
+//! that they had, so more may be shared than it says.
 
 ghost use Rattle.std.specs.Prelude.{◌+◌, ◌≤◌, length};
 ghost use Rattle.vr_reach.specs.Stretches.{SharesFront, SharesBack, DifferAtFront, DifferAtBack, IsStretchBetween};
 
 use crate::spliced::Spliced;
 
-/// How many nodes two lists share at the front and at the back.
+/// How many nodes two lists share at the front and at the back. Of 1, 2, 3, 4 and 1, 9, 3, 4 these are one and two.
 #[derive(Clone, Copy)]
 pub struct Stretch {
     /// The nodes that both begin with.

@@ -11,7 +11,7 @@ use vr_model::{Closed, NoMemory, Seq};
 use vr_spans::Spans;
 use vr_steps::{StopName, allowed_at};
 
-// The cumuls that each visit allows, by its node, in a table for each capacity that some vehicle has: nothing else of a
+// The cumuls that each visit allows, by its node, in a table for each capacity that some vehicle has. Nothing else of a
 // vehicle counts for what its visits allow. A node that is no visit allows none.
 #[derive(Drop)]
 pub(crate) struct VisitSets {
@@ -67,7 +67,7 @@ impl VisitSets {
     }
 }
 
-// The number of the table of a vehicle, which is added where no table has its capacity.
+// The number of the table of a vehicle, which is added if no table has its capacity.
 fn table_for(
     alloc: Global,
     vehicle: VehicleIn<'_>,
@@ -94,7 +94,7 @@ fn table_for(
     Ok(k)
 }
 
-// The first place of a capacity, the number of all where it is not among them.
+// The first place of a capacity, the number of all if it is not among them.
 fn place_of(capacities: &[i64], capacity: i64) -> usize
     ensures within { result ≤ length capacities.now }
     ensures same { result < length capacities.now → number_at capacities.now result ≡ capacity }
@@ -120,7 +120,7 @@ fn visit_sets(alloc: Global, vehicle: VehicleIn<'_>) -> Result<Seq<Spans>, NoMem
     Ok(sets)
 }
 
-// The cumuls that a visit allows a vehicle, none where the node is no visit.
+// The cumuls that a visit allows a vehicle, none if the node is no visit.
 fn visit_set(alloc: Global, vehicle: VehicleIn<'_>, node: u32) -> Result<Spans, NoMemory>
     ensures { IfOk result (IsSetOfNode vehicle.entry.closed.model.now vehicle.entry.d
         (capacity_of vehicle.entry.closed.model.now vehicle.entry.d vehicle.entry.v) node) }

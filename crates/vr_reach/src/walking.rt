@@ -30,9 +30,9 @@ use std::sync::ledger::{Blank, Ledger};
 use vr_model::{NoMemory, Steps};
 use vr_steps::Levels;
 
-// Whether the line of a list is feasible, found by a walk along a leg of it. The walk carries one run where there are
-// no breaks and that is all there is; else, where neither a visit nor the end allows more, walks without a break are
-// asked first, whose arcs are counted as tries.
+// Whether the line of a list is feasible, found by a walk along a leg of it. The walk carries one run if there are no
+// breaks and that is all there is. Else, if neither a visit nor the end allows more than one run, walks without a break
+// are asked first. Their arcs are counted as tries.
 fn walk_through<L: Ledger, M: Ledger>(
     leg: &Leg,
     walk: &mut Walk,
@@ -50,8 +50,8 @@ fn walk_through<L: Ledger, M: Ledger>(
     walk_by_sets(leg, walk, steps)
 }
 
-// The same, where walks that carry one run tell; `None` where some visit or the end allows more than one, or walks
-// without a break leave it open.
+// The same, if walks that carry one run tell. `None` if some visit or the end allows more than one, or if walks without
+// a break leave it open.
 fn told_by_runs<L: Ledger, M: Ledger>(
     leg: &Leg,
     steps: &mut Steps<L>,
@@ -112,17 +112,20 @@ fn walk_by_sets<L: Ledger>(
 
 /// Whether the list that a vehicle gets is empty or its line feasible: its list before, with other nodes in the place
 /// of some. It is found by a walk through what differs from the list before, which passes itself and whose rows are
-/// known. It counts a step for each run that it carries over an arc, once for each number of further breaks, and one
-/// for each run on both sides where it joins the rows: at most the weight that the definitions give the changed list.
-/// Afterwards nothing is said of where the walk stands. The filters of dimensions (`vr_pathfilters`) alone ask it.
+/// known. Afterwards nothing is said of the walk's levels. The filters of dimensions (`vr_pathfilters`) alone ask it.
 ///
-/// Where neither a visit nor the end allows more than one run, and one run is reached where it leaves the rows, it
-/// carries one run in place of sets if the vehicle has no breaks; if it has, walks of one run without a break are tried
-/// before the one with sets, at most one for each number of breaks taken before it, which tell of most moves. They
-/// count a try for each arc that they go over, none of which lies outside the changed stretch.
+/// It counts a step for each run that it carries over an arc, once for each number of further breaks. When it joins the
+/// rows it counts one for each run on both sides. Together that is at most the weight that the definitions give the
+/// changed list.
 ///
-/// `NoMemory` where there was no memory: it is taken only where a set has more than four runs, or the vehicle has
-/// breaks.
+/// One run is enough if neither a visit nor the end allows more, and one run is reached when the walk leaves the rows:
+/// - A vehicle without breaks: the walk carries one run in place of sets.
+/// - A vehicle with breaks: walks of one run without a break are tried before the one with sets. There is at most one
+///   for each number of breaks taken before it. They tell of most moves, and count a try for each arc that they go
+///   over, none of which lies outside the changed stretch.
+///
+/// `NoMemory` if memory was needed and there was none. It is taken only if a set has more than four runs, or the
+/// vehicle has breaks.
 pub fn passes_along<L: Ledger, M: Ledger>(
     stops: &StopsFor,
     known: &KnownList,
@@ -174,8 +177,8 @@ pub fn passes_along<L: Ledger, M: Ledger>(
     walk_through(&leg, walk, steps, tries)
 }
 
-/// Whether a vehicle has a schedule with a list in a dimension: goes along the list from its start to its end, as
-/// `vr_rules` asks of whole lists. Afterwards nothing is said of where the walk stands.
+/// Whether a vehicle has a schedule with a list in a dimension: goes along the list from its start to its end.
+/// `vr_rules` asks it of whole lists. Afterwards nothing is said of the walk's levels.
 ///
 /// `NoMemory` as of `passes_along`.
 pub fn goes_through(stops: &StopsFor, list: &[u32], walk: &mut Walk) -> Result<bool, NoMemory>
@@ -197,7 +200,7 @@ pub fn goes_through(stops: &StopsFor, list: &[u32], walk: &mut Walk) -> Result<b
     goes_along(&leg, walk)
 }
 
-// Whether the line of a list is feasible, found by a walk along a leg of it, where nobody counts steps or tries.
+// Whether the line of a list is feasible, found by a walk along a leg of it. Nobody counts its steps or tries.
 pub(crate) fn goes_along(leg: &Leg, walk: &mut Walk) -> Result<bool, NoMemory>
     ensures { IfOk result (λ goes. goes ≡ is_feasible (line_of_leg leg.now)) }
 {
@@ -224,8 +227,9 @@ fn walk_uncounted<L: Ledger, M: Ledger>(
     walk_through(leg, walk, &mut steps, &mut tries)
 }
 
-// The levels at which the last stop is reached that a list shares at the front with the one whose rows are known. With
-// no node shared that is the start: its levels are those of `ends`, since of the rows of an empty list nothing is said.
+// What a walk begins with: the levels at which the last stop of the shared front is reached. The front is what a list
+// shares with the one whose rows are known. With no node shared that stop is the start. Its levels are those of `ends`,
+// since of the rows of an empty list nothing is said.
 pub(crate) fn levels_before<'a>(ends: &'a Ends, rows: &'a Rows, front: usize) -> &'a Levels
     requires row { 0 < front → front < length rows.now.forward }
     ensures start { front ≡ 0 → result.now ≡ ends.now.start_levels }
@@ -237,8 +241,8 @@ pub(crate) fn levels_before<'a>(ends: &'a Ends, rows: &'a Rows, front: usize) ->
     rows.forward(front)
 }
 
-// The levels from which the end is reached at the first stop that a list shares at the back with the one of `n` visits
-// whose rows are known; of the end where they share none.
+// What a walk meets: the levels from which the end is reached at the first stop of the shared back. The back is what a
+// list shares with the one of `n` visits whose rows are known. With no node shared that stop is the end.
 pub(crate) fn levels_behind<'a>(ends: &'a Ends, rows: &'a Rows, n: usize, back: usize) -> &'a Levels
     requires few { back ≤ n }
     requires row { 0 < back → n - back + 1 < length rows.now.backward }

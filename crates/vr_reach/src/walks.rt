@@ -1,5 +1,5 @@
-//! What is reached at a stop, moved from stop to stop: along a whole line, or a changed or growing one from a stop that
-//! it shares with a line whose levels are known.
+//! What is reached at a stop, moved from stop to stop. A walk goes along a whole line. It may also go along a changed
+//! or growing line, from a stop that this shares with one whose levels are known.
 
 ghost use Rattle.std.specs.Prelude.{◌≡◌, ◌+◌, ◌<◌, ◌≤◌, ◌↔◌, ℕ, [], ◌∷◌, All, IsTrue, IfOk, OnOk, OnErr, length};
 ghost use Rattle.vr_model.specs.schedules.Lines.{Line as Defined};
@@ -24,9 +24,10 @@ use vr_steps::{
     start_levels_into,
 };
 
-/// What is reached at a stop of a line, moved from stop to stop. Contracts see the levels at the stop where it stands.
+/// What is reached at a stop of a line, moved from stop to stop. Contracts see the levels at the stop that the walk is
+/// at.
 ///
-/// A walk takes memory only where a set has more than four runs, or where there are breaks.
+/// A walk takes memory only if a set has more than four runs, or if there are breaks.
 #[derive(Drop)]
 pub struct Walk {
     here: Levels,
@@ -43,7 +44,7 @@ impl Model for Walk {
 }
 
 impl Walk {
-    /// A walk that stands nowhere. It takes no memory.
+    /// A walk that is at no stop. It takes no memory.
     pub fn new(alloc: Global) -> Walk
         ensures { result ≡ [] ∷ [] }
     {
@@ -53,7 +54,7 @@ impl Walk {
         }
     }
 
-    /// Stands at a stop of a line with its forward levels. Tests alone ask for a walk so.
+    /// Begins at a stop of a line with its forward levels. Tests alone ask for a walk so.
     pub fn open(alloc: Global, rows: &Rows, stop: usize) -> Result<Walk, NoMemory>
         requires stop { stop < length rows.now.forward }
         ensures { IfOk result (λ walk. walk ≡ row_at rows.now.forward stop) }
@@ -65,7 +66,7 @@ impl Walk {
         })
     }
 
-    /// Stands at a start that allows these cumuls. Tests alone ask for a walk so.
+    /// Begins at a start that allows these cumuls. Tests alone ask for a walk so.
     pub fn fresh(alloc: Global, start: &Spans, breaks: &Breaks) -> Result<Walk, NoMemory>
         requires breaks { All IsBreak breaks.now }
         requires few { length breaks.now ≤ 8 }
@@ -81,8 +82,8 @@ impl Walk {
     }
 
     /// Whether a line has a schedule: goes along it from its start to its end. `vr_plan` alone asks it, for each start
-    /// of a break that it tries; of lists without a line `goes_through` answers it. Afterwards nothing is said of where
-    /// the walk stands.
+    /// of a break that it tries; of lists without a line `goes_through` answers it. Afterwards nothing is said of the
+    /// walk's levels.
     pub fn goes_along(&mut self, line: &Line) -> Result<bool, NoMemory>
         requires { IsSoundLine line.now }
         ensures { IfOk result (λ goes. (defined : Defined) → IsLineOf defined line.now →
@@ -92,8 +93,9 @@ impl Walk {
         Ok(self.ends(&line.breaks))
     }
 
-    /// Whether the line at whose last stop the walk stands has a schedule: whether, with some number of breaks taken,
-    /// the others can be taken after some cumul. It takes no memory. `vr_rules` asks it of lists that grow.
+    /// Whether the line has a schedule, once the walk is at its last stop. It has one exactly if, with some number of
+    /// breaks taken, the others can be taken after some cumul. It takes no memory. `vr_rules` asks it of lists that
+    /// grow.
     pub fn ends(&self, breaks: &Breaks) -> bool
         requires breaks { All IsBreak breaks.now }
         requires few { length breaks.now ≤ 8 }
@@ -103,8 +105,8 @@ impl Walk {
         can_end(&self.here, breaks)
     }
 
-    /// Stands behind an arc that leads from a stop with these levels: `rows.forward(k)` where a changed line leaves a
-    /// known one at stop `k`.
+    /// Goes over an arc that leads from a stop with these levels: `rows.forward(k)` when a changed line leaves a known
+    /// one at stop `k`.
     pub fn leave<L: Ledger>(
         &mut self,
         from: &Levels,
@@ -126,8 +128,8 @@ impl Walk {
         Ok(())
     }
 
-    /// As `leave`, where nobody counts steps, and nothing is said of where the walk stands after `NoMemory`. `vr_rules`
-    /// asks it of lists that grow, and `standing`.
+    /// As `leave`, but nobody counts steps, and nothing is said of the walk's levels after `NoMemory`. `vr_rules` asks
+    /// it of lists that grow, and `standing`.
     pub fn cross_from(
         &mut self,
         from: &Levels,
@@ -144,7 +146,7 @@ impl Walk {
         Ok(())
     }
 
-    /// Goes on behind an arc. After `NoMemory` the walk stands where it stood.
+    /// Goes on over an arc. After `NoMemory` the walk is as it was.
     pub fn step<L: Ledger>(
         &mut self,
         hop: Hop,
@@ -165,7 +167,7 @@ impl Walk {
         Ok(())
     }
 
-    /// As `step`, where nobody counts steps, and nothing is said of where the walk stands after `NoMemory`.
+    /// As `step`, but nobody counts steps, and nothing is said of the walk's levels after `NoMemory`.
     pub fn cross(&mut self, hop: Hop, next: &Spans, breaks: &Breaks) -> Result<(), NoMemory>
         requires { IsCrossing self.old hop next.now breaks.now }
         ensures exact { OnOk result (AreCrossed self.old hop next.now breaks.now self.new) }
@@ -176,16 +178,15 @@ impl Walk {
         Ok(())
     }
 
-    /// Writes the levels at which the walk stands over `levels`. Afterwards nothing is said of where it stands. It
-    /// takes no memory.
+    /// Writes the walk's levels over `levels`. Afterwards nothing is said of those that it has. It takes no memory.
     pub fn hand_over(&mut self, levels: &mut Levels)
         ensures { levels.new ≡ self.old }
     {
         mem::swap(&mut self.here, levels);
     }
 
-    /// Whether the line on which the walk stands has a schedule, where from this stop on it is the line of the rows
-    /// from `stop` on. It takes no memory, and counts a step for each run of both levels. Tests alone ask it; walks ask
+    /// Whether the line along which the walk goes has a schedule, if from here on it is the line of the rows from
+    /// `stop` on. It takes no memory, and counts a step for each run of both levels. Tests alone ask it; walks ask
     /// `meets`.
     pub fn joins<L: Ledger>(&self, rows: &Rows, stop: usize, steps: &mut Steps<L>) -> bool
         requires stop { stop < length rows.now.backward }
@@ -196,8 +197,8 @@ impl Walk {
         self.meets(rows.backward(stop), steps)
     }
 
-    /// Whether the line on which the walk stands has a schedule, where these are the levels from which its end is
-    /// reached at this stop. It takes no memory, and counts a step for each run of both levels.
+    /// Whether the line along which the walk goes has a schedule, if these are the levels from which its end is reached
+    /// at this stop. It takes no memory, and counts a step for each run of both levels.
     pub fn meets<L: Ledger>(&self, behind: &Levels, steps: &mut Steps<L>) -> bool
         ensures exact { (line : Defined) (k : ℕ) → Meets line k self.now behind.now → IsTrue result ↔ IsFeasible line }
         ensures count { steps.new ≡ steps.old + (runs_in self.now + runs_in behind.now) }

@@ -16,7 +16,7 @@ use Rattle.vr_steps.specs.Stops.{allowed_by}
 use Rattle.vr_rules.specs.declared.fronts.Front.{Front}
 use Rattle.vr_rules.specs.declared.fronts.Fronts.{Fronts}
 
--- where the next arc begins: at the last visit of the list, at the start of vehicle v where it is empty
+-- the node at which the next arc begins: the last visit of the list, or the start of vehicle v if it is empty
 abbrev pub tail : Model → ℕ → List ℕ → ℕ
 tail model v list = cond (is_empty list) (vehicle_at model v).start (last_node list)
 
@@ -37,8 +37,8 @@ pub record AreVisitSets (model : Model) (d v : ℕ) (sets : List (List Run)) : T
   pub each : (node : ℕ) (other : List Run) → node < length sets → IsTrue (is_visit model node)
       → IsStopSet model d v (Visit node) (slice_index_or sets node other)
 
--- the levels are what vehicle v reaches in dimension d at the last visit of the list, at its start where the list is
--- empty, whatever comes behind
+-- the levels are what vehicle v reaches in dimension d at the last visit of the list, whatever comes next. If the list
+-- is empty, they are what it reaches at its start
 abbrev pub AreReachedBehind : Model → ℕ → ℕ → List ℕ → List (List Run) → Type 0
 AreReachedBehind model d v list levels = (rest : List ℕ) → IsDriven model (list ++ rest)
     → AreReached (line model d v (list ++ rest)) (length list) levels
@@ -66,6 +66,6 @@ pub record AreFronts (model : Model) (v : ℕ) (list : List ℕ) (fronts : List 
   pub one_of_each : length fronts ≡ length model.dimensions
   pub each : (d : ℕ) (other : Front) → d < length fronts → IsFrontOf model d v list (slice_index_or fronts d other)
 
--- the same of the fronts as the code holds them
+-- the fronts of a list of vehicle v in each dimension, as the code holds them
 abbrev pub AreFrontsOf : Model → ℕ → List ℕ → Fronts → Type 0
 AreFrontsOf model v list fronts = AreFronts model v list fronts.each.items

@@ -6,8 +6,8 @@ use Rattle.vr_model.specs.moves.Moves.{with_route}
 use Rattle.vr_model.specs.declared.records.Model.{Model}
 use Rattle.vr_rules.specs.Placing.{fits_beside}
 
--- open lists in which vehicle v gets another list, with these nodes beside those that it had, are open exactly where
--- vehicle v may drive it and no group gets more active nodes than it may have
+-- let lists be open, and vehicle v get another list, with these nodes beside those that it had. Then they are open
+-- exactly if vehicle v may drive it and no group gets more active nodes than it may have
 abbrev pub OpennessIsLocal : Type 0
 OpennessIsLocal = (model : Model) (lists : List (List ℕ)) (v : ℕ) (list nodes : List ℕ)
     → IsTrue (is_open model lists) → v < length lists

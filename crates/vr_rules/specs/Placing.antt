@@ -27,7 +27,7 @@ abbrev pub item_lists : Option Item → List (List ℕ)
 item_lists None = []
 item_lists (Some item) = item_nodes item ∷ []
 
--- the nodes of an item are one of the pairs, where they are two
+-- the nodes of an item are one of the pairs, if they are two
 abbrev pub IsOfPairs : Model → Item → Type 0
 IsOfPairs model (Visit node) = ⊤
 IsOfPairs model (PickupAndDelivery pickup delivery) = (k : ℕ) × (k < length model.pairs)
@@ -71,7 +71,7 @@ is_taken marks item node = holds (item_nodes item) node || is_marked marks node
 abbrev pub has_room : List Bool → Item → Group → Bool
 has_room marks item group = nat_le (count_by (is_taken marks item) group.nodes) group.max
 
--- the group of a node, where it is in one, has
+-- the group of a node, if it is in one, has room for the item beside the marked nodes
 abbrev pub has_room_at : Model → List Bool → Item → ℕ → Bool
 has_room_at model marks item node = nat_le (length model.groups) (group_number model node)
     || has_room marks item (group_at model (group_number model node))

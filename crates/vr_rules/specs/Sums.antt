@@ -13,7 +13,7 @@ use Rattle.vr_plan.specs.Paying.{may_pay_alone, PaysNothing}
 use Rattle.vr_plan.specs.Timings.{soft_with, span_with}
 use Rattle.vr_rules.specs.declared.sums.Sums.{Sums}
 
--- the sums over the used ones of the first n vehicles in dimension d; the extent is told where its coefficient is not 0
+-- the sums over the used ones of the first n vehicles in dimension d; the extent is known if its coefficient is not 0
 pub record AreVehicleSums (model : Model) (lists : List (List ℕ)) (d n : ℕ) (sums : Sums) : Type 0 where
   pub soft : sums.soft ≡ total_by (λ v. soft_with model d v (route lists v)) (used_below lists n)
   pub span : sums.span ≡ total_by (λ v. span_with model d v (route lists v)) (used_below lists n)

@@ -37,7 +37,7 @@ fn has_required(lookups: &Lookups<'_>, marks: &[bool]) -> bool
 }
 
 /// Whether each visit in no group is marked as active, and each group without a penalty has as many active nodes as it
-/// may have: open lists are valid exactly where this holds. Takes no memory.
+/// may have. Open lists are valid exactly if this holds. Takes no memory.
 pub(crate) fn is_complete(lookups: &Lookups<'_>, marks: &[bool]) -> bool
     requires { length marks.now ≡ lookups.now.closed.model.now.nodes }
     ensures { result ≡ is_complete_of lookups.now.closed.model.now marks.now }
@@ -45,8 +45,8 @@ pub(crate) fn is_complete(lookups: &Lookups<'_>, marks: &[bool]) -> bool
     has_required(lookups, marks) && groups_pass(GroupRule::Filled, lookups.closed, marks)
 }
 
-/// Routes with these open lists of the model; `None` exactly where they are not valid, since something is missing in
-/// them. `NoMemory` where there was no memory. First solutions by cheapest arcs and by insertion end with it.
+/// Routes with these open lists of the model; `None` exactly if they are not valid, since something is missing in them.
+/// `NoMemory` if it is out of memory. First solutions by cheapest arcs and by insertion end with it.
 pub fn complete_routes(
     alloc: Global,
     lookups: &Lookups<'_>,

@@ -32,7 +32,7 @@ pub fn arcs_of_route(closed: Closed<'_>, vehicle: u32, list: &[u32]) -> i64
     total + closed.model.arc_cost(vehicle, at, ends.end)
 }
 
-// What the use of a vehicle costs with these visits: nothing where there are none.
+// What the use of a vehicle costs with these visits: nothing if there are none.
 fn fixed_of_route(closed: Closed<'_>, vehicle: u32, visits: &[u32]) -> i64
     requires vehicle { vehicle < length closed.model.now.vehicles }
     ensures value { result ≡ (if is_empty visits.now then pos 0 else

@@ -1,5 +1,5 @@
-//! What a vehicle reaches at the end of a list that grows: whether an item may stand there, without going along the
-//! list anew.
+//! What a vehicle reaches at the end of a list that grows. It tells whether an item may come next, without going along
+//! the list anew.
 
 ghost use Rattle.std.specs.Prelude.{◌≡◌, ◌<◌, ◌≤◌, ◌++◌, [], ◌∷◌, All, IfOk, IsTrue, OnOk, length};
 ghost use Rattle.std.specs.List.{list_all};
@@ -26,13 +26,13 @@ use vr_reach::Walk;
 use vr_spans::Spans;
 use vr_steps::{Breaks, Levels, StopName, allowed_at, hop, start_levels};
 
-// What a vehicle reaches in one dimension at the end of its list, and what the stops allow that may come behind.
+// What a vehicle reaches in one dimension at the end of its list, and what the stops allow that may come next.
 #[derive(Drop)]
 pub(crate) struct Front {
     dimension: u32,
     vehicle: u32,
     breaks: Breaks,
-    // of each node what it allows, nothing where it is no visit
+    // of each node what it allows, nothing if it is no visit
     visits: Vec<Spans>,
     // what the end of the vehicle allows
     ending: Spans,
@@ -40,7 +40,7 @@ pub(crate) struct Front {
     here: Levels,
 }
 
-/// Where the next arc begins: at the last visit of the list, at the start of vehicle `v` where the list is empty.
+/// The node at which the next arc begins: the last visit of the list, or the start of vehicle `v` if the list is empty.
 /// `vr_first_arc` asks it too, for what that arc costs.
 pub fn last_stop(model: &Model, v: u32, list: &[u32]) -> u32
     requires { v < length model.now.vehicles }
@@ -62,7 +62,7 @@ struct VehicleIn<'m> {
     ghost vehicle: { v < length closed.model.now.vehicles },
 }
 
-// What a node allows, where it is a visit.
+// What a node allows, if it is a visit.
 fn visit_set(alloc: Global, of: &VehicleIn<'_>, node: u32) -> Result<Spans, NoMemory>
     ensures { IfOk result (λ set. IsTrue (is_visit_of of.now.closed.model.now node)
         → IsStopSet of.now.closed.model.now of.now.d of.now.v (Visit node) set) }
@@ -98,7 +98,7 @@ fn levels_at_start(alloc: Global, of: &VehicleIn<'_>, breaks: &Breaks) -> Result
     start_levels(alloc, &start, breaks)
 }
 
-// A list of a vehicle, and an item that may stand at its end.
+// A list of a vehicle, and an item that may come next.
 #[derive(Clone, Copy)]
 struct Longer<'m, 'l> {
     closed: Closed<'m>,
@@ -129,7 +129,7 @@ impl Front {
         })
     }
 
-    // Lets a walk stand behind the arc from the end of the list to a visit.
+    // Lets a walk cross the arc from the end of the list to a visit.
     fn leave(
         &self,
         walk: &mut Walk,
@@ -150,7 +150,7 @@ impl Front {
         walk.cross_from(&self.here, arc, next, &self.breaks)
     }
 
-    // Lets a walk stand at the last node of an item behind the list.
+    // Lets a walk go on from the end of the list to the last node of an item.
     fn walk_item(&self, walk: &mut Walk, longer: &Longer<'_, '_>) -> Result<(), NoMemory>
         requires { IsFront longer.now.closed.model.now longer.now.list.now self.now }
         ensures reached { OnOk result (AreReachedBehind longer.now.closed.model.now self.now.dimension self.now.vehicle
@@ -169,8 +169,7 @@ impl Front {
         }
     }
 
-    // Whether the line of the list with the item at its end has a schedule, where the walk stands at the last node of
-    // the item.
+    // Whether the line of the list with the item at its end has a schedule. The walk is at the last node of the item.
     fn ends(&self, walk: &mut Walk, longer: &Longer<'_, '_>) -> Result<bool, NoMemory>
         requires front { IsFront longer.now.closed.model.now longer.now.list.now self.now }
         requires driven { IsDriven longer.now.closed.model.now (longer.now.list.now ++ item_nodes longer.now.item) }
@@ -307,7 +306,7 @@ fn appended(alloc: Global, list: &[u32], item: Item) -> Result<Vec<u32>, NoMemor
 }
 
 // Whether the list with the item at its end serves each pair in order, and keeps the policy of the vehicle. It takes no
-// memory where the model has no pairs.
+// memory if the model has no pairs.
 fn keeps_pairs_with(room: &mut Room, of: &Longer<'_, '_>) -> Result<bool, NoMemory>
     requires vehicle { of.now.v < length of.now.closed.model.now.vehicles }
     requires driven { IsDriven of.now.closed.model.now (of.now.list.now ++ item_nodes of.now.item) }
@@ -341,8 +340,8 @@ impl Room {
     }
 }
 
-/// What a vehicle reaches in each dimension at the end of its list. It is kept while the list grows, so that an item is
-/// tried there without going along the list anew; only pairs are asked of the whole list.
+/// What a vehicle reaches in each dimension at the end of its list. It is kept while the list grows, so an item is
+/// tried there without going along the list anew. Only pairs are asked of the whole list.
 #[derive(Drop)]
 pub struct Fronts {
     each: Vec<Front>,
@@ -366,7 +365,7 @@ impl Fronts {
     }
 
     /// Whether vehicle `v`, which may drive its list, may drive it with an item at its end, as `route_open` says it. It
-    /// takes no memory where the model has no pairs, the vehicle no breaks, and no set of cumuls more than four runs.
+    /// takes no memory if the model has no pairs, the vehicle no breaks, and no set of cumuls more than four runs.
     /// Pairs are asked last, since for them the list is written out.
     pub fn may_append(
         &self,

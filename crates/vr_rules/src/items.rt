@@ -17,7 +17,7 @@ use vr_model::{Group, Model, NoMemory, Seq};
 pub enum Item {
     /// A visit in no pair.
     Visit(u32),
-    /// A pickup, and the delivery that goes into the same list behind it.
+    /// A pickup, and the delivery that comes after it in the same list.
     PickupAndDelivery(u32, u32),
 }
 
@@ -58,9 +58,12 @@ impl Item {
 pub struct Candidate {
     /// What is placed.
     pub item: Item,
-    /// 0 where it must be placed, 1 where it is in a group without a penalty, 2 where it is in one with a penalty; of a
-    /// pair the lesser of the classes of its two nodes. Where a construction chooses among items, a lesser class comes
-    /// first.
+    /// How pressing it is. When a construction chooses among items, a lesser class comes first:
+    /// - 0: it must be placed.
+    /// - 1: it is in a group without a penalty.
+    /// - 2: it is in a group with a penalty.
+    ///
+    /// Of a pair it is the lesser of the classes of its two nodes.
     pub class: u32,
 }
 

@@ -44,7 +44,7 @@ fn has_room(marks: &[bool], item: Item, group: &Group) -> bool
     taken <= group.max as usize
 }
 
-// Whether the group of a node, where it is in one, has room for an item beside the marked nodes.
+// Whether the group of a node, if it is in one, has room for an item beside the marked nodes.
 fn group_has_room(lookups: &Lookups<'_>, marks: &[bool], item: Item, node: u32) -> bool
     requires { length marks.now ≡ lookups.now.closed.model.now.nodes }
     ensures { result ≡ has_room_at lookups.now.closed.model.now marks.now item node }

@@ -13,8 +13,8 @@ use crate::sums::{RoutesIn, sums_of};
 use vr_model::{NoMemory, Parts};
 use vr_plan::{Timer, global_cost};
 
-// What the chosen schedules of routes cost in all dimensions, or in the first ones on the way there: by global spans,
-// by soft upper bounds, and by the spans of vehicles.
+// What the chosen schedules of routes cost in all dimensions, or in the first ones on the way there. They cost by
+// global spans, by soft upper bounds, and by the spans of vehicles.
 #[derive(Clone, Copy)]
 struct Timed {
     global: i64,

@@ -39,8 +39,8 @@ fn penalty_of_group(marks: &[bool], group: &Group) -> i64
     }
 }
 
-// What all groups cost with the marked nodes: for each group with a penalty, the penalty times how many nodes fewer are
-// marked than may be.
+// What all groups cost with the marked nodes. A group with a penalty costs the penalty times how many nodes fewer are
+// marked than may be. With a penalty of 50, one node marked and three that may be, that is 100.
 pub(crate) fn penalty_of_groups(closed: Closed<'_>, marks: &[bool]) -> i64
     requires marks { length marks.now ≡ closed.model.now.nodes }
     requires fit { IsTrue (list_all (fits_by marks.now) closed.model.now.groups) }

@@ -33,7 +33,7 @@ impl Driving {
 /// Whether vehicle `v` may drive a list, as `Rules::route_open` answers it, over what was looked up of the model. What
 /// takes least is asked first. `Rules` asks it of lists, and `vr_first_savings` of routes that it begins or joins.
 ///
-/// The list holds distinct visits. `NoMemory` where there was no memory.
+/// The list holds distinct visits. `NoMemory` if it is out of memory.
 pub fn is_route_open(
     lookups: &Lookups<'_>,
     v: u32,

@@ -24,10 +24,12 @@ use vr_routes::Routes;
 
 /// The rules of a model, ready to be asked of any lists. Contracts see the model, which no call changes.
 ///
-/// What its stops ask is looked up once, and the group, the pair and the allowed vehicles of each node, and what a
-/// question writes is kept, to be written over: after the first questions an answer takes memory only where a set of
-/// cumuls has more than four runs, a list is longer than any before, its vehicle has breaks, or a tight schedule is
-/// built, for which a line is copied.
+/// What its stops ask is looked up once, and the group, the pair and the allowed vehicles of each node. What a question
+/// writes is kept, to be written over. After the first questions an answer takes memory only in four cases:
+/// - a set of cumuls has more than four runs,
+/// - a list is longer than any before,
+/// - its vehicle has breaks,
+/// - a tight schedule is built, for which a line is copied.
 #[derive(Drop)]
 pub struct Rules<'m> {
     lookups: Lookups<'m>,
@@ -35,7 +37,7 @@ pub struct Rules<'m> {
     kept: Box<Kept>,
 }
 
-// What is written over where a question wants it.
+// What is written over when a question wants it.
 #[derive(Drop)]
 struct Kept {
     // for each node whether it is active
@@ -55,7 +57,7 @@ impl<'m> Model for Rules<'m> {
 }
 
 impl<'m> Rules<'m> {
-    /// The rules of a model. The only refusal is want of memory, as of each question. `vr_plain` calls it, and the
+    /// The rules of a model. It fails only if it is out of memory, as each question does. `vr_plain` calls it, and the
     /// functions below; the program has the model looked up, and calls `over`.
     pub fn open(alloc: Global, model: &'m RoutingModel) -> Result<Rules<'m>, NoMemory>
         requires { IsWellFormed model.now }
@@ -90,8 +92,10 @@ impl<'m> Rules<'m> {
         self.lookups.closed.model
     }
 
-    /// Whether vehicle `v` may drive a list: the list is empty, or its line in each dimension has a schedule, it serves
-    /// each pair in order and as the vehicle's policy asks, and the vehicle may visit each of its nodes.
+    /// Whether vehicle `v` may drive a list. It may if the list is empty, or if three things hold:
+    /// - Its line in each dimension has a schedule.
+    /// - It serves each pair in order and as the vehicle's policy asks.
+    /// - The vehicle may visit each of its nodes.
     ///
     /// The list holds distinct visits. Tests alone ask it, by the function `route_open`; `vr_first_savings` asks
     /// `is_route_open`, over room of its own.
@@ -117,8 +121,8 @@ impl<'m> Rules<'m> {
         is_open(&of, None, &mut kept.driving)
     }
 
-    /// The same, where other routes of the model are open. A list that is the same there is not asked again. `vr_lns`
-    /// asks it of what a cut leaves, beside the routes that are cut.
+    /// The same, if other routes of the model are open. A list that is the same there is not asked again. `vr_lns` asks
+    /// it of what a ruin leaves, beside the routes that are ruined.
     pub fn open_beside(&mut self, others: &Routes, routes: &Routes) -> Result<bool, NoMemory>
         requires others { AreBuilt self.old others.now.lists }
         requires lists { IsTrue (are_lists self.old routes.now.lists) }
@@ -130,9 +134,9 @@ impl<'m> Rules<'m> {
         is_open(&of, Some(others), &mut kept.driving)
     }
 
-    /// Whether routes of the model are valid, where they are open: each visit in no group is active, and each group
-    /// without a penalty has exactly as many active nodes as it may have. `vr_lns` asks it of what is rebuilt, which is
-    /// open.
+    /// Whether open routes of the model are valid: each visit in no group is active, and each group without a penalty
+    /// is full. A full group has exactly as many active nodes as it may have. `vr_lns` asks it of what is recreated,
+    /// which is open.
     pub fn valid_where_open(&mut self, routes: &Routes) -> Result<bool, NoMemory>
         requires built { AreBuilt self.old routes.now.lists }
         ensures answer { IfOk result (λ answer. answer ≡ is_valid_of self.old routes.now.lists) }
@@ -143,9 +147,12 @@ impl<'m> Rules<'m> {
         Ok(is_valid_where_open(&of))
     }
 
-    /// Whether routes of the model are valid: they are open, each visit in no group is active, and each group without a
-    /// penalty has exactly as many active nodes as it may have. `vr_first_savings` asks it of its last lists, and
-    /// `vr_plain` of those after a move that it judges.
+    /// Whether routes of the model are valid. They are if three things hold:
+    /// - They are open.
+    /// - Each visit in no group is active.
+    /// - Each group without a penalty has exactly as many active nodes as it may have.
+    ///
+    /// `vr_first_savings` asks it of its last lists, and `vr_plain` of those after a move that it judges.
     pub fn valid(&mut self, routes: &Routes) -> Result<bool, NoMemory>
         requires lists { IsTrue (are_lists self.old routes.now.lists) }
         ensures answer { IfOk result (λ answer. answer ≡ is_valid_of self.old routes.now.lists) }
@@ -169,8 +176,8 @@ impl<'m> Rules<'m> {
         parts_of(&of, &mut kept.timer)
     }
 
-    /// What open routes cost at their chosen schedules, also where visits are missing that must be served. Each of the
-    /// six parts has its bound, and so has any sum of them. `vr_ruin` asks it.
+    /// What open routes cost at their chosen schedules, also if visits are missing that must be served. Each of the six
+    /// parts has its bound, and so has any sum of them. `vr_ruin` asks it.
     pub fn cost_where_open(&mut self, routes: &Routes) -> Result<Parts, NoMemory>
         requires built { AreBuilt self.old routes.now.lists }
         ensures parts { IfOk result (λ parts. parts ≡ parts_at self.old (assigned self.old routes.now.lists)) }
@@ -196,7 +203,7 @@ impl<'m> Rules<'m> {
 
 /// Whether vehicle `v` may drive a list, as `Rules::route_open` answers it.
 ///
-/// The list holds distinct visits. `NoMemory` where there was no memory.
+/// The list holds distinct visits. `NoMemory` if it is out of memory.
 pub fn route_open(
     alloc: Global,
     model: &RoutingModel,
@@ -213,7 +220,7 @@ pub fn route_open(
     rules.route_open(v, list)
 }
 
-/// Whether routes of the model are open, as `Rules::open_routes` answers it. `NoMemory` where there was no memory.
+/// Whether routes of the model are open, as `Rules::open_routes` answers it. `NoMemory` if it is out of memory.
 pub fn open(alloc: Global, model: &RoutingModel, routes: &Routes) -> Result<bool, NoMemory>
     requires well_formed { IsWellFormed model.now }
     requires lists { IsTrue (are_lists model.now routes.now.lists) }
@@ -223,7 +230,7 @@ pub fn open(alloc: Global, model: &RoutingModel, routes: &Routes) -> Result<bool
     rules.open_routes(routes)
 }
 
-/// Whether routes of the model are valid, as `Rules::valid` answers it. `NoMemory` where there was no memory.
+/// Whether routes of the model are valid, as `Rules::valid` answers it. `NoMemory` if it is out of memory.
 pub fn valid(alloc: Global, model: &RoutingModel, routes: &Routes) -> Result<bool, NoMemory>
     requires well_formed { IsWellFormed model.now }
     requires lists { IsTrue (are_lists model.now routes.now.lists) }
@@ -233,7 +240,7 @@ pub fn valid(alloc: Global, model: &RoutingModel, routes: &Routes) -> Result<boo
     rules.valid(routes)
 }
 
-/// What valid routes cost, as `Rules::cost` answers it. `NoMemory` where there was no memory.
+/// What valid routes cost, as `Rules::cost` answers it. `NoMemory` if it is out of memory.
 pub fn cost(alloc: Global, model: &RoutingModel, routes: &Routes) -> Result<Parts, NoMemory>
     requires well_formed { IsWellFormed model.now }
     requires valid { IsTrue (is_valid_of model.now routes.now.lists) }
@@ -244,7 +251,7 @@ pub fn cost(alloc: Global, model: &RoutingModel, routes: &Routes) -> Result<Part
     rules.cost(routes)
 }
 
-/// What valid routes cost in all, as `Rules::total` answers it. `NoMemory` where there was no memory.
+/// What valid routes cost in all, as `Rules::total` answers it. `NoMemory` if it is out of memory.
 pub fn total(alloc: Global, model: &RoutingModel, routes: &Routes) -> Result<i64, NoMemory>
     requires well_formed { IsWellFormed model.now }
     requires valid { IsTrue (is_valid_of model.now routes.now.lists) }

@@ -16,8 +16,8 @@ use vr_model::{Dimension, NoMemory};
 use vr_plan::{Extent, Lookups, Timer, Timing, may_pay_alone, span_cost, timing_of, wider};
 use vr_routes::Routes;
 
-// What soft upper bounds and spans cost, and the extent of the routes that may pay, `None` where none does. It is that
-// of all used routes where the coefficient of the global span is not 0, and costs nothing where that is 0.
+// What soft upper bounds and spans cost, and the extent of the routes that may pay, `None` if none does. If the
+// coefficient of the global span is not 0, the extent is that of all used routes. If it is 0, the extent costs nothing.
 #[derive(Clone, Copy)]
 pub(crate) struct Sums {
     pub(crate) soft: i64,
@@ -36,7 +36,7 @@ pub(crate) struct RoutesIn<'l, 'm, 'r> {
 }
 
 // Whether schedules of a list may cost anything: the global span has a coefficient, or they may cost something by
-// themselves. Where they may not, no schedule is looked for.
+// themselves. If they may not, no schedule is looked for.
 fn may_pay(of: &RoutesIn<'_, '_, '_>, v: u32, list: &[u32]) -> bool
     requires vehicle { v < length of.now.lookups.now.closed.model.now.vehicles }
     requires visits { IsTrue (list_all (is_visit of.now.lookups.now.closed.model.now) list.now) }

@@ -13,7 +13,7 @@ use Rattle.vr_span.specs.declared.pieces.Piece.{Piece}
 abbrev pub piece_limit : ℤ
 piece_limit = pos (2 ^ 38)
 
--- the greatest start from which x is reached, where x is a cumul of the piece
+-- the greatest start from which x is reached, if x is a cumul of the piece
 abbrev pub start_of : Piece → ℤ → ℤ
 start_of piece x = int_min (piece.first +ℤ (x -ℤ piece.lo)) piece.last
 
@@ -26,7 +26,7 @@ abbrev pub have_from : List Piece → ℤ → ℤ → Bool
 have_from [] s x = false
 have_from (piece ∷ pieces) s x = has_from piece s x || have_from pieces s x
 
--- the numbers of a piece: it has a cumul, none above top, and its starts rise by one with each cumul at most, up to the
+-- the numbers of a piece. It has a cumul, none above top, and its starts rise by one with each cumul at most, up to the
 -- horizon
 pub record IsPiece (top : ℤ) (piece : Piece) : Type 0 where
   pub in_order : piece.lo ≤ℤ piece.hi
@@ -71,11 +71,11 @@ within_run run piece =
     let hi = int_min piece.hi run.hi in
     record { lo = lo; hi = hi; first = start_of piece lo; last = start_of piece hi }
 
--- the piece alone where it has a cumul, and else none
+-- the piece alone if it has a cumul, and else none
 abbrev pub piece_if_any : Piece → List Piece
 piece_if_any piece = if int_le piece.lo piece.hi then piece ∷ [] else []
 
--- what a piece leads to over an arc, where until is the last cumul before the next piece
+-- what a piece leads to over an arc, if until is the last cumul before the next piece
 abbrev pub moved_piece : Hop → ℤ → Piece → Piece
 moved_piece hop until piece = record {
   lo = piece.lo +ℤ hop.transit;
@@ -119,8 +119,8 @@ pub record BeginsInHorizon (piece : Piece) : Type 0 where
   pub cumul : IsIn (pos 0) horizon piece.lo
   pub start : IsIn (pos 0) horizon piece.first
 
--- one of the pieces has the first cumul of this piece, reached from its first start or later, and both lie in
--- 0..=horizon; no cumul of the pieces is reached on a lesser span, and none on this one from a lesser start
+-- the piece is a shortest among pieces. One of them has its first cumul, reached from its first start or later, and
+-- both lie in 0..=horizon. No cumul of the pieces is reached on a lesser span, and none on this one from a lesser start
 pub record IsShortest (pieces : List Piece) (piece : Piece) : Type 0 where
   pub among : IsTrue (have_from pieces piece.first piece.lo)
   pub least : (s x : ℤ) → IsTrue (have_from pieces s x) → span_of piece ≤ℤ (x -ℤ s)

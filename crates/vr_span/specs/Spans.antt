@@ -12,7 +12,8 @@ use Rattle.vr_plan.specs.declared.plans.Plan.{Plan}
 use Rattle.vr_plan.specs.Plans.{as_defined}
 use Rattle.vr_span.specs.declared.least.Least.{Least}
 
--- the plan is a schedule of the line, and its span, the cumul of the end less that of the start, is the one beside it
+-- the plan is a schedule of the line, and its span is the one beside it. The span is the cumul of the end less that of
+-- the start
 pub record HasItsSpan (line : Defined) (least : Least) : Type 0 where
   pub schedule : IsSchedule line (as_defined least.plan)
   pub span_is : span line (as_defined least.plan) ≡ least.span

@@ -17,7 +17,8 @@ IsReachedFrom line k s x = (start : ℤ) × (s ≤ℤ start) × IsReached (pinne
 abbrev pub AreReachedPieces : Defined → ℕ → List Piece → Type 0
 AreReachedPieces line k pieces = (s x : ℤ) → IsTrue (have_from pieces s x) ↔ IsReachedFrom line k s x
 
--- the same at a stop of a line as the code holds it
+-- the pieces have the cumuls that are reached at stop k of a line as the code holds it. Each is had from the starts
+-- from which it is reached
 abbrev pub AreReachedPiecesAt : Line → ℕ → List Piece → Type 0
 AreReachedPiecesAt line k pieces = (defined : Defined) → IsLineOf defined line → AreReachedPieces defined k pieces
 
@@ -27,7 +28,7 @@ pub record IsFirstShortest (line : Defined) (s e : ℤ) : Type 0 where
   pub least : (other : Plan) → IsSchedule line other → (e -ℤ s) ≤ℤ span line other
   pub earliest : (other : Plan) → IsSchedule line other → span line other ≡ (e -ℤ s) → s ≤ℤ cumul other 0
 
--- the first start and the first cumul of the piece are the ends of a schedule of the least span, and none of this span
+-- the first start and the first cumul of the piece are the ends of a schedule of the least span. None of this span
 -- starts earlier
 abbrev pub IsShortestWay : Line → Piece → Type 0
 IsShortestWay line piece = (defined : Defined) → IsLineOf defined line → IsFirstShortest defined piece.first piece.lo

@@ -1,4 +1,4 @@
-//! Pieces along a line: those of its start, and those behind each arc.
+//! Pieces along a line: those of its start, and those after each arc.
 
 ghost use Rattle.std.specs.Prelude.{◌≡◌, ◌++◌, [], drop, length, IfOk, OnOk};
 ghost use Rattle.vr_steps.specs.Arcs.{IsSoundHop};
@@ -50,7 +50,7 @@ fn begin(allowed: &Spans, out: &mut Seq<Piece>) -> Result<(), NoMemory>
     Ok(())
 }
 
-// Writes the pieces of a stop that allows `next` over `out`, where the arc leads to it from the pieces of `from`. It is
+// Writes the pieces of a stop that allows `next` over `out`, as the arc leads to it from the pieces of `from`. It is
 // one pass over the pieces and the runs, in which the one that ends first is done with: both ascend.
 fn cross(from: &[Piece], hop: Hop, next: &Spans, out: &mut Seq<Piece>) -> Result<(), NoMemory>
     requires from { ArePieces from.now }
@@ -76,8 +76,8 @@ fn cross(from: &[Piece], hop: Hop, next: &Spans, out: &mut Seq<Piece>) -> Result
     Ok(())
 }
 
-// The last cumul before the second of the pieces, as far as can be where there is none: a piece is made longer no
-// further than that.
+// The last cumul before the second of the pieces, as far as can be if there is none. A piece is made longer no further
+// than that.
 fn until(pieces: &[Piece]) -> i64
     requires { ArePieces pieces.now }
     ensures value { result ≡ until_of (drop 1 pieces.now) }
@@ -89,7 +89,7 @@ fn until(pieces: &[Piece]) -> i64
     }
 }
 
-// Puts a piece behind others where it has a cumul.
+// Puts a piece after others if it has a cumul.
 fn put(piece: Piece, out: &mut Seq<Piece>) -> Result<(), NoMemory>
     ensures { OnOk result (out.new ≡ out.old ++ piece_if_any piece) }
 {

@@ -19,17 +19,16 @@ use vr_steps::Line;
 /// The least span of a line, and the schedule that has it.
 #[derive(Drop)]
 pub struct Least {
-    /// The cumul of the end less that of the start, in the unit of the dimension. It may be negative where transits
-    /// are.
+    /// The cumul of the end less that of the start, in the unit of the dimension. It may be negative if transits are.
     pub span: i64,
     /// Of the schedules of this span the one whose cumuls, compared from the start on, are least.
     pub plan: Plan,
 }
 
-/// The least span of a sound line without breaks, over all its schedules, and of the schedules of this span the one
-/// whose cumuls, compared from the start on, are least. A line is sound where it is that of a well-formed model and a
-/// list of distinct visits, one at least. `None` exactly where the line has no schedule; `NoMemory` where memory is
-/// wanting.
+/// The least span of a sound line without breaks, over all its schedules. The plan is, of the schedules of this span,
+/// the one whose cumuls, compared from the start on, are least. A line is sound if it is that of a well-formed model
+/// and a list of distinct visits, one at least. `None` exactly if the line has no schedule; `NoMemory` if it is out of
+/// memory.
 pub fn span(alloc: Global, line: &Line) -> Result<Option<Least>, NoMemory>
     requires sound { IsSoundLine line.now }
     requires no_breaks { line.now.breaks ≡ [] }
@@ -52,7 +51,7 @@ pub fn span(alloc: Global, line: &Line) -> Result<Option<Least>, NoMemory>
 }
 
 // A piece whose first start and first cumul are the ends of a schedule of the least span, of these the one that starts
-// first; `None` exactly where the line has no schedule.
+// first; `None` exactly if the line has no schedule.
 fn shortest_way(alloc: Global, line: &Line) -> Result<Option<Piece>, NoMemory>
     requires sound { IsSoundLine line.now }
     requires no_breaks { line.now.breaks ≡ [] }
@@ -65,7 +64,7 @@ fn shortest_way(alloc: Global, line: &Line) -> Result<Option<Piece>, NoMemory>
     Ok(shortest(pieces.as_slice()))
 }
 
-// The chosen schedule of the line whose start allows `start` alone, and whose end `end`; `None` exactly where there is
+// The chosen schedule of the line whose start allows `start` alone, and whose end `end`; `None` exactly if there is
 // none.
 fn schedule_between(
     alloc: Global,

@@ -30,7 +30,7 @@ impl Piece {
         }
     }
 
-    // The greatest start from which `x` is reached, where it is a cumul of the piece.
+    // The greatest start from which `x` is reached, if it is a cumul of the piece.
     pub(crate) fn start_of(self, x: i64) -> i64
         requires near { IsNear self }
         requires x { IsNearNumber x }
@@ -39,7 +39,7 @@ impl Piece {
         (self.first + (x - self.lo)).min(self.last)
     }
 
-    // What is left of it in a run. It has no cumul where the run has none of it.
+    // What is left of it in a run. It has no cumul if the run has none of it.
     pub(crate) fn within(self, run: Run) -> Piece
         requires near { IsNear self }
         requires run_lo { IsNearNumber run.lo }
@@ -56,7 +56,7 @@ impl Piece {
         }
     }
 
-    // What it leads to over an arc, where `until` is the last cumul before the next piece.
+    // What it leads to over an arc; `until` is the last cumul before the next piece.
     pub(crate) fn over(self, hop: Hop, until: i64) -> Piece
         requires near { IsNear self }
         requires hop { IsSoundHop hop }

@@ -5,7 +5,7 @@ ghost use Rattle.vr_span.specs.Pieces.{ArePieces, BeginsInHorizon, IsShortest, s
 
 use crate::pieces::Piece;
 
-// The first of the pieces of the least span; `None` exactly where there is no piece.
+// The first of the pieces of the least span; `None` exactly if there is no piece.
 pub(crate) fn shortest(pieces: &[Piece]) -> Option<Piece>
     requires { ArePieces pieces.now }
     ensures some { IfSome result (IsShortest pieces.now) }

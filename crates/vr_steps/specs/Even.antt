@@ -11,8 +11,8 @@ use Rattle.vr_model.specs.schedules.Weights.{list_weight}
 use Rattle.vr_model.specs.declared.records.Dimension.{Dimension}
 use Rattle.vr_model.specs.declared.records.Model.{Model}
 
--- the same dimension with a fixed start, no waiting, a capacity as large as can be for the first vehicle, and no rows
--- of stops and no breaks
+-- the same dimension, which asks nothing else. It has a fixed start, no waiting, a capacity as large as can be for the
+-- first vehicle, no rows of stops and no breaks
 abbrev pub asking_nothing_else : Dimension → Dimension
 asking_nothing_else dimension = record dimension {
   slack_max = pos 0;
@@ -24,7 +24,7 @@ asking_nothing_else dimension = record dimension {
   breaks = [];
 }
 
--- the first vehicle goes from node 0 to node 0, and in the first dimension the way between any two nodes takes 5, and
+-- the first vehicle goes from node 0 to node 0. In the first dimension the way between any two nodes takes 5, and
 -- nothing else is asked
 pub record IsEven (model : Model) : Type 0 where
   pub well_formed : IsWellFormed model
@@ -36,7 +36,7 @@ pub record IsEven (model : Model) : Type 0 where
   pub visits : (i : ℕ) → number_at (dimension_at model 0).visit i ≡ pos 0
   pub transits : (i j : ℕ) → i < model.nodes → j < model.nodes → i ≢ j → transit model 0 0 i j ≡ pos 5
 
--- there are such models
+-- there is an even model
 abbrev pub SomeModelIsEven : Type 0
 SomeModelIsEven = (model : Model) × IsEven model
 
@@ -55,6 +55,6 @@ OfEachSwap claim = (model : Model) → IsEven model → (front back : List ℕ) 
 abbrev pub SwapWeighsFive : Type 0
 SwapWeighsFive = OfEachSwap (λ model old new. list_weight model 0 0 old new ≡ 5)
 
--- and the list has a schedule afterwards
+-- two neighbours that change places in a list leave it a schedule
 abbrev pub SwapIsFeasible : Type 0
 SwapIsFeasible = OfEachSwap (λ model old new. IsTrue (is_feasible (line model 0 0 new)))

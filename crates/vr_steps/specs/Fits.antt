@@ -7,13 +7,13 @@ use Rattle.vr_model.specs.schedules.Levels.{FitBefore, FitAfter}
 use Rattle.vr_steps.specs.Levels.{level_at}
 use Rattle.vr_model.specs.declared.records.BreakRow.{BreakRow}
 
--- a cumul, before which the breaks fit, and before no lesser one
+-- the least cumul before which the breaks fit. They fit before each greater one too
 pub record IsEarliest (rows : List BreakRow) (first : ℤ) : Type 0 where
   pub low : pos 0 ≤ℤ first
   pub high : first ≤ℤ horizon
   pub exact : (x : ℤ) → pos 0 ≤ℤ x → x ≤ℤ horizon → FitBefore rows x ↔ (first ≤ℤ x)
 
--- a cumul, after which the breaks fit, and after no greater one
+-- the greatest cumul after which the breaks fit. They fit after each lesser one too
 pub record IsLatest (rows : List BreakRow) (last : ℤ) : Type 0 where
   pub low : pos 0 ≤ℤ last
   pub high : last ≤ℤ horizon
@@ -37,7 +37,7 @@ abbrev pub CanEnd : List (List Run) → List BreakRow → Type 0
 CanEnd levels breaks = (b : ℕ) × (b ≤ length breaks) × (x : ℤ) × IsTrue (has (level_at levels b) x)
     × FitAfter (drop b breaks) x
 
--- the same with fewer than n breaks taken
+-- with some number of breaks below n taken, a cumul is there after which the others fit
 abbrev pub CanEndBelow : List (List Run) → List BreakRow → ℕ → Type 0
 CanEndBelow levels breaks n = (b : ℕ) × (b < n) × (x : ℤ) × IsTrue (has (level_at levels b) x)
     × FitAfter (drop b breaks) x

@@ -35,7 +35,7 @@ upto last = record { lo = pos 0; hi = last }
 abbrev pub onward : ℤ → Run
 onward first = record { lo = first; hi = horizon }
 
--- an arc with these breaks inside leads exactly where the passage lets through
+-- an arc with these breaks inside leads from one cumul to another exactly if the passage lets them through
 pub record IsPassage (hop : Hop) (rows : List BreakRow) (passage : Passage) : Type 0 where
   pub open_way : IsOpen passage
   pub exact : (y x : ℤ) → Leads hop rows y x
@@ -66,7 +66,7 @@ ArrivesAt from hop rows next x = IsTrue (has next x) × ((y : ℤ) × IsTrue (ha
 abbrev pub DepartsAt : List Run → Hop → List BreakRow → List Run → ℤ → Type 0
 DepartsAt to hop rows here y = IsTrue (has here y) × ((x : ℤ) × IsTrue (has to x) × Leads hop rows y x)
 
--- the cumuls of next to which the arc leads from the levels of k breaks or more, with b breaks taken behind it
+-- the cumuls of next to which the arc leads from the levels of k breaks or more, with b breaks taken by its end
 abbrev pub AreArrivals : List (List Run) → Hop → List Run → List BreakRow → ℕ → ℕ → List Run → Type 0
 AreArrivals from hop next breaks k b set = (x : ℤ)
     → IsTrue (has set x) ↔ (IsTrue (has next x)

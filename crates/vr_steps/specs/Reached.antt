@@ -1,4 +1,4 @@
--- How levels of sets stand for what a line reaches: the laws of arcs in a line, as statements.
+-- How levels of sets agree with what a line reaches: the laws of arcs in a line, as statements.
 use Rattle.std.specs.Prelude.{◌≡◌, ℕ, suc, ◌<◌, ◌≤◌, ◌↔◌, false, IsTrue, List, [], length, drop, slice_index_or, ℤ}
 use Rattle.vr_spans.specs.declared.runs.Run.{Run}
 use Rattle.vr_spans.specs.Runs.{has, IsNormal}
@@ -45,11 +45,11 @@ pub record StandsFor (defined : Line) (made : Made) : Type 0 where
 abbrev pub SoundLinesAreDefined : Type 0
 SoundLinesAreDefined = (made : Made) → IsSoundLine made → IsLineOf (defined_by made) made
 
--- a sound line that is that of a definition stands for it at each place
+-- a sound line that is that of a definition asks at each place what that one asks
 abbrev pub LinesStandForTheirs : Type 0
 LinesStandForTheirs = (defined : Line) (made : Made) → IsLineOf defined made → IsSoundLine made → StandsFor defined made
 
--- an arc of a line leads from one cumul to another where its two stops allow them and the arc alone leads there
+-- an arc of a line leads from one cumul to another exactly if its two stops allow them and the arc alone leads there
 abbrev pub ArcAlone : Type 0
 ArcAlone = (line : Line) → IsSound line → (k a b : ℕ) → k < length line.arcs → (y x : ℤ)
     → Crosses line k a b y x ↔ (IsTrue (allows line k y) × IsTrue (allows line (suc k) x)
@@ -60,7 +60,7 @@ abbrev pub StartIsReached : Type 0
 StartIsReached = (line : Line) → IsSound line → (set : List Run) (levels : List (List Run))
     → IsAllowedSet line 0 set → AreStartLevels set line.breaks levels → AreReached line 0 levels
 
--- the levels behind an arc are what is reached at its end, where those before it are what is reached at its begin
+-- the levels after an arc are what is reached at its end, if those before it are what is reached at its begin
 abbrev pub ReachedBehindArc : Type 0
 ReachedBehindArc = (line : Line) → IsSound line → (k : ℕ) → k < length line.arcs
     → (set : List Run) (from reached : List (List Run))
@@ -73,22 +73,22 @@ EndIsReached = (line : Line) → IsSound line → (set : List Run) (levels : Lis
     → IsAllowedSet line (length line.arcs) set → AreEndLevels set line.breaks levels
     → AreReachingEnd line (length line.arcs) levels
 
--- the levels before an arc are what the end is reached from at its begin, where those behind it are so at its end
+-- the levels before an arc are what the end is reached from at its begin, if those after it are so at its end
 abbrev pub EndReachedBeforeArc : Type 0
 EndReachedBeforeArc = (line : Line) → IsSound line → (k : ℕ) → k < length line.arcs
     → (set : List Run) (to reached : List (List Run))
     → IsAllowedSet line k set → AreReachingEnd line (suc k) to
     → AreCrossedBack to (hop_at line k) set line.breaks reached → AreReachingEnd line k reached
 
--- at any stop: a line is feasible exactly where both levels of some number of breaks share a cumul there
+-- at any stop, a line is feasible exactly if both levels of some number of breaks share a cumul there
 abbrev pub FeasibleWhereShared : Type 0
 FeasibleWhereShared = (line : Line) → IsSound line → (k : ℕ) → k ≤ length line.arcs → (from to : List (List Run))
     → AreReached line k from → AreReachingEnd line k to
     → IsFeasible line ↔ ((b : ℕ) × (b ≤ length line.breaks) × (x : ℤ) × IsTrue (has (level_at from b) x)
     × IsTrue (has (level_at to b) x))
 
--- a line is feasible exactly where, with some number of breaks taken, a cumul is reached at the last stop after which
--- the other breaks fit
+-- a line is feasible exactly if, with some number of breaks taken, the others fit after a cumul that is reached at the
+-- last stop
 abbrev pub FeasibleAtEnd : Type 0
 FeasibleAtEnd = (line : Line) → IsSound line → (levels : List (List Run)) → AreReached line (length line.arcs) levels
     → IsFeasible line ↔ ((b : ℕ) × (b ≤ length line.breaks) × (x : ℤ) × IsTrue (has (level_at levels b) x)

@@ -23,7 +23,7 @@ abbrev pub IsLedTo : Way → List Run → Hop → List BreakRow → List Run →
 IsLedTo way from hop rows within y
     = IsTrue (has within y) × ((x : ℤ) × IsTrue (has from x) × LeadsBy way hop rows x y)
 
--- the set has the allowed cumuls to which the arc leads from the levels, with so many breaks taken there
+-- the set has the allowed cumuls to which the arc leads from the levels, with this many breaks taken there
 abbrev pub IsLevelBy : Way → List (List Run) → Hop → List Run → List BreakRow → ℕ → List Run → Type 0
 IsLevelBy On from hop next breaks b set = AreArrivals from hop next breaks 0 b set
 IsLevelBy Back to hop here breaks a set = AreDepartures to hop here breaks a (length breaks) set
@@ -38,7 +38,7 @@ abbrev pub IsBegunBy : Way → List Run → List BreakRow → ℕ → List Run �
 IsBegunBy On allowed breaks b set = FitsBefore allowed (take b breaks) set
 IsBegunBy Back allowed breaks b set = FitsAfter allowed (drop b breaks) set
 
--- the levels of the stop where it begins
+-- the levels of the stop at which a walk in that direction begins
 abbrev pub AreBegunBy : Way → List Run → List BreakRow → List (List Run) → Type 0
 AreBegunBy On allowed breaks levels = AreStartLevels allowed breaks levels
 AreBegunBy Back allowed breaks levels = AreEndLevels allowed breaks levels

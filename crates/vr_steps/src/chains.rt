@@ -9,10 +9,11 @@ ghost use Rattle.vr_steps.specs.Fits.{IsBoundFound, IsEarliest, IsLatest};
 use vr_model::BreakRow;
 use vr_model::limits::HORIZON;
 
-// It stands for no bound, and its negative too, where there is no break: every moment that matters lies between them.
+// The bound if there is no break, and its negative the lower one: every moment that matters lies between them.
 const FAR: i64 = 1 << 42;
 
-/// What breaks that are taken one after another come to.
+/// What breaks that are taken one after another come to. Take a break of 30 that starts in 0 to 100, and then one of 20
+/// that starts in 60 to 120. They are 50 long, are begun by 90, and are over at 80 at the earliest.
 #[derive(Clone, Copy, Debug, PartialEq, Eq)]
 pub struct Chain {
     /// How long they are together.
@@ -24,7 +25,7 @@ pub struct Chain {
 }
 
 impl Chain {
-    // What these breaks come to; `None` where they cannot be taken one after another.
+    // What these breaks come to; `None` if they cannot be taken one after another.
     pub(crate) fn of(rows: &[BreakRow]) -> Option<Chain>
         requires few { length rows.now ≤ 8 }
         requires rows { All IsBreak rows.now }
@@ -44,7 +45,7 @@ impl Chain {
         Some(chain)
     }
 
-    // The breaks with one more in front; `None` where that one cannot begin in time.
+    // The breaks with one more in front; `None` if that one cannot begin in time.
     fn after(self, row: BreakRow) -> Option<Chain>
         requires row { IsBreak row }
         requires small { IsSmall self }
@@ -64,7 +65,7 @@ impl Chain {
     }
 }
 
-// The first cumul before which the breaks can all be taken; `None` where there is none.
+// The first cumul before which the breaks can all be taken; `None` if there is none.
 pub(crate) fn earliest(rows: &[BreakRow]) -> Option<i64>
     requires few { length rows.now ≤ 8 }
     requires rows { All IsBreak rows.now }
@@ -78,7 +79,7 @@ pub(crate) fn earliest(rows: &[BreakRow]) -> Option<i64>
     Some(first)
 }
 
-// The last cumul after which the breaks can all be taken; `None` where there is none.
+// The last cumul after which the breaks can all be taken; `None` if there is none.
 pub(crate) fn last(rows: &[BreakRow]) -> Option<i64>
     requires few { length rows.now ≤ 8 }
     requires rows { All IsBreak rows.now }

@@ -18,8 +18,9 @@ use std::sync::ledger::Ledger;
 use vr_model::{BreakRow, NoMemory, Steps};
 use vr_spans::Spans;
 
-/// The levels behind an arc: with `b` breaks taken, the cumuls in `next` to which the arc leads from a cumul of some
-/// level `a <= b` of `from`, with the breaks after the first `a` up to the `b`-th inside it.
+/// The levels after an arc, made of those before it. With `b` breaks taken, they have the cumuls in `next` to which the
+/// arc leads from a cumul of some level `a <= b` of `from`. The breaks after the first `a` up to the `b`-th are inside
+/// the arc.
 ///
 /// A step is the image of one run under one number of further breaks; `steps` counts each, and after `NoMemory` at most
 /// as many. The program writes over levels that it has, by `cross_into` and `cross_uncounted`; tests alone call this.
@@ -44,8 +45,8 @@ pub fn cross<L: Ledger>(
     Ok(out)
 }
 
-/// Writes the levels behind an arc over `out`, as `cross` answers them. After `NoMemory` nothing is said of `out`.
-/// Walks whose steps are counted call it (`vr_reach::Walk`).
+/// Writes the levels after an arc over `out`, as `cross` answers them. After `NoMemory` nothing is said of `out`. Walks
+/// whose steps are counted call it (`vr_reach::Walk`).
 #[inline]
 pub fn cross_into<L: Ledger>(
     from: &Levels,
@@ -67,8 +68,9 @@ pub fn cross_into<L: Ledger>(
     cross_uncounted(Way::On, from, hop, next, breaks, out)
 }
 
-/// The levels before an arc: with `a` breaks taken, the cumuls in `here` from which the arc leads to a cumul of some
-/// level `b >= a` of `to`, with the breaks after the first `a` up to the `b`-th inside it.
+/// The levels before an arc, made of those after it. With `a` breaks taken, they have the cumuls in `here` from which
+/// the arc leads to a cumul of some level `b >= a` of `to`. The breaks after the first `a` up to the `b`-th are inside
+/// the arc.
 ///
 /// A step is the preimage of one run under one number of further breaks; `steps` counts each, and after `NoMemory` at
 /// most as many. Tests alone call this; the program crosses backwards by `cross_uncounted`.
@@ -116,8 +118,8 @@ pub fn cross_back_into<L: Ledger>(
     cross_uncounted(Way::Back, to, hop, here, breaks, out)
 }
 
-/// Writes the levels to which an arc leads in one direction over `out`, as `cross_into` and `cross_back_into`, where
-/// nobody counts steps; those count first, and then call it. After `NoMemory` nothing is said of `out`.
+/// Writes the levels to which an arc leads in one direction over `out`, as `cross_into` and `cross_back_into` do, but
+/// counts no steps. Those count first, and then call it. After `NoMemory` nothing is said of `out`.
 #[inline]
 pub fn cross_uncounted(
     way: Way,
@@ -161,15 +163,15 @@ fn write_plain(
     }
 }
 
-// An arc, and all breaks of the vehicle: any that follow one another may be taken inside it (`HopOver` has an arc with
-// those that are).
+// An arc, and all breaks of the vehicle. Any that follow one another may be taken inside it; `HopOver` has an arc with
+// those that are.
 #[derive(Clone, Copy)]
 struct ArcBreaks<'r> {
     hop: Hop,
     rows: &'r [BreakRow],
 }
 
-// Writes over `out` the levels to which an arc leads, each with the breaks taken on the way, where there are breaks.
+// Writes over `out` the levels to which an arc leads, of a vehicle with breaks: each with the breaks taken on the way.
 #[cold]
 #[inline(never)]
 fn write_all(
@@ -219,7 +221,7 @@ fn write_level(
     }
 }
 
-// Writes the cumuls of `next` over `set` to which the arc leads with `b` breaks taken behind it.
+// Writes the cumuls of `next` over `set` to which the arc leads with `b` breaks taken by its end.
 fn write_arrivals(
     from: &Levels,
     arc: &ArcBreaks,
@@ -316,8 +318,8 @@ fn drop_all(sets: &mut Vec<Spans>)
     sets.clear();
 }
 
-// Counts the steps of crossing from levels: of each run one for each number of breaks that may be taken behind the arc,
-// those of its level or more.
+// Counts the steps of crossing from levels. Each run counts one for each number of breaks that may be taken by the end
+// of the arc: that of its level, or more.
 #[inline]
 fn count_forward<L: Ledger>(from: &Levels, steps: &mut Steps<L>)
     ensures count { steps.new ≡ steps.old + forward_steps from.now }
@@ -330,8 +332,8 @@ fn count_forward<L: Ledger>(from: &Levels, steps: &mut Steps<L>)
     }
 }
 
-// Counts the steps of crossing back from levels: of each run one for each number of breaks that may be taken before the
-// arc, those of its level or fewer.
+// Counts the steps of crossing back from levels. Each run counts one for each number of breaks that may be taken before
+// the arc: that of its level, or fewer.
 #[inline]
 fn count_backward<L: Ledger>(to: &Levels, steps: &mut Steps<L>)
     ensures count { steps.new ≡ steps.old + backward_steps to.now }

@@ -64,8 +64,8 @@ pub fn end_levels_into(allowed: &Spans, breaks: &Breaks, out: &mut Levels) -> Re
     write_all(Way::Back, allowed, breaks, out)
 }
 
-/// Whether, with some number of breaks taken, a cumul of the levels is there after which the other breaks can all be
-/// taken. It takes no memory, and needs no levels of the end: `vr_reach::Walk::ends` asks it at a last stop.
+/// Whether, with some number of breaks taken, the others can all be taken after a cumul of the levels. It takes no
+/// memory, and needs no levels of the end: `vr_reach::Walk::ends` asks it at a last stop.
 pub fn can_end(levels: &Levels, breaks: &Breaks) -> bool
     requires breaks { All IsBreak breaks.now }
     requires few { length breaks.now ≤ 8 }
@@ -100,7 +100,8 @@ fn fit_behind(set: &Spans, rows: &[BreakRow]) -> bool
     false
 }
 
-// Writes the levels of the stop where a walk in that direction begins over `out`: on from a start, or back from an end.
+// Writes the levels of the stop at which a walk in that direction begins over `out`: on from a start, or back from an
+// end.
 fn write_all(way: Way, allowed: &Spans, breaks: &Breaks, out: &mut Levels) -> Result<(), NoMemory>
     requires breaks { All IsBreak breaks.now }
     requires few { length breaks.now ≤ 8 }

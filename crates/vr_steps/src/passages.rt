@@ -53,7 +53,7 @@ pub(crate) struct Pass {
 }
 
 impl Passage {
-    // The passage over the breaks; `None` only where the arc leads nowhere with them inside.
+    // The passage over the breaks; `None` only if the arc leads nowhere with them inside.
     fn of(over: &HopOver) -> Option<Passage>
         ensures some { IfSome result (IsPassage over.now.hop over.now.rows.now) }
         ensures none { IsNone result → LeadsNowhere over.now.hop over.now.rows.now }
@@ -62,8 +62,10 @@ impl Passage {
         Passage::over(over.hop, chain)
     }
 
-    // The passage over the breaks of a chain; `None` exactly where the breaks take more than visit and slack leave
-    // them, or have to begin before even a visit at 0 is over, or end beyond the horizon: then it leads nowhere.
+    // The passage over the breaks of a chain. It is `None` in exactly three cases, in which it leads nowhere:
+    // - The breaks take more than visit and slack leave them.
+    // - They have to begin before even a visit at 0 is over.
+    // - They have to end beyond the horizon.
     fn over(hop: Hop, chain: Chain) -> Option<Passage>
         requires hop { IsSoundHop hop }
         requires small { IsSmall chain }
@@ -137,8 +139,8 @@ impl Passage {
     }
 }
 
-// Sets that are written over while an arc with breaks is crossed: the numbers from which it may lead and those to which
-// it may, where it leads, and this together with what was found before.
+// Sets that are written over while an arc with breaks is crossed. They have the numbers from which it may lead, and
+// those to which it may. Then they have those to which it leads, and these together with what was found before.
 #[derive(Drop)]
 pub(crate) struct Scratch {
     left: Spans,
@@ -173,7 +175,7 @@ impl Scratch {
             IsTrue (has set.new x) ↔ (IsTrue (has set.old x)
             ⊎ IsLedTo way from.now over.now.hop over.now.rows.now within.now x)) }
     {
-        // to read one of the sets is to know that all are as they were where the arc leads nowhere
+        // to read one of the sets is to know that all are as they were if the arc leads nowhere
         let _ = &self.left;
         let Some(passage) = Passage::of(over) else {
             return Ok(());

@@ -1,5 +1,5 @@
-//! What a change of lists weighs: how many images of runs a walk takes through it, and how many runs are on both sides
-//! where it meets the list again, in a worked case. As in `laws`, a function has no code, and nobody calls it.
+//! What a change of lists weighs, in a worked case. It is how many images of runs a walk takes through it, and how many
+//! runs both sides have when it rejoins the list. As in `laws`, a function has no code, and nobody calls it.
 
 ghost use Rattle.vr_steps.specs.Even.{SomeModelIsEven, SwapIsFeasible, SwapWeighsFive};
 
@@ -9,8 +9,9 @@ pub fn some_model_is_even()
     ensures { SomeModelIsEven }
 {}
 
-/// There two neighbours that change places in a list of this vehicle weigh five, however long the list is: three arcs
-/// of one run each, and one run of both sides where the walk meets the list again. The list has a schedule afterwards.
+/// In such a model two neighbours that change places in a list of this vehicle weigh five, however long the list is.
+/// They weigh three arcs of one run each, and one run of both sides when the walk rejoins the list. The list has a
+/// schedule afterwards.
 pub fn swap_weighs_five()
     ensures weight { SwapWeighsFive }
     ensures feasible { SwapIsFeasible }
