@@ -50,7 +50,7 @@ pub trait Judge {
         ensures { result.now ≡ model self.now };
 
     /// Bounds what a move makes of the cost. If the lists after the move are valid, its difference is never below the
-    /// answer; of other moves it says nothing. A search asks it before it has a move judged: it takes few moves, and
+    /// answer; of other moves it says nothing. A search asks it before it has a move judged. It takes few moves, and
     /// most can be passed over by what they cost at least. The caller hands in the change that the move makes. It does
     /// not judge the move, takes no memory and counts no steps. A judge that knows no better number says the least of
     /// all.
