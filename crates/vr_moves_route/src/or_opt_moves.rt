@@ -38,7 +38,7 @@ impl Pattern for Gaps {
     ghost differ_in_last = { λ s k. refl };
 }
 
-/// How many nodes of `v`, which has `n`, may be moved from place `a` on: one to three, as far as it has so many there.
+/// How many nodes of `v`, which has `n`, may be moved from place `a` on: one to three, as far as there are as many.
 #[derive(Drop)]
 pub struct Chains {
     v: u32,
@@ -67,7 +67,7 @@ impl Family for Chains {
             a: self.a,
             k,
         };
-        // before place `a` of the rest they stand already
+        // before place `a` of the rest they are already
         let others = AnyLastBut {
             pattern,
             but: self.a,
@@ -76,7 +76,7 @@ impl Family for Chains {
     }
 }
 
-/// The places of `v`, which has `n`, where a chain begins.
+/// The places of `v`, which has `n`, at which a chain begins.
 #[derive(Drop)]
 pub struct Begins {
     v: u32,

@@ -7,8 +7,8 @@ use vr_known::{AnyLast, Block, Each, Family, Lists, Moves, OfList, Pattern, Run,
 use vr_model::{Move, Neighbourhood};
 use vr_routes::Routes;
 
-/// The parts of `v` that begin at place `a`, by the place of their last node, which is behind it: a part of one node
-/// stays as it is.
+/// The parts of `v` that begin at place `a`, by the place of their last node. It comes after place `a`: a part of one
+/// node stays as it is.
 #[derive(Drop)]
 pub struct Parts {
     v: u32,
@@ -37,7 +37,7 @@ impl Pattern for Parts {
     ghost differ_in_last = { λ s k. refl };
 }
 
-/// The places of `v` where a part begins, of which it has `n`.
+/// The places of `v` at which a part begins, of which it has `n`.
 #[derive(Drop)]
 pub struct Begins {
     v: u32,
