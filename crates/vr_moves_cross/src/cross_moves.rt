@@ -39,7 +39,7 @@ impl Pattern for Fronts {
     ghost differ_in_last = { λ s k. refl };
 }
 
-/// The vehicles that may change fronts with `v`, of which the front ends before place `a`: those behind it, so that
+/// The vehicles that may change fronts with `v`, of which the front ends before place `a`. They come after `v`, so that
 /// each two come once.
 #[derive(Drop)]
 pub struct Targets<'a> {
@@ -127,7 +127,7 @@ impl<'a> Family for Vehicles<'a> {
     }
 }
 
-// The first place before which a front may end, where the other one ends before place `a`: not both are empty.
+// The first place before which a front may end if the other one ends before place `a`: not both are empty.
 #[inline]
 fn first_gap(a: u32) -> u32
     ensures value { result ≡ cond (a == 0) 1 0 }
