@@ -8,7 +8,7 @@ use vr_known::{AnyLast, Block, Each, Family, Moves, Pattern, Run};
 use vr_model::{Model as RoutingModel, Move, Neighbourhood};
 use vr_routes::{Routes, is_pair_inactive};
 
-/// The places of `w` before which the delivery may be put, where the pickup is put before place `s`: those from `s` on.
+/// The places of `w` before which the delivery may be put if the pickup is put before place `s`: those from `s` on.
 #[derive(Drop)]
 pub struct Deliveries {
     p: u32,
