@@ -31,8 +31,8 @@ IsPassedOver model takes lists mv least =
     let difference = cost_change model lists mv in
     IsTrue (is_valid model (apply model lists mv)) → least ≤ℤ difference → takes lists mv difference ≡ false
 
--- with such a difference in cost or more, neither this move nor one that differs from it in its last number is taken.
--- So it is if the lists after it are valid
+-- neither this move nor one that differs from it in its last number is taken with this difference in cost or more.
+-- Nothing is said of moves after which the lists are not valid
 abbrev pub IsEnough : Model → (List (List ℕ) → Move → ℤ → Bool) → List (List ℕ) → Move → ℤ → Type 0
 IsEnough model takes lists mv difference =
     (k : ℕ) → IsTrue (is_move model lists (with_last mv k)) → IsPassedOver model takes lists (with_last mv k) difference

@@ -55,7 +55,7 @@ impl<'m> Accept for Cheaper<'m> {
 /// first solution and each move. The routes then have the last lists, which are the best, and the judge has committed
 /// them. `limit` allows up to 10^9 tries and from 1 to 10^9 solutions.
 ///
-/// The report's end is one of three, asked in this order:
+/// The report's end is the first of these that holds:
 ///
 /// - `Solutions` if as many solutions were found as the limit allows;
 /// - `Optimum` if no move of the last lists makes the cost less;
@@ -64,7 +64,7 @@ impl<'m> Accept for Cheaper<'m> {
 /// The judge is asked about no more moves than are tried. It is asked at most twice as often what a move, or a run of
 /// moves, makes at least.
 ///
-/// The only refusal is out of memory. Then the judge has committed the lists of the routes, which are valid. It was
+/// It fails only when out of memory. Then the judge has committed the lists of the routes, which are valid. It was
 /// asked about no more moves than the limit has tries. The watchers have been told the events up to there: of the event
 /// in hand, the first few. Memory is taken by the judge and the watchers alone.
 ///

@@ -56,7 +56,7 @@ impl Progress {
     /// - rows that put elsewhere or take out a pair that such a vehicle serves;
     /// - rows that change activity, if the move did.
     ///
-    /// The only refusal is out of memory. Then the judge has committed the lists of the routes, which are valid. Of the
+    /// It fails only when out of memory. Then the judge has committed the lists of the routes, which are valid. Of the
     /// event in hand some watchers at the front were told. What is known may then be of the lists before, and is not to
     /// be asked again.
     pub fn advance<J: Judge, A: Accept, L: Ledger>(

@@ -245,7 +245,7 @@ impl<'a, J: Judge, A: Accept> Scanning<'a, J, A> {
 /// before are tries as well. If more than 10^9 tries are left, no move is passed over so. Tests alone call it: a search
 /// scans by `Progress::advance`.
 ///
-/// The only refusal is out of memory. Memory is taken by the judge alone, which has committed the same lists then.
+/// It fails only when out of memory. Memory is taken by the judge alone, which has committed the same lists then.
 pub fn scan<J: Judge, A: Accept, L: Ledger>(
     model: &Model,
     judge: &mut J,

@@ -192,8 +192,8 @@ impl<'m, 'p, 's, 'r> WeighedRoutes<'m, 'p, 's, 'r> {
     /// Bounds what the moves of a run take of the penalised arc costs, whatever their last number is. The bound depends
     /// on the kind of the move:
     ///
-    /// - If a visit is put elsewhere, or exchanged, it is what both its arcs add now, and the dearest arc of the other
-    ///   list, or the two dearest neighbours there.
+    /// - If a visit is put elsewhere, or exchanged, it is what both its arcs add now, and what the other list can lose:
+    ///   its dearest arc, or its two dearest neighbours.
     /// - If fronts change vehicles which are alike, it is what the arcs at both cuts add.
     /// - Of other moves it is all that the arcs of their lists add now.
     ///

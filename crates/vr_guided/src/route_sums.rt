@@ -67,7 +67,7 @@ impl Model for AllRouteSums {
 }
 
 impl AllRouteSums {
-    /// Memory for the sums of each vehicle. The only refusal is out of memory.
+    /// Memory for the sums of each vehicle. It fails only when out of memory.
     pub fn new(alloc: Global, model: &RoutingModel) -> Result<AllRouteSums, NoMemory>
         ensures { IfOk result (λ route_sums. length route_sums ≡ length model.now.vehicles) }
     {

@@ -36,17 +36,17 @@ pub struct Guided {
 /// judge has committed; the answer has the first lists of the least cost. `limit` allows up to 10^9 tries and from 1 to
 /// 10^9 solutions, and both parts of `lambda` are in 1..=1000.
 ///
-/// The report's end is one of three, asked in this order:
+/// The report's end is the first of these that holds:
 ///
 /// - `Solutions` if as many solutions were found as the limit allows;
-/// - `Optimum` if a scan of all moves takes none and no penalty could help (the lists have no move, or no used arc
-///   costs anything);
+/// - `Optimum` if a scan of all moves takes none and no penalty could help (there is no move, or no used arc costs
+///   anything);
 /// - `Tries` if the tries ran out.
 ///
 /// The judge is asked about no more moves than are tried. It is asked at most twice as often what a move, or a run of
 /// moves, makes at least.
 ///
-/// The only refusal is out of memory. Then the judge has committed the lists of the routes, which are valid. It was
+/// It fails only when out of memory. Then the judge has committed the lists of the routes, which are valid. It was
 /// asked about no more moves than the limit has tries. The watchers have been told the events up to there: of the event
 /// in hand, the first few. Memory is taken once at the beginning, and then by the judge and the watchers alone.
 ///

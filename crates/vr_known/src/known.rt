@@ -139,8 +139,8 @@ impl Known {
         }
     }
 
-    /// Forgets moves that put a pair elsewhere or take it out, if the vehicle that serves the pair changed since. A
-    /// vehicle changes with its list, or with penalties of its arcs.
+    /// Forgets refused moves that put a pair elsewhere or take it out, if the vehicle that serves the pair changed
+    /// since. A vehicle changes with its list, or with penalties of its arcs.
     pub fn settle(&mut self, model: &RoutingModel, routes: &Routes)
         requires well_formed { IsWellFormed model.now }
         ensures fewer { (k u w : ℕ) → IsTrue (is_known self.new k u w) → IsTrue (is_known self.old k u w) }

@@ -8,7 +8,7 @@ use vr_known::{AnyLast, Block, Each, Family, Moves, Pattern, Run};
 use vr_model::{Move, Neighbourhood};
 use vr_routes::Routes;
 
-/// The nodes of `w` with which that at place `a` of `v` may change places; in its own list only those after it.
+/// The nodes of `w` with which that at place `a` of `v` may change places; in its own route only those after it.
 #[derive(Drop)]
 pub struct Partners {
     v: u32,

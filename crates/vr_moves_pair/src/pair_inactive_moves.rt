@@ -7,7 +7,7 @@ use vr_known::{Moves, Numbered, Run, Sieve};
 use vr_model::{Model as RoutingModel, Move, Neighbourhood};
 use vr_routes::{Routes, is_pair_together};
 
-/// The pairs whose nodes are in one list.
+/// The pairs whose nodes are in one route.
 #[derive(Drop)]
 pub struct Pairs<'a> {
     model: &'a RoutingModel,

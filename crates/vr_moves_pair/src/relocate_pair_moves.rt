@@ -65,8 +65,8 @@ impl Numbered for Deliveries {
     }
 }
 
-/// The places before which the pickup may be put in the rest of the list of `w`. The rest is the list without the pair,
-/// and has `n` nodes. Its end is one of these places.
+/// The places before which the pickup may be put in the rest of the route of `w`. The rest is the route without the
+/// pair, and has `n` nodes. Its end is one of these places.
 #[derive(Drop)]
 pub struct Pickups {
     p: u32,

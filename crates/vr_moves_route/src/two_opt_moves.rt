@@ -1,4 +1,4 @@
-//! Parts of a list that are reversed.
+//! Parts of a route that are reversed.
 
 ghost use Rattle.std.specs.Prelude.{◌≡◌, ◌<◌, map, refl, suc};
 ghost use Rattle.vr_known.specs.Listing.{below, each, from_to, moves_in, Defined, TwoOpt, TwoOptKind};
@@ -59,7 +59,7 @@ impl Family for Begins {
     }
 }
 
-/// The parts of each list that are reversed.
+/// The parts of each route that are reversed.
 #[derive(Drop)]
 pub struct Reversals {}
 
@@ -74,11 +74,11 @@ impl OfList for Reversals {
     }
 }
 
-/// The moves that reverse a part of a list (OR-Tools' `TwoOpt`), in lexicographic order of their numbers. Contracts see
-/// the list of those that are left.
+/// The moves that reverse a part of a route (OR-Tools' `TwoOpt`), in lexicographic order of their numbers. Contracts
+/// see the list of those that are left.
 pub type TwoOptMoves<'a> = Moves<Each<Lists<'a, Reversals>>>;
 
-/// The moves that reverse a part of a list (OR-Tools' `TwoOpt`), in lexicographic order of their numbers.
+/// The moves that reverse a part of a route (OR-Tools' `TwoOpt`), in lexicographic order of their numbers.
 pub fn two_opt<'a>(routes: &'a Routes) -> TwoOptMoves<'a>
     ensures { (model : Defined) → result ≡ moves_in model routes.now.lists TwoOptKind }
 {
