@@ -48,9 +48,9 @@ pub trait Accept {
     }
 
     /// Bounds the differences that may be taken in a run of moves, which differ from this one in their last number
-    /// alone. With this difference or more, none of them is taken. The numbers of `mv`, of which the last is any, need
-    /// not be those of a move. `None` if no such difference is known, whichever the last number is. A scan asks this of
-    /// a run of moves, and hands the answer to `Judge::first_below`. Takes no memory.
+    /// alone. None of them is taken with the answer as its difference, or with more. The numbers of `mv`, of which the
+    /// last is any, need not be those of a move. `None` if no such bound is known, whichever the last number is. A scan
+    /// asks this of a run of moves, and hands the answer to `Judge::first_below`. Takes no memory.
     #[inline]
     fn open_below(&self, routes: &Routes, mv: Move) -> Option<i64>
         requires well_formed { IsWellFormed (model self.now) }
@@ -61,9 +61,9 @@ pub trait Accept {
         None
     }
 
-    /// Whether the move may be taken if it makes a difference of `least` or more. If the answer is false, it is not
-    /// taken. A scan asks this before it has a move judged, and hands in the change that the move makes. Takes no
-    /// memory.
+    /// Whether the move may be taken with a difference of `least` or more. If the answer is false, it is taken with
+    /// none of these. A scan asks this before it has a move judged, and hands in the change that the move makes. Takes
+    /// no memory.
     fn may_accept(&self, routes: &Routes, mv: Move, change: &Change, least: i64) -> bool
         requires asks { CanAsk (model self.now) (stands_at self.now routes.now.lists) routes.now mv }
         requires change { IsChange (model self.now) routes.now.lists mv change.now }

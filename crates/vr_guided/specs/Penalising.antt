@@ -35,7 +35,7 @@ pub record ArePenaltiesFew (limit : Limit) (penalties : Penalties) (state : Sear
   pub tried_few : state.used ≤ limit.tries
   pub few : AtMost state.used penalties
 
--- so it is at whichever state guided search comes to
+-- so it is at each state that guided search comes to
 abbrev pub PenaltiesAreFew : Type 0
 PenaltiesAreFew =
     (model : Model) (limit : Limit) (lambda : Lambda) (lists : List (List ℕ))

@@ -16,7 +16,7 @@ pub fn augmented_costs_are_bounded()
     ensures { AugmentedCostsAreBounded }
 {}
 
-/// No arc is penalised more often than a move was tried, at whichever state guided search comes to. So none is
+/// No arc is penalised more often than a move was tried, at each state that guided search comes to. So none is
 /// penalised more often than its limit allows tries.
 pub fn penalties_are_few()
     ensures { PenaltiesAreFew }

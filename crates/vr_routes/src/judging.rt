@@ -120,7 +120,7 @@ pub trait Judge {
         ensures steps { steps.new ≤ steps.old + weight self.old routes.now.lists mv };
 
     /// Makes a move after which the lists are valid, of which the caller hands in the change. Then the routes have the
-    /// lists after it, and the judge has committed them. If there is no memory, both are as before.
+    /// lists after it, and the judge has committed them. If memory runs out, both are as before.
     fn commit_change(
         &mut self,
         routes: &mut Routes,

@@ -143,8 +143,8 @@ impl Part {
         self.end(hi + 1, n);
     }
 
-    /// Writes the list of a pair that is in it, its pickup first, with the pair put elsewhere. The pickup goes before
-    /// place `s` of what the list is without the pair, and the delivery before place `t` of that.
+    /// Writes the list that a pair is in, its pickup first, with the pair put elsewhere. The pickup goes before place
+    /// `s` of what the list is without the pair, and the delivery before place `t` of that.
     #[inline]
     pub fn move_pair(&mut self, routes: &Routes, at: PairPlaces, s: u32, t: u32, pair: Pair)
         requires two { AreTwoPlaces routes.now.lists at.vehicle at.pickup at.delivery }
@@ -195,8 +195,7 @@ impl Part {
         self.some_chain(v, greatest(i, mid) + 2, j + 2);
     }
 
-    /// Writes the list of a pair that is in it, without the pair. In lists that are not valid its delivery may come
-    /// first.
+    /// Writes the list that a pair is in, without the pair. In lists that are not valid its delivery may come first.
     #[inline]
     pub fn take_pair(&mut self, on: Standing<'_, '_>)
         requires { on.at.pickup ≢ on.at.delivery }

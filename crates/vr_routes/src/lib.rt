@@ -1,9 +1,9 @@
 //! Routes of visits with look-ups, what a move changes in them, and the change made in place.
 //!
 //! `Routes` has the route of each vehicle as a list of visits, and the seat of each node: its vehicle and its place.
-//! `Change` has the routes after a move as segments of the routes before it: chains of nodes, and single nodes. So no
-//! route is copied to write a change. Whoever needs the nodes has them written out. An example: `relocate` takes the
-//! node at place 2 out of route 0. Then route 0 is two chains: its places 0 and 1, and its places from 3 on.
+//! `Change` has the routes after a move as pieces: chains, which are segments of the routes before it, and single
+//! nodes. So no route is copied to write a change. Whoever needs the nodes has them written out. An example: `relocate`
+//! takes the node at place 2 out of route 0. Then route 0 is two chains: its places 0 and 1, and its places from 3 on.
 //!
 //! Invariant: each visit is in one list at most, at the place that the look-ups say. The visits in no list are a list
 //! of their own. A change is made on the routes from which it was written (`IsMadeOn`). Its pieces, joined, are the

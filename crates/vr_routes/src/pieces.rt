@@ -1,4 +1,4 @@
-//! The segments that lists after a change are made of.
+//! The pieces (segments) that lists after a change are made of.
 
 ghost use Rattle.std.specs.Prelude.{All, ◌≡◌, ℕ, ◌+◌, ◌<◌, ◌≤◌, List, [], ◌∷◌, ◌++◌, length, reverse};
 ghost use Rattle.std.specs.Prelude.{take, drop, slice_range};
@@ -10,8 +10,8 @@ ghost use Rattle.vr_routes.specs.Pieces.{HasEnds, IsWithin, joined, middle_of, n
 use arrayvec::ArrayVec;
 use std::marker::Model;
 
-/// A segment of a list after a change: a chain or one node. A chain has the nodes that a list before the change, of
-/// whichever vehicle, has from a place up to but not including a place. They are in their order or reversed.
+/// A piece of a list after a change: a chain or one node. A chain is a segment of a list before the change, of
+/// whichever vehicle: its nodes from a place up to but not including another. They are in their order or reversed.
 #[derive(Clone, Copy, Debug, PartialEq, Eq)]
 pub enum Piece {
     Chain {
