@@ -3,13 +3,13 @@ use Rattle.std.specs.Prelude.{◌≡◌, ℕ, ◌+◌, ◌*◌, ◌≤◌}
 use Rattle.vr_model.specs.declared.records.Model.{Model}
 use Rattle.vr_routes.specs.Tours.{Tours}
 
--- for so many tries a judge was asked about no more moves, and at most twice as often what a move, or a run of moves,
--- makes at least
+-- a judge was asked about no more moves than there were tries. It was asked at most twice as often what a move, or a
+-- run of moves, makes at least
 pub record AsksFor {J : Type 0} (judged seen : J → ℕ) (old new : J) (tries : ℕ) : Type 0 where
   pub asked : judged new ≤ judged old + tries
   pub looked : seen new ≤ seen old + 2 * tries
 
--- the same of a search on its way from so many tries to so many
+-- the same of a search on its way from one number of tries to another
 pub record AsksOn {J : Type 0} (judged seen : J → ℕ) (old new : J) (before after : ℕ) : Type 0 where
   pub asked : judged new + before ≤ judged old + after
   pub looked : seen new + 2 * before ≤ seen old + 2 * after

@@ -20,8 +20,8 @@ pub record IsSearchLimit (limit : Limit) : Type 0 where
   pub one_solution : 1 ≤ limit.solutions
   pub solutions : limit.solutions ≤ 1000000000
 
--- a search may begin, within a limit that it may have, at routes whose lists a judge has committed and whose cost is
--- known
+-- a search may begin at these routes, within a limit that it may have: a judge has committed their lists, and their
+-- cost is known
 pub record CanBegin (model : Model) (routes : Tours) (total : ℤ) (allowed : Limit) (judged : Model)
     (committed : Tours → Type 0) : Type 0 where
   pub judge : CanJudge model routes judged committed
@@ -29,7 +29,8 @@ pub record CanBegin (model : Model) (routes : Tours) (total : ℤ) (allowed : Li
   pub limit : IsSearchLimit allowed
 
 -- a search from the first routes to the last ones has ended as its definition says, with this report and these best
--- routes, which are valid and cost no more than the first, within its limit, and each watcher was told of its events
+-- routes. The best are valid and cost no more than the first, the report is within the limit, and each watcher was told
+-- of its events
 pub record HasEnded {W : Type 0} (after : W → List Event → List ℕ) (model : Model) (limit : Limit) (outcome : Outcome)
     (from to : Tours) (old new : List W) (stated : Report) (chosen : Tours) : Type 0 where
   pub report : stated ≡ outcome.report
@@ -43,17 +44,17 @@ pub record HasEnded {W : Type 0} (after : W → List Event → List ℕ) (model 
   pub same_visits : chosen.visits ≡ from.visits
   pub no_dearer : cost model chosen.lists ≤ℤ cost model from.lists
 
--- the report of a search that ends where it stands
+-- the report of a search that ends at this state
 abbrev pub report_of : Progress → End → Report
 report_of at stop = record { tries = at.used; solutions = at.found; «end» = stop }
 
--- the outcome of a search that ends where it stands, with these events
+-- the outcome of a search that ends at this state, with these events
 abbrev pub outcome_of : List (List ℕ) → Progress → Incumbent → End → List Event → Outcome
 outcome_of lists at best stop events =
     record { last = lists; best = best.routes.lists; report = report_of at stop; events = events }
 
--- a search has gone on from somewhere to its end, which leaves this outcome: where it stands, and what each watcher was
--- told on the way
+-- a search has gone on from somewhere to its end, and left this outcome. It is that of the end state, with the events
+-- that each watcher was told on the way
 pub record HasStopped {W : Type 0} (after : W → List Event → List ℕ) (left : Outcome) (lists : List (List ℕ))
     (at : Progress) (best : Incumbent) (old new : List W) (stop : End) : Type 0 where
   pub outcome : outcome_of lists at best stop left.events ≡ left

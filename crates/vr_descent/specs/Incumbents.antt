@@ -19,8 +19,8 @@ pub record IsBest (model : Model) (visits : List ℕ) (best : Incumbent) : Type 
   pub valid : IsTrue (is_valid model best.routes.lists)
   pub same_visits : best.routes.visits ≡ visits
 
--- a search within a limit is under way: a judge has committed the lists of the routes, which are valid; their cost is
--- known, and the tries and the solutions are counted; and the best routes are valid
+-- a search within a limit is under way: a judge has committed the lists of the routes, which are valid. Their cost is
+-- known, the tries and the solutions are counted, and the best routes are valid
 pub record IsUnderWay (model : Model) (limit : Limit) (committed : Tours → Type 0) (routes : Tours) (at : Progress)
     (incumbent : Incumbent) : Type 0 where
   pub holds : HasCommitted model committed routes

@@ -6,7 +6,7 @@ use Rattle.vr_descent.specs.declared.generators.Generator.TheVariants.{Nothing, 
 use Rattle.vr_descent.specs.declared.generators.Generator.TheVariants.{Cross, RelocatePair, PairActive, PairInactive}
 use Rattle.vr_descent.specs.declared.generators.Generator.TheVariants.{MakeActive, MakeInactive, SwapActive}
 
--- the moves that are left of a neighbourhood, none where none is in hand
+-- the moves that are left of a neighbourhood, none if none is in hand
 abbrev pub left_in : Generator → List Move
 left_in Nothing = []
 left_in (TwoOpt moves) = moves

@@ -15,7 +15,7 @@ use Rattle.vr_routes.specs.Runs.{with_last}
 use Rattle.vr_descent.specs.declared.scanning.ScanEnd.{ScanEnd}
 use Rattle.vr_descent.specs.declared.scanning.ScanEnd.TheVariants.{Accepted, Complete, Cut}
 
--- a move is acceptable where the lists after it are valid, and it is taken with the difference that it makes in cost
+-- a move is acceptable if the lists after it are valid, and it is taken with the difference that it makes in cost
 abbrev pub is_acceptable : Model → (List (List ℕ) → Move → ℤ → Bool) → List (List ℕ) → Move → Bool
 is_acceptable model takes lists mv =
     is_valid model (apply model lists mv) && takes lists mv (cost_change model lists mv)
@@ -25,14 +25,14 @@ abbrev pub taken_difference : Model → (List (List ℕ) → Move → ℤ → Bo
 taken_difference model takes lists mv = cond (is_acceptable model takes lists mv) (Some (cost_change model lists mv))
     None
 
--- a move is not taken where the lists after it are valid and it makes a difference of `least` or more in cost
+-- a move is not taken if the lists after it are valid and it makes a difference of `least` or more in cost
 abbrev pub IsPassedOver : Model → (List (List ℕ) → Move → ℤ → Bool) → List (List ℕ) → Move → ℤ → Type 0
 IsPassedOver model takes lists mv least =
     let difference = cost_change model lists mv in
     IsTrue (is_valid model (apply model lists mv)) → least ≤ℤ difference → takes lists mv difference ≡ false
 
--- neither this move nor one that differs from it in its last number is taken where the lists after it are valid and it
--- makes such a difference in cost or more
+-- neither this move nor one that differs from it in its last number is taken with this difference in cost or more.
+-- Nothing is said of moves after which the lists are not valid
 abbrev pub IsEnough : Model → (List (List ℕ) → Move → ℤ → Bool) → List (List ℕ) → Move → ℤ → Type 0
 IsEnough model takes lists mv difference =
     (k : ℕ) → IsTrue (is_move model lists (with_last mv k)) → IsPassedOver model takes lists (with_last mv k) difference
@@ -47,7 +47,7 @@ scan_end model lists (accepted place mv) = Accepted place mv (cost_change model 
 scan_end model lists (complete n) = Complete n
 scan_end model lists cut = Cut
 
--- where a scan accepts a move, a change is the one that it makes
+-- if a scan accepts a move, a change is the one that it makes
 abbrev pub IsChangeAtEnd : Model → List (List ℕ) → ScanEnd → List ListAfter → Type 0
 IsChangeAtEnd model lists (Accepted place mv difference) change = IsChange model lists mv change
 IsChangeAtEnd model lists (Complete n) change = ⊤

@@ -15,18 +15,18 @@ use vr_model::Move;
 use vr_routes::{Change, Routes};
 
 /// Says which moves a search takes. It means a model, and a test on lists, a move of theirs and the difference that the
-/// move makes in cost. It is asked only about lists that it is ready for, and knows no judge: what one tells of a move
-/// is handed in.
+/// move makes in cost. It is only asked about lists that it is in sync with (`stands_at`). It knows no judge: what one
+/// says of a move is handed in.
 pub trait Accept {
     ghost model: { Self → RoutingModel };
 
-    /// It is ready for these lists: what it keeps of lists is of them.
+    /// It is in sync with these lists: what it keeps of lists is of them.
     ghost stands_at: { Self → List (List ℕ) → Type 0 };
 
     /// Whether a move of lists is taken that makes this difference in cost.
     ghost takes: { Self → List (List ℕ) → Step → ℤ → Bool };
 
-    /// Whether the move is taken. A scan asks `accepts_change`, which asks this only where it has no body of its own.
+    /// Whether the move is taken. A scan asks `accepts_change`, which asks this only if it has no body of its own.
     /// Takes no memory.
     fn accepts(&self, routes: &Routes, mv: Move, difference: i64) -> bool
         requires asks { CanAsk (model self.now) (stands_at self.now routes.now.lists) routes.now mv }
@@ -47,10 +47,10 @@ pub trait Accept {
         self.accepts(routes, mv, difference)
     }
 
-    /// A difference with which, or with more, no move is taken that differs from this one in its last number alone. The
-    /// numbers of `mv`, of which the last is any, need not be those of a move. `None` where none is known, whichever
-    /// the last number is. A scan asks this of a run of moves, and hands the answer to `Judge::first_below`. Takes no
-    /// memory.
+    /// Bounds the differences that may be taken in a run of moves, which differ from this one in their last number
+    /// alone. None of them is taken with the answer as its difference, or with more. The numbers of `mv`, of which the
+    /// last is any, need not be those of a move. `None` if no such bound is known, whichever the last number is. A scan
+    /// asks this of a run of moves, and hands the answer to `Judge::first_below`. Takes no memory.
     #[inline]
     fn open_below(&self, routes: &Routes, mv: Move) -> Option<i64>
         requires well_formed { IsWellFormed (model self.now) }
@@ -61,8 +61,9 @@ pub trait Accept {
         None
     }
 
-    /// Whether the move may be taken where it makes a difference of `least` or more: false only where it is not. A scan
-    /// asks this before it has a move judged, and hands in the change that the move makes. Takes no memory.
+    /// Whether the move may be taken with a difference of `least` or more. If the answer is false, it is taken with
+    /// none of these. A scan asks this before it has a move judged, and hands in the change that the move makes. Takes
+    /// no memory.
     fn may_accept(&self, routes: &Routes, mv: Move, change: &Change, least: i64) -> bool
         requires asks { CanAsk (model self.now) (stands_at self.now routes.now.lists) routes.now mv }
         requires change { IsChange (model self.now) routes.now.lists mv change.now }

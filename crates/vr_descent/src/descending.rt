@@ -51,23 +51,26 @@ impl<'m> Accept for Cheaper<'m> {
     }
 }
 
-/// Takes the first move that makes the cost less, again and again (`GREEDY_DESCENT` in OR-Tools), and tells the
-/// watchers of the first solution and of each move. The routes then have the last lists, which are the best, and the
-/// judge stands at them. `limit` allows up to 10^9 tries and from 1 to 10^9 solutions.
+/// Takes the first move that makes the cost less, again and again (`GREEDY_DESCENT` in OR-Tools). Watchers are told the
+/// first solution and each move. The routes then have the last lists, which are the best, and the judge has committed
+/// them. `limit` allows up to 10^9 tries and from 1 to 10^9 solutions.
 ///
-/// The report's end is `Solutions` where as many solutions were found as the limit allows, which is asked first; else
-/// `Optimum` where no move of the last lists makes the cost less, and `Tries` where the tries ran out before that was
-/// known.
+/// The report's end is the first of these that holds:
 ///
-/// The judge is asked about no more moves than are tried, and at most twice as often what a move, or a run of moves,
-/// makes at least.
+/// - `Solutions` if as many solutions were found as the limit allows;
+/// - `Optimum` if no move of the last lists makes the cost less;
+/// - `Tries` if the tries ran out before that was known.
 ///
-/// The only refusal is want of memory. The judge then stands at the lists of the routes, which are valid, it was asked
-/// about no more moves than the limit has tries, and the watchers have been told the events up to there: of the event
+/// The judge is asked about no more moves than are tried. It is asked at most twice as often what a move, or a run of
+/// moves, makes at least.
+///
+/// It fails only when out of memory. Then the judge has committed the lists of the routes, which are valid. It was
+/// asked about no more moves than the limit has tries. The watchers have been told the events up to there: of the event
 /// in hand, the first few. Memory is taken by the judge and the watchers alone.
 ///
-/// The moves of a row that a scan refused whole are not asked about again as long as the lists of their vehicles stay
-/// and, of kinds that change it, which visits are active; where no dimension has a cost of its global span.
+/// If no dimension has a cost of its global span, moves that were refused are cached. The moves of a row that a scan
+/// refused whole are not asked about again as long as the lists of their vehicles stay. If they change activity, the
+/// active visits must stay too.
 pub fn descend<J: Judge, L: Ledger>(
     model: &Model,
     judge: &mut J,

@@ -18,7 +18,7 @@ use vr_routes::Routes;
 pub(crate) struct Generating<'a> {
     model: &'a RoutingModel,
     routes: &'a Routes,
-    // the neighbourhood in hand, and those behind it
+    // the neighbourhood in hand, and those after it
     current: Generator<'a>,
     behind: &'a [Neighbourhood],
 }
@@ -52,8 +52,7 @@ impl<'a> Generating<'a> {
         }
     }
 
-    /// Takes the first of the moves that are left, behind some that are passed over, which are counted. Takes no
-    /// memory.
+    /// Takes the first of the moves that are left after some that are passed over, which are counted. Takes no memory.
     #[inline(always)]
     pub(crate) fn step<S: Sieve>(
         &mut self,
@@ -88,8 +87,8 @@ impl<'a> Generating<'a> {
         }
     }
 
-    /// Takes those at the front that differ from the move that was taken last in their last number alone, where the
-    /// sieve knows nothing of them or is no longer asked.
+    /// Takes the moves at the front that differ from the move taken last in their last number alone. It does so once
+    /// the sieve knew nothing of them or is no longer asked.
     #[inline(always)]
     pub(crate) fn stretch(&mut self) -> Stretch
         ensures { self.old ≡ result ++ self.new }

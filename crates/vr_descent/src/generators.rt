@@ -60,8 +60,7 @@ impl<'a> Generator<'a> {
         }
     }
 
-    /// Takes the first of the moves that are left, behind some that are passed over, which are counted. Takes no
-    /// memory.
+    /// Takes the first of the moves that are left after some that are passed over, which are counted. Takes no memory.
     #[inline(always)]
     pub fn step<S: Sieve>(
         &mut self,
@@ -94,9 +93,9 @@ impl<'a> Generator<'a> {
         }
     }
 
-    /// Takes those at the front that differ from the move that was taken last in their last number alone, where the
-    /// sieve knows nothing of them or is no longer asked. Three kinds have none, since their moves are not said to be
-    /// runs (`vr_known::Numbered::run`).
+    /// Takes the moves at the front that differ from the move taken last in their last number alone. It does so once
+    /// the sieve knew nothing of them or is no longer asked. Three kinds have none, since their moves are not said to
+    /// be runs (`vr_known::Numbered::run`).
     #[inline(always)]
     pub fn stretch(&mut self) -> Stretch
         ensures { left_in self.old ≡ result ++ left_in self.new }

@@ -3,8 +3,8 @@
 
 ghost use Rattle.vr_descent.specs.Answering.{DescentIsSound};
 
-/// The lists of a greedy descent from valid lists are valid and cost no more than these, and its tries and its
-/// solutions are within the limit.
+/// A greedy descent from valid lists ends at valid lists that cost no more than these. Its tries and its solutions are
+/// within the limit.
 pub fn descent_is_sound()
     ensures { DescentIsSound }
 {}

@@ -15,7 +15,7 @@ use vr_routes::Routes;
 /// The moves of lists that are left to try. Contracts see their list.
 #[derive(Drop)]
 pub struct MoveList<'a> {
-    // the rest of a run of moves of which nothing could be told: each is one step of a number
+    // the rest of a run of moves of which nothing could be known: each is one step of a number
     run: Stretch,
     behind: Generating<'a>,
 }
@@ -29,8 +29,8 @@ impl<'a> Model for MoveList<'a> {
     ghost view = { λ list. list.run ++ list.behind };
 }
 
-/// The moves of the neighbourhoods of a model, of the lists of routes: those of the first neighbourhood, then those of
-/// the second, and so on. Takes no memory.
+/// The moves of the neighbourhoods of a model, of the lists of routes. First come those of the first neighbourhood,
+/// then those of the second, and so on. Takes no memory.
 pub fn moves<'a>(model: &'a RoutingModel, routes: &'a Routes) -> MoveList<'a>
     requires well_formed { IsWellFormed model.now }
     requires of_model { routes.now.visits ≡ visits model.now }
@@ -43,8 +43,8 @@ pub fn moves<'a>(model: &'a RoutingModel, routes: &'a Routes) -> MoveList<'a>
 }
 
 impl<'a> MoveList<'a> {
-    /// Takes the first of the moves that are left, where it goes on a run of which nothing could be told. A scan asks
-    /// it before `step`, which does the same, so that it goes along such a run without that longer call.
+    /// Takes the first of the moves that are left, if it goes on a run of which nothing could be known. A scan asks it
+    /// before `step`, which does the same, so that it goes along such a run without that longer call.
     #[inline(always)]
     pub fn go_along(&mut self) -> Option<Move>
         ensures { MatchOption result (self.new ≡ self.old) (λ mv. self.old ≡ mv ∷ self.new) }
@@ -52,8 +52,7 @@ impl<'a> MoveList<'a> {
         self.run.take()
     }
 
-    /// Takes the first of the moves that are left, behind some that are passed over, which are counted. Takes no
-    /// memory.
+    /// Takes the first of the moves that are left after some that are passed over, which are counted. Takes no memory.
     #[inline(always)]
     pub fn step<S: Sieve>(
         &mut self,
@@ -72,7 +71,7 @@ impl<'a> MoveList<'a> {
         if let Some(mv) = self.run.take() {
             return Some(mv);
         }
-        // Then the first behind the run, and the rest of the run that it begins, where nothing could be told of that.
+        // Then the first after the run, and the rest of the run that it begins, if nothing could be known of that.
         let found = self.behind.step(sieve, judge, passed);
         self.run = self.behind.stretch();
         found

@@ -1,4 +1,4 @@
-//! Where a search stands, and one scan with the move that it finds made (`advance`).
+//! The state of a search, and one scan with the move that it finds made (`advance`).
 
 ghost use Rattle.std.specs.Prelude.{◌≡◌, ◌+◌, ◌≤◌, ◌<◌, ◌^◌, [], ◌∷◌, IsTrue, IfOk, OnOk, OnErr};
 ghost use Rattle.vr_descent.specs.Asking.{AsksOn};
@@ -27,7 +27,7 @@ use vr_model::{Closed, End, Event, Kind, Limit, Model, Move, NoMemory, Report, S
 use vr_routes::{Change, Judge, Routes};
 use vr_watch::{Watch, note_all};
 
-/// Where a search stands: the tries used, the solutions found, the first one among them, and the cost of the lists.
+/// The state of a search: the tries used, the solutions found, the first one among them, and the cost of the lists.
 #[derive(Clone, Copy)]
 pub struct Progress {
     pub used: u64,
@@ -45,15 +45,20 @@ struct Found<'a> {
 }
 
 impl Progress {
-    /// One scan: the first acceptable move is made and told to the watchers; the tries are counted. The rows that the
-    /// scan refused whole are known then, where anything is learned and the tries did not cut it, but for what names a
-    /// vehicle whose list the move changed, puts elsewhere or takes out a pair that such a vehicle serves, or changes
-    /// activity as it did. It owns the change of the move in hand: the scan writes it, and the judge makes it.
-    /// `descend` and guided search ask it again and again.
+    /// One scan: the first acceptable move is made and told to the watchers; the tries are counted. `descend` and
+    /// guided search ask it again and again. It owns the change of the move in hand: the scan writes it, and the judge
+    /// makes it.
     ///
-    /// The only refusal is want of memory. The judge then stands at the lists of the routes, which are valid, and of
-    /// the event in hand some watchers at the front were told; what is known may then be of the lists before, and is
-    /// not to be asked again.
+    /// The rows that the scan refused whole are known then, if anything is learned and the tries did not cut it. Rows
+    /// that depend on what the move changed are not:
+    ///
+    /// - rows that name a vehicle whose list the move changed;
+    /// - rows that put elsewhere or take out a pair that such a vehicle serves;
+    /// - rows that change activity, if the move did.
+    ///
+    /// It fails only when out of memory. Then the judge has committed the lists of the routes, which are valid. Of the
+    /// event in hand some watchers at the front were told. What is known may then be of the lists before, and is not to
+    /// be asked again.
     pub fn advance<J: Judge, A: Accept, L: Ledger>(
         &mut self,
         model: &Model,
@@ -110,7 +115,7 @@ impl Progress {
                 difference,
             } => {
                 known.note(model.search.neighbourhoods.as_slice(), mv);
-                // found before the move is made: a pair that it takes out stands in no list behind it
+                // found before the move is made: a pair that it takes out is in no list after it
                 let touched = Touched::of(model, routes, mv);
                 let found = Found {
                     place,
@@ -134,8 +139,8 @@ impl Progress {
         }
     }
 
-    // Makes the move that a scan found, and tells the watchers. Where memory is wanting, the judge stands at the lists
-    // of the routes all the same.
+    // Makes the move that a scan found, and tells the watchers. If it runs out of memory, the judge has committed the
+    // lists of the routes all the same.
     fn take<J: Judge>(
         &mut self,
         judge: &mut J,
@@ -173,7 +178,7 @@ impl Progress {
         Ok(())
     }
 
-    /// The event of a kind where the search stands.
+    /// The event of a kind at the state of the search.
     pub fn event(&self, kind: Kind) -> Event
         ensures { result ≡ event_of self.now kind }
     {

@@ -22,13 +22,13 @@ use vr_routes::{Change, Judge, Routes, Verdict};
 /// How a scan of a list of moves ends.
 #[derive(Clone, Copy)]
 pub enum ScanEnd {
-    /// The first acceptable move stands at this place of the list, counted from 1: so many tries the scan used.
+    /// The first acceptable move is at this place of the list, counted from 1: this many tries the scan used.
     Accepted {
         place: u64,
         mv: Move,
         difference: i64,
     },
-    /// No move of the list is acceptable; it is so long.
+    /// No move of the list is acceptable; it has this many moves.
     Complete {
         length: u64,
     },
@@ -36,13 +36,13 @@ pub enum ScanEnd {
     Cut,
 }
 
-// So many tries are counted exactly, whatever is passed over, though the count stops at the greatest number that it can
-// be; where more are left nothing is passed over. `advance` asks for no more than these.
+// Up to this many tries are counted exactly, whatever is passed over, though the count stops at the greatest number
+// that it can be. If more are left, nothing is passed over. `advance` asks for no more than these.
 const FEW: u64 = 1_000_000_000;
 
 /// A scan in hand: the routes, what takes moves, what is known to be refused, and how many tries are left. As a sieve
-/// it tells which moves are not acceptable, by what is known and by the judge that each call is lent; of this it holds
-/// the type alone.
+/// it says which moves are not acceptable. It goes by what is known, and by the judge that each call is lent; of the
+/// judge it holds the type alone.
 #[derive(Drop)]
 pub(crate) struct Scanning<'a, J: Judge, A: Accept> {
     pub(crate) routes: &'a Routes,
@@ -94,8 +94,8 @@ impl<'a, J: Judge, A: Accept> Sieve for Scanning<'a, J, A> {
 }
 
 impl<'a, J: Judge, A: Accept> Scanning<'a, J, A> {
-    /// Scans, as `scan` says. What the accepted move changes is written over `change`; where none is accepted, nothing
-    /// is said of it.
+    /// Scans, as `scan` says. What the accepted move changes is written over `change`; if none is accepted, nothing is
+    /// said of it.
     #[inline(never)]
     pub(crate) fn run<L: Ledger>(
         &self,
@@ -145,8 +145,9 @@ impl<'a, J: Judge, A: Accept> Scanning<'a, J, A> {
         Ok(ScanEnd::Complete { length: place })
     }
 
-    // The next move of a list that is to be tried: the next of a stretch in hand, of which nothing can be told, or else
-    // the first behind moves that are passed over since they are not acceptable, which are counted.
+    // The next move of a list that is to be tried. It is the next of a stretch in hand, of which nothing can be known.
+    // If there is no stretch, it is the first move after those that are passed over since they are not acceptable;
+    // these are counted.
     #[inline(always)]
     fn next_open(&self, list: &mut MoveList, judge: &mut J, place: &mut u64) -> Option<Move>
         requires ready { CanSift (A.model self.now.accept.now) (A.stands_at self.now.accept.now
@@ -169,8 +170,8 @@ impl<'a, J: Judge, A: Accept> Scanning<'a, J, A> {
         self.next_by_sieve(list, judge, place)
     }
 
-    // The same where no stretch is in hand: what is known says which blocks are passed over, and the judge which moves
-    // of a run. It is not inlined: what a list holds is large, and stays where it lies.
+    // The same if no stretch is in hand. What is known says which blocks are passed over, and the judge which moves of
+    // a run. It is not inlined: what a list holds is large, and is not to be moved.
     #[inline(never)]
     fn next_by_sieve(&self, list: &mut MoveList, judge: &mut J, place: &mut u64) -> Option<Move>
         requires ready { CanSift (A.model self.now.accept.now) (A.stands_at self.now.accept.now
@@ -188,8 +189,8 @@ impl<'a, J: Judge, A: Accept> Scanning<'a, J, A> {
         list.step(self, judge, place)
     }
 
-    // The difference that a move makes, where it is acceptable. What it changes is written over `change`. The move is
-    // judged only where it may be taken by what it makes at least.
+    // The difference that a move makes, if it is acceptable. What it changes is written over `change`. The move is only
+    // judged if it may be taken by what it makes at least.
     #[inline(always)]
     fn try_move<L: Ledger>(
         &self,
@@ -233,18 +234,18 @@ impl<'a, J: Judge, A: Accept> Scanning<'a, J, A> {
     }
 }
 
-/// Tries the moves of the model's neighbourhoods in order, at most `rest` of them, up to the first that is acceptable:
-/// the lists after it are valid, and `accept` takes it. Each try is judged at most once, and adds at most two to how
-/// often the judge is asked what moves make at least: a run of them, and a move. What a move changes is written once,
-/// for all that is asked of it. A move that `accept` does not take with the least difference that it may make is not
-/// judged.
+/// Tries the moves of the model's neighbourhoods in order, at most `rest` of them, up to the first that is acceptable.
+/// It is acceptable if the lists after it are valid and `accept` takes it. Each try is judged at most once. It asks the
+/// judge at most twice what moves make at least: of a run of them, and of the move. What a move changes is written
+/// once, for all that is asked of it. A move that `accept` does not take with the least difference that it may make is
+/// not judged.
 ///
-/// Moves that are known not to be acceptable are tries as any others, and nothing is asked about them. Of the moves of
-/// a run, which differ in their last number, the judge is asked at once from which on some may be taken, and those in
-/// front of these are tries as well. Where more than 10^9 tries are left, no move is passed over so. Tests alone call
-/// it: a search scans by `Progress::advance`.
+/// Moves that are known not to be acceptable are tries as any others, and nothing is asked about them. The moves of a
+/// run differ in their last number. Of these the judge is asked at once from which on some may be taken, and those
+/// before are tries as well. If more than 10^9 tries are left, no move is passed over so. Tests alone call it: a search
+/// scans by `Progress::advance`.
 ///
-/// The only refusal is want of memory, which is taken by the judge alone; it still stands at the same lists then.
+/// It fails only when out of memory. Memory is taken by the judge alone, which has committed the same lists then.
 pub fn scan<J: Judge, A: Accept, L: Ledger>(
     model: &Model,
     judge: &mut J,

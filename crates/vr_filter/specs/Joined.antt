@@ -8,7 +8,7 @@ pub both_true : {a b : Bool} → IsTrue a → IsTrue b → IsTrue (a && b)
 both_true {a = true} h g = g
 both_true {a = false} h g = h
 
--- a test that passes where P holds passes of all of which P holds
+-- a test that passes whenever P holds passes of all of which P holds
 pub all_true : {A : Type 0} (test : A → Bool) (P : A → Type 0) → ((x : A) → P x → IsTrue (test x)) → (xs : List A)
     → All P xs → IsTrue (list_all test xs)
 all_true test P each [] all = refl

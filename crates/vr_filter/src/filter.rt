@@ -10,22 +10,22 @@ use std::sync::ledger::Ledger;
 use vr_model::{NoMemory, Steps};
 use vr_routes::{Change, Routes};
 
-/// Tells which changes of routes keep a rule (`LocalSearchFilter` in OR-Tools). It stands at the lists that it has
-/// committed, so that it need only look at what a change changes; a change that passed is made ready, and then
-/// committed without taking memory.
+/// Says which changes of routes keep a rule (`LocalSearchFilter` in OR-Tools). It is in sync with the lists that it has
+/// committed, so it need only look at what a change changes. A change that passed is made ready, and then committed
+/// without taking memory.
 pub trait PathFilter {
     /// The rule holds of lists.
     ghost holds: { Self → List (List ℕ) → Bool };
 
-    /// It may be asked at these lists: what it keeps of the committed lists is so of them, and their visits are those
-    /// of its model.
+    /// It is in sync with these lists, and may be asked at them. What it keeps of the committed lists is so of them,
+    /// and their visits are those of its model.
     ghost stands_at: { Self → Tours → Type 0 };
 
     /// Whatever a commit of this change of these routes needs is there.
     ghost ready: { Self → Tours → List ListAfter → Type 0 };
 
     /// How many steps `passes` may count for a change, by the lists before it and after it. Of the filters of a model
-    /// those of dimensions alone count any, and none of these where it is a load.
+    /// only those of dimensions count any, and only if the dimension is no load.
     ghost weight: { Self → List (List ℕ) → List (List ℕ) → ℕ };
 
     /// Whether the rule holds of the lists after a change. After `false` or `NoMemory` no change is ready.
@@ -57,8 +57,8 @@ pub trait PathFilter {
         ensures same_weight { IsSameWeight (weight self.old) (weight self.new) }
         ensures unready { OnErr result (NothingReady (ready self.new)) };
 
-    /// Stands at the lists after a change that is ready. It is called before the routes are changed, and takes no
-    /// memory.
+    /// Gets in sync with the lists after a change that is ready. It is called before the routes are changed, and takes
+    /// no memory.
     fn commit(&mut self, routes: &Routes, change: &Change)
         requires stands { stands_at self.old routes.now }
         requires made { IsMadeOn routes.now change.now }
@@ -67,6 +67,6 @@ pub trait PathFilter {
         ensures rule { IsSameRule (holds self.old) (holds self.new) }
         ensures same_weight { IsSameWeight (weight self.old) (weight self.new) };
 
-    /// The rule holds of the lists that the filter stands at.
+    /// The rule holds of the lists that the filter is in sync with.
     ghost keeps_rule: { (filter : Self) (tours : Tours) → stands_at filter tours → IsTrue (holds filter tours.lists) };
 }

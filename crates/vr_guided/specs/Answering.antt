@@ -7,8 +7,8 @@ use Rattle.vr_model.specs.declared.search.Lambda.{Lambda}
 use Rattle.vr_model.specs.declared.search.Limit.{Limit}
 use Rattle.vr_descent.specs.Answering.{IsSoundAnswer}
 
--- guided local search from valid lists gives valid lists of which the best cost no more, within the limit, where that
--- allows a solution
+-- guided local search from valid lists gives valid lists, of which the best cost no more, within the limit. So it is if
+-- the limit allows a solution
 abbrev pub GuidedIsSound : Type 0
 GuidedIsSound =
     (model : Model) (lists : List (List ℕ)) (limit : Limit) (lambda : Lambda)

@@ -17,8 +17,8 @@ pub record IsBounded (cost : ℤ) : Type 0 where
   pub least : pos 0 ≤ℤ cost
   pub below : cost <ℤ pos (2 ^ 100)
 
--- with such a lambda, and where no arc was penalised more than 10^9 times, valid lists of a well-formed model have a
--- bounded augmented cost
+-- valid lists of a well-formed model have a bounded augmented cost, with such a lambda, if no arc was penalised more
+-- than 10^9 times
 abbrev pub AugmentedCostsAreBounded : Type 0
 AugmentedCostsAreBounded =
     (model : Model) → IsWellFormed model → (lambda : Lambda) → IsLambda lambda

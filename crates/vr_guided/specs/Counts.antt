@@ -7,21 +7,21 @@ pub record Counts : Type 0 where
   pub nodes : ℕ
   pub counts : List ℕ
 
--- how often the arc from one node to another was penalised, 0 where there are no such nodes
+-- how often the arc from one node to another was penalised, 0 if there are no such nodes
 abbrev pub counted : Counts → Penalties
 counted c origin target =
     cond (nat_lt origin c.nodes && nat_lt target c.nodes) (slice_index_or c.counts (origin * c.nodes + target) 0) 0
 
--- counts of n nodes, none of them above 0 where no arc was penalised
+-- counts of n nodes, none of them above 0 if no arc was penalised
 pub record AreCounts (n : ℕ) (counts : List ℕ) (any : Bool) : Type 0 where
   pub square : length counts ≡ n * n
   pub none : any ≡ false → counted (record { nodes = n; counts = counts }) ≡ no_penalties
 
--- no arc was penalised more often than so
+-- no arc was penalised more often than `most`
 pub record AtMost (most : ℕ) (p : Penalties) : Type 0 where
   pub each : (origin target : ℕ) → p origin target ≤ most
 
--- a count for each arc between so many nodes, and no arc was penalised more often than `most`
+-- a count for each arc between this many nodes, and no arc was penalised more often than `most`
 pub record AreUpTo (nodes most : ℕ) (c : Counts) : Type 0 where
   pub covers : c.nodes ≡ nodes
   pub few : AtMost most (counted c)

@@ -7,7 +7,7 @@ use Rattle.vr_model.specs.declared.records.Model.{Model}
 use Rattle.vr_model.specs.declared.search.Lambda.{Lambda}
 use Rattle.vr_model.specs.declared.neighbours.Move.{Move}
 
--- a move is taken where it makes the augmented cost less
+-- a move is taken if it makes the augmented cost less
 abbrev pub makes_less : Model → Lambda → Penalties → List (List ℕ) → Move → ℤ → Bool
 makes_less model lambda penalties lists mv change =
     int_lt (augmented model lambda penalties (apply model lists mv)) (augmented model lambda penalties lists)

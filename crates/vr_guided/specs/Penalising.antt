@@ -11,13 +11,13 @@ use Rattle.vr_model.specs.declared.search.Lambda.{Lambda}
 use Rattle.vr_model.specs.declared.search.Limit.{Limit}
 use Rattle.vr_guided.specs.Counts.{AtMost}
 
--- the scan of guided search where it stands so, with these penalties
+-- the scan of guided search at this state, with these penalties
 abbrev pub guided_scan : Model → Limit → Lambda → Penalties → SearchState → Scan
 guided_scan model limit lambda penalties state =
     scan (moves model state.lists) (improves_augmented model lambda penalties state.lists) (limit.tries - state.used)
 
--- Guided search from lists comes to these penalties, and stands so: it begins with none, goes on with the same ones
--- where a scan accepts a move, and with raised ones where a scan accepts none and the search is not at its end.
+-- Guided search from lists comes to these penalties at this state. It begins with none, and goes on with the same ones
+-- if a scan accepts a move. If a scan accepts none and the search is not at its end, they are raised.
 pub data ComesTo (model : Model) (limit : Limit) (lambda : Lambda) (lists : List (List ℕ)) :
     Penalties → SearchState → Type 0 where
   begins : ComesTo model limit lambda lists no_penalties (begun lists)
@@ -35,7 +35,7 @@ pub record ArePenaltiesFew (limit : Limit) (penalties : Penalties) (state : Sear
   pub tried_few : state.used ≤ limit.tries
   pub few : AtMost state.used penalties
 
--- so it is wherever guided search comes to
+-- so it is at each state that guided search comes to
 abbrev pub PenaltiesAreFew : Type 0
 PenaltiesAreFew =
     (model : Model) (limit : Limit) (lambda : Lambda) (lists : List (List ℕ))

@@ -9,8 +9,8 @@ use Rattle.vr_guided.specs.Sums.{AddAtMost, AreArcSums, weight_by}
 use Rattle.vr_balance.specs.Sums.{line_nodes}
 use Rattle.vr_guided.specs.declared.route_sums.RouteSums.{RouteSums}
 
--- the sums of vehicle v with a list, forward and back, and the most that one arc of it adds, and two that follow one
--- another
+-- the sums of vehicle v with a list, forward and back. With them the most that one arc of it adds, and that two add
+-- which follow one another
 pub record AreRouteSums (model : Model) (p : Penalties) (v : ℕ) (list : List ℕ) (both : RouteSums) : Type 0 where
   pub forward : AreArcSums (weight_by model p false) v (vehicle_at model v).start (line_nodes model v list) both.forward
   pub back : AreArcSums (weight_by model p true) v (vehicle_at model v).start (line_nodes model v list) both.back
@@ -30,7 +30,7 @@ pub record AreAllRouteSums (model : Model) (p : Penalties) (lists : List (List �
   pub each : (v : ℕ) → v < length model.vehicles
       → AreRouteSums model p v (route lists v) (slice_index_or all v no_route_sums)
 
--- the sums of vehicle v became those of its list, where there is such a vehicle, and no others were changed
+-- the sums of vehicle v became those of its list, if there is such a vehicle, and no others were changed
 pub record IsWritten (model : Model) (p : Penalties) (lists : List (List ℕ)) (v : ℕ) (before after : List RouteSums) :
     Type 0 where
   pub long : length after ≡ length before

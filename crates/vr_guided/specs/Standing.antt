@@ -1,4 +1,4 @@
--- Where guided search in code stands.
+-- The state of guided search in code.
 use Rattle.std.specs.Prelude.{◌≡◌, ℕ, suc, ◌-◌, ◌≤◌, List, length, pos, ◌≤ℤ◌}
 use Rattle.vr_model.specs.search.Outcomes.{Outcome}
 use Rattle.vr_model.specs.search.GuidedSearches.{Penalties, guided_from, no_penalties}
@@ -21,8 +21,8 @@ pub record AreParameters (limit : Limit) (lambda : Lambda) : Type 0 where
   pub q_from_one : pos 1 ≤ℤ lambda.q
   pub q_to_1000 : lambda.q ≤ℤ pos 1000
 
--- what guided search begins with: these routes are the best, they cost what is known there, no arc was penalised, each
--- arc has a count, and each vehicle has sums
+-- what guided search begins with: these routes are the best, and they cost what is known at the state. No arc was
+-- penalised, each arc has a count, and each vehicle has sums
 pub record IsGuidedBegun (model : Model) (routes : Tours) (at : Progress) (state : State) : Type 0 where
   pub at_is : state.at ≡ at
   pub best_is : state.best ≡ record { routes = routes; cost = at.cost }
@@ -30,7 +30,7 @@ pub record IsGuidedBegun (model : Model) (routes : Tours) (at : Progress) (state
   pub covers : state.penalties.nodes ≡ model.nodes
   pub route_sums : length state.route_sums ≡ length model.vehicles
 
--- the search is under way; no arc was penalised more often than a move was tried; each arc has a count; and each
+-- the search is under way, and no arc was penalised more often than a move was tried. Each arc has a count, and each
 -- vehicle has sums
 pub record GuidedStands (model : Model) (limit : Limit) (committed : Tours → Type 0) (routes : Tours) (state : State) :
     Type 0 where
@@ -44,7 +44,7 @@ abbrev pub guided_from_here : Model → Limit → Lambda → Penalties → List 
 guided_from_here model limit lambda penalties lists best used found =
     guided_from model limit lambda (suc (limit.tries - used)) penalties (standing lists best used found)
 
--- the same from where the code stands
+-- the same from the state of the code
 abbrev pub guided_from_state : Model → Limit → Lambda → List (List ℕ) → State → Outcome
 guided_from_state model limit lambda lists state =
     guided_from_here model limit lambda (counted state.penalties) lists state.best.routes.lists state.at.used

@@ -29,6 +29,6 @@ pub record AreArcSums (f : UsedArc → ℤ) (v node : ℕ) (nodes : List ℕ) (s
   pub many : length sums ≡ suc (length nodes)
   pub each : (k : ℕ) → k ≤ length nodes → number_at sums k ≡ total_by f (arcs_from v node (take k nodes))
 
--- so many arcs that follow one another add at most so much
+-- `arcs` arcs that follow one another add at most `most`
 abbrev pub AddAtMost : List ℤ → ℕ → ℤ → Type 0
 AddAtMost sums arcs most = (k : ℕ) → k + arcs < length sums → (number_at sums (k + arcs) -ℤ number_at sums k) ≤ℤ most

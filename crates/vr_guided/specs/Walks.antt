@@ -32,7 +32,7 @@ walked model penalties v walk (node ∷ nodes) = walked model penalties v (stepp
 abbrev pub walk_begun : ℕ → Walk
 walk_begun node = record { at = node; arcs = 0; total = pos 0 }
 
--- the walk stands at a node below n, and its total is from 0 to 2^70 times the number of its arcs
+-- the walk is at a node below n, and its total is from 0 to 2^70 times the number of its arcs
 pub record IsSoundWalk (n : ℕ) (walk : Walk) : Type 0 where
   pub node : walk.at < n
   pub low : pos 0 ≤ℤ walk.total
@@ -43,7 +43,7 @@ abbrev pub stretch_weight : Model → Penalties → ℕ → ℕ → List ℕ →
 stretch_weight model penalties v start nodes next =
     total_by (arc_weight model penalties) (arcs_from v start (nodes ++ next ∷ []))
 
--- what the arc from the start of vehicle v to its end would add where it has no visits, 0 where it has some
+-- what the arc from the start of vehicle v to its end would add if it has no visits, 0 if it has some
 abbrev pub unused_weight : Model → Penalties → ℕ → ℕ → ℤ
 unused_weight model penalties v len =
     let ends = vehicle_at model v in

@@ -40,7 +40,7 @@ fn node_before(list: &[u32], place: u32, start: u32) -> u32
     list[place as usize - 1]
 }
 
-// The node at a place of a list, `end` behind the last.
+// The node at a place of a list, `end` after the last.
 #[inline]
 fn node_from(list: &[u32], place: u32, end: u32) -> u32
     requires { place ≤ length list.now }
@@ -99,8 +99,8 @@ impl<'m, 'p, 's, 'r, 'c> WeighedChange<'m, 'p, 's, 'r, 'c> {
         first + self.change_of_part(1)
     }
 
-    /// What the change takes of the penalised arc costs at most: what the arcs of the stretches that it changes add
-    /// now. Takes no memory.
+    /// Bounds what the change takes of the penalised arc costs: no more than the arcs of the stretches that it changes
+    /// add now. Takes no memory.
     pub fn saved_at_most(&self) -> i128
         ensures low { pos 0 ≤ℤ result }
         ensures high { result ≤ℤ pos (2 ^ 90) }
@@ -181,7 +181,7 @@ impl<'m, 'p, 's, 'r, 'c> WeighedChange<'m, 'p, 's, 'r, 'c> {
         let new = stretches.new_stretch(start, splice.middle, next);
         let old = stretches.old_stretch(splice.front, splice.behind);
         let len = splice.front + new.nodes + (list.len() as u32 - splice.behind);
-        // both have the arc from start to end where the list is empty, and then it is not taken
+        // both have the arc from start to end if the list is empty, and then it is not taken
         let before = old - arcs.unused(list.len() as u32);
         let after = new.total - arcs.unused(len);
         after - before
@@ -189,11 +189,15 @@ impl<'m, 'p, 's, 'r, 'c> WeighedChange<'m, 'p, 's, 'r, 'c> {
 }
 
 impl<'m, 'p, 's, 'r> WeighedRoutes<'m, 'p, 's, 'r> {
-    /// What the moves of a run take of the penalised arc costs at most, whatever their last number is. A visit that is
-    /// put elsewhere, or exchanged, takes no more than both its arcs add now and the dearest arc of the other list, or
-    /// the two dearest neighbours there; fronts that change vehicles which are alike, no more than the arcs at both
-    /// cuts; of other moves it is all that the arcs of their lists add now. The numbers of `mv` need not be those of a
-    /// move. Takes no memory.
+    /// Bounds what the moves of a run take of the penalised arc costs, whatever their last number is. The bound depends
+    /// on the kind of the move:
+    ///
+    /// - If a visit is put elsewhere, or exchanged, it is what both its arcs add now, and what the other list can lose:
+    ///   its dearest arc, or its two dearest neighbours.
+    /// - If fronts change vehicles which are alike, it is what the arcs at both cuts add.
+    /// - Of other moves it is all that the arcs of their lists add now.
+    ///
+    /// The numbers of `mv` need not be those of a move. Takes no memory.
     #[inline]
     pub fn saved_in_run(&self, mv: Move, touched: Touched) -> i128
         requires first { touched.first < length self.now.routes.now.lists }
@@ -213,7 +217,7 @@ impl<'m, 'p, 's, 'r> WeighedRoutes<'m, 'p, 's, 'r> {
         }
     }
 
-    // What is taken at most where the node at place `a` of the first list is put into the second one.
+    // What is taken at most if the node at place `a` of the first list is put into the second one.
     #[inline]
     fn saved_by_relocating(&self, touched: Touched, a: u32) -> i128
         requires first { touched.first < length self.now.routes.now.lists }
@@ -226,8 +230,8 @@ impl<'m, 'p, 's, 'r> WeighedRoutes<'m, 'p, 's, 'r> {
         self.saved_at_place(touched.first, a) + self.most_of(touched.second).most_at_gap
     }
 
-    // What is taken at most where the node at place `a` of the first list is exchanged with one of the second; within
-    // one list, all that its arcs add.
+    // What is taken at most if the node at place `a` of the first list is exchanged with one of the second. Within one
+    // list it is all that its arcs add.
     #[inline]
     fn saved_by_exchanging(&self, touched: Touched, a: u32) -> i128
         requires first { touched.first < length self.now.routes.now.lists }
@@ -243,8 +247,8 @@ impl<'m, 'p, 's, 'r> WeighedRoutes<'m, 'p, 's, 'r> {
         self.saved_at_place(touched.first, a) + self.most_of(touched.second).most_at_place
     }
 
-    // What is taken at most where the nodes before place `a` of the first list and a front of the second one change
-    // vehicles: where these are alike, what the arcs at both cuts add, else all that the arcs of both lists add.
+    // What is taken at most if the nodes before place `a` of the first list and a front of the second one change
+    // vehicles. If these are alike, it is what the arcs at both cuts add, else all that the arcs of both lists add.
     #[inline]
     fn saved_by_crossing(&self, touched: Touched, a: u32) -> i128
         requires first { touched.first < length self.now.routes.now.lists }
@@ -273,7 +277,7 @@ impl<'m, 'p, 's, 'r> WeighedRoutes<'m, 'p, 's, 'r> {
         one.costs == other.costs && one.start == other.start && one.end == other.end
     }
 
-    // What the arc at a gap of the list of a vehicle adds now. Nothing where there is no such gap.
+    // What the arc at a gap of the list of a vehicle adds now. Nothing if there is no such gap.
     #[inline]
     fn saved_at_gap(&self, v: u32, t: u32) -> i128
         requires { v < length self.now.routes.now.lists }
@@ -296,8 +300,8 @@ impl<'m, 'p, 's, 'r> WeighedRoutes<'m, 'p, 's, 'r> {
         stretches.old_stretch(t, t)
     }
 
-    // What is taken at most where others stand in the place of the node at place `a` of the list of a vehicle: what
-    // both its arcs add now. Nothing where there is no such place.
+    // What is taken at most if others come in place of the node at place `a` of the list of a vehicle. It is what both
+    // its arcs add now, and nothing if there is no such place.
     #[inline]
     fn saved_at_place(&self, v: u32, a: u32) -> i128
         requires { v < length self.now.routes.now.lists }
@@ -360,8 +364,8 @@ impl<'m, 'p, 's, 'r> WeighedRoutes<'m, 'p, 's, 'r> {
         first + self.saved_by_list(touched.second)
     }
 
-    // What the arcs of the list of a vehicle add at most: of an empty one the arc from start to end counts too, which
-    // is not taken.
+    // What the arcs of the list of a vehicle add at most. Of an empty list the arc from start to end counts too, though
+    // it is not taken.
     #[inline]
     fn saved_by_list(&self, v: u32) -> i128
         requires { v < length self.now.routes.now.lists }

@@ -19,7 +19,7 @@ use vr_known::Touched;
 use vr_model::{Lambda, Move};
 use vr_routes::{Change, Routes};
 
-// So much of the penalised arc costs may be multiplied by `p` in 64 bits: `p` is at most 1000.
+// Up to this much of the penalised arc costs may be multiplied by `p` in 64 bits: `p` is at most 1000.
 const MOST_SAVED: i128 = 1_000_000_000_000_000;
 
 /// Takes each move that makes the augmented cost less, which is `q` times the cost and `p` times the penalised arc
@@ -84,8 +84,7 @@ impl<'m, 'p, 's> Accept for Guiding<'m, 'p, 's> {
         };
         let weighed = WeighedChange { of, change };
         let saved = weighed.saved_at_most();
-        // what is saved at most is one subtraction for each part; only where that does not tell, the new pieces are
-        // walked
+        // what is saved at most is one subtraction for each part; only if that does not tell, the new pieces are walked
         if self.is_no_gain(least, saved) {
             return false;
         }
@@ -116,9 +115,9 @@ impl<'m, 'p, 's> Guiding<'m, 'p, 's> {
         weighed.saved_in_run(mv, touched)
     }
 
-    // A difference in cost that is no gain where so much of the penalised arc costs is saved: `p` times this over `q`,
-    // rounded up. `None` where it might not fit 64 bits. Where nothing can be saved, as until an arc is penalised,
-    // nothing is divided.
+    // A difference in cost that is no gain if this much of the penalised arc costs is saved: `p` times this over `q`,
+    // rounded up. `None` if it might not fit 64 bits. If nothing can be saved, as until an arc is penalised, nothing is
+    // divided.
     #[inline]
     fn enough_against(&self, saved: i128) -> Option<i64>
         requires { IsIn (pos 0) (pos (2 ^ 90)) saved }
@@ -134,8 +133,8 @@ impl<'m, 'p, 's> Guiding<'m, 'p, 's> {
         self.where_enough((weighed + (self.lambda.q - 1)) / self.lambda.q, saved)
     }
 
-    // A difference in cost, where it is no gain with so much saved of the penalised arc costs. Of the difference that
-    // is handed in it is so: it is asked again in place of a proof.
+    // A difference in cost, if it is no gain with this much saved of the penalised arc costs. Of the difference that is
+    // handed in it is so: it is asked again in place of a proof.
     #[inline]
     fn where_enough(&self, difference: i64, saved: i128) -> Option<i64>
         requires { IsIn (pos 0) (pos (2 ^ 90)) saved }
@@ -147,8 +146,8 @@ impl<'m, 'p, 's> Guiding<'m, 'p, 's> {
         Some(difference)
     }
 
-    // Whether a difference in cost is no gain where at most so much of the penalised arc costs is saved. Until an
-    // arc is penalised nothing can be saved, and the sign alone tells.
+    // Whether a difference in cost is no gain if at most this much of the penalised arc costs is saved. Until an arc is
+    // penalised nothing can be saved, and the sign alone tells.
     #[inline]
     fn is_no_gain(&self, difference: i64, saved: i128) -> bool
         requires { IsIn (pos 0) (pos (2 ^ 90)) saved }

@@ -1,25 +1,27 @@
 //! Guided local search.
 //!
-//! [`guide`] (`searching`; what it accepts is `guiding`) scans as a descent does, by the augmented cost, which is `q`
-//! times the cost and `p` times the penalised arc costs, of the weight `p / q` that the model gives ([`Lambda`]): at
-//! each local optimum a penalty rises (`raising`) on those used arcs whose worth (`worths`; the utility of the
-//! literature), cost over one more than penalty, is greatest, which leads the search away. Where no used arc costs
-//! anything (`costly`), no penalty helps, and the search ends, as it does where there are no moves. `vehicle_list` has
-//! the list of a vehicle, whose arcs `raising` and `costly` go over.
+//! [`guide`] (`searching`; what it accepts is `guiding`) scans as a descent does, by the augmented cost. That is `q`
+//! times the cost and `p` times the penalised arc costs; the model gives the weight `p / q` ([`Lambda`]). At each local
+//! optimum a penalty rises (`raising`) on the used arcs of the greatest worth, which leads the search away. The worth
+//! of an arc is its cost over one more than its penalty (`worths`; the utility of Voudouris and Tsang). An example: one
+//! arc costs 100 and has penalty 4, another costs 30 and has none. The second rises, since 30 / 1 is more than 100 / 5.
+//! If no used arc costs anything (`costly`), no penalty helps, and the search ends; so it does if there are no moves.
 //!
-//! `penalties` counts how often each arc was penalised; an arc adds its cost times that (`weights`). What a move makes
-//! of the penalised arc costs is told by the stretches that its change touches (`changing`, `stretches`), with sums
-//! along the lists of vehicles (`route_sums`, over `sums`) and walks through the pieces of the new ones (`walks`).
+//! Invariant: between scans the sums are those of the lists and the penalties. No arc was penalised more often than a
+//! move was tried. The best lists so far are valid and of known cost; routes and judge are as in `vr_descent`. If
+//! nothing is paid for global spans, moves that were refused are known too: those of a row that a scan refused whole. A
+//! commit ends that if it changes the list of one of their vehicles (or activity, if they change that). So does a round
+//! that penalises an arc of such a list. For what a move makes of the penalised arc costs depends on arcs of these
+//! lists alone. By `laws` the best lists cost no more than the first.
 //!
-//! Where nothing is paid for global spans, the moves of a row that a scan refused whole are known to be refused until a
-//! commit changes the list of one of their vehicles (or activity, if they change that), or a round penalises an arc of
-//! such a list: what a move makes of the penalised arc costs depends on arcs of these lists alone.
+//! `vr_app` calls [`guide`] for `GUIDED_LOCAL_SEARCH`. This crate calls `vr_descent` for its scans, `vr_known` for what
+//! is known, and any judge of `vr_routes`.
 //!
-//! Between scans the sums are those of the lists and the penalties, no arc was penalised more often than a move was
-//! tried, and the best lists so far are valid and of known cost; routes and judge stand as in `vr_descent`. By `laws`
-//! the best lists cost no more than the first.
-//!
-//! `vr_app` calls [`guide`] for `GUIDED_LOCAL_SEARCH`.
+//! Start with `searching`, then `guiding`. `penalties` counts how often each arc was penalised; an arc adds its cost
+//! times that (`weights`). What a move makes of the penalised arc costs is told by the stretches that its change
+//! touches (`changing`, `stretches`). These use sums along the lists of vehicles (`route_sums`, over `sums`) and walks
+//! through the pieces of the new ones (`walks`). `vehicle_list` has the list of a vehicle, whose arcs `raising` and
+//! `costly` go over.
 #![tactic(auto)]
 
 mod changing;

@@ -14,7 +14,7 @@ use vr_model::NoMemory;
 pub struct Penalties {
     nodes: u32,
     counts: Vec<u32>,
-    // where this is false, no arc was penalised
+    // if this is false, no arc was penalised
     any: bool,
 }
 
@@ -44,7 +44,7 @@ impl Penalties {
         })
     }
 
-    /// Whether an arc may have been penalised: where not, none was.
+    /// Whether an arc may have been penalised: if not, none was.
     #[inline]
     pub fn is_any(&self) -> bool
         ensures { result ≡ false → counted self.now ≡ no_penalties }
@@ -77,7 +77,7 @@ impl Penalties {
         self.counts[cell] += 1;
     }
 
-    // Where the count of an arc stands.
+    // The place of the count of an arc.
     #[inline]
     fn cell(&self, origin: u32, target: u32) -> usize
         requires origin { origin < self.now.nodes }

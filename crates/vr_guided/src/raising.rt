@@ -17,8 +17,9 @@ use vr_model::Closed;
 use vr_routes::Routes;
 
 impl Penalties {
-    /// One more on each used arc of the greatest worth: its cost over one more than its penalty. No move is known any
-    /// more that names a vehicle whose arcs were raised, or of a pair that such a vehicle serves. Takes no memory.
+    /// One more on each used arc of the greatest worth: its cost over one more than its penalty. Moves that name a
+    /// vehicle whose arcs were raised are known no more, nor are moves of a pair that such a vehicle serves. Takes no
+    /// memory.
     pub fn raise(&mut self, closed: Closed<'_>, routes: &Routes, known: &mut Known)
         requires valid { IsTrue (is_valid closed.model.now routes.now.lists) }
         requires costly { IsTrue (has_costly_arc closed.model.now routes.now.lists) }
@@ -42,11 +43,11 @@ impl Penalties {
         known.settle(closed.model, routes);
     }
 
-    // One more on each arc of a vehicle that is worth as much as the greatest. Where there is one, no move is known any
-    // more that names the vehicle; those of pairs that it serves are forgotten behind all vehicles (`settle`). So where
-    // a row was refused after two vehicles last changed, no arc was raised between nodes that stand in no other list:
-    // this holds after each vehicle if it held before (`spares`). A count is at most 10^9 before a round, for so many
-    // tries, and a round goes over at most 1001 arcs of each vehicle.
+    // One more on each arc of a vehicle that is worth as much as the greatest. If there is one, no move is known any
+    // more that names the vehicle. Moves of pairs that it serves are forgotten after all vehicles (`settle`). So if a
+    // row was refused after two vehicles last changed, no arc was raised between nodes that are in no other list. This
+    // holds after each vehicle if it held before (`spares`). A count is at most 10^9 before a round, since no more
+    // moves are tried. A round goes over at most 1001 arcs of each vehicle.
     fn raise_vehicle(&mut self, list: &VehicleList<'_, '_>, greatest: &Worth, known: &mut Known)
         requires counts { AreUpTo list.now.closed.model.now.nodes (1000000000 + 1001 * list.now.vehicle) self.old }
         ensures covers { self.new.nodes ≡ self.old.nodes }
@@ -146,7 +147,7 @@ impl Penalties {
             any |= self.raise_arc(list, at, node, greatest);
             at = node;
         }
-        // no `||`: the last arc is raised also where another one was
+        // no `||`: the last arc is raised also if another one was
         any | self.raise_arc(list, at, ends.end, greatest)
     }
 

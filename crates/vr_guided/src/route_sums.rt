@@ -67,7 +67,7 @@ impl Model for AllRouteSums {
 }
 
 impl AllRouteSums {
-    /// Memory for the sums of each vehicle. The only refusal is want of it.
+    /// Memory for the sums of each vehicle. It fails only when out of memory.
     pub fn new(alloc: Global, model: &RoutingModel) -> Result<AllRouteSums, NoMemory>
         ensures { IfOk result (λ route_sums. length route_sums ≡ length model.now.vehicles) }
     {
@@ -90,7 +90,7 @@ impl AllRouteSums {
         }
     }
 
-    // Writes the sums of one vehicle with its list, where there is such a vehicle.
+    // Writes the sums of one vehicle with its list, if there is such a vehicle.
     fn write_of(&mut self, weights: Weights<'_, '_>, routes: &Routes, v: u32)
         requires valid { IsTrue (is_valid weights.closed.model.now routes.now.lists) }
         requires many { length self.old ≡ length weights.closed.model.now.vehicles }
@@ -110,7 +110,7 @@ impl AllRouteSums {
         }
     }
 
-    /// Where these are the sums of the lists before a move, they become those of `routes`, which has made it. Takes no
+    /// If these are the sums of the lists before a move, they become those of `routes`, which has made it. Takes no
     /// memory.
     pub fn follow(&mut self, weights: Weights<'_, '_>, routes: &Routes, mv: Move)
         requires valid { IsTrue (is_valid weights.closed.model.now routes.now.lists) }
@@ -121,8 +121,8 @@ impl AllRouteSums {
             → AreAllRouteSums weights.entry.closed.model.now (counted weights.entry.penalties.now) routes.now.lists
             self.new }
     {
-        // none where a pair was taken out or put elsewhere: the move does not name the list that it left, and `routes`
-        // tell it no more
+        // none if a pair was taken out or put elsewhere: the move does not name the list that it left, nor do `routes`
+        // any more
         let Some(touched) = Touched::named(mv) else {
             self.write(weights, routes);
             return;

@@ -1,4 +1,4 @@
-//! The search: scan after scan, the best routes kept, and penalties raised where a scan finds nothing.
+//! The search: scan after scan, the best routes kept, and penalties raised when a scan finds nothing.
 
 ghost use Rattle.std.specs.Prelude.{◌≡◌, ◌==◌, ◌||◌, not, ◌≤ℤ◌, pos, IsTrue, IfOk, OnOk, OnErr};
 ghost use Rattle.vr_descent.specs.Asking.{AsksFor, AsksOn};
@@ -31,25 +31,28 @@ pub struct Guided {
     pub best: Routes,
 }
 
-/// Takes the first move that makes the augmented cost less, again and again, and at each local optimum penalises the
-/// used arcs of the greatest worth (`GUIDED_LOCAL_SEARCH` in OR-Tools). The routes then have the last lists, at which
-/// the judge stands; the answer has the first lists of the least cost. `limit` allows up to 10^9 tries and from 1 to
+/// Takes the first move that makes the augmented cost less, again and again. At each local optimum it penalises the
+/// used arcs of the greatest worth (`GUIDED_LOCAL_SEARCH` in OR-Tools). The routes then have the last lists, which the
+/// judge has committed; the answer has the first lists of the least cost. `limit` allows up to 10^9 tries and from 1 to
 /// 10^9 solutions, and both parts of `lambda` are in 1..=1000.
 ///
-/// The report's end is `Solutions` where as many solutions were found as the limit allows, which is asked first; else
-/// `Optimum` where a scan of all moves takes none and no penalty could help, since the lists have no move at all or no
-/// used arc costs anything, and `Tries` where the tries ran out.
+/// The report's end is the first of these that holds:
 ///
-/// The judge is asked about no more moves than are tried, and at most twice as often what a move, or a run of moves,
-/// makes at least.
+/// - `Solutions` if as many solutions were found as the limit allows;
+/// - `Optimum` if a scan of all moves takes none and no penalty could help (there is no move, or no used arc costs
+///   anything);
+/// - `Tries` if the tries ran out.
 ///
-/// The only refusal is want of memory. The judge then stands at the lists of the routes, which are valid, it was asked
-/// about no more moves than the limit has tries, and the watchers have been told the events up to there: of the event
+/// The judge is asked about no more moves than are tried. It is asked at most twice as often what a move, or a run of
+/// moves, makes at least.
+///
+/// It fails only when out of memory. Then the judge has committed the lists of the routes, which are valid. It was
+/// asked about no more moves than the limit has tries. The watchers have been told the events up to there: of the event
 /// in hand, the first few. Memory is taken once at the beginning, and then by the judge and the watchers alone.
 ///
-/// Where no dimension has a cost of its global span, moves of a row that a scan refused whole are not asked about again
-/// as long as the lists of their vehicles stay, no arc of these is penalised once more, and of kinds that change it the
-/// same visits are active.
+/// If no dimension has a cost of its global span, moves that were refused are cached. The moves of a row that a scan
+/// refused whole are not asked about again as long as their vehicles stay the same. A vehicle changes with its list, or
+/// with the penalty of an arc of it. If moves change activity, the active visits must stay too.
 pub fn guide<J: Judge, L: Ledger>(
     alloc: Global,
     model: &Model,
@@ -94,7 +97,7 @@ pub fn guide<J: Judge, L: Ledger>(
     })
 }
 
-/// Where guided search stands.
+/// The state of guided search.
 #[derive(Drop)]
 struct State {
     at: Progress,
@@ -105,7 +108,7 @@ struct State {
 
 impl State {
     // At the beginning these routes are the best, and no arc was penalised; the sums are of no list until `search`
-    // writes them. The routes are copied last, so that where memory is wanting they are not to be let go.
+    // writes them. The routes are copied last, so that they are not to be let go if memory runs out.
     fn open(
         alloc: Global,
         closed: Closed<'_>,
@@ -136,8 +139,8 @@ struct Parameters {
     lambda: Lambda,
 }
 
-// Searches on from where it stands, and says why it ended. Where a scan takes no move and a penalty can help, penalties
-// rise, which the watchers are told as a round.
+// Searches on from its state, and says why it ended. If a scan takes no move and a penalty can help, penalties rise,
+// which the watchers are told as a round.
 fn search<J: Judge, L: Ledger>(
     closed: Closed<'_>,
     judge: &mut J,
@@ -204,7 +207,7 @@ fn search<J: Judge, L: Ledger>(
     Ok(End::Solutions)
 }
 
-// Whether no penalty can help, after a scan of so many moves that took none of them.
+// Whether no penalty can help, after a scan of this many moves that took none of them.
 fn is_stuck(closed: Closed<'_>, routes: &Routes, moves: u64) -> bool
     requires { IsTrue (is_valid closed.model.now routes.now.lists) }
     ensures { result ≡ ((moves == 0) || not (has_costly_arc closed.entry.model.now routes.now.lists)) }

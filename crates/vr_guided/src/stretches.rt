@@ -1,4 +1,4 @@
-//! What the arcs of stretches of lists add to the penalised arc costs where a vehicle goes along them; `changing` asks.
+//! What the arcs of stretches of lists add to the penalised arc costs if a vehicle goes along them; `changing` asks.
 
 ghost use Rattle.std.specs.Prelude.{◌≡◌, ◌<◌, ◌≤◌, ◌≤ℤ◌, ◌+◌, ◌-◌, ◌*◌, ◌^◌, ◌∷◌, ◌++◌, [], ℕ, List, All, IsTrue};
 ghost use Rattle.std.specs.Prelude.{drop, length, pos, slice_range, take};
@@ -18,9 +18,9 @@ use crate::walks::Walk;
 use crate::weights::VehicleWeights;
 use vr_routes::{Piece, Routes};
 
-/// What is asked what stretches of lists add where one vehicle goes along them: its arcs with their penalties, valid
-/// routes, and the sums of all their lists. A stretch of a list of a vehicle with the same arc costs is one subtraction
-/// of these sums.
+/// Says what stretches of lists add if one vehicle goes along them. It has the vehicle's arcs with their penalties,
+/// valid routes, and the sums of all their lists. A stretch of a list of a vehicle with the same arc costs is one
+/// subtraction of these sums.
 #[derive(Clone, Copy)]
 pub struct Stretches<'m, 'p, 's, 'r> {
     pub arcs: VehicleWeights<'m, 'p>,
@@ -41,8 +41,8 @@ pub struct Stretch {
 }
 
 impl<'m, 'p, 's, 'r> Stretches<'m, 'p, 's, 'r> {
-    /// What the arcs of the vehicle add now, from the node before a place of its list up to the one at another place:
-    /// its start stands before the first node, and its end behind the last. Of an empty list that is the arc from start
+    /// What the arcs of the vehicle add now, from the node before a place of its list up to the one at another place.
+    /// Its start comes before the first node, and its end after the last. Of an empty list that is the arc from start
     /// to end, which is not taken (`VehicleWeights::unused`).
     #[inline]
     pub fn old_stretch(&self, front: u32, behind: u32) -> i128
@@ -60,7 +60,7 @@ impl<'m, 'p, 's, 'r> Stretches<'m, 'p, 's, 'r> {
             (slice_range (route self.now.routes.now.lists self.now.arcs.vehicle) front behind) next }
     {
         let sums = self.route_sums.of(self.arcs.vehicle);
-        // in sums the start is place 0, so a node of the list stands one place further there
+        // in sums the start is place 0, so a node of the list is one place further there
         sums.forward.between(front as usize, behind as usize + 1)
     }
 
@@ -102,8 +102,8 @@ impl<'m, 'p, 's, 'r> Stretches<'m, 'p, 's, 'r> {
         }
     }
 
-    // A walk goes on through the nodes of a piece: at one go where it is a chain, with nodes, of a list whose vehicle
-    // has the same arc costs, else node by node.
+    // A walk goes on through the nodes of a piece. A chain with nodes goes at one go, if the vehicle of its list has
+    // the same arc costs; other pieces go node by node.
     fn along_piece(&self, walk: &mut Walk, piece: &Piece)
         requires within { IsWithin self.now.routes.now.lists piece.now }
         requires nodes { All (λ node. node < self.now.arcs.weights.closed.model.now.nodes)
@@ -139,7 +139,7 @@ impl<'m, 'p, 's, 'r> Stretches<'m, 'p, 's, 'r> {
     }
 
     // A walk goes on through a chain of a list, by the sums of its vehicle, which has the same arc costs. In sums the
-    // start is place 0, so the first node of the chain stands at `from + 1` there, and the last at `to`.
+    // start is place 0, so the first node of the chain is at `from + 1` there, and the last at `to`.
     fn along_kept(&self, walk: &mut Walk, v: u32, from: u32, to: u32, reversed: bool)
         requires owner { v < length self.now.arcs.weights.closed.model.now.vehicles }
         requires same { (vehicle_at self.now.arcs.weights.closed.model.now v).costs

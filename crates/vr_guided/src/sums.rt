@@ -16,7 +16,7 @@ use crate::weights::ListWeights;
 use arrayvec::ArrayVec;
 use std::marker::Model;
 
-/// At each stop of a vehicle with its list, what the arcs before it add up to: the start is place 0, then come at most
+/// At each stop of a vehicle with its list, what the arcs before it add up to. The start is place 0, then come at most
 /// 1000 visits and the end. Penalties times costs take more than the 64 bits that `vr_balance` has for a sum.
 #[derive(Drop)]
 pub struct Sums {
@@ -108,7 +108,7 @@ impl Sums {
         self.items[to] - self.items[from]
     }
 
-    /// The most that so many arcs add that follow one another, of so many stops; 0 where there are not so many arcs.
+    /// The most that `arcs` arcs add that follow one another, of this many stops; 0 if there are not as many arcs.
     pub fn most_over(&self, stops: usize, arcs: usize) -> i128
         requires stops { stops ≡ length self.now }
         requires few { stops ≤ 1002 }

@@ -11,7 +11,7 @@ ghost use Rattle.vr_balance.specs.Sums.{last_of};
 
 use crate::weights::VehicleWeights;
 
-/// A walk: the node where it stands, how many arcs it took, and what they add up to.
+/// A walk: the node that it has come to, how many arcs it took, and what they add up to.
 #[derive(Clone, Copy)]
 pub struct Walk {
     pub at: u32,
@@ -83,7 +83,7 @@ impl<'m, 'p> VehicleWeights<'m, 'p> {
         }
     }
 
-    /// A walk goes on at one go: to a first node, and on by so many arcs, which add up to `total`, to a last one.
+    /// A walk goes on at one go: to a first node, and on by `arcs` arcs, which add up to `total`, to a last one.
     #[inline]
     pub fn jump(&self, walk: &mut Walk, first: u32, last: u32, arcs: u32, total: i128)
         requires first { first < self.now.weights.closed.model.now.nodes }

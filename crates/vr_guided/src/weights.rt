@@ -32,7 +32,7 @@ pub struct VehicleWeights<'m, 'p> {
     pub ghost there: { vehicle < length weights.closed.model.now.vehicles },
 }
 
-/// The nodes where a vehicle starts and ends.
+/// The nodes at which a vehicle starts and ends.
 #[derive(Clone, Copy)]
 pub struct VehicleEnds {
     pub start: u32,
@@ -49,7 +49,7 @@ pub struct ListWeights<'m, 'p, 'r> {
 }
 
 impl<'m, 'p> VehicleWeights<'m, 'p> {
-    /// Where the vehicle starts and ends.
+    /// The start and the end of the vehicle.
     #[inline]
     pub fn ends(&self) -> VehicleEnds
         ensures start { result.start ≡ (vehicle_at self.now.weights.closed.model.now self.now.vehicle).start }
@@ -111,8 +111,8 @@ impl<'m, 'p> VehicleWeights<'m, 'p> {
         }
     }
 
-    /// Of a list of `len` visits: where there are none, what the arc from start to end would add, which is not taken
-    /// then; else 0.
+    /// If a list has no visits, what the arc from start to end would add, which is not taken then; else 0. `len` says
+    /// how many visits it has.
     #[inline]
     pub fn unused(&self, len: u32) -> i128
         ensures low { pos 0 ≤ℤ result }

@@ -14,8 +14,8 @@ use Rattle.vr_known.specs.declared.touched.Touched.{Touched}
 abbrev pub two : ℕ → ℕ → Option Touched
 two v w = Some (record { first = v; second = w })
 
--- those whose lists a move changes, as far as its numbers name them, the same one twice where it changes one; none of
--- a move that takes a pair out or puts it elsewhere
+-- those whose lists a move changes, as far as its numbers name them. If it changes one list, the vehicle is there
+-- twice. None of a move that takes a pair out or puts it elsewhere
 abbrev pub named_by : Move → Option Touched
 named_by (TwoOpt v a b) = two v v
 named_by (OrOpt v a k t) = two v v
@@ -29,8 +29,9 @@ named_by (MakeActive u w t) = two w w
 named_by (MakeInactive v a) = two v v
 named_by (SwapActive v a u) = two v v
 
--- those whose lists a move of lists changes: of a pair that is put elsewhere the one where its pickup stands and the
--- one that it goes to, none where there is no such pair or its pickup stands in no list; else those that it names
+-- those whose lists a move of lists changes. If a pair is put elsewhere, they are the one whose list has its pickup,
+-- and the one that it goes to. None if there is no such pair or its pickup is in no list. Of other moves they are those
+-- that the numbers name
 abbrev pub AreFound : Model → List (List ℕ) → Move → Option Touched → Type 0
 AreFound model lists (RelocatePair p w s t) found = let pickup = (pair_at model p).pickup in
     MatchOption found ((nat_lt p (length model.pairs) && is_active lists pickup) ≡ false)

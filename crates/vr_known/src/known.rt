@@ -15,10 +15,11 @@ use vr_model::{Closed, Model as RoutingModel, Move, Neighbourhood};
 use vr_routes::Routes;
 
 /// What is known of moves: those of some rows and vehicles were refused, and nothing on which they depend has changed
-/// since: the lists of their vehicles, and which visits are active where they change that. It takes no memory.
+/// since. They depend on the lists of their vehicles, and, if they change activity, on which visits are active. It
+/// takes no memory.
 #[derive(Drop)]
 pub struct Known {
-    // none where nothing is ever learned
+    // none if nothing is ever learned
     stamps: Option<Stamps>,
 }
 
@@ -31,8 +32,8 @@ impl Model for Known {
 }
 
 impl Known {
-    /// Nothing is known, and nothing is ever learned: so it is of models that pay for global spans, and so iterators of
-    /// moves pass over none.
+    /// Nothing is known, and nothing is ever learned. So it is of models that pay for global spans. Iterators of moves
+    /// use it too, and so pass over none.
     #[inline]
     pub fn none() -> Known
         ensures none { (kind v w : ℕ) → is_known result kind v w ≡ false }
@@ -41,9 +42,9 @@ impl Known {
         Known { stamps: None }
     }
 
-    /// Nothing is known yet of the moves of a model. Something is learned where nothing is paid for global spans: only
-    /// there does what a move makes depend on the lists of its vehicles, and on which visits are active where it
-    /// changes that, and on nothing else.
+    /// Nothing is known yet of the moves of a model. Something is learned if nothing is paid for global spans. Only
+    /// then does what a move makes depend on nothing but the lists of its vehicles, and, if it changes activity, the
+    /// active visits.
     pub fn of(model: &RoutingModel) -> Known
         ensures none { (kind v w : ℕ) → is_known result kind v w ≡ false }
         ensures learns { Learns result → HasNoGlobalSpans model.now }
@@ -57,8 +58,13 @@ impl Known {
     }
 
     /// Whether no move of a neighbourhood, of a row and of the vehicle that it names last is acceptable, as far as is
-    /// known. The row is the first vehicle where moves change one list or two that they name and no activity, the pair
-    /// where it is put elsewhere or taken out, and else 0. A move that names no vehicle counts as one that names 0.
+    /// known. Which number is the row:
+    ///
+    /// - the first vehicle, if moves change one list or two that they name and no activity;
+    /// - the pair, if it is put elsewhere or taken out;
+    /// - else 0.
+    ///
+    /// A move that names no vehicle counts as one that names 0.
     #[inline(always)]
     pub fn has(&self, neighbourhood: Neighbourhood, v: u32, w: u32) -> bool
         requires first { v < rows_of (kind_at neighbourhood) }
@@ -71,8 +77,8 @@ impl Known {
         }
     }
 
-    /// A scan of the moves of some neighbourhoods has refused all in front of this one: learned are the rows that stand
-    /// in front of it as a whole, and not its own. That they were refused is for the caller to keep (`AreRefused` of
+    /// A scan of the moves of some neighbourhoods has refused all moves before this one. The rows that lie before it as
+    /// a whole are learned; its own row is not. The caller keeps that they were refused (`AreRefused` of
     /// `Progress::advance`).
     pub fn note(&mut self, neighbourhoods: &[Neighbourhood], mv: Move)
         requires first { first_of mv < rows_of (kind_of mv) }
@@ -96,8 +102,11 @@ impl Known {
         }
     }
 
-    /// A move was made, and `routes` are those after it: those moves alone stay known that name no vehicle whose list
-    /// it changed, put elsewhere or take out no pair that such a vehicle serves, and change no activity where it did.
+    /// A move was made, and `routes` are those after it. Only moves of which this is so stay known:
+    ///
+    /// - they name no vehicle whose list it changed;
+    /// - they put elsewhere or take out no pair that such a vehicle serves;
+    /// - they change no activity, if it did.
     pub fn change(&mut self, model: &RoutingModel, routes: &Routes, mv: Move, touched: Touched)
         requires well_formed { IsWellFormed model.now }
         requires first { touched.first < 100 }
@@ -113,9 +122,9 @@ impl Known {
         }
     }
 
-    /// Something else than its list changed of a vehicle, penalties of its arcs: those moves alone stay known that do
-    /// not name it. Those of pairs that it serves need not name it, and are forgotten by [`Known::settle`], which
-    /// guided search asks once it has raised the penalties of each vehicle.
+    /// Something else than its list changed of a vehicle: penalties of its arcs. Only moves that do not name it stay
+    /// known. Moves of pairs that it serves need not name it. [`Known::settle`] forgets those; guided search calls it
+    /// after it has raised the penalties of each vehicle.
     pub fn forget(&mut self, v: u32)
         requires vehicle { v < 100 }
         ensures fewer { (k u w : ℕ) → IsTrue (is_known self.new k u w) → IsTrue (is_known self.old k u w) }
@@ -130,8 +139,8 @@ impl Known {
         }
     }
 
-    /// Moves that put a pair elsewhere or take it out are forgotten where the vehicle that serves it changed since they
-    /// were refused: its list, or penalties of its arcs.
+    /// Forgets refused moves that put a pair elsewhere or take it out, if the vehicle that serves the pair changed
+    /// since. A vehicle changes with its list, or with penalties of its arcs.
     pub fn settle(&mut self, model: &RoutingModel, routes: &Routes)
         requires well_formed { IsWellFormed model.now }
         ensures fewer { (k u w : ℕ) → IsTrue (is_known self.new k u w) → IsTrue (is_known self.old k u w) }

@@ -18,8 +18,8 @@ pub trait Pattern: Drop {
     fn make(&self, k: u32) -> Move
         ensures { result ≡ move_at self.now k };
 
-    /// The block in which all these moves stand. Its row and its vehicle are in range, so who makes a pattern keeps
-    /// that its vehicles are below 100.
+    /// The block in which all these moves are. Its row and its vehicle are in range, so who makes a pattern keeps that
+    /// its vehicles are below 100.
     fn block(&self) -> Block
         ensures { IsBlockOf result (move_at self.now) };
 
@@ -60,8 +60,8 @@ impl<P: Pattern> Numbered for AnyLast<P> {
     }
 }
 
-/// The moves of a pattern whose last number may be any but `but`: those of `or_opt`, whose chain stands before that
-/// place already.
+/// The moves of a pattern whose last number may be any but `but`: those of `or_opt`, whose chain is before that place
+/// already.
 #[derive(Drop)]
 pub struct AnyLastBut<P: Pattern> {
     pub pattern: P,

@@ -32,8 +32,8 @@ impl<L: Listed> Moves<L> {
         Moves { left }
     }
 
-    /// Takes the first of the moves that are left, behind some that are passed over, which are counted; `None` where
-    /// none is left behind these. `vr_descent` asks it.
+    /// Takes the first of the moves that are left after some that are passed over, which are counted. `None` if none is
+    /// left after these. `vr_descent` asks it.
     #[inline(always)]
     pub fn step<S: Sieve>(
         &mut self,
@@ -50,8 +50,8 @@ impl<L: Listed> Moves<L> {
         self.left.step(sieve, judge, passed)
     }
 
-    /// Takes those at the front that differ from the move that was taken last in their last number alone, where the
-    /// sieve knows nothing of them or is no longer asked; none where they are not said to be a run.
+    /// Takes the moves at the front that differ from the move taken last in their last number alone. It does so once
+    /// the sieve knew nothing of them or is no longer asked. None if they are not said to be a run.
     #[inline(always)]
     pub fn stretch(&mut self) -> Stretch
         ensures { self.old ≡ result ++ self.new }

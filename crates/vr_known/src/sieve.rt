@@ -21,24 +21,24 @@ pub trait Sieve {
     /// What is known of a move that is passed over.
     ghost covers: { Self → Moved → Type 0 };
 
-    /// Up to how many tries it is asked about runs: of none where it is 0.
+    /// Up to how many tries it is asked about runs: of none if it is 0.
     ghost tries: { Self → ℕ };
 
     /// This judge can be asked.
     ghost can_ask: { Self → Self.Judge → Type 0 };
 
-    /// A number of a judge that stays where it is asked about a run: how often it judged.
+    /// A number of a judge that stays when it is asked about a run: how often it judged.
     ghost judged: { Self.Judge → ℕ };
 
-    /// A number of a judge that rises by at most one where it is asked about a run.
+    /// A number of a judge that rises by at most one when it is asked about a run.
     ghost looked: { Self.Judge → ℕ };
 
-    /// Up to how many tries it is asked about runs: of none where it is 0.
+    /// Up to how many tries it is asked about runs: of none if it is 0.
     fn limit(&self) -> u64
         ensures { result ≡ tries self.now };
 
-    /// Whether all moves of a neighbourhood, of a row and of the vehicle that they name last can be passed over, as
-    /// [`Known::has`] says of rows.
+    /// Whether all moves of a block can be passed over: those of a neighbourhood, of a row and of the vehicle that they
+    /// name last. Rows are those of [`Known::has`].
     fn has(&self, neighbourhood: Neighbourhood, v: u32, w: u32) -> bool
         requires ready { is_ready self.now }
         requires first { v < rows_of (kind_at neighbourhood) }
@@ -46,8 +46,8 @@ pub trait Sieve {
         ensures { IsTrue result → CoversBlock (covers self.now) (kind_at neighbourhood) v w };
 
     /// Goes over a run of moves, which differ in their last number: those of the numbers from `from` on, below `end`.
-    /// Says from which number on they are to be tried: all in front of it can be passed over. The last number of `mv`
-    /// is any. `None` where nothing is known of such a run, from whichever number on it is asked.
+    /// Says from which number on they are to be tried: all before it can be passed over. The last number of `mv` is
+    /// any. `None` if nothing is known of such a run, from whichever number on it is asked.
     #[inline]
     fn first(&self, judge: &mut Self::Judge, mv: Move, from: u32, end: u32) -> Option<u32>
         requires ready { is_ready self.now }

@@ -12,7 +12,7 @@ use crate::blocks::first_of;
 use vr_model::{Model, Move};
 use vr_routes::Routes;
 
-/// The vehicles whose lists a move changes; both are the same where it changes one.
+/// The vehicles whose lists a move changes; both are the same if it changes one.
 #[derive(Clone, Copy)]
 pub struct Touched {
     pub first: u32,
@@ -21,7 +21,7 @@ pub struct Touched {
 
 impl Touched {
     /// Those that a move names by its numbers alone. `None` of a move that takes a pair out or puts one elsewhere,
-    /// since it does not name the list where the pair stands. `vr_guided` asks it once the move is made, when that list
+    /// since it does not name the list that the pair is in. `vr_guided` asks it once the move is made, when that list
     /// is found no more.
     #[inline]
     pub fn named(mv: Move) -> Option<Touched>
@@ -43,8 +43,8 @@ impl Touched {
     }
 
     /// Those that a move names, and the one that serves the pair that it puts elsewhere. `None` of `pair_inactive`, and
-    /// where there is no such pair or its pickup stands nowhere: the numbers need not be those of a move, since
-    /// `vr_guided` asks it about runs.
+    /// if there is no such pair or its pickup is in no list. The numbers need not be those of a move, since `vr_guided`
+    /// asks it about runs.
     #[inline]
     pub fn found(model: &Model, routes: &Routes, mv: Move) -> Option<Touched>
         ensures { AreFound model.now routes.now.lists mv result }
@@ -55,8 +55,8 @@ impl Touched {
         }
     }
 
-    /// The vehicles whose lists a move of the routes changes: those that it names, and the one that serves the pair
-    /// which it takes out or puts elsewhere. `vr_descent` (`Progress::advance`) asks it before the move is made.
+    /// The vehicles whose lists a move of the routes changes. They are those that it names, and the one that serves the
+    /// pair which it takes out or puts elsewhere. `vr_descent` (`Progress::advance`) asks it before the move is made.
     pub fn of(model: &Model, routes: &Routes, mv: Move) -> Touched
         requires mv { IsTrue (is_move model.now routes.now.lists mv) }
         ensures first { result.first < 100 }
@@ -69,7 +69,7 @@ impl Touched {
         let _few = routes.vehicles();
         match Touched::found(model, routes, mv) {
             Some(touched) => touched,
-            // It takes a pair out. (No move of the routes puts one elsewhere that stands nowhere.)
+            // It takes a pair out. (No move of the routes puts one elsewhere that is in no list.)
             None => Touched::one(serving(model, routes, first_of(mv))),
         }
     }
@@ -105,7 +105,7 @@ fn put_elsewhere(model: &Model, routes: &Routes, p: u32, w: u32) -> Option<Touch
     }
 }
 
-// The vehicle in whose list a pair stands.
+// The vehicle whose list a pair is in.
 fn serving(model: &Model, routes: &Routes, p: u32) -> u32
     requires pair { p < length model.now.pairs }
     requires together { IsTrue (is_pair_together model.now routes.now.lists p) }
@@ -114,7 +114,7 @@ fn serving(model: &Model, routes: &Routes, p: u32) -> u32
 {
     match routes.vehicle_of(model.pairs.get(p as usize).pickup) {
         Some(v) => v,
-        // does not come, since the pair stands in one list
+        // does not come, since the pair is in one list
         None => 0,
     }
 }

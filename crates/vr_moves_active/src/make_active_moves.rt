@@ -87,11 +87,11 @@ impl<'a> Family for Nodes<'a> {
     }
 }
 
-/// The moves that put an inactive visit into a list (OR-Tools' `MakeActive`), in lexicographic order of their numbers.
+/// The moves that put an inactive visit into a route (OR-Tools' `MakeActive`), in lexicographic order of their numbers.
 /// Contracts see the list of those that are left.
 pub type MakeActiveMoves<'a> = Moves<Each<Nodes<'a>>>;
 
-/// The moves that put an inactive visit into a list (OR-Tools' `MakeActive`), in lexicographic order of their numbers.
+/// The moves that put an inactive visit into a route (OR-Tools' `MakeActive`), in lexicographic order of their numbers.
 pub fn make_active<'a>(routes: &'a Routes) -> MakeActiveMoves<'a>
     ensures { (model : Defined) → routes.now.visits ≡ visits model
         → result ≡ moves_in model routes.now.lists MakeActiveKind }

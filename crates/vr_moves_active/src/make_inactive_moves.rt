@@ -40,7 +40,7 @@ impl Numbered for Places {
     }
 }
 
-/// The nodes of each list that are taken out.
+/// The nodes of each route that are taken out.
 #[derive(Drop)]
 pub struct Removals {}
 

@@ -43,8 +43,8 @@ impl<'a> Numbered for Newcomers<'a> {
         Some(Block::new(Neighbourhood::SwapActive, 0, self.v))
     }
 
-    // The sieve is asked about all numbers from the first of these nodes to the last, active nodes among them: what it
-    // says of those is not used.
+    // The sieve is asked about all numbers from the first of these nodes to the last. Active nodes may be among them;
+    // what it says of those is not used.
     #[inline]
     fn first<S: Sieve>(&self, sieve: &S, judge: &mut S::Judge, from: u32, end: u32) -> Option<u32> {
         if from >= end {
@@ -69,7 +69,7 @@ impl<'a> Numbered for Newcomers<'a> {
     }
 }
 
-// Up to which place, from one on and below another, all nodes are numbers from `lowest` on, below `first`: of these the
+// Up to which place, from one on and below another, all nodes are numbers from `lowest` on, below `first`. Of these the
 // sieve said that they can be passed over.
 #[inline]
 fn end_within(nodes: &[u32], from: u32, end: u32, lowest: u32, first: u32) -> u32

@@ -1,4 +1,4 @@
-//! Fronts of lists that change vehicles.
+//! Fronts of routes that change vehicles.
 
 ghost use Rattle.std.specs.Prelude.{◌≡◌, ◌==◌, ◌<◌, ◌≤◌, cond, filter, length, map, refl, suc};
 ghost use Rattle.vr_known.specs.Listing.{each, from_to, gaps, has_some_front, moves_in, route, vehicles, Cross};
@@ -39,7 +39,7 @@ impl Pattern for Fronts {
     ghost differ_in_last = { λ s k. refl };
 }
 
-/// The vehicles that may change fronts with `v`, of which the front ends before place `a`: those behind it, so that
+/// The vehicles that may change fronts with `v`, of which the front ends before place `a`. They come after `v`, so that
 /// each two come once.
 #[derive(Drop)]
 pub struct Targets<'a> {
@@ -127,7 +127,7 @@ impl<'a> Family for Vehicles<'a> {
     }
 }
 
-// The first place before which a front may end, where the other one ends before place `a`: not both are empty.
+// The first place before which a front may end if the other one ends before place `a`: not both are empty.
 #[inline]
 fn first_gap(a: u32) -> u32
     ensures value { result ≡ cond (a == 0) 1 0 }
@@ -136,11 +136,11 @@ fn first_gap(a: u32) -> u32
     if a == 0 { 1 } else { 0 }
 }
 
-/// The moves that let the fronts of two lists change vehicles (OR-Tools' `Cross`), in lexicographic order of their
+/// The moves that let the fronts of two routes change vehicles (OR-Tools' `Cross`), in lexicographic order of their
 /// numbers. Contracts see the list of those that are left.
 pub type CrossMoves<'a> = Moves<Each<Vehicles<'a>>>;
 
-/// The moves that let the fronts of two lists change vehicles (OR-Tools' `Cross`), in lexicographic order of their
+/// The moves that let the fronts of two routes change vehicles (OR-Tools' `Cross`), in lexicographic order of their
 /// numbers.
 pub fn cross_chains<'a>(routes: &'a Routes) -> CrossMoves<'a>
     ensures { (model : Defined) → result ≡ moves_in model routes.now.lists CrossKind }

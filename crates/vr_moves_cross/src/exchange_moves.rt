@@ -8,7 +8,7 @@ use vr_known::{AnyLast, Block, Each, Family, Moves, Pattern, Run};
 use vr_model::{Move, Neighbourhood};
 use vr_routes::Routes;
 
-/// The nodes of `w` with which that at place `a` of `v` may change places; in its own list those behind it alone.
+/// The nodes of `w` with which that at place `a` of `v` may change places; in its own route only those after it.
 #[derive(Drop)]
 pub struct Partners {
     v: u32,
@@ -39,7 +39,7 @@ impl Pattern for Partners {
     ghost differ_in_last = { λ s k. refl };
 }
 
-/// The vehicles with whose nodes that at place `a` of `v` may change places: `v` and those behind it, so that each two
+/// The vehicles with whose nodes that at place `a` of `v` may change places: `v` and those after it, so that each two
 /// nodes come once.
 #[derive(Drop)]
 pub struct Targets<'a> {
@@ -130,7 +130,7 @@ impl<'a> Family for Vehicles<'a> {
     }
 }
 
-// The first place of `w` that comes behind place `a` of `v`.
+// The first place of `w` that comes after place `a` of `v`.
 #[inline]
 fn first_behind(v: u32, a: u32, w: u32) -> u32
     requires { a < 1000 }

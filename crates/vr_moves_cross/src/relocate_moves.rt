@@ -1,4 +1,4 @@
-//! Nodes that are moved to other lists.
+//! Nodes that are moved to other routes.
 
 ghost use Rattle.std.specs.Prelude.{◌≡◌, ◌<◌, ◌≤◌, filter, length, map, refl};
 ghost use Rattle.vr_known.specs.Listing.{each, gaps, is_other, moves_in, places, route, vehicles, Defined, Relocate};
@@ -72,7 +72,7 @@ impl<'a> Family for Targets<'a> {
     }
 }
 
-/// The places of `v`, whose nodes may be moved to other lists.
+/// The places of `v`, whose nodes may be moved to other routes.
 #[derive(Drop)]
 pub struct Places<'a> {
     routes: &'a Routes,
@@ -131,11 +131,11 @@ impl<'a> Family for Vehicles<'a> {
     }
 }
 
-/// The moves that put a node into the list of another vehicle (OR-Tools' `Relocate`), in lexicographic order of their
+/// The moves that put a node into the route of another vehicle (OR-Tools' `Relocate`), in lexicographic order of their
 /// numbers. Contracts see the list of those that are left.
 pub type RelocateMoves<'a> = Moves<Each<Vehicles<'a>>>;
 
-/// The moves that put a node into the list of another vehicle (OR-Tools' `Relocate`), in lexicographic order of their
+/// The moves that put a node into the route of another vehicle (OR-Tools' `Relocate`), in lexicographic order of their
 /// numbers.
 pub fn relocate<'a>(routes: &'a Routes) -> RelocateMoves<'a>
     ensures { (model : Defined) → result ≡ moves_in model routes.now.lists RelocateKind }

@@ -8,7 +8,7 @@ use vr_known::{AnyLast, Block, Each, Family, Moves, Pattern, Run};
 use vr_model::{Model as RoutingModel, Move, Neighbourhood};
 use vr_routes::{Routes, is_pair_inactive};
 
-/// The places of `w` before which the delivery may be put, where the pickup is put before place `s`: those from `s` on.
+/// The places of `w` before which the delivery may be put if the pickup is put before place `s`: those from `s` on.
 #[derive(Drop)]
 pub struct Deliveries {
     p: u32,
@@ -39,7 +39,7 @@ impl Pattern for Deliveries {
     ghost differ_in_last = { λ m t. refl };
 }
 
-/// The places before which the pickup may be put in the list of `w`, which has `n` nodes: its end is one of them.
+/// The places before which the pickup may be put in the route of `w`, which has `n` nodes: its end is one of them.
 #[derive(Drop)]
 pub struct Pickups {
     p: u32,
@@ -123,11 +123,11 @@ impl<'a> Family for Pairs<'a> {
     }
 }
 
-/// The moves that put an inactive pair into a list (this project's own), in lexicographic order of their numbers.
+/// The moves that put an inactive pair into a route (this project's own), in lexicographic order of their numbers.
 /// Contracts see the list of those that are left.
 pub type PairActiveMoves<'a> = Moves<Each<Pairs<'a>>>;
 
-/// The moves that put an inactive pair into a list (this project's own), in lexicographic order of their numbers.
+/// The moves that put an inactive pair into a route (this project's own), in lexicographic order of their numbers.
 pub fn pair_active<'a>(model: &'a RoutingModel, routes: &'a Routes) -> PairActiveMoves<'a>
     requires well_formed { IsWellFormed model.now }
     ensures { result ≡ moves_in model.now routes.now.lists PairActiveKind }

@@ -7,7 +7,7 @@ use vr_known::{Moves, Numbered, Run, Sieve};
 use vr_model::{Model as RoutingModel, Move, Neighbourhood};
 use vr_routes::{Routes, is_pair_together};
 
-/// The pairs whose nodes stand in one list.
+/// The pairs whose nodes are in one route.
 #[derive(Drop)]
 pub struct Pairs<'a> {
     model: &'a RoutingModel,
@@ -32,8 +32,8 @@ impl<'a> Numbered for Pairs<'a> {
         Move::PairInactive { p: k }
     }
 
-    // Each pair is a row of its own, so the sieve is asked about each. Its move names no vehicle, for which 0 stands,
-    // and the judge is not asked: `vr_arccosts` goes over no runs of this kind.
+    // Each pair is a row of its own, so the sieve is asked about each. Its move names no vehicle, so 0 is asked about.
+    // The judge is not asked: `vr_arccosts` goes over no runs of this kind.
     #[inline]
     fn first<S: Sieve>(
         &self,

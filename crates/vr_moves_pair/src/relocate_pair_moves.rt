@@ -10,8 +10,8 @@ use vr_known::{Block, Each, Family, Moves, Numbered, Run};
 use vr_model::{Model as RoutingModel, Move, Neighbourhood};
 use vr_routes::{PairPlaces, Routes, is_elsewhere, pair_served, rest_len};
 
-/// The places of the rest of `w` before which the delivery may be put, where the pickup is put before place `s`. Left
-/// out is only the place with which both nodes would stand as they do (`is_elsewhere`).
+/// The places of the rest of `w` before which the delivery may be put if the pickup is put before place `s`. Left out
+/// is only the place with which both nodes would be as they are (`is_elsewhere`).
 #[derive(Drop)]
 pub struct Deliveries {
     p: u32,
@@ -56,7 +56,7 @@ impl Numbered for Deliveries {
 
     #[inline]
     fn many(&self, from: u32, to: u32) -> u32 {
-        // the one number that may be left out: before this place of the rest the delivery stands now
+        // the one number that may be left out: before this place of the rest the delivery is now
         let own = self.at.delivery - 1;
         if own < from || own >= to || self.has(own) {
             return to - from;
@@ -65,8 +65,8 @@ impl Numbered for Deliveries {
     }
 }
 
-/// The places before which the pickup may be put in the rest of the list of `w`: that is the list without the pair, and
-/// has `n` nodes. Its end is one of them.
+/// The places before which the pickup may be put in the rest of the route of `w`. The rest is the route without the
+/// pair, and has `n` nodes. Its end is one of these places.
 #[derive(Drop)]
 pub struct Pickups {
     p: u32,
@@ -99,7 +99,7 @@ impl Family for Pickups {
     }
 }
 
-/// The vehicles to which pair `p`, which stands at `at`, may be moved: its own is one of them.
+/// The vehicles to which pair `p`, which is at `at`, may be moved: its own is one of them.
 #[derive(Drop)]
 pub struct Targets<'a> {
     model: &'a RoutingModel,

@@ -1,4 +1,4 @@
-//! Chains that are moved within a list.
+//! Chains that are moved within a route.
 
 ghost use Rattle.std.specs.Prelude.{◌≡◌, ◌+◌, ◌-◌, ◌<◌, ◌≤◌, filter, map, nat_le, refl, suc};
 ghost use Rattle.vr_known.specs.Listing.{below, each, from_to, is_other, moves_in, Defined, OrOpt, OrOptKind};
@@ -7,7 +7,7 @@ use vr_known::{AnyLastBut, Block, Each, Family, Lists, Moves, OfList, Pattern, R
 use vr_model::{Move, Neighbourhood};
 use vr_routes::Routes;
 
-/// The places before which the `k` nodes of `v` from place `a` on may be put, in the rest of its list.
+/// The places before which the `k` nodes of `v` from place `a` on may be put, in the rest of its route.
 #[derive(Drop)]
 pub struct Gaps {
     v: u32,
@@ -38,7 +38,7 @@ impl Pattern for Gaps {
     ghost differ_in_last = { λ s k. refl };
 }
 
-/// How many nodes of `v`, which has `n`, may be moved from place `a` on: one to three, as far as it has so many there.
+/// How many nodes of `v`, which has `n`, may be moved from place `a` on: one to three, as far as there are as many.
 #[derive(Drop)]
 pub struct Chains {
     v: u32,
@@ -67,7 +67,7 @@ impl Family for Chains {
             a: self.a,
             k,
         };
-        // before place `a` of the rest they stand already
+        // before place `a` of the rest they are already
         let others = AnyLastBut {
             pattern,
             but: self.a,
@@ -76,7 +76,7 @@ impl Family for Chains {
     }
 }
 
-/// The places of `v`, which has `n`, where a chain begins.
+/// The places of `v`, which has `n`, at which a chain begins.
 #[derive(Drop)]
 pub struct Begins {
     v: u32,
@@ -104,7 +104,7 @@ impl Family for Begins {
     }
 }
 
-/// The chains of each list that are put elsewhere in it.
+/// The chains of each route that are put elsewhere in it.
 #[derive(Drop)]
 pub struct Shifts {}
 
@@ -120,11 +120,11 @@ impl OfList for Shifts {
     }
 }
 
-/// The moves that put up to three nodes elsewhere in their list (OR-Tools' `OrOpt`), in lexicographic order of their
+/// The moves that put up to three nodes elsewhere in their route (OR-Tools' `OrOpt`), in lexicographic order of their
 /// numbers. Contracts see the list of those that are left.
 pub type OrOptMoves<'a> = Moves<Each<Lists<'a, Shifts>>>;
 
-/// The moves that put up to three nodes elsewhere in their list (OR-Tools' `OrOpt`), in lexicographic order of their
+/// The moves that put up to three nodes elsewhere in their route (OR-Tools' `OrOpt`), in lexicographic order of their
 /// numbers.
 pub fn or_opt<'a>(routes: &'a Routes) -> OrOptMoves<'a>
     ensures { (model : Defined) → result ≡ moves_in model routes.now.lists OrOptKind }

@@ -1,4 +1,4 @@
-//! Parts of a list that are reversed.
+//! Parts of a route that are reversed.
 
 ghost use Rattle.std.specs.Prelude.{◌≡◌, ◌<◌, map, refl, suc};
 ghost use Rattle.vr_known.specs.Listing.{below, each, from_to, moves_in, Defined, TwoOpt, TwoOptKind};
@@ -7,8 +7,8 @@ use vr_known::{AnyLast, Block, Each, Family, Lists, Moves, OfList, Pattern, Run,
 use vr_model::{Move, Neighbourhood};
 use vr_routes::Routes;
 
-/// The parts of `v` that begin at place `a`, by the place of their last node, which is behind it: a part of one node
-/// stays as it is.
+/// The parts of `v` that begin at place `a`, by the place of their last node. It comes after place `a`: a part of one
+/// node stays as it is.
 #[derive(Drop)]
 pub struct Parts {
     v: u32,
@@ -37,7 +37,7 @@ impl Pattern for Parts {
     ghost differ_in_last = { λ s k. refl };
 }
 
-/// The places of `v` where a part begins, of which it has `n`.
+/// The places of `v` at which a part begins, of which it has `n`.
 #[derive(Drop)]
 pub struct Begins {
     v: u32,
@@ -59,7 +59,7 @@ impl Family for Begins {
     }
 }
 
-/// The parts of each list that are reversed.
+/// The parts of each route that are reversed.
 #[derive(Drop)]
 pub struct Reversals {}
 
@@ -74,11 +74,11 @@ impl OfList for Reversals {
     }
 }
 
-/// The moves that reverse a part of a list (OR-Tools' `TwoOpt`), in lexicographic order of their numbers. Contracts see
-/// the list of those that are left.
+/// The moves that reverse a part of a route (OR-Tools' `TwoOpt`), in lexicographic order of their numbers. Contracts
+/// see the list of those that are left.
 pub type TwoOptMoves<'a> = Moves<Each<Lists<'a, Reversals>>>;
 
-/// The moves that reverse a part of a list (OR-Tools' `TwoOpt`), in lexicographic order of their numbers.
+/// The moves that reverse a part of a route (OR-Tools' `TwoOpt`), in lexicographic order of their numbers.
 pub fn two_opt<'a>(routes: &'a Routes) -> TwoOptMoves<'a>
     ensures { (model : Defined) → result ≡ moves_in model routes.now.lists TwoOptKind }
 {

@@ -22,7 +22,7 @@ after tours parts = record { visits = tours.visits; lists = changed tours.lists 
 abbrev pub NothingReady : (Tours → List ListAfter → Type 0) → Type 0
 NothingReady ready = (tours : Tours) (parts : List ListAfter) → ready tours parts → ⊥
 
--- the part begins with the places of the list of v below `front`, and the pieces behind them are joined to the nodes
+-- the part begins with the places of the list of v below `front`, and the pieces after them are joined to the nodes
 pub record IsPartBegun (lists : List (List ℕ)) (part : ListAfter) (v front : ℕ) (nodes : List ℕ) : Type 0 where
   pub vehicle_is : part.vehicle ≡ v
   pub front_is : part.front ≡ front
@@ -38,7 +38,7 @@ pub record IsAfter (lists : List (List ℕ)) (part : ListAfter) (v : ℕ) (list 
   pub each_within : All (IsWithin lists) part.pieces
   pub spliced : IsSpliced lists part
 
--- the parts are of vehicles of the lists, two of them of two, their pieces lie within the lists, and each is a splice
+-- the parts are of different vehicles of the lists, their pieces lie within the lists, and each is a splice
 pub record AreParts (lists : List (List ℕ)) (parts : List ListAfter) : Type 0 where
   pub each_vehicle : All (λ part. part.vehicle < length lists) parts
   pub each_within : All (λ part. All (IsWithin lists) part.pieces) parts
@@ -49,14 +49,14 @@ pub record AreParts (lists : List (List ℕ)) (parts : List ListAfter) : Type 0 
 abbrev pub IsOther : List (List ℕ) → ListAfter → Type 0
 IsOther lists part = joined lists part.pieces ≢ route lists part.vehicle
 
--- lists may be changed so: after it no node stands twice, and each one is among those that may stand there
+-- lists may be changed so: after it no node comes twice, and each one is among those that may be in lists
 pub record MayChange (seated : Seated) (parts : List ListAfter) : Type 0 where
   pub parts_are : AreParts seated.lists parts
   pub once : IsOnce (changed seated.lists parts)
   pub have : HaveNodes seated.nodes (changed seated.lists parts)
 
--- a change of lists is the one that a move makes, and where they are lists of the model, no part of it leaves its list
--- as it is
+-- a change of lists is the one that a move makes. If they are lists of the model, each part gives its vehicle another
+-- list
 pub record IsChange (model : Model) (lists : List (List ℕ)) (mv : Move) (parts : List ListAfter) : Type 0 where
   pub parts_are : AreParts lists parts
   pub lists_are : changed lists parts ≡ apply model lists mv

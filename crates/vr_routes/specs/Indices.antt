@@ -41,7 +41,7 @@ abbrev pub IsVisitStop : Tours → ℕ → ℕ → ℕ → Type 0
 IsVisitStop tours i v s =
     (k : ℕ) × (s ≡ k + 1) × (i < length tours.visits) × IsSeat tours.lists (slice_index tours.visits i) v k
 
--- index i is that of stop s of v, where the stops are the start, the visits and the end
+-- index i is that of stop s of v: the stops are the start, the visits and the end
 abbrev pub IsStop : Tours → ℕ → ℕ → ℕ → Type 0
 IsStop tours i v s =
     ((s ≡ 0) × (i ≡ start_index tours v))
@@ -56,7 +56,7 @@ pub record IsNext (tours : Tours) (i j : ℕ) : Type 0 where
   pub from : IsStop tours i vehicle stop
   pub to : IsStop tours j vehicle (stop + 1)
 
--- index i is that of a visit that stands in no list
+-- index i is that of a visit in no list
 abbrev pub IsInactiveIndex : Tours → ℕ → Type 0
 IsInactiveIndex tours i = (i < length tours.visits) × (is_active tours.lists (slice_index tours.visits i) ≡ false)
 

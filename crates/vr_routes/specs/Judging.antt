@@ -21,7 +21,7 @@ pub record HasCommitted (model : Model) (stands_at : Tours → Type 0) (routes :
 abbrev pub cost_change : Model → List (List ℕ) → Move → ℤ
 cost_change model lists mv = cost model (apply model lists mv) -ℤ cost model lists
 
--- a number that the difference of a move is never below, where the lists after it are valid
+-- a number that the difference of a move is never below, if the lists after it are valid
 abbrev pub IsDifferenceBound : Model → List (List ℕ) → Move → ℤ → Type 0
 IsDifferenceBound model lists mv least = IsTrue (is_valid model (apply model lists mv))
     → least ≤ℤ cost_change model lists mv
@@ -30,7 +30,7 @@ IsDifferenceBound model lists mv least = IsTrue (is_valid model (apply model lis
 abbrev pub IsNoLess : Model → List (List ℕ) → Move → ℤ → Type 0
 IsNoLess model lists mv bound = IsTrue (is_move model lists mv) → IsDifferenceBound model lists mv bound
 
--- a move is refused where the lists after it are not valid; else it makes this difference in cost
+-- a move is refused if the lists after it are not valid; else it makes this difference in cost
 abbrev pub verdict_of : Model → List (List ℕ) → Move → Verdict
 verdict_of model lists mv =
     cond (is_valid model (apply model lists mv)) (Difference (cost_change model lists mv)) Refused

@@ -7,15 +7,15 @@ use Rattle.vr_model.specs.moves.Moves.{with_route, without_pair, comes_before}
 use Rattle.vr_model.specs.declared.records.Pair.{Pair}
 use Rattle.vr_routes.specs.Seats.{IsSeat}
 
--- both nodes stand in one list
+-- both nodes are in one list
 abbrev pub are_together : List (List ℕ) → ℕ → ℕ → Bool
 are_together lists x y = list_any (λ list. holds list x && holds list y) lists
 
--- both nodes stand in one list, and x comes first
+-- both nodes are in one list, and x comes first
 abbrev pub are_in_order : List (List ℕ) → ℕ → ℕ → Bool
 are_in_order lists x y = list_any (λ list. comes_before list x y) lists
 
--- the two nodes of a pair stand at these places of the list of v
+-- the two nodes of a pair are at these places of the list of v
 pub record ArePairPlaces (lists : List (List ℕ)) (pair : Pair) (v k j : ℕ) : Type 0 where
   pub pickup_stands : IsSeat lists pair.pickup v k
   pub delivery_stands : IsSeat lists pair.delivery v j
@@ -24,7 +24,7 @@ pub record ArePairPlaces (lists : List (List ℕ)) (pair : Pair) (v k j : ℕ) :
 abbrev pub without_two : List ℕ → ℕ → ℕ → List ℕ
 without_two list lo hi = take lo list ++ (slice_range list (suc lo) hi ++ drop (suc hi) list)
 
--- the nodes of a pair stand at two places of the list of v, of which lo comes first, and nowhere else
+-- the nodes of a pair are at two places of the list of v, of which lo comes first, and nowhere else
 pub record IsGap (lists : List (List ℕ)) (pair : Pair) (v lo hi : ℕ) : Type 0 where
   pub vehicle : v < length lists
   pub order : lo < hi
@@ -32,7 +32,7 @@ pub record IsGap (lists : List (List ℕ)) (pair : Pair) (v lo hi : ℕ) : Type 
   pub list_without : without_pair pair (route lists v) ≡ without_two (route lists v) lo hi
   pub lists_without : map (without_pair pair) lists ≡ with_route lists v (without_two (route lists v) lo hi)
 
--- 1 where j is past a place, else 0
+-- 1 if j is past a place, else 0
 abbrev pub is_past : ℕ → ℕ → ℕ
 is_past place j = 1 - (1 - (j - place))
 
@@ -40,6 +40,6 @@ is_past place j = 1 - (1 - (j - place))
 abbrev pub cuts_before : ℕ → ℕ → ℕ → ℕ
 cuts_before lo hi j = is_past lo j + is_past (hi - 1) j
 
--- a pair that stands at places lo and hi of v is put elsewhere
+-- a pair that is at places lo and hi of v is put elsewhere
 abbrev pub is_elsewhere : ℕ → ℕ → ℕ → ℕ → ℕ → ℕ → Bool
 is_elsewhere v lo hi w s t = not ((w == v) && ((s == lo) && (t == (hi - 1))))

@@ -9,8 +9,8 @@ use Rattle.vr_model.specs.moves.Moves.{with_route}
 use Rattle.vr_routes.specs.declared.pieces.Piece.{Piece}
 use Rattle.vr_routes.specs.declared.pieces.Piece.TheVariants.{Chain, Node}
 
--- the pieces of the list of a vehicle; the first one is its front before the change, up to place `front`, and the last
--- one its end, from place `behind` on
+-- the pieces of the list of a vehicle. The first one is its front before the change, up to place `front`. The last one
+-- is its end, from place `behind` on
 pub record ListAfter : Type 0 where
   pub vehicle : ℕ
   pub pieces : List Piece
@@ -46,8 +46,8 @@ pub IsWithin-prop : (lists : List (List ℕ)) (piece : Piece) → IsProp (IsWith
 IsWithin-prop lists (Chain v from to reversed) = Prim.hlevel props
 IsWithin-prop lists (Node node) = Unit-prop
 
--- pieces are a splice of the list of v: its places below `front`, the middle ones, each within its list, and its places
--- from `behind` on; there are two more at least than in the middle
+-- pieces are a splice of the list of v: its places below `front`, the middle ones, and its places from `behind` on.
+-- Each middle one lies within its list, and there are at least two more pieces than in the middle
 pub record IsSplice (lists : List (List ℕ)) (v : ℕ) (pieces : List Piece) (front behind : ℕ) (middle : List Piece) :
     Type 0 where
   pub order : front ≤ behind
@@ -60,7 +60,7 @@ pub record IsSplice (lists : List (List ℕ)) (v : ℕ) (pieces : List Piece) (f
 abbrev pub IsSpliced : List (List ℕ) → ListAfter → Type 0
 IsSpliced lists part = IsSplice lists part.vehicle part.pieces part.front part.behind (middle_of part.pieces)
 
--- lists, with those of the parts in the place of the old ones, where each piece is one of old
+-- lists, with those of the parts in the place of the old ones; each piece is one of old
 abbrev pub with_parts : List (List ℕ) → List ListAfter → List (List ℕ) → List (List ℕ)
 with_parts old [] lists = lists
 with_parts old (part ∷ parts) lists = with_parts old parts (with_route lists part.vehicle (joined old part.pieces))
@@ -69,7 +69,7 @@ with_parts old (part ∷ parts) lists = with_parts old parts (with_route lists p
 abbrev pub changed : List (List ℕ) → List ListAfter → List (List ℕ)
 changed lists parts = with_parts lists parts lists
 
--- the part that is read where a change has none of a number
+-- the part that is read if a change has none of a number
 abbrev pub no_part : ListAfter
 no_part = record { vehicle = 0; pieces = []; front = 0; behind = 0 }
 

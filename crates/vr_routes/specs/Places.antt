@@ -2,7 +2,7 @@
 use Rattle.std.specs.Prelude.{◌≡◌, ◌≢◌, ℕ, ◌+◌, ◌<◌, ◌≤◌, List, length}
 use Rattle.vr_model.specs.routes.Routes.{route}
 
--- the list of v has so many nodes from a place on
+-- the list of v has this many nodes from a place on
 pub record IsStretch (lists : List (List ℕ)) (v from nodes : ℕ) : Type 0 where
   pub vehicle : v < length lists
   pub within : from + nodes ≤ length (route lists v)
@@ -35,7 +35,7 @@ pub record AreCuts (lists : List (List ℕ)) (v a w b : ℕ) : Type 0 where
   pub other_gap : b ≤ length (route lists w)
   pub some : a ≡ 0 → b ≢ 0
 
--- two nodes of lists, of which the first comes first where they stand in one list
+-- two nodes of lists, of which the first comes first if they are in one list
 pub record AreTwoNodes (lists : List (List ℕ)) (v a w b : ℕ) : Type 0 where
   pub vehicle : v < length lists
   pub other : w < length lists

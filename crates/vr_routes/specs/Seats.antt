@@ -1,16 +1,16 @@
--- Where each node of lists stands.
+-- The place of each node in lists.
 use Rattle.std.specs.Prelude.{◌≡◌, ◌≢◌, ◌⊎◌, ℕ, ◌<◌, ◌≤◌, List, [], length, slice_index, slice_index_or, IsTrue, All}
 use Rattle.std.specs.Prelude.{Option, Some, None}
 use Rattle.vr_model.specs.routes.Routes.{route, is_active}
 use Rattle.vr_model.specs.moves.Moves.{with_route}
 use Rattle.vr_routes.specs.declared.seats.Seat.{Seat}
 
--- lists, and how many nodes may stand in them
+-- lists, and how many nodes may be in them
 pub record Seated : Type 0 where
   pub lists : List (List ℕ)
   pub nodes : ℕ
 
--- a node stands at place k of the list of v
+-- a node is at place k of the list of v
 pub record IsSeat (lists : List (List ℕ)) (node v k : ℕ) : Type 0 where
   pub vehicle : v < length lists
   pub place : k < length (route lists v)
@@ -28,7 +28,7 @@ pub record IsSeated (lists : List (List ℕ)) (seats : List (Option Seat)) : Typ
   pub few_vehicles : length lists ≤ 100
   pub few_nodes : length seats ≤ 1000
 
--- no node stands at two places
+-- no node is at two places
 abbrev pub IsOnce : List (List ℕ) → Type 0
 IsOnce lists = (node v k w j : ℕ) → IsSeat lists node v k → IsSeat lists node w j → (v ≡ w) × (k ≡ j)
 
@@ -36,7 +36,7 @@ IsOnce lists = (node v k w j : ℕ) → IsSeat lists node v k → IsSeat lists n
 abbrev pub HaveNodes : ℕ → List (List ℕ) → Type 0
 HaveNodes n lists = (node : ℕ) → IsTrue (is_active lists node) → node < n
 
--- a vehicle may get a list: its nodes are among those that may stand there, and with it none stands twice
+-- a vehicle may get a list: its nodes are among those that may be in lists, and with it none comes twice
 pub record MayHave (seated : Seated) (v : ℕ) (list : List ℕ) : Type 0 where
   pub vehicle : v < length seated.lists
   pub nodes : All (λ node. node < seated.nodes) list
@@ -51,7 +51,7 @@ pub record MayHaveTwo (seated : Seated) (v : ℕ) (list : List ℕ) (w : ℕ) (m
   pub others : All (λ node. node < seated.nodes) more
   pub once : IsOnce (with_route (with_route seated.lists v list) w more)
 
--- the vehicles may get these lists: there are as many, and in them stand nodes that may, none of them twice
+-- the vehicles may get these lists: there are as many, and in them are nodes that may be, none of them twice
 pub record MayHaveAll (seated : Seated) (lists : List (List ℕ)) : Type 0 where
   pub many : length seated.lists ≡ length lists
   pub nodes : HaveNodes seated.nodes lists

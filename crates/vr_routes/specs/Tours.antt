@@ -8,17 +8,17 @@ use Rattle.vr_model.specs.routes.Rules.{is_route_open}
 use Rattle.vr_routes.specs.Seats.{Seated}
 use Rattle.vr_model.specs.declared.records.Model.{Model}
 
--- lists of visits, one for each vehicle, and the visits that may stand in them, ascending
+-- a list of visits for each vehicle, and the visits that may be in them, ascending
 pub record Tours : Type 0 where
   pub visits : List ℕ
   pub lists : List (List ℕ)
 
--- the visits that stand in no list, ascending
+-- the visits in no list, ascending
 abbrev pub inactive_of : List ℕ → List (List ℕ) → List ℕ
 inactive_of visits lists = filter (λ node. not (is_active lists node)) visits
 
--- one list of visits that ascend, each of them one of the few nodes, and lists of them over the same nodes: few
--- vehicles, and each entry is a visit
+-- one list of visits that ascend, each of them one of the few nodes, and lists of them over the same nodes. There are
+-- few vehicles, and each entry is a visit
 pub record AreSeatedTours (visits seating : Seated) : Type 0 where
   pub one_list : length visits.lists ≡ 1
   pub same_nodes : visits.nodes ≡ seating.nodes

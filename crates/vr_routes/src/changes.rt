@@ -50,7 +50,7 @@ impl Change {
         }
     }
 
-    /// The change that a move makes, where it is a move of the lists. Tests alone ask it.
+    /// The change that a move makes, `None` if it is no move of the lists. Tests alone ask it.
     pub fn of(model: &RoutingModel, routes: &Routes, mv: Move) -> Option<Change>
         requires well_formed { IsWellFormed model.now }
         requires of_model { routes.now.visits ≡ visits model.now }
@@ -66,7 +66,7 @@ impl Change {
         }
     }
 
-    /// Writes the change that a move makes over another one, and answers whether it is a move of the lists. Where it is
+    /// Writes the change that a move makes over another one, and answers whether it is a move of the lists. If it is
     /// none, the other one stays. Tests and benches ask it; searches, whose moves are listed as moves of the lists,
     /// call [`Change::write`].
     pub fn of_into(model: &RoutingModel, routes: &Routes, mv: Move, out: &mut Change) -> bool
@@ -83,7 +83,7 @@ impl Change {
         true
     }
 
-    /// Writes into `out` what `mv`, a move of the lists, changes; what stood there is written over.
+    /// Writes into `out` what `mv`, a move of the lists, changes. What `out` was before is written over.
     #[inline]
     pub fn write(model: &RoutingModel, routes: &Routes, mv: Move, out: &mut Change)
         requires well_formed { IsWellFormed model.now }
@@ -150,7 +150,7 @@ impl Change {
         self.second.join(routes, w, b, v, a);
     }
 
-    // Pair `p` is taken out. It stands in one list, since the move is one of the lists.
+    // Pair `p` is taken out. Both its nodes are in one list, since the move is one of the lists.
     #[inline]
     fn write_pair_inactive(&mut self, closed: Closed<'_>, routes: &Routes, p: u32)
         requires is_one { is_move closed.model.now routes.now.lists (PairInactive p) ≡ true }
@@ -201,8 +201,8 @@ impl Change {
         }
     }
 
-    // Puts a pair that is served into the list of `w`, which may be its own: its pickup before place `s` of what the
-    // list is without the pair, and its delivery before place `t` of that.
+    // Puts a pair that is served into the list of `w`, which may be its own. Both places are places of what the list is
+    // without the pair: its pickup goes before place `s`, and its delivery before place `t`.
     #[inline]
     fn put_elsewhere(&mut self, served: Served<'_, '_>, w: u32, s: u32, t: u32)
         requires is_one { is_move served.on.model.now served.on.routes.now.lists (RelocatePair served.on.p w s t)

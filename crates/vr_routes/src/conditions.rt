@@ -52,7 +52,7 @@ fn is_or_opt(routes: &Routes, v: u32, a: u32, k: u32, t: u32) -> bool
     v < routes.vehicles() && ((1 <= k && k <= 3) && is_chain_moved(routes.len(v), a, k, t))
 }
 
-// A list of `n` nodes has `k` from place `a` on, and place `t` of the rest is another one before which they can be put.
+// A list of `n` nodes has `k` from place `a` on, and place `t` of the rest is another one, before which they can go.
 #[inline]
 fn is_chain_moved(n: u32, a: u32, k: u32, t: u32) -> bool
     ensures { result ≡ (nat_le (a + k) n && (nat_le t (n - k) && is_other a t)) }
@@ -95,7 +95,7 @@ fn is_make_inactive(routes: &Routes, v: u32, a: u32) -> bool
     v < routes.vehicles() && a < routes.len(v)
 }
 
-// A node is a visit that stands in no list.
+// Whether a node is a visit in no list.
 #[inline]
 fn is_inactive(routes: &Routes, u: u32) -> bool
     ensures { (model : Defined) → routes.now.visits ≡ visits model → result ≡ is_inactive model routes.now.lists u }
@@ -128,7 +128,7 @@ fn is_pair_active(model: &Model, routes: &Routes, p: u32, w: u32, s: u32, t: u32
             && (w < routes.vehicles() && (s <= t && t <= routes.len(w))))
 }
 
-// The nodes of a pair stand in one list.
+// Whether the nodes of a pair are in one list.
 #[inline]
 fn is_made_inactive(model: &Model, routes: &Routes, p: u32) -> bool
     ensures { result ≡ is_move model.now routes.now.lists (PairInactive p) }
@@ -136,7 +136,7 @@ fn is_made_inactive(model: &Model, routes: &Routes, p: u32) -> bool
     pair_together(model, routes, p).is_some()
 }
 
-/// Where pair `p` stands, `None` where there is no such pair or it does not stand in one list.
+/// The places of pair `p`, `None` if there is no such pair or its nodes are not in one list.
 #[inline]
 pub fn pair_together(model: &Model, routes: &Routes, p: u32) -> Option<PairPlaces>
     ensures answer { let is_one = is_move model.now routes.now.lists (PairInactive p) in
@@ -151,7 +151,7 @@ pub fn pair_together(model: &Model, routes: &Routes, p: u32) -> Option<PairPlace
     pair_places(routes, *model.pairs.get(p as usize))
 }
 
-/// Where pair `p` stands, `None` where there is no such pair or it is not served.
+/// The places of pair `p`, `None` if there is no such pair or it is not served.
 #[inline]
 pub fn pair_served(model: &Model, routes: &Routes, p: u32) -> Option<PairPlaces>
     ensures answer { let served = is_pair_served model.now routes.now.lists p in
@@ -192,8 +192,8 @@ fn is_relocate_pair(model: &Model, routes: &Routes, p: u32, w: u32, s: u32, t: u
     }
 }
 
-// Whether a pair that is served may be put into the list of `w`, its pickup before place `s` of what that is without
-// the pair, and its delivery before place `t`: there are such places, and it does not stand so now.
+// Whether a pair that is served may be put into the list of `w`. Its pickup goes before place `s` of what that list is
+// without the pair, and its delivery before place `t`. There must be such places, and they must not be those of now.
 #[inline]
 fn is_put_elsewhere(served: Served<'_, '_>, w: u32, s: u32, t: u32) -> bool
     ensures { let on = served.entry.on in result ≡ is_move on.model.now on.routes.now.lists (RelocatePair on.p w s t) }

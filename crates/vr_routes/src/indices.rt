@@ -58,7 +58,7 @@ impl Indices {
         self.visits.len(0) as u32
     }
 
-    /// The index of a visit, `None` where the node is none.
+    /// The index of a visit, `None` if the node is none.
     #[inline]
     pub fn index(&self, node: u32) -> Option<u32>
         ensures { MatchOption result (holds self.now.visits node ≡ false)

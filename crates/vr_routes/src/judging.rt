@@ -25,9 +25,9 @@ pub enum Verdict {
     Difference(i64),
 }
 
-/// Judges moves of the lists that it has committed, and makes them. What a move changes is handed in by who asks, so
-/// that it is written once (`judge_change`, `commit_change`); for who has the move alone it is written here (`judge`,
-/// `commit`).
+/// Judges moves of the lists that it has committed, and makes them. Who asks hands in what a move changes, so that it
+/// is written once (`judge_change`, `commit_change`). Who has the move alone calls `judge` and `commit`, which write
+/// it.
 pub trait Judge {
     /// The model, which no call changes.
     ghost model: { Self → RoutingModel };
@@ -35,11 +35,11 @@ pub trait Judge {
     /// The judge has committed the lists of these routes: what it keeps is so of them.
     ghost committed: { Self → Tours → Type 0 };
 
-    /// A number that rises by at most one where a move is judged. The judges of `vr_judge` and `vr_plain` leave it and
+    /// A number that rises by at most one if a move is judged. The judges of `vr_judge` and `vr_plain` leave it and
     /// `looked` at 0; one of tests counts.
     ghost asked: { Self → ℕ };
 
-    /// A number that rises by at most one where it is asked what a move, or a run of moves, makes at least.
+    /// A number that rises by at most one if the judge is asked what a move, or a run of moves, makes at least.
     ghost looked: { Self → ℕ };
 
     /// How many steps it takes at most to judge a move of lists that it has committed.
@@ -49,10 +49,11 @@ pub trait Judge {
     fn routing_model(&self) -> &Model
         ensures { result.now ≡ model self.now };
 
-    /// A number that the difference of a move is never below, where the lists after it are valid; of other moves it
-    /// says nothing. A search asks it before it has a move judged, since it takes few moves and most can be passed
-    /// over by what they cost at least. The caller hands in the change that the move makes. It does not judge the move,
-    /// takes no memory and counts no steps. A judge that knows no better number says the least of all.
+    /// Bounds what a move makes of the cost. If the lists after the move are valid, its difference is never below the
+    /// answer; of other moves it says nothing. A search asks it before it has a move judged. It takes few moves, and
+    /// most can be passed over by what they cost at least. The caller hands in the change that the move makes. It does
+    /// not judge the move, takes no memory and counts no steps. A judge that knows no better number says the least of
+    /// all.
     fn least_difference(&mut self, routes: &Routes, mv: Move, change: &Change) -> i64
         requires well_formed { IsWellFormed (model self.old) }
         requires holds { HasCommitted (model self.old) (committed self.old) routes.now }
@@ -68,10 +69,12 @@ pub trait Judge {
     }
 
     /// Goes over a run of moves, which differ in their last number: those of the numbers from `from` on, below `end`.
-    /// Says from which number on some may make a difference below a bound: each move in front of it makes none, or
-    /// leads to lists that are not valid. The numbers of `mv`, of which the last is any, need not be those of a move,
-    /// and of numbers that are no move nothing is said. `None` where the judge cannot tell anything of such a run, from
-    /// whichever number on it is asked. It judges none of the moves, takes no memory and counts no steps.
+    /// Says from which number on some may make a difference below a bound. Each move before that number makes none, or
+    /// leads to lists that are not valid. The numbers of `mv`, of which the last is any, need not be those of a move.
+    /// Of numbers that are no move nothing is said.
+    ///
+    /// `None` if the judge cannot tell anything of such a run, from whichever number on it is asked. It judges none of
+    /// the moves, takes no memory and counts no steps.
     #[inline]
     fn first_below(
         &mut self,
@@ -116,8 +119,8 @@ pub trait Judge {
         ensures looked { looked self.new ≡ looked self.old }
         ensures steps { steps.new ≤ steps.old + weight self.old routes.now.lists mv };
 
-    /// Makes a move after which the lists are valid, of which the caller hands in the change: the routes then have the
-    /// lists after it, and the judge has committed them. Where memory is wanting, both are as before.
+    /// Makes a move after which the lists are valid, of which the caller hands in the change. Then the routes have the
+    /// lists after it, and the judge has committed them. If memory runs out, both are as before.
     fn commit_change(
         &mut self,
         routes: &mut Routes,

@@ -15,7 +15,7 @@ use crate::routes::Routes;
 use vr_model::Pair;
 
 impl Part {
-    /// Writes the list of `v` without so many nodes from a place on.
+    /// Writes the list of `v` without `nodes` nodes from place `from` on.
     #[inline]
     pub fn take_out(&mut self, routes: &Routes, v: u32, from: u32, nodes: u32)
         requires { IsStretch routes.now.lists v from nodes }
@@ -27,8 +27,8 @@ impl Part {
         self.end(from + nodes, n);
     }
 
-    /// Writes the list of `v` with a node in the place of so many from a place on: of one, or of none, which puts it in
-    /// before that place.
+    /// Writes the list of `v` with a node in place of `nodes` nodes from place `from` on. In place of none, it goes in
+    /// before that place; of one, it takes its place.
     #[inline]
     pub fn put(&mut self, routes: &Routes, v: u32, from: u32, nodes: u32, node: u32)
         requires { IsStretch routes.now.lists v from nodes }
@@ -50,8 +50,8 @@ impl Part {
     {
         // That the list is short says that the sums fit.
         let _few = routes.len(v);
-        // Place `t` of the rest is that of the list in front of the chain, and `t + k` behind it; the chain changes
-        // places with what lies between.
+        // Place `t` of the rest is place `t` of the list before the chain, and place `t + k` after it. The chain
+        // changes places with what lies between.
         if t < a {
             self.swap_neighbours(routes, v, t, a, a + k);
             return;
@@ -59,8 +59,8 @@ impl Part {
         self.swap_neighbours(routes, v, a, a + k, t + k);
     }
 
-    /// Writes the list of `v` with two neighbouring stretches in each other's place: those from place `from` up to
-    /// place `mid`, and from there up to place `to`.
+    /// Writes the list of `v` with two neighbouring stretches in each other's place. The first goes from place `from`
+    /// up to place `mid`, the second from there up to place `to`.
     #[inline]
     fn swap_neighbours(&mut self, routes: &Routes, v: u32, from: u32, mid: u32, to: u32)
         requires { AreNeighbours routes.now.lists v from mid to }
@@ -143,8 +143,8 @@ impl Part {
         self.end(hi + 1, n);
     }
 
-    /// Writes the list in which a pair stands, its pickup first, with the pickup before place `s` of what it is without
-    /// the pair, and the delivery before place `t` of that.
+    /// Writes the list that a pair is in, its pickup first, with the pair put elsewhere. The pickup goes before place
+    /// `s` of what the list is without the pair, and the delivery before place `t` of that.
     #[inline]
     pub fn move_pair(&mut self, routes: &Routes, at: PairPlaces, s: u32, t: u32, pair: Pair)
         requires two { AreTwoPlaces routes.now.lists at.vehicle at.pickup at.delivery }
@@ -156,8 +156,8 @@ impl Part {
     {
         let v = at.vehicle;
         let n = routes.len(v);
-        // The list stays as it is below place `front` of the rest, which is that of the list, and from place `behind`
-        // on, which is `behind + 2` of the list. Before place `delivery - 1` of the rest the delivery stands now.
+        // The list stays as it is below place `front`, and from place `behind + 2` on. In the rest these are places
+        // `front` and `behind`. Now the delivery is before place `delivery - 1` of the rest.
         let front = least(at.pickup, s);
         let behind = greatest(at.delivery - 1, t);
         self.begin(v, front);
@@ -169,9 +169,9 @@ impl Part {
         self.end(behind + 2, n);
     }
 
-    // Adds the nodes from place `i` up to but not including place `j` of what a list is without a pair, the rest. A
-    // place of the rest is the same one in the list in front of the pickup (below `lo`), the next one between the two
-    // nodes (below `mid`), and the next but one behind the delivery.
+    // Adds the nodes from place `i` up to but not including place `j` of the rest: what a list is without a pair.
+    // Before the pickup (below `lo`) a place of the rest is the same one in the list. Between the two nodes (below
+    // `mid`) it is the next one, and after the delivery the next but one.
     #[inline]
     fn add_rest(&mut self, at: PairPlaces, i: u32, j: u32)
         requires order { at.pickup < at.delivery }
@@ -195,7 +195,7 @@ impl Part {
         self.some_chain(v, greatest(i, mid) + 2, j + 2);
     }
 
-    /// Writes the list in which a pair stands without it. In lists that are not valid its delivery may stand first.
+    /// Writes the list that a pair is in, without the pair. In lists that are not valid its delivery may come first.
     #[inline]
     pub fn take_pair(&mut self, on: Standing<'_, '_>)
         requires { on.at.pickup ≢ on.at.delivery }

@@ -1,25 +1,26 @@
-//! Lists of visits with look-ups, what a move changes in them, and the change made in place.
+//! Routes of visits with look-ups, what a move changes in them, and the change made in place.
 //!
-//! `Routes` has the list of each vehicle, and for each node where it stands; `Change` has the lists after a move as
-//! pieces of the lists before it, chains and nodes, so that no list is copied to write it; who needs its nodes has them
-//! written out.
+//! `Routes` has the route of each vehicle as a list of visits, and the seat of each node: its vehicle and its place.
+//! `Change` has the routes after a move as pieces: chains, which are segments of the routes before it, and single
+//! nodes. So no route is copied to write a change. Whoever needs the nodes has them written out. An example: `relocate`
+//! takes the node at place 2 out of route 0. Then route 0 is two chains: its places 0 and 1, and its places from 3 on.
 //!
-//! `conditions` says whether the numbers of a move are those of one, and `pairs` how the nodes of a pair stand.
-//! `changes` writes the change of each kind of move, its lists by `kinds` over `pieces`; `filling` writes out the nodes
-//! of pieces, into a list in place (`rows`). `routes` makes a change, over `seats`, which has such lists with the place
-//! of each node beside them. `judging` has the trait of judges (`Judge`) and what they answer (`Verdict`), and `runs`
-//! gives a move another last number, as in the runs that a judge is asked about. `indices` has numbers for visits,
-//! starts and ends, for users of the library.
+//! Invariant: each visit is in one list at most, at the place that the look-ups say. The visits in no list are a list
+//! of their own. A change is made on the routes from which it was written (`IsMadeOn`). Its pieces, joined, are the
+//! lists that the definition of the move gives. `Judge` is the trait of what judges moves and makes them: what it keeps
+//! is so of the routes that it is asked about.
 //!
-//! Invariant: each visit stands in one list at most, where the look-ups say, and the visits in no list are a list of
-//! their own. A change is made on the routes from which it was written (`IsMadeOn`); its pieces, joined, are the lists
-//! that the definition of the move gives. `Judge` is the trait of what judges moves and makes them: what it keeps is so
-//! of the routes that it is asked about.
+//! All searches, filters and cost terms use this crate, and constructions end in it; below it is `vr_model` alone. A
+//! search writes a change for each move that it does not pass over ([`Change::write`]) and lends it to its judge. The
+//! judge makes the change if the move is taken ([`Routes::commit`]). Path neighbourhoods have no moves, and take whole
+//! lists over ([`Routes::set_lists`], [`Routes::assign`]).
 //!
-//! All searches, filters and cost terms stand on this crate, and constructions end in it. A search writes a change for
-//! each move that it does not pass over ([`Change::write`]) and lends it to its judge, which makes it where the move is
-//! taken ([`Routes::commit`]). Path neighbourhoods have no moves, and take whole lists over ([`Routes::set_lists`],
-//! [`Routes::assign`]).
+//! Start with `routes`, which has the look-ups and makes a change. It uses `seats`: such lists, with the place of each
+//! node beside them. Then read `changes`, which writes the change of each kind of move. The lists of a change are
+//! written by `kinds` over `pieces`; `filling` writes out their nodes, into a list in place (`rows`). `conditions` says
+//! whether the numbers of a move are those of one, and `pairs` at which places the nodes of a pair are. `judging` has
+//! the trait of judges (`Judge`) and what they answer (`Verdict`). `runs` gives a move another last number, as in the
+//! runs that a judge is asked about. `indices` has numbers for visits, starts and ends, for users of the library.
 #![tactic(auto)]
 
 mod changes;

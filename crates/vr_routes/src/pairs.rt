@@ -1,4 +1,4 @@
-//! How the two nodes of a pair stand.
+//! The places of the two nodes of a pair.
 
 ghost use Rattle.std.specs.Prelude.{◌≡◌, ◌<◌, ◌≤◌, false, length, MatchOption};
 ghost use Rattle.vr_model.specs.routes.Routes.{route};
@@ -10,10 +10,10 @@ ghost use Rattle.vr_routes.specs.Pairs.{are_together, ArePairPlaces, is_elsewher
 use crate::routes::Routes;
 use vr_model::{Model, Pair};
 
-/// Where the nodes of a pair stand that stand in one list.
+/// The places of the nodes of a pair, both in one list.
 #[derive(Clone, Copy, Debug, PartialEq, Eq)]
 pub struct PairPlaces {
-    /// The vehicle whose list they stand in.
+    /// The vehicle whose list they are in.
     pub vehicle: u32,
     /// The place of the pickup there.
     pub pickup: u32,
@@ -21,7 +21,7 @@ pub struct PairPlaces {
     pub delivery: u32,
 }
 
-/// Pair `p` of a model, whose nodes stand in one list.
+/// Pair `p` of a model, whose nodes are in one list.
 #[derive(Clone, Copy)]
 pub struct Standing<'m, 'r> {
     pub model: &'m Model,
@@ -30,7 +30,7 @@ pub struct Standing<'m, 'r> {
     pub at: PairPlaces,
     /// There is the pair.
     pub ghost pair: { p < length model.now.pairs },
-    /// Its nodes stand there.
+    /// Its nodes are at these places.
     pub ghost places: { ArePairPlaces routes.now.lists (pair_at model.now p) at.vehicle at.pickup at.delivery },
 }
 
@@ -38,11 +38,11 @@ pub struct Standing<'m, 'r> {
 #[derive(Clone, Copy)]
 pub struct Served<'m, 'r> {
     pub on: Standing<'m, 'r>,
-    /// The delivery comes behind it.
+    /// The delivery comes after it.
     pub ghost order: { on.at.pickup < on.at.delivery },
 }
 
-/// Where the nodes of a pair stand, `None` where they do not stand in one list.
+/// The places of the nodes of a pair, `None` if they are not in one list.
 #[inline]
 pub fn pair_places(routes: &Routes, pair: Pair) -> Option<PairPlaces>
     ensures { MatchOption result (are_together routes.now.lists pair.pickup pair.delivery ≡ false)
@@ -77,7 +77,7 @@ pub fn is_pair_inactive(model: &Model, routes: &Routes, p: u32) -> bool
     !routes.is_active(pair.pickup) && !routes.is_active(pair.delivery)
 }
 
-/// Whether both nodes of a pair stand in one list, whichever comes first: so it may be taken out.
+/// Whether both nodes of a pair are in one list, whichever comes first: so it may be taken out.
 #[inline]
 pub fn is_pair_together(model: &Model, routes: &Routes, p: u32) -> bool
     requires pair { p < length model.now.pairs }
@@ -107,8 +107,8 @@ pub fn rest_len(routes: &Routes, at: PairPlaces, w: u32) -> u32
     n
 }
 
-/// Whether a pair with its pickup before place `s` of the rest of `w`, and its delivery before place `t`, stands
-/// elsewhere than now. The rest does not count the pickup, so now the delivery is before place `delivery - 1` of it.
+/// Whether a pair is elsewhere than now with its pickup before place `s` of the rest of `w`, and its delivery before
+/// place `t`. The rest does not count the pickup, so now the delivery is before place `delivery - 1` of it.
 #[inline]
 pub fn is_elsewhere(at: PairPlaces, w: u32, s: u32, t: u32) -> bool
     requires order { at.pickup < at.delivery }

@@ -1,4 +1,4 @@
-//! Pieces that lists after a change are made of.
+//! The pieces (segments) that lists after a change are made of.
 
 ghost use Rattle.std.specs.Prelude.{All, ◌≡◌, ℕ, ◌+◌, ◌<◌, ◌≤◌, List, [], ◌∷◌, ◌++◌, length, reverse};
 ghost use Rattle.std.specs.Prelude.{take, drop, slice_range};
@@ -10,8 +10,8 @@ ghost use Rattle.vr_routes.specs.Pieces.{HasEnds, IsWithin, joined, middle_of, n
 use arrayvec::ArrayVec;
 use std::marker::Model;
 
-/// A piece of a list after a change: a chain of the nodes that a list before it, of whichever vehicle, has from a place
-/// up to but not including a place, in their order or reversed; or one node.
+/// A piece of a list after a change: a chain or one node. A chain is a segment of a list before the change, of
+/// whichever vehicle: its nodes from a place up to but not including another. They are in their order or reversed.
 #[derive(Clone, Copy, Debug, PartialEq, Eq)]
 pub enum Piece {
     Chain {
@@ -66,7 +66,7 @@ pub struct Splice<'a> {
     pub vehicle: u32,
     /// How many nodes stay at the front.
     pub front: u32,
-    /// The place from which on nodes stay at the end, the length of the list where none do.
+    /// The place from which on nodes stay at the end, the length of the list if none do.
     pub behind: u32,
     /// What comes between.
     pub middle: &'a [Piece],
@@ -81,8 +81,8 @@ pub struct Part {
     front: u32,
     // The place from which on nodes stay at the end.
     behind: u32,
-    // The front, the pieces between and the end; behind them pieces of an earlier change, which are written over. No
-    // kind of move has more than eight; `move_pair` writes the most.
+    // The front, the pieces between and the end. After the first `used` come pieces of an earlier change, which are
+    // written over. No kind of move has more than eight; `move_pair` writes the most.
     pieces: ArrayVec<Piece, 8>,
     used: usize,
 }
@@ -154,7 +154,7 @@ impl Part {
         }
     }
 
-    /// Begins a list of a vehicle, of which so many nodes stay at the front.
+    /// Begins a list of a vehicle, of which `front` nodes stay at the front.
     #[inline]
     pub fn begin(&mut self, v: u32, front: u32)
         ensures room { length self.new.pieces ≡ 1 }
@@ -217,7 +217,7 @@ impl Part {
         });
     }
 
-    /// Adds the nodes of `v` from place `from` up to but not including place `to`, where there are any.
+    /// Adds the nodes of `v` from place `from` up to but not including place `to`, if there are any.
     #[inline]
     pub fn some_chain(&mut self, v: u32, from: u32, to: u32)
         requires room { from < to → length self.old.pieces < 8 }

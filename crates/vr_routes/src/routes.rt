@@ -24,15 +24,15 @@ use std::alloc::Global;
 use std::marker::Model;
 use vr_model::{Model as RoutingModel, NoMemory, Seq};
 
-/// Lists of visits, one for each vehicle, in which no visit stands twice (`RoutingModel` in OR-Tools). Each look-up
-/// but `inactive_from` takes the same time whatever the lists are.
+/// The routes of the vehicles: a list of visits for each, in which no visit comes twice (`RoutingModel` in OR-Tools).
+/// Each look-up but `inactive_from` takes the same time whatever the lists are.
 #[derive(Drop)]
 pub struct Routes {
     // One list: the visits, ascending, so that the place of a visit in it is its index (`Indices`).
     visits: Seating,
     // The lists of the vehicles.
     seating: Seating,
-    // The visits that stand in no list, ascending.
+    // The visits in no list, ascending.
     inactive: Row,
     // Room for the lists that a change makes, before they are put in the place of the old ones.
     first: Row,
@@ -62,8 +62,8 @@ impl Routes {
         Ok(Routes::of(visits, seating))
     }
 
-    /// Routes with these lists, where there is one for each vehicle, each entry is a visit, and none stands twice;
-    /// `None` else. Constructions end in it.
+    /// Routes with these lists; constructions end in it. `None` unless there is one list for each vehicle, each entry
+    /// is a visit, and none comes twice.
     pub fn from_lists(
         alloc: Global,
         model: &RoutingModel,
@@ -123,9 +123,9 @@ impl Routes {
         write_inactive(&self.seating, self.visits.list(0), &mut self.inactive);
     }
 
-    /// Takes other lists over in place, as many as these, of visits of which none stands twice: path neighbourhoods
-    /// write so what a cut leaves, and insertion what it rebuilds. It takes no memory, and a list that is the same is
-    /// left alone.
+    /// Takes other lists over in place, as many as these, of visits of which none comes twice. Path neighbourhoods
+    /// write so what a ruin leaves (a cut), and insertion what it recreates. It takes no memory. A list that is the
+    /// same is left alone.
     pub fn set_lists(&mut self, lists: &[Seq<u32>])
         requires many { length self.old.lists ≡ length lists.now }
         requires visits { (node : ℕ) → IsTrue (is_active lists.now node) → IsTrue (holds self.old.visits node) }
@@ -197,7 +197,7 @@ impl Routes {
         fill(&self.seating, change.pieces(k), row);
     }
 
-    /// Where a visit stands, `None` where it stands in no list.
+    /// The seat of a visit, `None` if it is in no list.
     #[inline]
     pub fn seat(&self, node: u32) -> Option<Seat>
         ensures { MatchOption result (is_active self.now.lists node ≡ false)
@@ -209,8 +209,8 @@ impl Routes {
         None
     }
 
-    /// The vehicle whose list a node stands in, `None` where it stands in no list. `vr_known` asks it, for the vehicle
-    /// that serves a pair.
+    /// The vehicle whose list a node is in, `None` if it is in no list. `vr_known` asks it, for the vehicle that serves
+    /// a pair.
     #[inline]
     pub fn vehicle_of(&self, node: u32) -> Option<u32>
         ensures { MatchOption result (is_active self.now.lists node ≡ false)
@@ -220,7 +220,7 @@ impl Routes {
         Some(seat.vehicle)
     }
 
-    /// The place where a node stands, `None` where it stands in no list. Tests alone ask it.
+    /// The place of a node in its list, `None` if it is in no list. Tests alone ask it.
     #[inline]
     pub fn place_of(&self, node: u32) -> Option<u32>
         ensures { MatchOption result (is_active self.now.lists node ≡ false)
@@ -230,7 +230,7 @@ impl Routes {
         Some(seat.place)
     }
 
-    /// Whether a node stands in some list.
+    /// Whether a node is in some list.
     #[inline]
     pub fn is_active(&self, node: u32) -> bool
         ensures { result ≡ is_active self.now.lists node }
@@ -238,7 +238,7 @@ impl Routes {
         self.seat(node).is_some()
     }
 
-    /// No visit stands at two places. It does nothing.
+    /// No visit is at two places. It does nothing.
     #[inline]
     pub fn know_once(&self)
         ensures { IsOnce self.now.lists }
@@ -246,7 +246,7 @@ impl Routes {
         self.seating.know_once();
     }
 
-    /// Each node that stands in a list is one of the visits. It does nothing.
+    /// Each node in a list is one of the visits. It does nothing.
     #[inline]
     pub fn know_entries(&self)
         ensures { (node : ℕ) → IsTrue (is_active self.now.lists node) → IsTrue (holds self.now.visits node) }
@@ -255,7 +255,7 @@ impl Routes {
         let _visits = &self.visits;
     }
 
-    /// Whether a node is a visit that stands in no list.
+    /// Whether a node is a visit in no list.
     #[inline]
     pub fn is_inactive(&self, node: u32) -> bool
         ensures { result ≡ (holds self.now.visits node && not (is_active self.now.lists node)) }
@@ -266,8 +266,7 @@ impl Routes {
         false
     }
 
-    /// The least visit at or above `node` that stands in no list. It is for users of the library: nothing here calls
-    /// it.
+    /// The least visit at or above `node` that is in no list. It is for users of the library: nothing here calls it.
     pub fn inactive_from(&self, node: u32) -> Option<u32>
         ensures { result ≡ find (λ x. nat_le node x) (inactive_of self.now.visits self.now.lists) }
     {
@@ -283,7 +282,7 @@ impl Routes {
         Ok(Routes::of(visits, seating))
     }
 
-    /// The index of the stop behind an index, `None` at an inactive visit, at an end, and at the start of an unused
+    /// The index of the stop after an index. `None` at an inactive visit, at an end, and at the start of an unused
     /// vehicle. Indices are those of `Indices`; they are for users of the library, and nothing here calls it.
     pub fn next(&self, index: u32) -> Option<u32>
         requires index { index < end_index self.now (length self.now.lists) }
@@ -310,7 +309,7 @@ impl Routes {
         Some(self.stop_index(v, 1))
     }
 
-    /// The index of the stop before an index, `None` at an inactive visit, at a start, and at the end of an unused
+    /// The index of the stop before an index. `None` at an inactive visit, at a start, and at the end of an unused
     /// vehicle. It is for users of the library too.
     pub fn previous(&self, index: u32) -> Option<u32>
         requires index { index < end_index self.now (length self.now.lists) }
@@ -335,8 +334,8 @@ impl Routes {
         Some(self.stop_index(v, n))
     }
 
-    // The index of a stop of a vehicle: stop 0 is its start, the visit at place `k` is stop `k + 1`, and the last one
-    // is its end.
+    // The index of a stop of a vehicle. Stop 0 is its start, stop `k + 1` the visit at place `k`, and the last stop its
+    // end.
     fn stop_index(&self, v: u32, stop: u32) -> u32
         requires vehicle { v < length self.now.lists }
         requires stop { stop ≤ length (route self.now.lists v) + 1 }
@@ -364,7 +363,7 @@ impl Routes {
         }
     }
 
-    /// The visits that stand in no list, ascending.
+    /// The visits in no list, ascending.
     #[inline]
     pub fn inactive(&self) -> &[u32]
         ensures value { result.now ≡ inactive_of self.now.visits self.now.lists }
@@ -387,7 +386,7 @@ pub fn visits_of(alloc: Global, model: &RoutingModel) -> Result<Seating, NoMemor
     Ok(seating)
 }
 
-// Puts a node behind the visits before it, where it is one.
+// Puts a node after the visits before it, if it is a visit.
 fn add_visit(model: &RoutingModel, node: u32, seating: &mut Seating)
     requires node { node < seating.old.nodes }
     requires before { seating.old.lists ≡ filter (is_visit model.now) (below node) ∷ [] }
@@ -399,8 +398,8 @@ fn add_visit(model: &RoutingModel, node: u32, seating: &mut Seating)
     }
 }
 
-// Puts the nodes of lists into empty lists, and says whether it can: where there are as many, each node is a visit, and
-// none stands twice. Where it cannot, some may be in, and the seating is thrown away.
+// Puts the nodes of lists into empty lists, and says whether it can. It can if there are as many, each node is a visit,
+// and none comes twice. If it cannot, some may be in, and the seating is thrown away.
 fn seat_lists(model: &RoutingModel, lists: &[Seq<u32>], seating: &mut Seating) -> bool
     requires nodes { seating.old.nodes ≡ model.now.nodes }
     requires empty { (v : ℕ) → route seating.old.lists v ≡ [] }
@@ -423,7 +422,7 @@ fn seat_lists(model: &RoutingModel, lists: &[Seq<u32>], seating: &mut Seating) -
     true
 }
 
-// Puts the nodes of a list behind those of a vehicle, as far as each is a visit that stands nowhere. Whether all are.
+// Puts the nodes of a list after those of a vehicle, as far as each is a visit in no list. Whether all are.
 fn seat_list(model: &RoutingModel, list: &[u32], v: u32, seating: &mut Seating) -> bool
     requires nodes { seating.old.nodes ≡ model.now.nodes }
     requires vehicle { v < length seating.old.lists }
@@ -448,7 +447,7 @@ fn seat_list(model: &RoutingModel, list: &[u32], v: u32, seating: &mut Seating) 
     true
 }
 
-// The first of ascending nodes that is not below `node`, `None` where each is below it.
+// The first of ascending nodes that is not below `node`, `None` if each is below it.
 fn first_from(nodes: &[u32], node: u32) -> Option<u32>
     requires ascending { IsStrictlyIncreasing nodes.now }
     ensures { result ≡ find (λ x. nat_le node x) nodes.now }
@@ -460,7 +459,7 @@ fn first_from(nodes: &[u32], node: u32) -> Option<u32>
     None
 }
 
-// Writes the visits that stand in no list.
+// Writes the visits in no list.
 fn write_inactive(seating: &Seating, visits: &[u32], inactive: &mut Row)
     requires few { length visits.now ≤ 1000 }
     requires nodes { All (λ node. node < seating.now.nodes) visits.now }

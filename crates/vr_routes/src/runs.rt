@@ -6,7 +6,7 @@ ghost use Rattle.vr_routes.specs.Runs.{with_last};
 use vr_model::Move;
 
 /// A move with another last number: the one that changes from move to move in the order of the moves of its kind.
-/// Clauses on runs speak by it; of the code a stretch of a run alone makes its moves so (`vr_known::Stretch`).
+/// Clauses on runs speak by it. In the code, only a stretch of a run makes its moves so (`vr_known::Stretch`).
 #[inline(always)]
 pub fn with_last(mv: Move, k: u32) -> Move
     ensures { result ≡ with_last mv k }

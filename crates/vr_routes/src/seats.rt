@@ -11,10 +11,10 @@ use std::alloc::Global;
 use std::marker::Model;
 use vr_model::{NoMemory, Seq};
 
-/// Where a node stands.
+/// A vehicle and a place: where a node is.
 #[derive(Clone, Copy, Debug, PartialEq, Eq)]
 pub struct Seat {
-    /// The vehicle whose list it stands in.
+    /// The vehicle whose list it is in.
     pub vehicle: u32,
     /// Its place there, from 0 on.
     pub place: u32,
@@ -66,7 +66,7 @@ impl Seating {
         Ok(Seating { rows, seats })
     }
 
-    /// Where a node stands, `None` where it stands in no list.
+    /// The seat of a node, `None` if it is in no list.
     #[inline]
     pub fn seat(&self, node: u32) -> Option<Seat>
         requires node { node < self.now.nodes }
@@ -76,7 +76,7 @@ impl Seating {
         self.seats[node as usize]
     }
 
-    /// Whether a node stands in some list.
+    /// Whether a node is in some list.
     #[inline]
     pub fn is_active(&self, node: u32) -> bool
         requires node { node < self.now.nodes }
@@ -93,7 +93,7 @@ impl Seating {
         self.rows.len()
     }
 
-    /// How many numbers may stand in the lists.
+    /// How many numbers may be in the lists: those below this one.
     #[inline]
     pub fn nodes(&self) -> usize
         ensures { result ≡ self.now.nodes }
@@ -121,7 +121,7 @@ impl Seating {
         self.rows[v as usize].get(place as usize)
     }
 
-    /// Puts a node that stands nowhere at the end of a list.
+    /// Puts a node that is in no list at the end of a list.
     pub fn put(&mut self, v: u32, node: u32)
         requires vehicle { v < length self.old.lists }
         requires node { node < self.old.nodes }
@@ -135,7 +135,7 @@ impl Seating {
         self.seats[node as usize] = Some(Seat { vehicle: v, place });
     }
 
-    /// Takes the last node of a list out, `None` where the list is empty.
+    /// Takes the last node of a list out, `None` if the list is empty.
     pub fn take_last(&mut self, v: u32) -> Option<u32>
         requires vehicle { v < length self.old.lists }
         ensures taken { MatchOption result
@@ -168,7 +168,7 @@ impl Seating {
         self.rows[v as usize].as_slice()
     }
 
-    /// Gives a vehicle another list, with which no node stands twice.
+    /// Gives a vehicle another list, with which no node comes twice.
     pub fn set_list(&mut self, v: u32, nodes: &[u32])
         requires { MayHave self.old v nodes.now }
         ensures lists { self.new.lists ≡ with_route self.old.lists v nodes.now }
@@ -180,7 +180,7 @@ impl Seating {
         }
     }
 
-    /// Gives two vehicles other lists, with which no node stands twice.
+    /// Gives two vehicles other lists, with which no node comes twice.
     pub fn set_two(&mut self, v: u32, nodes: &[u32], w: u32, others: &[u32])
         requires { MayHaveTwo self.old v nodes.now w others.now }
         ensures lists { self.new.lists ≡ with_route (with_route self.old.lists v nodes.now) w others.now }
@@ -205,8 +205,8 @@ impl Seating {
         }
     }
 
-    /// Gives each vehicle its list of `lists`, in which no node stands twice. A list that is the same is left alone;
-    /// the others are all emptied before one is written, since a node may go from one to another.
+    /// Gives each vehicle its list of `lists`, in which no node comes twice. A list that is the same is left alone. The
+    /// others are all emptied before one is written, since a node may go from one to another.
     pub fn set_lists(&mut self, lists: &[Seq<u32>])
         requires { MayHaveAll self.old lists.now }
         ensures lists { self.new.lists ≡ lists.now }
@@ -232,7 +232,7 @@ impl Seating {
         }
     }
 
-    // Takes all nodes of a list out where it is another one.
+    // Takes all nodes out of a list that is not `nodes`.
     fn clear_other(&mut self, v: u32, nodes: &[u32])
         requires vehicle { v < length self.old.lists }
         ensures left { (left : _) × IsSameOrEmpty nodes.now left × (self.new.lists ≡ with_route self.old.lists v left) }
@@ -243,7 +243,7 @@ impl Seating {
         }
     }
 
-    // Gives a vehicle a list, with which no node stands twice, where it has not got it: then its list is empty.
+    // Gives a vehicle a list with which no node comes twice, if it has not got it: then its list is empty.
     fn fill(&mut self, v: u32, nodes: &[u32])
         requires may { MayHave self.old v nodes.now }
         requires there { IsSameOrEmpty nodes.now (route self.old.lists v) }
@@ -267,7 +267,7 @@ impl Seating {
         }
     }
 
-    /// There are few lists, and few nodes that may stand in them. It does nothing.
+    /// There are few lists, and few nodes that may be in them. It does nothing.
     pub fn know_few(&self)
         ensures vehicles { length self.now.lists ≤ 100 }
         ensures nodes { self.now.nodes ≤ 1000 }
@@ -276,7 +276,7 @@ impl Seating {
         let _rows = &self.rows;
     }
 
-    /// No node stands at two places. It does nothing.
+    /// No node is at two places. It does nothing.
     pub fn know_once(&self)
         ensures { IsOnce self.now.lists }
     {
