@@ -50,7 +50,7 @@ abbrev pub at_place : Model → ℕ → List ℕ → ℕ → ℕ
 at_place model v list place = first_node_or (drop place list) (vehicle_at model v).end
 
 -- what the arcs to and from a chain cost more than what is between two stops of the list of vehicle v. They go from the
--- stop before place f to the first node of the chain, and from its last node to the stop at place b.
+-- stop before place f to the chain's first node, and from its last node to the stop at place b.
 abbrev pub ends_added : Model → ℕ → List ℕ → ℕ → ℕ → ℕ → ℕ → ℤ
 ends_added model v list f b first last =
     (arc_cost model v (before_place model v list f) first +ℤ arc_cost model v last (at_place model v list b))

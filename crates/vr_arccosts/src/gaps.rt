@@ -11,8 +11,8 @@ ghost use Rattle.vr_arccosts.specs.Runs.{pair_added, swap_added, turn_added, IsP
 use crate::lines::Line;
 use vr_model::Pair;
 
-/// The numbers of a run that are asked: those from `from` on, below `end`. Wanted is the first whose move may add less
-/// than `bound`.
+/// The numbers of a run that are asked: those from `from` on, below `end`. Loops look for the first whose move may add
+/// less than `bound`.
 #[derive(Clone, Copy)]
 pub struct Asked {
     pub from: u32,
@@ -70,8 +70,8 @@ pub struct Put<'p, 'a, 'm> {
 }
 
 impl<'a, 'm> Line<'a, 'm> {
-    // How much more the arcs to and from a chain cost than what is between the stop before place `front` and the stop
-    // at place `behind`.
+    // How much more the arcs to and from a chain cost than what is there now. That is what is between the stop before
+    // place `front` and the stop at place `behind`.
     #[inline(always)]
     fn ends_added(&self, ends: Ends, front: u32, behind: u32) -> i64
         requires first { ends.first < self.now.costs.model.now.nodes }

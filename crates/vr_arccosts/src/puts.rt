@@ -1,5 +1,5 @@
-//! Runs of moves that put a visit or a pair into a list. Found is the first of them that may add less than a bound to
-//! arc costs. If no loop can go over the numbers, the answer is the first number that is asked, or `None`: either says
+//! Runs of moves that put a visit or a pair into a list. The answer is the first of them that may add less than a bound
+//! to arc costs. If no loop can go over the numbers, it is the first number that is asked, or `None`: either says
 //! nothing of the run. That is so if there is no such vehicle, node, pair or place, or if a delivery would come before
 //! its pickup.
 

@@ -1,6 +1,6 @@
 //! Runs of moves: the first of them that may add less than a bound to arc costs. Moves of two kinds are asked about by
-//! themselves: neighbours that change places, and a front that changes with an empty one of the second vehicle.
-//! `crosses` asks so about fronts that leave a list empty, if both vehicles have the same costs.
+//! themselves. Neighbours change places, or a front changes with an empty one of the second vehicle. `crosses` asks so
+//! about fronts that leave a list empty, if both vehicles have the same costs.
 //!
 //! If no loop can go over the numbers, the answer is the first number that is asked: it says nothing of the run. That
 //! is so if there is no such vehicle, node or place, or if moves name them in another order.
@@ -30,8 +30,8 @@ impl<'m> ArcCost<'m> {
     /// promised.
     ///
     /// The numbers of `mv`, of which the last is any, need not be those of a move:
-    /// - of a vehicle, a node, a pair or a place that there is not it says `from` or `None`;
-    /// - of a pair to be put elsewhere that is not served it says `None`.
+    /// - if there is no such vehicle, node, pair or place, it says `from` or `None`;
+    /// - if a pair is to be put elsewhere that is not served, it says `None`.
     ///
     /// It says `None` of kinds that it does not go over (`MakeInactive` and `PairInactive`).
     #[inline(always)]

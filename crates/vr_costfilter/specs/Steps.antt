@@ -97,8 +97,8 @@ pub record HasLed (model : Model) (d v : ℕ) (runs : Runs) (kept : List Step) (
 abbrev pub reached : Outset → Stage
 reached met = paid_more met.more met.stage
 
--- a vehicle comes to a kept stage, and the end is kept too. Three numbers of cost are in range: what was paid up to the
--- end, up to the kept stage, and on the way of the vehicle. The cumul of the end is in range too.
+-- a vehicle comes to a kept stage, and the end is kept too. What was paid is in range: up to the end, up to the kept
+-- stage, and on the way of the vehicle. The cumul of the end is in range too.
 pub record AreMet (end kept gone : Stage) : Type 0 where
   pub end_paid : IsIn (pos 0) (pos (cumul_cost * 1002)) end.soft
   pub end_cumul : IsIn (pos 0) horizon end.cumul

@@ -322,8 +322,8 @@ impl KeptCumuls {
     ///
     /// A tight schedule: what the change keeps is not walked for the two ends. If no stop has a soft upper bound, that
     /// is all. If some stop has one and the list ends at the cumul that is kept, it is walked as an earliest one is.
-    /// That walk begins at its start, and ends when a cumul is as kept. If it ends at another cumul, or the list before
-    /// has no schedule, the whole list is walked.
+    /// That walk begins at its start, and ends when a cumul is as kept. If the list ends at another cumul, or the list
+    /// before has no schedule, the whole list is walked.
     pub fn timing_after(
         &self,
         at: &KnownDimension,

@@ -8,8 +8,8 @@
 //! - Earliest: at each stop the vehicle goes to the least cumul that the stop before and a floor leave. Floors are
 //!   found from the end backwards. Floors and cumuls of the committed route are kept. A change is walked along what it
 //!   puts in, and before and after that only until floors and cumuls are as they were.
-//! - Tight: its two ends follow from a walk that waits for the begins of runs alone. Kept are the ways along the first
-//!   visits of the committed route, and what is left after each place: forward and backward data. Between its ends a
+//! - Tight: its two ends follow from a walk that waits for the begins of runs alone. The ways along the first visits of
+//!   the committed route are kept, and what is left after each place: forward and backward data. Between its ends a
 //!   tight schedule is an earliest one.
 //! - Tight, and soft upper bounds may cost anything: floors and cumuls are kept too. If the route ends as it did, its
 //!   start alone may be another. Then what was kept is met as soon as a cumul is as it was. If it ends at another
@@ -41,8 +41,8 @@
 //!   list, and tells what a change makes of them.
 //! - `tight` has the way of a vehicle that waits for the begins of runs alone, and the two ends of a whole way. `rests`
 //!   has what is left of a line, and `kept_ways` keeps ways and rests of a list.
-//! - `asked` has a list that comes in the place of another: the two ends of its tight schedule, and the walk along all
-//!   of it.
+//! - `asked` has a list that comes in the place of another, with the two ends of its tight schedule and the walk along
+//!   it.
 //! - `early_change` has how early the lists after a change can end and how short their spans can be. That bounds what a
 //!   change costs at least; for global spans `spreads` does it.
 //! - `tours` has the list of a vehicle, `parts_after` the list that a change gives it, and `scratch` what calls are

@@ -43,7 +43,7 @@ abbrev pub earliest_end : Model → ℕ → ℕ → List ℕ → ℤ
 earliest_end model d v list = int_min horizon (whole_way model d v list).time
 
 -- what a whole way tells of the span: the transits. If the vehicle starts freely, it is the lesser of the time since
--- the floor of its start and of the greatest slack plus the transits.
+-- its start's floor and of the greatest slack plus the transits.
 abbrev pub span_by : Model → ℕ → ℕ → Way → ℤ
 span_by model d v way = cond (starts_freely (vehicle_at model v) (dimension_at model d) v)
     (int_min (way.time -ℤ start_floor model d v) ((dimension_at model d).slack_max +ℤ way.transits))

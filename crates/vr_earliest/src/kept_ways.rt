@@ -1,4 +1,4 @@
-//! What is kept of a list place by place, so that a change of it is known by a walk along what it puts in alone.
+//! What is kept of a list place by place. So a change of it is known by a walk along what the change puts in alone.
 
 ghost use Rattle.std.specs.Prelude.{◌≡◌, ◌↔◌, ◌<◌, ◌≤◌, ◌+◌, ◌-◌, All, IsTrue, length, slice_index_or};
 ghost use Rattle.vr_earliest.specs.Entries.{AreRestsTo, AreWaysTo, KeepsWays};
