@@ -11,8 +11,8 @@ use Rattle.vr_balance.specs.Sums.{last_of, line_nodes, path_sum, AreSumsTo}
 use Rattle.vr_arccosts.specs.Chains.{first_node_or, turned}
 use Rattle.vr_arccosts.specs.declared.lines.Along.{Along}
 
--- what the arcs of vehicle v cost from the stop before place f of its list through nodes to the stop at place b, 0
--- where no node is left of the list then
+-- what the arcs of vehicle v cost from the stop before place f of its list through nodes to the stop at place b. It is
+-- 0 if no node is left of the list then.
 abbrev pub between_cost : Model → ℕ → List ℕ → ℕ → ℕ → List ℕ → ℤ
 between_cost model v list f b nodes =
     let from = last_of (vehicle_at model v).start (take f list) in

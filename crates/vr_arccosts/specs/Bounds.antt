@@ -14,7 +14,7 @@ IsPieceFurther before after = (n : ℕ) → IsUpTo n before → IsUpTo (n + 1001
 abbrev pub IsPathCost : ℤ → Type 0
 IsPathCost = IsUpTo 6006
 
--- what they come to with the arc to the stop behind
+-- what they come to with the arc to the stop after them
 abbrev pub IsGapCost : ℤ → Type 0
 IsGapCost = IsUpTo 6007
 

@@ -11,7 +11,7 @@ abbrev pub chain_sum : (ℕ → ℕ → ℤ) → List ℕ → ℤ
 chain_sum cost [] = pos 0
 chain_sum cost (x ∷ xs) = path_sum cost x xs
 
--- the first of nodes, or another one where there is none
+-- the first of nodes, or another one if there is none
 abbrev pub first_node_or : List ℕ → ℕ → ℕ
 first_node_or [] other = other
 first_node_or (x ∷ xs) other = x

@@ -38,7 +38,7 @@ pub record IsRest (model : Model) (list : List ℕ) (lo hi : ℕ) : Type 0 where
   pub order : lo < hi
   pub place : hi < length list
 
--- where a node of a list without those at places lo and hi stands in the list
+-- the place in a list of a node of the list without those at places lo and hi
 abbrev pub place_among_all : ℕ → ℕ → ℕ → ℕ
 place_among_all place lo hi = cond (nat_lt place lo) place (cond (nat_lt (place + 1) hi) (place + 1) (place + 2))
 
@@ -49,14 +49,14 @@ before_place model v list place = last_of (vehicle_at model v).start (take place
 abbrev pub at_place : Model → ℕ → List ℕ → ℕ → ℕ
 at_place model v list place = first_node_or (drop place list) (vehicle_at model v).end
 
--- what the arcs from the stop before place f of the list of vehicle v to the first node of a chain, and from its last
--- node to the stop at place b, cost more than what stands between these stops
+-- what the arcs to and from a chain cost more than what is between two stops of the list of vehicle v. They go from the
+-- stop before place f to the chain's first node, and from its last node to the stop at place b.
 abbrev pub ends_added : Model → ℕ → List ℕ → ℕ → ℕ → ℕ → ℕ → ℤ
 ends_added model v list f b first last =
     (arc_cost model v (before_place model v list f) first +ℤ arc_cost model v last (at_place model v list b))
     -ℤ between_cost model v list f b (slice_range list f b)
 
--- what the arcs of vehicle v cost more where places a to b of its list are reversed
+-- what the arcs of vehicle v cost more if places a to b of its list are reversed
 abbrev pub turn_added : Model → ℕ → List ℕ → ℕ → ℕ → ℤ
 turn_added model v list a b =
     ends_added model v list a (b + 1) (slice_index_or list b 0) (slice_index_or list a 0)
@@ -66,37 +66,37 @@ turn_added model v list a b =
 abbrev pub gap_added : Model → ℕ → List ℕ → ℕ → ℕ → ℕ → ℤ
 gap_added model v list first last place = ends_added model v list place place first last
 
--- what the arcs of vehicle v cost more where a pair is put into its list: the pickup before place s, and the delivery
--- before place t
+-- what the arcs of vehicle v cost more if a pair is put into its list. The pickup is put before place s, and the
+-- delivery before place t.
 abbrev pub pair_added : Model → ℕ → List ℕ → Pair → ℕ → ℕ → ℤ
 pair_added model v list pair s t = route_cost model v (with_pair pair s t list) -ℤ route_cost model v list
 
--- what the k nodes from a place on of the list of vehicle v add where they leave it, without the arcs between them
+-- what the k nodes from a place on of the list of vehicle v add if they leave it, without the arcs between them
 abbrev pub left_added : Model → ℕ → List ℕ → ℕ → ℕ → ℤ
 left_added model v list a k =
     (between_cost model v list a (a + k) [] -ℤ between_cost model v list a (a + k) (slice_range list a (a + k)))
     +ℤ chain_sum (arc_cost model v) (slice_range list a (a + k))
 
--- what the arcs of vehicle v cost more where another node stands at a place of its list
+-- what the arcs of vehicle v cost more if another node is at a place of its list
 abbrev pub swap_added : Model → ℕ → List ℕ → ℕ → ℕ → ℤ
 swap_added model v list place node = ends_added model v list place (place + 1) node node
 
--- what the front of the list of vehicle v, up to place a, costs vehicle w, up to the last node, less what the arcs cost
--- there are now
+-- what the front of the list of vehicle v, up to place a, costs vehicle w, less what the arcs cost there now. The new
+-- arcs go up to the last node of the front.
 abbrev pub front_added : Model → ℕ → List ℕ → ℕ → ℕ → ℤ
 front_added model v list w a = path_sum (arc_cost model w) (vehicle_at model w).start (take a list)
     -ℤ between_cost model v list 0 a (slice_range list 0 a)
 
--- what the move that lets the front of the list of vehicle v, up to place a, change vehicles with one of vehicle w adds
--- beside what it adds in the gap behind the latter, where both vehicles have the same costs
+-- what a move adds beside what it adds in the gap after the front of vehicle w. It lets the front of the list of
+-- vehicle v, up to place a, change vehicles with that one. Both vehicles have the same costs.
 abbrev pub cross_base : Model → ℕ → List ℕ → ℕ → List ℕ → ℕ → ℤ
 cross_base model v list w other a =
     (arc_cost model v (vehicle_at model v).start (slice_index_or other 0 0)
     -ℤ arc_cost model w (vehicle_at model w).start (slice_index_or other 0 0))
     +ℤ front_added model v list w a
 
--- what the move adds that lets the front of the list of vehicle v, up to place a, change vehicles with one of
--- vehicle w, up to place b
+-- what the move adds by which two fronts change vehicles. One is of the list of vehicle v, up to place a, the other of
+-- that of vehicle w, up to place b.
 abbrev pub fronts_added : Model → ℕ → List ℕ → ℕ → List ℕ → ℕ → ℕ → ℤ
 fronts_added model v list w other a b =
     (between_cost model v list 0 a (take b other) -ℤ between_cost model v list 0 a (slice_range list 0 a))

@@ -20,9 +20,8 @@ use vr_model::{Model as RoutingModel, NoMemory, Pair};
 use vr_parts::{InfallibleCost, ListCost, added_by};
 use vr_routes::{Change, Piece, Routes, Row, Splice};
 
-/// The arc costs of used vehicles (`SetArcCostEvaluatorOfVehicle` in OR-Tools). To tell what a change adds takes no
-/// longer for long lists than for short ones, where the vehicles have the same costs; a commit goes along the changed
-/// lists.
+/// The arc costs of used vehicles (`SetArcCostEvaluatorOfVehicle` in OR-Tools). If the vehicles have the same costs, to
+/// say what a change adds takes no longer for long lists than for short ones. A commit goes along the changed lists.
 #[derive(Drop)]
 pub struct ArcCost<'m> {
     model: &'m RoutingModel,
@@ -66,8 +65,8 @@ impl<'m> ArcCost<'m> {
         })
     }
 
-    /// What pieces add to the arc costs of a vehicle between the first `front` visits of its list and those from place
-    /// `behind` on, in the place of what stands there.
+    /// What pieces add to the arc costs of a vehicle. They come between the first `front` visits of its list and those
+    /// from place `behind` on, in the place of what is there.
     #[inline(always)]
     pub(crate) fn between_adds(
         &self,
@@ -136,7 +135,7 @@ impl<'m> ArcCost<'m> {
         *self.model.pairs.get(p as usize)
     }
 
-    /// Whether two vehicles name the same matrix, and so have the same arc costs; two matrices of the same numbers are
+    /// Whether two vehicles name the same matrix, and so have the same arc costs. Two matrices of the same numbers are
     /// not compared.
     #[inline(always)]
     pub(crate) fn have_same_costs(&self, v: u32, w: u32) -> bool

@@ -10,9 +10,9 @@ use crate::committed::Committed;
 use crate::fronts::{Fronts, first_front};
 use crate::gaps::{Asked, Ends, Put, first_gap};
 
-/// The run that lets the nodes before place `a` of vehicle `v` change vehicles with those before place `b` of vehicle
-/// `w`, for the numbers `b` that are asked. None of them is 0: the empty front of `w` is asked alone (`first_crossed`
-/// in `runs`).
+/// The run in which two fronts change vehicles: the nodes before place `a` of vehicle `v`, and those before place `b`
+/// of vehicle `w`. It has the numbers `b` that are asked. None of them is 0: the empty front of `w` is asked alone
+/// (`first_crossed` in `runs`).
 #[derive(Clone, Copy)]
 pub(crate) struct CrossRun<'a, 'm> {
     pub(crate) lists: Committed<'a, 'm>,
@@ -28,7 +28,7 @@ pub(crate) struct CrossRun<'a, 'm> {
 }
 
 impl<'a, 'm> CrossRun<'a, 'm> {
-    /// Its first move that may add less than the bound, by the place behind the other front, which has a visit.
+    /// Its first move that may add less than the bound, by the place after the other front, which has a visit.
     #[inline(always)]
     pub(crate) fn first(&self) -> u32
         ensures from { self.now.asked.from ≤ result }
@@ -42,7 +42,7 @@ impl<'a, 'm> CrossRun<'a, 'm> {
         self.first_unlike()
     }
 
-    // The same run, where the vehicles need not have the same costs: by going along the fronts (`first_front`).
+    // The same run, for vehicles that need not have the same costs: by going along the fronts (`first_front`).
     #[inline(always)]
     fn first_unlike(&self) -> u32
         ensures from { self.now.asked.from ≤ result }
@@ -55,7 +55,7 @@ impl<'a, 'm> CrossRun<'a, 'm> {
         first_front(&line, self.a, &other, self.asked)
     }
 
-    // The same run, where both vehicles have the same costs: the move that leaves the list of `w` empty is asked alone.
+    // The same run, for vehicles that have the same costs: the move that leaves the list of `w` empty is asked alone.
     #[inline(always)]
     fn first_alike(&self) -> u32
         requires costs { let run = self.now in (i j : ℕ) → arc_cost run.lists.kept.now.model run.w i j
@@ -78,7 +78,7 @@ impl<'a, 'm> CrossRun<'a, 'm> {
             asked: asked.ending(n),
         };
         let b = left.first_left();
-        // With an empty front of `v`, the move at the end of `w` leaves `w` unused, which then costs nothing: it is
+        // With an empty front of `v`, the move at the end of `w` leaves `w` unused, which then costs nothing. It is
         // asked alone.
         if b < n || self.lists.crossed(self.v, 0, self.w, n) < asked.bound {
             return b;
@@ -86,9 +86,9 @@ impl<'a, 'm> CrossRun<'a, 'm> {
         asked.end
     }
 
-    // The same run, where neither list is left empty. To cut the list of `w` at `b` costs what a chain put there would:
-    // its last node is the last of the front of `v`, which goes on to the rest of `w`, and its first is the stop at
-    // place `a` of `v`, to which the front of `w` goes on.
+    // The same run, if neither list is left empty. To cut the list of `w` at `b` costs what a chain put there would.
+    // Its last node is the last of the front of `v`, which goes on to the rest of `w`. Its first is the stop at place
+    // `a` of `v`, to which the front of `w` goes on.
     #[inline(always)]
     fn first_left(&self) -> u32
         requires costs { let run = self.now in (i j : ℕ) → arc_cost run.lists.kept.now.model run.w i j

@@ -1,7 +1,7 @@
-//! Fronts of lists that change vehicles: what the arcs cost more, by the place behind one of them. Where both vehicles
-//! have the same costs, what a front adds is known but for the gap behind the other one (`Fronts::base`, for a loop of
-//! `gaps`); else `first_front` goes along the other front visit by visit, since the sums of its line are by the costs
-//! of another vehicle.
+//! Fronts of lists that change vehicles: what the arcs cost more, by the place after one of them. If both vehicles have
+//! the same costs, what a front adds is known but for the gap after the other one. `Fronts::base` has it, for a loop of
+//! `gaps`. Else `first_front` goes along the other front visit by visit, since the sums of its line are by the costs of
+//! another vehicle.
 
 ghost use Rattle.std.proofs.Props.{props};
 ghost use Rattle.std.specs.Prelude.{◌≡◌, ℕ, ◌+◌, ◌<◌, ◌≤◌, ◌≤ℤ◌, length, take};
@@ -28,9 +28,9 @@ pub struct Fronts<'l, 'k, 'a, 'm> {
 }
 
 impl<'l, 'k, 'a, 'm> Fronts<'l, 'k, 'a, 'm> {
-    /// What the front adds where it changes vehicles with one of the other list, beside what the arcs in the gap behind
-    /// the latter add. Both vehicles have the same costs, so of the arcs along the other front only that from the start
-    /// to its first node is another one.
+    /// What the front adds that changes vehicles with one of the other list, beside what the arcs in the gap after the
+    /// latter add. Both vehicles have the same costs. So of the arcs along the other front only that from the start to
+    /// its first node is another one.
     #[inline(always)]
     pub fn base(&self) -> i64
         requires costs { let line = self.now.line.now in (i j : ℕ)
@@ -49,8 +49,8 @@ impl<'l, 'k, 'a, 'm> Fronts<'l, 'k, 'a, 'm> {
         from - left + front
     }
 
-    // What the front costs the other vehicle from its start to the last node of the front, less what the arcs of this
-    // list cost up to the stop at place `a`.
+    // What the front costs the other vehicle, from its start to the last node of the front. What the arcs of this list
+    // cost up to the stop at place `a` is taken off.
     #[inline(always)]
     fn front_added(&self) -> i64
         requires costs { let line = self.now.line.now in (i j : ℕ)
@@ -74,7 +74,7 @@ impl<'l, 'k, 'a, 'm> Fronts<'l, 'k, 'a, 'm> {
         to + chain - old
     }
 
-    /// The last node of the front in the other list: where it is empty, that of the start there.
+    /// The last node of the front in the other list. If the front is empty, it is that of the start there.
     #[inline(always)]
     pub fn last(&self) -> u32
         ensures value { let line = self.now.line.now in
@@ -107,8 +107,8 @@ impl<'l, 'k, 'a, 'm> Fronts<'l, 'k, 'a, 'm> {
     }
 }
 
-/// The first place behind a front of another list with which the arcs cost less than the bound more, where it and the
-/// front of this list, up to place `a`, change vehicles; `end` where there is none.
+/// The first place after a front of another list with which the arcs cost less than the bound more. It and the front of
+/// this list, up to place `a`, change vehicles. The answer is `end` if there is none.
 #[inline(never)]
 pub fn first_front<'l, 'k, 'a, 'm>(
     line: &'l Line<'a, 'm>,
@@ -147,9 +147,9 @@ pub fn first_front<'l, 'k, 'a, 'm>(
     asked.end
 }
 
-// Both fronts, of which that of the other list goes up to place `b`, and what the arcs along them cost the vehicles
-// that get them: `front` that of the other list, along the front of this one from the start of the vehicle on; `inner`
-// that of this list, along the other front from its first node on.
+// Both fronts, of which that of the other list goes up to place `b`. With them is what the arcs along them cost the
+// vehicles that get them. `front` is that of the other list: along the front of this one, from the start of the vehicle
+// on. `inner` is that of this list: along the other front, from its first node on.
 #[derive(Clone, Copy)]
 struct BothFronts<'l, 'k, 'a, 'm> {
     fronts: Fronts<'l, 'k, 'a, 'm>,
@@ -168,7 +168,7 @@ struct BothFronts<'l, 'k, 'a, 'm> {
 }
 
 impl<'l, 'k, 'a, 'm> BothFronts<'l, 'k, 'a, 'm> {
-    // What the arcs cost more where both fronts change vehicles.
+    // What the arcs cost more if both fronts change vehicles.
     #[inline(always)]
     fn added(&self) -> i64
         ensures value { let line = self.now.fronts.line.now in
@@ -201,7 +201,7 @@ impl<'l, 'k, 'a, 'm> BothFronts<'l, 'k, 'a, 'm> {
         to + self.inner + on
     }
 
-    // What the arcs of the other vehicle cost up to place `b` with the front of this list: 0 where its list is left
+    // What the arcs of the other vehicle cost up to place `b` with the front of this list. It is 0 if its list is left
     // without a visit, since an unused vehicle costs nothing.
     #[inline(always)]
     fn with_other(&self) -> i64
@@ -218,7 +218,7 @@ impl<'l, 'k, 'a, 'm> BothFronts<'l, 'k, 'a, 'm> {
         self.front + on
     }
 
-    // What the arcs of this vehicle cost along one visit more of the other list, where it has one.
+    // What the arcs of this vehicle cost along one visit more of the other list, if it has one.
     #[inline(always)]
     fn inner_behind(&self) -> i64
         ensures value { let line = self.now.fronts.line.now in

@@ -1,6 +1,7 @@
-//! Loops along a list for the first place whose move adds less than a bound to the arc costs: of parts that are
-//! reversed, by their last place, of gaps into which a chain or a delivery is put or, for `crosses`, where a list is
-//! cut, and of nodes that are exchanged.
+//! Loops along a list for the first place whose move adds less than a bound to the arc costs:
+//! - of parts that are reversed, by their last place;
+//! - of gaps into which a chain or a delivery is put, or, for `crosses`, in which a list is cut;
+//! - of nodes that are exchanged.
 
 ghost use Rattle.std.specs.Prelude.{◌≡◌, ℕ, ◌+◌, ◌<◌, ◌≤◌, ◌+ℤ◌, ◌≤ℤ◌, length, slice_index};
 ghost use Rattle.vr_parts.specs.Bounds.{IsAddedByChange, IsAddedByList};
@@ -10,8 +11,8 @@ ghost use Rattle.vr_arccosts.specs.Runs.{pair_added, swap_added, turn_added, IsP
 use crate::lines::Line;
 use vr_model::Pair;
 
-/// The numbers of a run that are asked: those from `from` on, below `end`, of which the first is wanted whose move may
-/// add less than `bound`.
+/// The numbers of a run that are asked: those from `from` on, below `end`. Loops look for the first whose move may add
+/// less than `bound`.
 #[derive(Clone, Copy)]
 pub struct Asked {
     pub from: u32,
@@ -69,8 +70,8 @@ pub struct Put<'p, 'a, 'm> {
 }
 
 impl<'a, 'm> Line<'a, 'm> {
-    // How much more the arcs to and from a chain cost than what stands between the stop before place `front` and the
-    // stop at place `behind`.
+    // How much more the arcs to and from a chain cost than what is there now. That is what is between the stop before
+    // place `front` and the stop at place `behind`.
     #[inline(always)]
     fn ends_added(&self, ends: Ends, front: u32, behind: u32) -> i64
         requires first { ends.first < self.now.costs.model.now.nodes }
@@ -89,7 +90,7 @@ impl<'a, 'm> Line<'a, 'm> {
 }
 
 /// The first last place of a reversed part, which begins at place `a`, with which the arcs cost less than the bound
-/// more; `end` where there is none.
+/// more. The answer is `end` if there is none.
 #[inline(always)]
 pub fn first_turn(line: &Line, a: u32, asked: Asked) -> u32
     requires order { a < asked.from }
@@ -107,7 +108,7 @@ pub fn first_turn(line: &Line, a: u32, asked: Asked) -> u32
     asked.end
 }
 
-// How much more the arcs cost where places `a` to `b` are reversed.
+// How much more the arcs cost if places `a` to `b` are reversed.
 #[inline(always)]
 fn turned(line: &Line, a: u32, b: u32) -> i64
     requires order { a < b }
@@ -124,8 +125,8 @@ fn turned(line: &Line, a: u32, b: u32) -> i64
     beside + inner
 }
 
-/// The first place before which a chain can be put so that, with what else the move adds, the arcs cost less than the
-/// bound more; `end` where there is none.
+/// The first place for a chain, put before it, with which the arcs cost less than the bound more. What else the move
+/// adds counts too. The answer is `end` if there is none.
 #[inline(never)]
 pub fn first_gap(put: &Put, asked: Asked) -> u32
     requires places { asked.end ≤ length put.now.line.now.list.now + 1 }
@@ -146,9 +147,9 @@ pub fn first_gap(put: &Put, asked: Asked) -> u32
     asked.end
 }
 
-/// The first number at which a chain of `k` nodes that leaves place `a` can be put, as [`first_gap`]: in front of its
-/// place, or behind it, where each number stands for the place that is `k` places behind it. The number `a` is passed
-/// over: no move leaves the chain where it stands.
+/// The first number at which a chain of `k` nodes that leaves place `a` can be put, as [`first_gap`]. It is put before
+/// its place or after it. After it, each number means the place that is `k` places later. The number `a` is passed
+/// over: no move leaves the chain at its place.
 #[inline(always)]
 pub fn first_around(put: &Put, a: u32, k: u32, asked: Asked) -> u32
     requires places { asked.end + k ≤ length put.now.line.now.list.now + 1 }
@@ -174,7 +175,7 @@ pub fn first_around(put: &Put, a: u32, k: u32, asked: Asked) -> u32
     first_behind(put, k, a + 1, asked)
 }
 
-// The first place in front of place `a`, as `first_gap`, where the first number is not behind it: `a` at most.
+// The first place before place `a`, as `first_gap`. The first number is not after it: `a` at most.
 #[inline(always)]
 fn first_in_front(put: &Put, a: u32, asked: Asked) -> u32
     requires order { asked.from ≤ a }
@@ -196,8 +197,7 @@ fn first_in_front(put: &Put, a: u32, asked: Asked) -> u32
     first_gap(put, front)
 }
 
-// The first number from another first one on, as `first_gap`, where each number stands for the place that is `k`
-// places behind it.
+// The first number from another first one on, as `first_gap`. Each number means the place that is `k` places later.
 #[inline(always)]
 fn first_behind(put: &Put, k: u32, from: u32, asked: Asked) -> u32
     requires asked { from ≤ asked.end }
@@ -217,8 +217,8 @@ fn first_behind(put: &Put, k: u32, from: u32, asked: Asked) -> u32
 }
 
 /// The first of the asked places before which the delivery of a pair can be put so that the move adds less than the
-/// bound to the arc costs: `base`, and what pickup and delivery add to this list, with the pickup before place `s`,
-/// which is not behind the first asked place; `end` where there is none.
+/// bound. The move adds `base`, and what pickup and delivery add to the arc costs of this list. The pickup is put
+/// before place `s`, which is not after the first asked place. The answer is `end` if there is none.
 #[inline(never)]
 pub fn first_delivery(line: &Line, pair: Pair, s: u32, base: i64, asked: Asked) -> u32
     requires pickup { pair.pickup < line.now.costs.model.now.nodes }
@@ -234,7 +234,7 @@ pub fn first_delivery(line: &Line, pair: Pair, s: u32, base: i64, asked: Asked) 
     if asked.from == asked.end {
         return asked.end;
     }
-    // a node stands between both at each asked place
+    // a node is between both at each asked place
     if s < asked.from {
         return first_apart(line, pair, s, base, asked);
     }
@@ -245,7 +245,7 @@ pub fn first_delivery(line: &Line, pair: Pair, s: u32, base: i64, asked: Asked) 
     first_apart(line, pair, s, base, behind)
 }
 
-// The first place for the delivery, as `first_delivery`, where a node stands between both.
+// The first place for the delivery, as `first_delivery`, if a node is between both.
 #[inline(always)]
 fn first_apart(line: &Line, pair: Pair, s: u32, base: i64, asked: Asked) -> u32
     requires pickup { pair.pickup < line.now.costs.model.now.nodes }
@@ -274,7 +274,7 @@ fn first_apart(line: &Line, pair: Pair, s: u32, base: i64, asked: Asked) -> u32
     first_gap(&put, asked)
 }
 
-// How much more the arcs cost where a pair is put before a place, side by side.
+// How much more the arcs cost if a pair is put before a place, side by side.
 #[inline(always)]
 fn put_pair(line: &Line, pair: Pair, s: u32) -> i64
     requires pickup { pair.pickup < line.now.costs.model.now.nodes }
@@ -292,9 +292,9 @@ fn put_pair(line: &Line, pair: Pair, s: u32) -> i64
     line.ends_added(ends, s, s) + inner
 }
 
-/// The first place of another list, or of this one where the two nodes do not stand side by side, at which the arcs of
-/// both cost less than the bound more where its node and that at place `a` of this list stand in each other's place;
-/// `end` where there is none.
+/// The first place of another list at which the arcs of both lists cost less than the bound more with an exchange. Its
+/// node and that at place `a` of this list take each other's place. It may be of this list too, if the two nodes are
+/// not side by side. The answer is `end` if there is none.
 #[inline(never)]
 pub fn first_swap(line: &Line, a: u32, other: &Line, asked: Asked) -> u32
     requires same { other.now.costs.model.now ≡ line.now.costs.model.now }
@@ -317,7 +317,7 @@ pub fn first_swap(line: &Line, a: u32, other: &Line, asked: Asked) -> u32
     asked.end
 }
 
-/// How much more the arcs cost where another node stands at a place.
+/// How much more the arcs cost if another node is at a place.
 #[inline(always)]
 pub fn swapped(line: &Line, place: u32, node: u32) -> i64
     requires node { node < line.now.costs.model.now.nodes }

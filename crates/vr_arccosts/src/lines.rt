@@ -15,9 +15,9 @@ use crate::costs::VehicleArcs;
 use vr_balance::Sums;
 use vr_model::{Closed, Model};
 
-/// The sums of arc costs along the line of a vehicle, from its start through its list to its end, and those of the same
-/// arcs backwards. The start is their place 0, and a node of the list stands one place behind its own. Of an empty list
-/// they have the arc from start to end, which `stretch` leaves out, since a vehicle that is not used drives none.
+/// The sums of arc costs along the line of a vehicle, from its start through its list to its end, ahead and backwards.
+/// The start is their place 0, and a node of the list is one place after its own. Of an empty list they have the arc
+/// from start to end. `stretch` leaves it out, since a vehicle that is not used drives none.
 #[derive(Drop)]
 pub struct Along {
     /// Of the arcs as they are driven.
@@ -73,8 +73,8 @@ impl Along {
         self.behind.extend(closed.model.arc_cost(v, next, at));
     }
 
-    /// What the arcs cost from the stop before place `front` of the list to the stop at place `behind`, 0 where the
-    /// list, of which the caller says how many nodes it has, has none.
+    /// What the arcs cost from the stop before place `front` of the list to the stop at place `behind`. It is 0 if the
+    /// list has no nodes; the caller says how many it has.
     #[inline(always)]
     pub fn stretch(&self, nodes: u32, front: u32, behind: u32) -> i64
         requires nodes { length self.now.ahead ≡ nodes + 2 }
@@ -91,8 +91,8 @@ impl Along {
         self.ahead.between(front, behind + 1)
     }
 
-    /// What the arcs cost between the nodes from place `from` up to place `to` of the list, the last not included, or
-    /// along this chain backwards.
+    /// What the arcs cost between the nodes from place `from` up to place `to` of the list, the last not included. If
+    /// reversed, it is what they cost along this chain backwards.
     #[inline(always)]
     pub fn chain(&self, reversed: bool, from: u32, to: u32) -> i64
         requires order { from < to }
@@ -113,7 +113,7 @@ impl Along {
 }
 
 /// The line of a vehicle with its list: what its arcs cost, and the sums along it, which are of this list. Loops over
-/// runs (`gaps`, `swaps`, `crosses`, `fronts`) ask which nodes stand beside a place, and what stretches of it cost.
+/// runs (`gaps`, `swaps`, `crosses`, `fronts`) ask which nodes are beside a place, and what stretches of it cost.
 #[derive(Drop)]
 pub struct Line<'a, 'm> {
     pub costs: VehicleArcs<'m>,

@@ -1,6 +1,7 @@
-//! Runs of moves that put a visit or a pair into a list: the first of them that may add less than a bound to arc costs.
-//! Where no loop can go over the numbers (there is no such vehicle, node, pair or place, or a delivery would stand
-//! before its pickup), the first number that is asked is said, or `None`: either says nothing of the run.
+//! Runs of moves that put a visit or a pair into a list. The answer is the first of them that may add less than a bound
+//! to arc costs. If no loop can go over the numbers, it is the first number that is asked, or `None`: either says
+//! nothing of the run. That is so if there is no such vehicle, node, pair or place, or if a delivery would come before
+//! its pickup.
 
 ghost use Rattle.std.specs.Prelude.{◌≡◌, ℕ, ◌<◌, ◌≤◌, ◌≢◌, length, IfSome};
 ghost use Rattle.vr_model.specs.routes.Routes.{route};
@@ -63,8 +64,8 @@ impl<'a, 'm> Committed<'a, 'm> {
         first_delivery(&line, pair, s, 0, asked)
     }
 
-    // The run of a served pair that is put elsewhere with its pickup before a place, by the place of its delivery;
-    // `None` also where the pair is not served.
+    // The run of a served pair that is put elsewhere with its pickup before a place, by the place of its delivery. It
+    // is `None` also if the pair is not served.
     #[inline(never)]
     pub(crate) fn first_pair_relocated(self, p: u32, w: u32, s: u32, asked: Asked) -> Option<u32>
         ensures from { IfSome result (λ first. asked.from ≤ first) }

@@ -1,4 +1,4 @@
-//! The list of a vehicle without a pair: what the pair adds where it is put into it. `puts` asks it of a pair that is
+//! The list of a vehicle without a pair, and what the pair adds if it is put into it. `puts` asks it of a pair that is
 //! put back into its list. No sums are asked, since those of the list have the pair in them.
 
 ghost use Rattle.std.proofs.Props.{props};
@@ -22,9 +22,9 @@ pub struct Rest<'a, 'm> {
     pub ghost sound: { IsRest costs.model.now list.now lo hi } by { Prim.hlevel props },
 }
 
-/// The first place of a rest before which the delivery of a pair can be put so that, with the pickup before place `s`,
-/// which is not behind the first number, and with what else the move adds, the arcs cost less than the bound more;
-/// `end` where there is none.
+/// The first place of a rest for the delivery of a pair, put before it, with which the arcs cost less than the bound
+/// more. What else the move adds counts too, and so does the pickup. That is put before place `s`, which is not after
+/// the first number. The answer is `end` if there is none.
 #[inline(never)]
 pub fn first_in_rest(rest: &Rest, pair: Pair, s: u32, base: i64, asked: Asked) -> u32
     requires pickup { pair.pickup < rest.now.costs.model.now.nodes }
@@ -54,7 +54,8 @@ pub fn first_in_rest(rest: &Rest, pair: Pair, s: u32, base: i64, asked: Asked) -
     asked.end
 }
 
-// How much more the arcs of a rest cost where a pair is put into it, by how much more they cost with the pickup alone.
+// How much more the arcs of a rest cost if a pair is put into it. `with_pickup` is how much more they cost with the
+// pickup alone.
 #[inline(always)]
 fn put_pair(rest: &Rest, pair: Pair, s: u32, with_pickup: i64, t: u32) -> i64
     requires pickup { pair.pickup < rest.now.costs.model.now.nodes }
@@ -145,7 +146,7 @@ impl<'a, 'm> Rest<'a, 'm> {
     }
 }
 
-// Where a node of a rest stands in the list.
+// The place in the list of a node of a rest.
 #[inline(always)]
 fn place_of(place: u32, lo: u32, hi: u32) -> u32
     requires order { lo < hi }

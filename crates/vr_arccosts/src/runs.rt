@@ -1,8 +1,9 @@
 //! Runs of moves: the first of them that may add less than a bound to arc costs. Moves of two kinds are asked about by
-//! themselves: neighbours that change places, and a front that changes with an empty one of the second vehicle;
-//! `crosses` asks so about fronts that leave a list empty, where both vehicles have the same costs. Where no loop can
-//! go over the numbers (there is no such vehicle, node or place, or moves name them in another order), the first number
-//! that is asked is said: it says nothing of the run.
+//! themselves. Neighbours change places, or a front changes with an empty one of the second vehicle. `crosses` asks so
+//! about fronts that leave a list empty, if both vehicles have the same costs.
+//!
+//! If no loop can go over the numbers, the answer is the first number that is asked: it says nothing of the run. That
+//! is so if there is no such vehicle, node or place, or if moves name them in another order.
 
 ghost use Rattle.std.specs.Prelude.{◌≡◌, ℕ, ◌+◌, ◌<◌, ◌≤◌, ◌≤ℤ◌, IfSome, IsTrue, false, length, true};
 ghost use Rattle.vr_model.specs.routes.Routes.{route};
@@ -24,11 +25,15 @@ use vr_routes::{Piece, Routes};
 
 impl<'m> ArcCost<'m> {
     /// Goes over a run of moves of the committed lists, which differ in their last number: those of the numbers from
-    /// `from` on, below `end`. Says from which number on some may add less than a bound, also where the lists after it
-    /// are not valid: each move in front of it adds no less. The numbers of `mv`, of which the last is any, need not be
-    /// those of a move: of a vehicle, a node, a pair or a place that there is not it says `from` or `None`, and `None`
-    /// of a pair to be put elsewhere that is not served. `None` of kinds that it does not go over (`MakeInactive` and
-    /// `PairInactive`); how near it comes to the first is not promised.
+    /// `from` on, below `end`. Says from which number on some may add less than a bound: each move before it adds no
+    /// less. This goes for moves after which the lists are not valid, too. How near it comes to the first is not
+    /// promised.
+    ///
+    /// The numbers of `mv`, of which the last is any, need not be those of a move:
+    /// - if there is no such vehicle, node, pair or place, it says `from` or `None`;
+    /// - if a pair is to be put elsewhere that is not served, it says `None`.
+    ///
+    /// It says `None` of kinds that it does not go over (`MakeInactive` and `PairInactive`).
     #[inline(always)]
     pub fn first_below(
         &self,
@@ -107,7 +112,7 @@ impl<'a, 'm> Committed<'a, 'm> {
         first_around(&put, a, k, asked)
     }
 
-    // What a chain adds where it leaves its place, without the arcs along it: it keeps them where it is put.
+    // What a chain adds if it leaves its place, without the arcs along it: it keeps them at its new place.
     #[inline(always)]
     fn left_added(self, v: u32, a: u32, k: u32) -> i64
         requires vehicle { v < length self.routes.now.lists }
@@ -172,7 +177,7 @@ impl<'a, 'm> Committed<'a, 'm> {
         if v != w || asked.from > a + 1 {
             return self.first_apart(v, a, w, asked);
         }
-        // within one list a move names the place in front first, so no run has a number up to `a`
+        // within one list a move names the earlier place first, so no run has a number up to `a`
         if asked.from <= a || asked.from == asked.end {
             return asked.from;
         }
@@ -183,7 +188,7 @@ impl<'a, 'm> Committed<'a, 'm> {
         self.first_apart(v, a, w, asked.starting(a + 2))
     }
 
-    // What a visit and the one behind it add that take each other's place.
+    // What a visit and the one after it add that take each other's place.
     #[inline(always)]
     fn neighbours_exchanged(self, v: u32, a: u32) -> i64
         requires is_one { is_move self.kept.now.model self.routes.now.lists (Exchange v a v (a + 1)) ≡ true }
@@ -201,7 +206,7 @@ impl<'a, 'm> Committed<'a, 'm> {
         self.kept.between_adds(self.routes, v, a, a + 2, &[turned])
     }
 
-    // The same run, where the visits do not stand side by side.
+    // The same run, if the visits are not side by side.
     #[inline(always)]
     fn first_apart(self, v: u32, a: u32, w: u32, asked: Asked) -> u32
         requires vehicle { v < length self.routes.now.lists }
@@ -219,7 +224,7 @@ impl<'a, 'm> Committed<'a, 'm> {
         first_swap(&line, a, &other, asked)
     }
 
-    // The run of a front that changes vehicles with those of another list, by the place behind the latter.
+    // The run of a front that changes vehicles with those of another list, by the place after the latter.
     #[inline(never)]
     fn first_crossed(self, v: u32, a: u32, w: u32, asked: Asked) -> u32
         ensures from { asked.from ≤ result }
@@ -246,7 +251,7 @@ impl<'a, 'm> Committed<'a, 'm> {
             };
             return run.first();
         }
-        // the other front is empty; where both are, it is no move
+        // the other front is empty; if both are, it is no move
         if a > 0 && self.crossed(v, a, w, 0) < asked.bound {
             return 0;
         }

@@ -10,8 +10,8 @@ use crate::gaps::{Asked, swapped};
 use crate::lines::Line;
 
 impl<'a, 'm> Committed<'a, 'm> {
-    // The run of an inactive visit that takes the place of a node, by the visit. Where there is no such node, the first
-    // number that is asked is said: it says nothing of the run.
+    // The run of an inactive visit that takes the place of a node, by the visit. If there is no such node, the answer
+    // is the first number that is asked: it says nothing of the run.
     #[inline(never)]
     pub(crate) fn first_swapped_in(self, v: u32, a: u32, asked: Asked) -> u32
         ensures from { asked.from ≤ result }
@@ -28,8 +28,8 @@ impl<'a, 'm> Committed<'a, 'm> {
     }
 }
 
-// The first of ascending visits with which the arcs cost less than the bound more where it stands at place `a`, of
-// those in the range that is asked; its end where there is none.
+// The first of ascending visits with which the arcs cost less than the bound more if it is put at place `a`. Only those
+// in the range that is asked count. The answer is the end of the range if there is none.
 #[inline(always)]
 fn first_newcomer(line: &Line, a: u32, visits: &[u32], asked: Asked) -> u32
     requires place { a < length line.now.list.now }

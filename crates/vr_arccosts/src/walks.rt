@@ -1,4 +1,4 @@
-//! Paths of vehicles along pieces of lists: `ArcCost::between_adds` asks what those cost that come in the place of a
+//! Paths of vehicles along pieces of lists: `ArcCost::between_adds` asks what pieces cost that come in the place of a
 //! stretch.
 
 ghost use Rattle.std.proofs.Props.{props};
@@ -39,7 +39,7 @@ pub struct Gap<'a, 'm> {
 }
 
 impl<'a, 'm> Gap<'a, 'm> {
-    /// What the arcs of the vehicle cost from the stop before the gap along pieces to the stop behind it, 0 where no
+    /// What the arcs of the vehicle cost from the stop before the gap along pieces to the stop after it. It is 0 if no
     /// node is left of the list then.
     #[inline(always)]
     pub fn cost_along(&self, pieces: &[Piece]) -> i64
@@ -83,7 +83,7 @@ impl<'a, 'm> Gap<'a, 'm> {
         self.of.routes.node_at(costs.vehicle, self.front - 1)
     }
 
-    // The node of the stop behind the gap.
+    // The node of the stop after the gap.
     #[inline(always)]
     fn node_behind(&self) -> u32
         ensures value { let of = self.now.of in
@@ -122,8 +122,8 @@ impl<'a, 'm> Driven<'a, 'm> {
         path
     }
 
-    // The arc costs of the vehicle along a chain of the list of vehicle `w`, or along the chain backwards. Where both
-    // vehicles have the same costs it takes no longer for a long chain than for a short one.
+    // The arc costs of the vehicle along a chain of the list of vehicle `w`, or along the chain backwards. If both
+    // vehicles have the same costs, it takes no longer for a long chain than for a short one.
     #[inline(always)]
     fn chain_cost(&self, w: u32, reversed: bool, from: u32, to: u32) -> i64
         requires other { w < length self.now.costs.now.model.now.vehicles }
@@ -149,7 +149,7 @@ impl<'a, 'm> Driven<'a, 'm> {
     }
 }
 
-// Where a path stands, and what its arcs cost.
+// The node at which a path is, and what its arcs cost.
 #[derive(Clone, Copy)]
 struct Path {
     at: u32,

@@ -26,7 +26,7 @@ pub record IsTurnover (lists : List (List ℕ)) (turnover : Turnover) : Type 0 w
   pub gone : All (IsWithin lists) turnover.gone
   pub apart : All (IsNoneOf turnover.gone) turnover.come
 
--- with what comes and what goes, nodes became others, however often each of them stands there
+-- with what comes and what goes, nodes became others, however often each of them is there
 abbrev pub Became : List (List ℕ) → Turnover → Turnover → List ℕ → List ℕ → Type 0
 Became lists before now old new = (f : ℕ → ℕ)
     → over_pieces f lists before.come + (over_pieces f lists now.gone + sum_by f new)

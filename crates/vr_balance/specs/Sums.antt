@@ -4,7 +4,7 @@ use Rattle.vr_model.specs.tables.Numbers.{number_at}
 use Rattle.vr_model.specs.tables.Tables.{vehicle_at}
 use Rattle.vr_model.specs.declared.records.Model.{Model}
 
--- the nodes of the line of vehicle v with a list, behind its start
+-- the nodes of the line of vehicle v with a list, after its start
 abbrev pub line_nodes : Model → ℕ → List ℕ → List ℕ
 line_nodes model v list = list ++ (vehicle_at model v).end ∷ []
 
@@ -13,7 +13,7 @@ abbrev pub path_sum : (ℕ → ℕ → ℤ) → ℕ → List ℕ → ℤ
 path_sum f at [] = pos 0
 path_sum f at (x ∷ xs) = f at x +ℤ path_sum f x xs
 
--- where a path from a node through others ends
+-- the node at which a path from a node through others ends
 abbrev pub last_of : ℕ → List ℕ → ℕ
 last_of at [] = at
 last_of at (x ∷ xs) = last_of x xs

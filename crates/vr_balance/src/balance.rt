@@ -1,4 +1,4 @@
-//! What a change brings in and takes out, where the same piece on both sides cancels out.
+//! What a change brings in and takes out; the same piece on both sides cancels out.
 
 ghost use Rattle.std.specs.Prelude.{◌≡◌, ◌+◌, ◌<◌, ◌≤◌, ℕ, List, [], length, All, false};
 ghost use Rattle.std.specs.Prelude.{slice_index_or, slice_range, sum_by, take};
@@ -14,10 +14,9 @@ use std::marker::Model;
 use vr_routes::{Change, Piece, Routes};
 
 /// What a change brings into lists, and what it takes out of them, as pieces of the lists before it and inactive nodes.
-/// A piece that only changes its place or its direction does neither, where it goes and comes with the same ends (else
-/// it stands on both sides, and who counts nodes counts it on both), so that for the change of a move these are few,
-/// however long the lists are: of two parts of eight pieces at most, with what is left behind each, 18 at most on a
-/// side.
+/// A piece that only changes its place or its direction does neither, if it goes and comes with the same ends. (Else it
+/// is on both sides, and who counts nodes counts it on both.) So for the change of a move these are few, however long
+/// the lists are: at most 18 on a side. That is two parts of eight pieces at most, with what is left after each.
 #[derive(Drop)]
 pub struct Balance {
     come: ArrayVec<Piece, 18>,
@@ -32,7 +31,7 @@ impl Model for Balance {
     ghost view = { λ b. record { come = b.come.items; gone = b.gone.items } };
 }
 
-// The first place of a piece among others, or how many there are where it is none of them.
+// The first place of a piece among others, or how many there are if it is none of them.
 fn place_of(pieces: &[Piece], piece: Piece) -> usize
     ensures low { result ≤ length pieces.now }
     ensures found { result < length pieces.now → slice_index_or pieces.now result piece ≡ piece }
@@ -46,7 +45,7 @@ fn place_of(pieces: &[Piece], piece: Piece) -> usize
     pieces.len()
 }
 
-// Adds a piece to one side; where the other side has the same piece, that one is taken out of there instead.
+// Adds a piece to one side. If the other side has the same piece, that one is taken out of there instead.
 fn enter(side: &mut ArrayVec<Piece, 18>, other: &mut ArrayVec<Piece, 18>, piece: Piece)
     requires room { array_vec_len side.old < 18 }
     ensures room { array_vec_len side.new ≤ array_vec_len side.old + 1 }
@@ -110,7 +109,7 @@ impl Balance {
     }
 
     // The list of a vehicle becomes the one that pieces are joined to, piece by piece: `place` is how far the list is
-    // gone over, and what is left of it behind the last piece goes.
+    // gone over. What is left of it after the last piece goes.
     fn add_part(&mut self, routes: &Routes, v: u32, pieces: &[Piece])
         requires vehicle { v < length routes.now.lists }
         requires pieces { All (IsWithin routes.now.lists) pieces.now }
@@ -159,18 +158,19 @@ impl Balance {
                 ..
             } => {
                 if vehicle == v && place <= from {
-                    // it stays, and what stood in front of it goes
+                    // it stays, and what was in front of it goes
                     self.leave(v, place, from);
                     return to;
                 }
-                // it comes from another list, or from in front of this place, where it was said to go
+                // it comes from another list, or from in front of this place; that was said to go
                 self.bring(vehicle, from, to);
                 place
             }
         }
     }
 
-    // A node comes: from where it stands, as a chain of one, so that it cancels out the chain that goes; or anew.
+    // A node comes. From a list it comes as a chain of one, so that it cancels out the chain that goes; else it comes
+    // anew.
     fn bring_node(&mut self, routes: &Routes, node: u32)
         requires room { length self.old.come < 18 }
         requires within { IsTurnover routes.now.lists self.old }

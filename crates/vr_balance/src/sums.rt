@@ -9,9 +9,9 @@ ghost use Rattle.vr_balance.specs.Sums.{last_of, path_sum, AreSums, AreSumsTo, H
 use arrayvec::ArrayVec;
 use std::marker::Model;
 
-/// At each node of a path, from its first one on, the sum of what some measure gives of the arcs up to it: a path of at
-/// most 1002 nodes (a start, 1000 visits and an end), and a measure in `0..=2^40`. The sums tell neither the path nor
-/// the measure.
+/// At each node of a path, from its first one on, the sum of what some measure gives of the arcs up to it. The path has
+/// at most 1002 nodes (a start, 1000 visits and an end), and the measure is in `0..=2^40`. The sums tell neither the
+/// path nor the measure.
 #[derive(Drop)]
 pub struct Sums {
     items: ArrayVec<i64, 1002>,

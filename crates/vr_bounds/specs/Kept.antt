@@ -24,17 +24,17 @@ bound_at puts node = slice_index_or puts.bounds node unknown
 abbrev pub age_at : Puts → ℕ → ℕ
 age_at puts place = slice_index_or puts.ages place 0
 
--- each gap of a list of vehicle v adds so much or more where a node is put into it
+-- each gap of a list of vehicle v adds this much or more if a node is put into it
 abbrev pub IsUpTo : Model → ℕ → List ℕ → ℕ → ℤ → Type 0
 IsUpTo model v list node least = (place : ℕ) → place ≤ length list → least ≤ℤ gap_added model v list node node place
 
--- each gap that is no younger than the stamp of a bound adds so much or more where a node is put into it
+-- each gap that is no younger than the stamp of a bound adds this much or more if a node is put into it
 abbrev pub IsLeast : Model → ℕ → Puts → ℕ → Bound → Type 0
 IsLeast model v puts node bound = (place : ℕ) → place ≤ length puts.row → age_at puts place ≤ bound.stamp
     → bound.least ≤ℤ gap_added model v puts.row node node place
 
--- what is kept of vehicle v and its list: each gap has an age that the clock has shown, and each node a bound, whose
--- stamp is older than the gaps that come next, and which holds where the list has nodes
+-- what is kept of vehicle v and its list. Each gap has an age that the clock has shown, and each node a bound. The
+-- stamp of a bound is older than the gaps that come next, and it holds if the list has nodes.
 pub record ArePuts (model : Model) (v : ℕ) (puts : Puts) : Type 0 where
   pub nodes : All (λ node. node < model.nodes) puts.row
   pub few : length puts.row ≤ 1000

@@ -1,4 +1,4 @@
-//! Since when gaps stand in a list.
+//! Since when gaps are in a list.
 
 ghost use Rattle.std.specs.Prelude.{◌≡◌, ◌<◌, [], ◌∷◌, ◌++◌, length, slice_index_or};
 
@@ -38,7 +38,7 @@ impl Ages {
         self.items[place]
     }
 
-    /// One gap more, behind the others.
+    /// One gap more, after the others.
     #[inline]
     pub fn push(&mut self, age: u32)
         requires { length self.old < 1001 }

@@ -20,9 +20,9 @@ use vr_model::{Closed, Model as RoutingModel, Move, NoMemory};
 use vr_parts::{InfallibleCost, ListCost};
 use vr_routes::{Change, Routes, Row, Splice};
 
-/// The arc costs of used vehicles, and for each vehicle and node what it adds at least to put the node into the list of
-/// the vehicle: 16 bytes each. They are kept between the moves that are made, so that most runs of moves that put a
-/// visit into a list are told of without a walk along the list.
+/// The arc costs of used vehicles, and for each vehicle and node what it adds at least to put the node into the list.
+/// That takes 16 bytes each. The bounds are kept between the moves that are made. So most runs of moves that put a
+/// visit into a list are answered without a walk along the list.
 #[derive(Drop)]
 pub struct BoundedArcs<'m> {
     model: &'m RoutingModel,
@@ -40,7 +40,7 @@ impl<'m> Model for BoundedArcs<'m> {
 }
 
 impl<'m> BoundedArcs<'m> {
-    /// The arc costs of the lists of routes, with no bound known yet. The only refusal is want of memory.
+    /// The arc costs of the lists of routes, with no bound known yet. The only error is out of memory.
     pub fn open(
         alloc: Global,
         model: &'m RoutingModel,
@@ -60,7 +60,7 @@ impl<'m> BoundedArcs<'m> {
 
     /// Goes over a run of moves of the committed lists, which differ in their last number: those of the numbers from
     /// `from` on, below `end`. Says from which number on some may add less than a bound, as `ArcCost::first_below`
-    /// does. Where the kept bounds tell that none does, no list is gone along.
+    /// does. If the kept bounds tell that none does, no list is gone along.
     #[inline]
     pub fn first_below(
         &mut self,
@@ -139,7 +139,7 @@ impl<'m> BoundedArcs<'m> {
         }
     }
 
-    // Whether the kept bounds tell that each gap of a list adds no less than a bound where a node is put into it. They
+    // Whether the kept bounds tell that each gap of a list adds no less than a bound if a node is put into it. They
     // tell nothing of a list without visits, and of a vehicle or a node that there is not.
     #[inline]
     fn gaps_add_no_less(&mut self, routes: &Routes, w: u32, node: u32, bound: i64) -> bool

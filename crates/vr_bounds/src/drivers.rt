@@ -1,4 +1,4 @@
-//! What stands beside the gaps of a list, and what it adds to put a node into one.
+//! The stops beside the gaps of a list, and what it adds to put a node into one.
 
 ghost use Rattle.std.specs.Prelude.{◌≡◌, ◌<◌, ◌≤◌, ℕ, All, IsTrue, length};
 ghost use Rattle.vr_arccosts.specs.Runs.{at_place, before_place, gap_added};
@@ -28,7 +28,7 @@ impl<'m> Driver<'m> {
         list[place - 1]
     }
 
-    // The node of the stop at a place of a list, its end behind the last.
+    // The node of the stop at a place of a list, its end after the last.
     #[inline(always)]
     fn at(self, list: &[u32], place: usize) -> u32
         requires place { place ≤ length list.now }
@@ -61,8 +61,8 @@ impl<'m> Driver<'m> {
         to + on - old
     }
 
-    /// Whether the gaps at a place of a list and at one of another list stand between the same stops, so that each node
-    /// adds the same there. Where there is no such gap of the first list, or either has no nodes, they do not.
+    /// Whether the gaps at a place of a list and at one of another list are between the same stops. Then each node adds
+    /// the same there. If there is no such gap of the first list, or either has no nodes, they are not.
     #[inline]
     pub fn is_same_gap(self, old: &[u32], place: usize, new: &[u32], other: usize) -> bool
         requires nodes { All (λ node. node < self.closed.model.now.nodes) old.now }

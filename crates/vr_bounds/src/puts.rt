@@ -32,14 +32,14 @@ const UNKNOWN: Bound = Bound {
 pub struct Puts {
     pub row: Row,
     pub ages: Ages,
-    /// It rises with each new list, and then stays at the greatest number that it can be; the gaps that are new get it
+    /// It rises with each new list, and then stays at the greatest number that it can be. The gaps that are new get it
     /// as age. It begins at 1, so that each gap is younger than the stamp 0.
     pub clock: u32,
     pub bounds: Seq<Bound>,
 }
 
 impl Puts {
-    /// Of a vehicle without visits, with nothing known of any node. The only refusal is want of memory.
+    /// Of a vehicle without visits, with nothing known of any node. The only error is out of memory.
     pub fn new(alloc: Global, driver: Driver<'_>) -> Result<Puts, NoMemory>
         ensures { IfOk result (IsPutsOf driver.entry.closed.model.now driver.entry.vehicle []) }
     {
@@ -83,8 +83,8 @@ impl Puts {
         self.row = row;
     }
 
-    // The age of a gap of the next list: that of the gap of this list between the same stops, as many places from the
-    // start or as many from the end, or that of new gaps.
+    // The age of a gap of the next list. It is that of the gap of this list between the same stops, as many places from
+    // the start or as many from the end. Else it is that of new gaps.
     #[inline]
     fn age_after(&self, driver: Driver<'_>, next: &[u32], place: usize) -> u32
         requires puts { ArePuts driver.closed.model.now driver.vehicle self.now }
@@ -97,8 +97,8 @@ impl Puts {
         from_start.min(self.age_by(driver, from_end, next, place))
     }
 
-    // The age of a gap of the next list: that of the gap at a place of this list, where it stands between the same
-    // stops, or that of new gaps.
+    // The age of a gap of the next list. It is that of the gap at a place of this list, if that is between the same
+    // stops. Else it is that of new gaps.
     #[inline]
     fn age_by(&self, driver: Driver<'_>, old: usize, next: &[u32], place: usize) -> u32
         requires puts { ArePuts driver.closed.model.now driver.vehicle self.now }
@@ -112,7 +112,7 @@ impl Puts {
         self.next_age()
     }
 
-    /// Whether each gap of the list adds no less than a bound where a node is put into it: true only where it is so.
+    /// Whether each gap of the list adds no less than a bound if a node is put into it: true only if it is so.
     #[inline]
     pub fn reach(&mut self, driver: Driver<'_>, node: u32, bound: i64) -> bool
         requires puts { ArePuts driver.closed.model.now driver.vehicle self.old }
@@ -183,7 +183,7 @@ impl Puts {
         least
     }
 
-    // A number, lowered by what a node adds in one gap, where this is younger than a stamp.
+    // A number, lowered by what a node adds in one gap, if this is younger than a stamp.
     #[inline(always)]
     fn lowered_at(&self, driver: Driver<'_>, node: u32, place: usize, stamp: u32, least: i64) -> i64
         requires puts { ArePuts driver.closed.model.now driver.vehicle self.now }

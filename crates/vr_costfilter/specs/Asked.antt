@@ -40,7 +40,7 @@ ChoiceAllows asked runs = AllowsRuns asked.guide.now.model.now asked.guide.now.d
 abbrev pub IsNewTiming : Asked → Timing → Type 0
 IsNewTiming asked = IsTiming asked.guide.now.model.now asked.guide.now.d asked.guide.now.v (new_list asked)
 
--- what the chosen schedule of a list of vehicle v comes to, nothing exactly where there is none
+-- what the chosen schedule of a list of vehicle v comes to, nothing exactly if there is none
 pub record IsTimingFound (model : Model) (d v : ℕ) (list : List ℕ) (found : Option Timing) : Type 0 where
   pub known : is_some found ≡ is_feasible (chosen_line model d v list)
   pub timing : IfSome found (IsTiming model d v list)
@@ -50,8 +50,8 @@ pub record IsTimingFound (model : Model) (d v : ℕ) (list : List ℕ) (found : 
 abbrev pub IsNewTimingFound : Asked → Option Timing → Type 0
 IsNewTimingFound asked = IsTimingFound asked.guide.now.model.now asked.guide.now.d asked.guide.now.v (new_list asked)
 
--- the guide has the runs of its vehicle, whose schedules are chosen by this rule, and what is kept is of the list that
--- it has
+-- the guide has the runs of its vehicle, whose schedules are chosen by this rule. What is kept is of the list that the
+-- vehicle has.
 pub record IsKeptBy (rule : ScheduleRule) (asked : Asked) (kept : KeptList) : Type 0 where
   pub by : IsGuideBy rule asked.guide.now
   pub of_old : IsKept asked.guide.now.model.now asked.guide.now.d asked.guide.now.v (old_list asked) kept

@@ -10,7 +10,7 @@ use Rattle.vr_earliest.specs.declared.earlies.Early.{Early}
 use Rattle.vr_routes.specs.Changes.{AreParts}
 use Rattle.vr_routes.specs.Pieces.{ListAfter}
 
--- these rows tell of each list after a change of lists, of which a well formed model has one for each vehicle
+-- these rows tell of each list after a change of lists, of which there is one for each vehicle of a well formed model
 pub record AreEarlyParts (model : Model) (lists : List (List ℕ)) (parts : List ListAfter) (rows : List (List Early))
     : Type 0 where
   pub well_formed : IsWellFormed model
@@ -18,13 +18,13 @@ pub record AreEarlyParts (model : Model) (lists : List (List ℕ)) (parts : List
   pub parts_are : AreParts lists parts
   pub earlies : AreEarlies model lists parts rows
 
--- both numbers that are told of a list are in their range
+-- both numbers that are known of a list are in their range
 pub record IsEarlyInRange (early : Early) : Type 0 where
   pub last : IsIn (pos 0) horizon early.last
   pub span : IsIn (neg_ℤ horizon) horizon early.span
 
--- parts are of vehicles of a well formed model, and what rows tell of them is in its range, in each dimension where
--- anything is paid for spans
+-- parts are of vehicles of a well formed model. In each dimension in which anything is paid for spans, what rows tell
+-- of them is in its range.
 pub record AreEarlyInRange (model : Model) (parts : List ListAfter) (rows : List (List Early)) : Type 0 where
   pub well_formed : IsWellFormed model
   pub few : length parts ≤ 2

@@ -15,7 +15,7 @@ use Rattle.vr_costfilter.specs.declared.trails.Step.{Step}
 abbrev pub floor_before : ℤ → ℤ → ℤ → Run → ℤ
 floor_before floor t s allowed = int_max ((floor -ℤ t) -ℤ s) allowed.lo
 
--- the same; none where the stop allows no cumul from there on
+-- the same; none if the stop allows no cumul from there on
 abbrev pub floor_in : ℤ → ℤ → ℤ → Run → Option ℤ
 floor_in floor t s allowed =
     cond (int_le (floor_before floor t s allowed) allowed.hi) (Some (floor_before floor t s allowed)) None
@@ -30,8 +30,8 @@ abbrev pub before : Model → ℕ → ℕ → Runs → ℕ → Step → Option S
 before model d v runs node next = option_map (λ floor. record { node = node; floor = floor })
     (stop_floor model d v node (slice_index_or runs.visits node no_run) next)
 
--- the first of the steps to visits in order, which come before the next step, and of no visits that one; none where one
--- of them allows no cumul from its floor on
+-- the first of the steps to visits in order, which come before the next step. Of no visits it is the next step. It is
+-- none if one of the visits allows no cumul from its floor on.
 abbrev pub first_step : Model → ℕ → ℕ → Runs → List ℕ → Step → Option Step
 first_step model d v runs [] next = Some next
 first_step model d v runs (x ∷ xs) next =
@@ -41,11 +41,11 @@ first_step model d v runs (x ∷ xs) next =
 abbrev pub end_step : Model → ℕ → Runs → Step
 end_step model v runs = record { node = (vehicle_at model v).end; floor = runs.finish.lo }
 
--- the first of steps, and of none of them the next one
+-- the first of steps, or the next one if there are none
 abbrev pub first_step_or : List Step → Step → Step
 first_step_or steps next = slice_index_or steps 0 next
 
--- each of these steps comes before the one behind it, and the last one before the next step
+-- each of these steps comes before the one after it, and the last one before the next step
 pub record AreAimed (model : Model) (d v : ℕ) (runs : Runs) (steps : List Step) (next : Step) : Type 0 where
   pub each : (k : ℕ) → k < length steps
       → before model d v runs (slice_index_or steps k next).node (slice_index_or steps (suc k) next)

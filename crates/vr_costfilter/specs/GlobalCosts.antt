@@ -39,8 +39,8 @@ has_global_span dimension = not (is_same_number dimension.global_span_cost (pos 
 abbrev pub is_some_spanned : Model → Bool
 is_some_spanned model = list_any has_global_span model.dimensions
 
--- what the chosen schedule of a list comes to is told where the dimension pays, and none is of the empty list; where it
--- does not pay, nothing is told
+-- if the dimension pays, what the chosen schedule of a list comes to is there, and none is of the empty list. If it
+-- does not pay, none is there.
 pub record IsTimedIfPaid (model : Model) (d v : ℕ) (list : List ℕ) (timing : Option Timing) : Type 0 where
   pub told : Pays model d → IsTimedIfUsed model d v list timing
   pub untold : (dimension_at model d).global_span_cost ≡ pos 0 → timing ≡ None
@@ -50,7 +50,7 @@ pub record IsRow (model : Model) (v : ℕ) (list : List ℕ) (row : List (Option
   pub many : length row ≡ 4
   pub each : (d : ℕ) → d < length model.dimensions → IsTimedIfPaid model d v list (slice_index_or row d None)
 
--- the sorted ends that are read where there are none
+-- the sorted ends that are read if there are none
 abbrev pub no_orders : SortedEnds
 no_orders = record { starts = []; ends = [] }
 
@@ -67,7 +67,7 @@ pub record AreAllOrders (model : Model) (lists : List (List ℕ)) (orders : List
 abbrev pub timing_in : ℕ → List (Option Timing) → Option Timing
 timing_in d row = slice_index_or row d None
 
--- from where to where lists reach where these vehicles get lists of which these rows tell
+-- the extent of lists, if these vehicles get the lists of which these rows tell
 abbrev pub extent_after : ℕ → List ℕ → List (List (Option Timing)) → SortedEnds → Option Extent
 extent_after d vehicles next orders =
     fold (λ extent row. beside extent (timing_in d row)) (extent_but vehicles orders) next
@@ -86,7 +86,7 @@ spans_cost_after model orders vehicles next =
 abbrev pub AreTimingsInRange : ℕ → List (List (Option Timing)) → Type 0
 AreTimingsInRange d next = (k : ℕ) → k < length next → IfSome (timing_in d (slice_index_or next k [])) IsInRange
 
--- where a dimension pays, all cumuls that the sorted ends and the rows tell are in their range
+-- if a dimension pays, all cumuls that the sorted ends and the rows tell are in their range
 pub record AreRanged (model : Model) (orders : List SortedEnds) (next : List (List (Option Timing))) : Type 0 where
   pub many : length orders ≡ length model.dimensions
   pub in_orders : (d : ℕ) → d < length model.dimensions → Pays model d → AreInRange (orders_at orders d)
@@ -98,7 +98,7 @@ pub record AreRangedIn (d : ℕ) (orders : SortedEnds) (next : List (List (Optio
   pub in_orders : AreInRange orders
   pub in_rows : AreTimingsInRange d next
 
--- there are orders for each dimension, and no vehicle stands in them
+-- there are orders for each dimension, and no vehicle is in them
 pub record AreBlank (model : Model) (orders : List SortedEnds) : Type 0 where
   pub many : length orders ≡ length model.dimensions
   pub starts : (d : ℕ) → (orders_at orders d).starts ≡ []
@@ -108,8 +108,8 @@ pub record AreBlank (model : Model) (orders : List SortedEnds) : Type 0 where
 abbrev pub IsGlobalCost : ℤ → Type 0
 IsGlobalCost = IsAround (cumul_cost * 4)
 
--- what contracts see of what is kept: the sorted ends and what all costs, the rows, the sorted ends and the cost of a
--- change that is ready, and cumuls of the chosen schedules
+-- what contracts see of what is kept: the sorted ends, what all costs, and cumuls of the chosen schedules. Of a change
+-- that is ready they see the rows, the sorted ends and the cost.
 pub record KeptSpans : Type 0 where
   pub model : Model
   pub orders : List SortedEnds

@@ -20,8 +20,8 @@ pub record CanWalkBack (guide : Guide) (nodes : List ℕ) (next : Step) (old : L
   pub step : IsStep guide.model.now next
   pub room : length old + length nodes ≤ 1000
 
--- they were put there, and this is the first of them, or the next step where there is no node; none exactly where some
--- stop allows no cumul from its floor on
+-- they were put there, and this is the first of them, or the next step if there is no node. It is none exactly if some
+-- stop allows no cumul from its floor on.
 pub record HasWalkedBack (guide : Guide) (nodes : List ℕ) (next : Step) (old new : List Step) (first : Option Step) :
     Type 0 where
   pub value : first ≡ first_step guide.model.now guide.d guide.v (runs_of guide) nodes next

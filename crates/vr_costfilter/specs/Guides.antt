@@ -18,9 +18,9 @@ pub record IsStopAt (model : Model) (node : ℕ) (allowed : Run) : Type 0 where
   pub known : node < model.nodes
   pub ends : HasCumulEnds allowed
 
--- these are, of dimension d of a well formed model, where the rows of visits stand, and the greatest slack, and where
--- the table says that it is hard, soft upper bounds cost nothing; and of vehicle v there the evaluator, the runs of
--- visits, a run of cumuls for its start, and its end with one
+-- this is what is looked up of vehicle v in dimension d of a well formed model. Of the dimension it is the places of
+-- the rows of visits, and the greatest slack. If the table says that the dimension is hard, soft upper bounds cost
+-- nothing. Of the vehicle it is the evaluator, the runs of visits, a run of cumuls for its start, and its end with one.
 pub record IsRunGuide (model : Model) (d v : ℕ) (table : Table) (evaluator : Evaluator) (slack : ℤ) (first : Run)
     (each : List Run) (ahead : Ahead) : Type 0 where
   pub well_formed : IsWellFormed model

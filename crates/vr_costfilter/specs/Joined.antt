@@ -9,8 +9,8 @@ use Rattle.vr_routes.specs.Pieces.{joined, IsSplice, IsWithin}
 use Rattle.vr_routes.specs.declared.pieces.Piece.{Piece}
 use Rattle.vr_routes.specs.declared.pieces.Splice.{Splice}
 
--- these pieces, each within its list, are joined to a list of distinct visits, not the empty one, and are a splice of
--- the list that vehicle v has here
+-- these pieces, each within its list, are joined to a list of distinct visits, not the empty one. They are a splice of
+-- the list that vehicle v has here.
 pub record AreJoined (model : Model) (v : ℕ) (lists : List (List ℕ)) (pieces : List Piece) (splice : Splice) : Type 0
   where
     pub known : v < length lists
@@ -20,7 +20,7 @@ pub record AreJoined (model : Model) (v : ℕ) (lists : List (List ℕ)) (pieces
     pub used : IsUsed model (joined lists pieces)
     pub few : length (joined lists pieces) ≤ 1000
 
--- the same of the vehicle of the splice, one of the model, whose line with that list is feasible in dimension d
+-- the same of the vehicle of the splice, one of the model. Its line with that list is feasible in dimension d.
 pub record AreJoinedFeasibly (model : Model) (d : ℕ) (lists : List (List ℕ)) (pieces : List Piece) (splice : Splice)
     : Type 0 where
   pub vehicle : splice.vehicle < length model.vehicles

@@ -24,16 +24,16 @@ abbrev pub is_tight : ScheduleRule → Bool
 is_tight Earliest = false
 is_tight Tight = true
 
--- what is kept has room for the two ends of a list where the rule chooses the tight schedule, and else none
+-- what is kept has room for the two ends of a list if the rule chooses the tight schedule, and else none
 abbrev pub HasRoom : ScheduleRule → KeptList → Type 0
 HasRoom rule kept = length kept.ends.items ≡ cond (is_tight rule) 1 0
 
--- what is kept tells what changes make of a list of a vehicle that chooses its earliest schedule: it has a stage for
--- each stop
+-- what is kept tells what changes make of a list of a vehicle that chooses its earliest schedule. It has a stage for
+-- each stop.
 abbrev pub HasAllStages : List ℕ → KeptList → Type 0
 HasAllStages list kept = length kept.steps.stages.items ≡ length list + 2
 
--- the same of a vehicle that chooses its tight schedule: it has a way to each place
+-- the same of a vehicle that chooses its tight schedule. It has a way to each place.
 pub record HasAllWays (list : List ℕ) (kept : KeptList) : Type 0 where
   pub room : 0 < length kept.ends.items
   pub ways : (other : KeptTightWays) → length (slice_index_or kept.ends.items 0 other).ways.items ≡ length list + 1
@@ -43,10 +43,11 @@ abbrev pub HasAllAsked : ScheduleRule → List ℕ → KeptList → Type 0
 HasAllAsked Earliest list kept = HasAllStages list kept
 HasAllAsked Tight list kept = HasAllWays list kept
 
--- where there are as many as stops, the stages of vehicle v are those of a list, and the steps are those to its visits,
--- between two cumuls of its ends where it chooses its tight schedule; the ways are those along it, where there is one
--- to each place; and all is kept that the rule asks, where the vehicle has no breaks, no stop allows it more than one
--- run of cumuls, the list is feasible and of distinct visits, and there is the room that the rule asks
+-- what is kept is of a list of vehicle v. If there are as many stages as stops, they are those of the list, and the
+-- steps are those to its visits. If the vehicle chooses its tight schedule, they are so between two cumuls of its ends.
+-- If there is a way to each place, the ways are those along the list. All that the rule asks is kept if the following
+-- holds. The vehicle has no breaks, and no stop allows it more than one run of cumuls. The list is feasible and of
+-- distinct visits. There is the room that the rule asks.
 pub record IsKept (model : Model) (d v : ℕ) (list : List ℕ) (kept : KeptList) : Type 0 where
   pub earliest : (vehicle_at model v).schedule ≡ Earliest → (runs : Runs) → AreRuns model d v runs
       → HasStages model d v runs list kept.steps
@@ -64,8 +65,8 @@ pub record HasWaysAlone (model : Model) (d v : ℕ) (runs : Runs) (list : List �
   pub none : length kept.steps.stages.items ≡ 0
   pub between : HasCumuls kept.between
 
--- what is kept tells what changes make of a list of vehicle v: something is kept of it, the vehicle has no breaks, no
--- stop allows it more than one run of cumuls, and all is kept that its rule asks
+-- what is kept tells what changes make of a list of vehicle v. Something is kept of it, and so is all that its rule
+-- asks. The vehicle has no breaks, and no stop allows it more than one run of cumuls.
 pub record IsKnown (model : Model) (d v : ℕ) (list : List ℕ) (kept : List KeptList) : Type 0 where
   pub known : v < length kept
   pub runs : IsTrue (have_stops_one_run model d v)
@@ -83,8 +84,8 @@ pub record AreAllKept (model : Model) (lists : List (List ℕ)) (kept : List (Li
   pub many : length kept ≡ length model.dimensions
   pub each : (d : ℕ) (other : List KeptList) → d < length kept → AreKept model d lists (slice_index_or kept d other)
 
--- a dimension has such costs: soft upper bounds or a coefficient of the spans of vehicles, as its table says, or a
--- global span with a coefficient other than 0
+-- a dimension has such costs. Alone: its table says that it has soft upper bounds, or a coefficient of the spans of
+-- vehicles. Together: its global span has a coefficient other than 0.
 abbrev pub IsPaid : Paid → Table → Dimension → Type 0
 IsPaid Alone table dimension = table.is_free ≡ false
 IsPaid Together table dimension = dimension.global_span_cost ≢ pos 0

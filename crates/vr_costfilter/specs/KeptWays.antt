@@ -16,8 +16,8 @@ use Rattle.vr_costfilter.specs.declared.tight.Way.{Way}
 abbrev pub KeptTightWays : Type 0
 KeptTightWays = KeptPlaces Way Rest
 
--- what is kept has the ways along the first nodes of a list of vehicle v, and what is left behind each of them, by
--- these runs, which its stops allow
+-- what is kept has the ways along the first nodes of a list of vehicle v, and what is left after each of them. They are
+-- by these runs, which its stops allow.
 pub record HasWaysBy (model : Model) (d v : ℕ) (runs : Runs) (list : List ℕ) (ends : KeptTightWays) : Type 0 where
   pub runs_are : AreRuns model d v runs
   pub keeps : KeepsWays (way_out model v runs) (way_to_visit model d v runs) (rest_at_end model v runs)
@@ -28,11 +28,11 @@ pub record AreWays (model : Model) (d v : ℕ) (list : List ℕ) (ends : KeptTig
   pub runs : Runs
   pub has : HasWaysBy model d v runs list ends
 
--- where as many ways are kept as there are numbers of first visits, they are those of a list of vehicle v
+-- if as many ways are kept as there are numbers of first visits, they are those of a list of vehicle v
 pub record AreKeptWays (model : Model) (d v : ℕ) (list : List ℕ) (ends : KeptTightWays) : Type 0 where
   pub ways : length ends.ways.items ≡ suc (length list) → AreWays model d v list ends
 
--- where something is kept so, it is of a list of vehicle v
+-- if something is kept so, it is of a list of vehicle v
 pub record HaveKeptWays (model : Model) (d v : ℕ) (list : List ℕ) (ends : List KeptTightWays) : Type 0 where
   pub first : (other : KeptTightWays) → 0 < length ends → AreKeptWays model d v list (slice_index_or ends 0 other)
 

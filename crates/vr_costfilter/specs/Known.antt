@@ -1,4 +1,4 @@
--- What is known where a part of the cost is asked.
+-- What is known when a part of the cost is asked.
 use Rattle.std.specs.Prelude.{◌≡◌, IsTrue, List, false}
 use Rattle.vr_model.specs.routes.Routes.{is_empty}
 use Rattle.vr_model.specs.routes.Rules.{is_valid}
@@ -11,7 +11,7 @@ use Rattle.vr_costfilter.specs.PartsAfter.{list_after}
 use Rattle.vr_costfilter.specs.declared.kept.KeptList.{KeptList}
 use Rattle.vr_costfilter.specs.declared.parts_after.PartAfter.{PartAfter}
 
--- a change was made on routes at which something stands, and the lists after it are valid for a model
+-- a change was made on routes with which something is in sync, and the lists after it are valid for a model
 pub record IsValidChange (Stands : Tours → Type 0) (model : Model) (tours : Tours) (parts : List ListAfter) : Type 0
   where
     pub stands : Stands tours

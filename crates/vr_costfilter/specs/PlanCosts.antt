@@ -66,8 +66,8 @@ list_change = (plan_saved + plan_paid) * 4
 abbrev pub IsPlanChange : ℤ → Type 0
 IsPlanChange = IsAround (list_change * 2)
 
--- what a change adds at least: what the spans of the lists that parts give cost at least, less what the lists of their
--- vehicles cost now
+-- what a change adds at least. It is what the spans of the lists that parts give cost at least, less what the lists of
+-- their vehicles cost now.
 abbrev pub plans_least : Model → List (List ℕ) → List ListAfter → ℤ
 plans_least model lists parts = total_by (part_less (spans_least model) (plans_cost model) lists) parts
 
@@ -75,8 +75,8 @@ plans_least model lists parts = total_by (part_less (spans_least model) (plans_c
 abbrev pub pays_no_plan : Model → Bool
 pays_no_plan model = list_all is_free model.dimensions
 
--- what contracts see of what is kept: what each list costs and the lists of a change that is ready, and cumuls of the
--- chosen schedules
+-- what contracts see of what is kept: what each list costs, and cumuls of the chosen schedules. Of a change that is
+-- ready they see what its lists cost.
 pub record KeptPlans : Type 0 where
   pub model : Model
   pub costs : List ℤ

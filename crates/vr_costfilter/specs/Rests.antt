@@ -1,4 +1,4 @@
--- What is left of the line of a vehicle behind a way: how early it can end, and how late its first stop may be.
+-- What is left of the line of a vehicle after a way: how early it can end, and how late its first stop may be.
 use Rattle.std.specs.Prelude.{ℕ, List, slice_index_or, ℤ, pos, ◌+ℤ◌, ◌-ℤ◌}
 use Rattle.std.specs.Int.{int_max, int_min}
 use Rattle.vr_spans.specs.declared.runs.Run.{Run}

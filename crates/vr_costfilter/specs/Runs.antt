@@ -53,15 +53,15 @@ pub record AllowsRuns (model : Model) (d v : ℕ) (runs : Runs) (list : List ℕ
 abbrev pub only : ℤ → Run
 only x = record { lo = x; hi = x }
 
--- the runs where the start allows s alone, and the end e
+-- the runs if the start allows s alone, and the end e
 abbrev pub between_runs : Runs → ℤ → ℤ → Runs
 between_runs runs s e = record { start = only s; visits = runs.visits; finish = only e }
 
--- the runs of a vehicle, where its start allows this one
+-- the runs of a vehicle if its start allows this one
 abbrev pub starting : Runs → Run → Runs
 starting runs start = record { start = start; visits = runs.visits; finish = runs.finish }
 
--- the run of the start, where it may be at one cumul that is given
+-- the run of the start, which is one cumul if that is given
 abbrev pub start_run : Runs → Option ℤ → Run
 start_run runs None = runs.start
 start_run runs (Some s) = only s

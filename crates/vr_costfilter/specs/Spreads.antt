@@ -44,7 +44,7 @@ with_early model d v list spread = cond (is_empty list) spread (record {
 abbrev pub gives : List ListAfter → ℕ → Bool
 gives parts v = list_any (λ part. part.vehicle == v) parts
 
--- a spread reaches over the list of vehicle v too, where no part gives it another one
+-- a spread reaches over the list of vehicle v too, if no part gives it another one
 abbrev pub with_kept : Model → List (List ℕ) → List ListAfter → ℕ → Spread → ℕ → Spread
 with_kept model lists parts d spread v = cond (gives parts v) spread (with_chosen model d v (route lists v) spread)
 
@@ -79,7 +79,7 @@ last_end model lists d = greatest (map (end_at (assigned model lists) d) (used_v
 abbrev pub first_start : Model → List (List ℕ) → ℕ → ℤ
 first_start model lists d = least (map (start_at (assigned model lists) d) (used_vehicles lists))
 
--- the greatest end is no earlier than is told, the least start no later, and the global span no less
+-- the greatest end is no earlier than the spread says, the least start no later, and the global span no less
 pub record IsSpread (model : Model) (lists : List (List ℕ)) (d : ℕ) (spread : Spread) : Type 0 where
   pub last : spread.last ≤ℤ last_end model lists d
   pub start : first_start model lists d ≤ℤ spread.start

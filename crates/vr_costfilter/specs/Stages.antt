@@ -16,7 +16,7 @@ use Rattle.vr_costfilter.specs.Floors.{stop_floor}
 use Rattle.vr_costfilter.specs.declared.guides.Stage.{Stage}
 use Rattle.vr_costfilter.specs.declared.trails.Step.{Step}
 
--- the least cumul of a stop behind an arc that takes t
+-- the least cumul of a stop after an arc that takes t
 abbrev pub next_cumul : ℤ → ℤ → Run → ℤ
 next_cumul cumul t allowed = int_max (cumul +ℤ t) allowed.lo
 
@@ -25,7 +25,7 @@ abbrev pub is_had : ℤ → ℤ → ℤ → Run → Bool
 is_had cumul t s allowed =
     int_le (next_cumul cumul t allowed) allowed.hi && int_le (next_cumul cumul t allowed -ℤ (cumul +ℤ t)) s
 
--- a vehicle goes on to a node, over an arc that takes t and at most s more; none where it cannot be had so
+-- a vehicle goes on to a node, over an arc that takes t and at most s more; none if it cannot reach it so
 abbrev pub go_on : ℤ → ℤ → ℕ → Run → Option StopRow → Stage → Option Stage
 go_on t s node allowed row stage = cond (is_had stage.cumul t s allowed)
     (Some (record {
@@ -35,7 +35,7 @@ go_on t s node allowed row stage = cond (is_had stage.cumul t s allowed)
     }))
     None
 
--- vehicle v stands at its start at a cumul
+-- vehicle v is at its start at a cumul
 abbrev pub stage_at_start : Model → ℕ → ℕ → ℤ → Stage
 stage_at_start model d v cumul = record {
   at = (vehicle_at model v).start;
@@ -43,7 +43,7 @@ stage_at_start model d v cumul = record {
   soft = row_cost (row_of (dimension_at model d).starts v) cumul;
 }
 
--- it stands there at the floor of its start, before the next step
+-- it is there at the floor of its start, before the next step
 abbrev pub setting_out : Model → ℕ → ℕ → Runs → Step → Option Stage
 setting_out model d v runs next =
     option_map (stage_at_start model d v) (stop_floor model d v (vehicle_at model v).start runs.start next)
@@ -65,7 +65,7 @@ abbrev pub to_end : Model → ℕ → ℕ → Runs → Stage → Option Stage
 to_end model d v runs stage = go_on (transit model d v stage.at (vehicle_at model v).end)
     (dimension_at model d).slack_max (vehicle_at model v).end runs.finish (row_of (dimension_at model d).ends v) stage
 
--- one visit more, where the stage before it was had
+-- one visit more, if the stage before it was reached
 abbrev pub visit_more : Model → ℕ → ℕ → Runs → Option Stage → Step → Option Stage
 visit_more model d v runs stage step = option_and_then (to_visit model d v runs step) stage
 
@@ -77,7 +77,7 @@ along model d v runs stage steps = fold (visit_more model d v runs) stage steps
 abbrev pub along_to_end : Model → ℕ → ℕ → Runs → Option Stage → List Step → Option Stage
 along_to_end model d v runs stage steps = option_and_then (to_end model d v runs) (along model d v runs stage steps)
 
--- the same stage, where z more was paid on the way
+-- the same stage, if z more was paid on the way
 abbrev pub paid_more : ℤ → Stage → Stage
 paid_more z stage = record { at = stage.at; cumul = stage.cumul; soft = stage.soft +ℤ z }
 
@@ -88,7 +88,7 @@ pub record IsStageOf (model : Model) (n : ℕ) (stage : Stage) : Type 0 where
   pub not_negative : pos 0 ≤ℤ stage.soft
   pub bound : stage.soft ≤ℤ pos (cumul_cost * n)
 
--- vehicle v stands at its start
+-- vehicle v is at its start
 pub record IsAtStart (model : Model) (d v : ℕ) (stage : Stage) : Type 0 where
   pub stands : stage ≡ stage_at_start model d v stage.cumul
   pub range : IsStageOf model 1 stage

@@ -20,7 +20,7 @@ pub record AreSteps (model : Model) (d v : ℕ) (runs : Runs) (list : List ℕ) 
   pub nodes_are : nodes_in steps ≡ list
   pub aimed : AreAimed model d v runs steps (end_step model v runs)
 
--- the same, to visits, where this is the first step
+-- the same, to visits, of which this is the first step
 pub record AreStepsFrom (model : Model) (d v : ℕ) (runs : Runs) (list : List ℕ) (steps : List Step) (first : Step) :
     Type 0 where
   pub steps_are : AreSteps model d v runs list steps
@@ -60,17 +60,17 @@ pub record AreKnownSteps (model : Model) (d v : ℕ) (runs : Runs) (list : List 
   pub many : length kept.stages.items ≡ length list + 2
   pub few : length list ≤ 1000
 
--- where there are as many as stops, these are the stages of a list, and the steps are those to its visits
+-- if there are as many stages as stops, they are those of a list, and the steps are those to its visits
 pub record HasStages (model : Model) (d v : ℕ) (runs : Runs) (list : List ℕ) (kept : KeptSteps) : Type 0 where
   pub told : length kept.stages.items ≡ suc (suc (length list))
       → AreAllStages model d v runs list (steps_of kept) kept.stages.items
 
--- where some of the first steps are kept, the first of all is the first of these
+-- if some of the first steps are kept, the first of all is the first of these
 abbrev pub IsKeptLead : List Step → Lead → Type 0
 IsKeptLead steps lead = 0 < lead.place → (other : Step) → lead.first ≡ slice_index_or steps 0 other
 
--- a lead takes n of the kept steps at most, and its first step, of which the numbers are in range, is the first of
--- these where it takes any
+-- a lead takes n of the kept steps at most. If it takes any, its first step is the first of these. The numbers of its
+-- first step are in range.
 pub record IsLead (model : Model) (steps : List Step) (n : ℕ) (lead : Lead) : Type 0 where
   pub place : lead.place ≤ n
   pub first : IsStep model lead.first
@@ -93,19 +93,19 @@ pub record HasLed (model : Model) (d v : ℕ) (runs : Runs) (kept : List Step) (
   pub kept_first : IsKeptLead kept lead
   pub range : IsStep model lead.first
 
--- the stage where new steps begin, with all that was paid up to there
+-- the stage at which new steps begin, with all that was paid up to there
 abbrev pub reached : Outset → Stage
 reached met = paid_more met.more met.stage
 
--- the kept end, a kept stage, and the stage that a vehicle comes to where it meets that one: what was paid up to each
--- is in range, and the cumul of the end
+-- a vehicle comes to a kept stage, and the end is kept too. What was paid is in range: up to the end, up to the kept
+-- stage, and on the way of the vehicle. The cumul of the end is in range too.
 pub record AreMet (end kept gone : Stage) : Type 0 where
   pub end_paid : IsIn (pos 0) (pos (cumul_cost * 1002)) end.soft
   pub end_cumul : IsIn (pos 0) horizon end.cumul
   pub kept_paid : IsIn (pos 0) (pos (cumul_cost * 1002)) kept.soft
   pub gone_paid : IsIn (pos 0) (pos (cumul_cost * 4000)) gone.soft
 
--- along these steps a stage comes to another one, with so much more paid on the way (less where it is negative)
+-- along these steps a stage comes to another one, with this much more paid on the way (less if it is negative)
 pub record HasPaced (model : Model) (d v : ℕ) (runs : Runs) (steps : List Step) (out : Stage) (met : Outset) :
     Type 0 where
   pub start : met.start ≡ out.cumul

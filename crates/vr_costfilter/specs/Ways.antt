@@ -15,7 +15,7 @@ use Rattle.vr_costfilter.specs.declared.tight.Way.{Way}
 
 -- ---- along a line
 
--- how early a vehicle can be at stop k, where it waits for the begins of runs alone
+-- how early a vehicle can be at stop k, if it waits for the begins of runs alone
 abbrev pub time_at : Line → List Run → ℕ → ℤ
 time_at line runs zero = (run_at runs 0).lo
 time_at line runs (suc k) = int_max (time_at line runs k +ℤ (arc_at line k).transit) (run_at runs (suc k)).lo
@@ -63,7 +63,7 @@ way_to_visit model d v runs way node = way_on model d v way node (slice_index_or
 abbrev pub tight_way_along : Model → ℕ → ℕ → Runs → Way → List ℕ → Way
 tight_way_along model d v runs way nodes = fold (way_to_visit model d v runs) way nodes
 
--- vehicle v stands at its start
+-- vehicle v is at its start
 abbrev pub way_out : Model → ℕ → Runs → Way
 way_out model v runs =
     record { at = (vehicle_at model v).start; time = runs.start.lo; transits = pos 0; latest = runs.start.hi }
@@ -85,8 +85,8 @@ start_by whole = int_min whole.latest (whole.time -ℤ whole.transits)
 abbrev pub nearest_cumul : ℤ → ℤ
 nearest_cumul x = int_min (int_max x (pos 0)) horizon
 
--- the numbers of n arcs: a node of the model, a time of at most the horizon and the greatest transits, transits within
--- theirs, and a cumul that is no later than the horizon
+-- the numbers of n arcs. The node is one of the model, and the transits are within theirs. The time is at most the
+-- horizon and the greatest transits, and the cumul is no later than the horizon.
 pub record AreTightArcs (model : Model) (n node : ℕ) (time transits cumul : ℤ) : Type 0 where
   pub at : node < model.nodes
   pub early : pos 0 ≤ℤ time

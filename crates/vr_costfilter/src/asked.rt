@@ -1,7 +1,6 @@
-//! Lists that come in the place of others, of which it is asked what their chosen schedules come to. `kept` makes one
-//! of the list that a change gives a vehicle, and hands it to `steps`, which walks what is new of it. Here are told the
-//! two ends of its tight schedule and, where no cumuls are kept up to the same end, what it comes to along the whole
-//! list.
+//! Lists that come in the place of others, and what their chosen schedules come to. `kept` makes one of the list that a
+//! change gives a vehicle. It hands it to `steps`, which walks what is new of it. Here are the two ends of its tight
+//! schedule. Here is also what it comes to along the whole list, if no cumuls are kept up to the same end.
 
 ghost use Rattle.std.proofs.Props.{props};
 ghost use Rattle.vr_model.specs.schedules.Schedules.{IsFeasible};
@@ -38,7 +37,7 @@ impl<'a, 'm, 's> Asked<'a, 'm, 's> {
     ghost use Rattle.vr_costfilter.specs.KeptWays.{AreWays, HasCumuls};
     ghost use Rattle.vr_costfilter.specs.Runs.{between_runs};
 
-    /// What its chosen schedule comes to between these ends; nothing exactly where there is none, which does not come
+    /// What its chosen schedule comes to between these ends. Nothing exactly if there is none, which does not happen
     /// between the ends of its tight schedule. The whole list is walked, and the trail is written over.
     pub fn timing_between(&self, ends: TightEnds, trail: &mut Trail) -> Option<Timing>
         requires allows { ChoiceAllows self.now
@@ -56,8 +55,8 @@ impl<'a, 'm, 's> Asked<'a, 'm, 's> {
         asked.timing_along(trail)
     }
 
-    // The same, where the line of which the schedule is chosen allows the runs of the guide: floors back from the end,
-    // and then from the floor of the start along them.
+    // The same, if the line of which the schedule is chosen allows the runs of the guide. Floors are found back from
+    // the end; then the walk goes along them from the floor of the start.
     fn timing_along(&self, trail: &mut Trail) -> Option<Timing>
         requires { ChoiceAllows self.now (runs_of self.now.guide.now) }
         ensures { IsNewTimingFound self.now result }

@@ -35,8 +35,8 @@ pub enum Paid {
     Together,
 }
 
-/// What is kept of committed lists, in the dimensions where the costs for which it is kept may be paid; in the others
-/// nothing is. `PlanCost` and `GlobalSpan` have one each, so that a dimension with costs of both is kept twice.
+/// What is kept of committed lists, in the dimensions in which the costs for which it is kept may be paid. In the
+/// others nothing is kept. `PlanCost` and `GlobalSpan` have one each, so a dimension with costs of both is kept twice.
 /// Contracts see what is kept in each dimension.
 #[derive(Drop)]
 pub struct AllCumuls {
@@ -55,7 +55,7 @@ impl Model for AllCumuls {
 }
 
 impl AllCumuls {
-    /// Of the lists of routes, in the dimensions with such costs. The only refusal is want of memory.
+    /// Of the lists of routes, in the dimensions with such costs. The only error is out of memory.
     pub fn open(
         alloc: Global,
         closed: Closed<'_>,
@@ -78,7 +78,7 @@ impl AllCumuls {
         })
     }
 
-    /// What the chosen schedule of the new list of a part of a change comes to, in dimension `d`. Nothing exactly where
+    /// What the chosen schedule of the new list of a part of a change comes to, in dimension `d`. Nothing exactly if
     /// what is kept does not tell; then it has to be looked for. The trail is scratch that the caller lends: it is
     /// written over.
     pub fn timing_after(
@@ -108,7 +108,7 @@ impl AllCumuls {
         kept.timing_after(&at, part.routes, part.pieces(), part.splice(), trail)
     }
 
-    /// Commits the lists after a change, where they are valid. It is called before the routes are changed, and takes no
+    /// Commits the lists after a change, which must be valid. It is called before the routes are changed, and takes no
     /// memory.
     pub fn commit(&mut self, closed: Closed<'_>, tables: &[Table], routes: &Routes, change: &Change)
         requires tables { AreTables closed.model.now tables.now }
@@ -131,8 +131,8 @@ impl AllCumuls {
     }
 }
 
-// Whether such costs may be paid in a dimension: some span has a coefficient or some stop a soft upper bound, also one
-// with the coefficient 0; or the global span has a coefficient.
+// Whether such costs may be paid in a dimension. Alone: some span has a coefficient, or some stop a soft upper bound,
+// even one with the coefficient 0. Together: the global span has a coefficient.
 fn is_paid(closed: Closed<'_>, table: &Table, d: u32, paid: Paid) -> bool
     requires dimension { d < length closed.model.now.dimensions }
     ensures { IsTrue result ↔ IsPaid paid table.now (dimension_at closed.entry.model.now d) }
@@ -143,7 +143,7 @@ fn is_paid(closed: Closed<'_>, table: &Table, d: u32, paid: Paid) -> bool
     }
 }
 
-// What is kept of the lists of routes in dimension `d`; of none where it has no such costs.
+// What is kept of the lists of routes in dimension `d`; of no list if the dimension has no such costs.
 fn kept_in(
     alloc: Global,
     closed: Closed<'_>,

@@ -1,4 +1,4 @@
-//! Changes of which it is told how early the lists after them can end.
+//! Changes with what is known of how early the lists after them can end.
 
 ghost use Rattle.std.proofs.Props.{props};
 ghost use Rattle.std.specs.Prelude.{◌≡◌, ◌<◌, length};
@@ -11,15 +11,15 @@ use vr_earliest::Earlies;
 use vr_model::Model;
 use vr_routes::Change;
 
-/// A change of lists, and what the chosen schedules of the lists after it come to at least: how early each ends and how
-/// short its span is, in each dimension where anything is paid for spans (`vr_earliest`). `schedule_costs` and
-/// `spreads` ask it what a change costs at least.
+/// A change of lists, and what the chosen schedules of the lists after it come to at least. That is how early each ends
+/// and how short its span is, in each dimension in which anything is paid for spans (`vr_earliest`). `schedule_costs`
+/// and `spreads` ask it what a change costs at least.
 #[derive(Drop)]
 pub struct EarlyChange<'a> {
     pub model: &'a Model,
     pub change: &'a Change,
     pub earlies: &'a Earlies,
-    /// The model is well formed, and what is told in these dimensions is in its range.
+    /// The model is well formed, and what is known in these dimensions is in its range.
     pub ghost sound: { AreEarlyInRange model.now change.now earlies.now } by { Prim.hlevel
         (props, IsWellFormed-prop) },
 }

@@ -30,11 +30,15 @@ use vr_parts::CostPart;
 use vr_plan::Lookups;
 use vr_routes::{Change, Routes};
 
-/// What global spans cost (`SetGlobalSpanCostCoefficient` in OR-Tools). A change is known, in the dimensions whose
-/// global span has a coefficient, by the floors and cumuls that are kept of the committed lists: along what it puts in,
-/// in front of that until a floor is as it was, and behind it until a cumul is; of tight vehicles as `PlanCost` says;
-/// only where they do not say it are the schedules of the changed lists built. Where the other lists start and end is
-/// known by the first entries of the used vehicles as they are sorted by both.
+/// What global spans cost (`SetGlobalSpanCostCoefficient` in OR-Tools), in the dimensions whose global span has a
+/// coefficient.
+///
+/// A change is priced by the floors and cumuls that are kept of the committed lists. It is walked along what it puts
+/// in, before that until a floor is as it was, and after it until a cumul is. Tight vehicles go as `PlanCost` says. The
+/// schedules of the changed lists are built only if what is kept does not tell them.
+///
+/// The used vehicles are sorted by starts and by ends. The first entries have the least start and the greatest end of
+/// the other lists.
 #[derive(Drop)]
 pub struct GlobalSpan<'m> {
     rules: SpanRules<'m>,
@@ -42,9 +46,9 @@ pub struct GlobalSpan<'m> {
     orders: Vec<SortedEnds>,
     // what the global spans cost
     cost: i64,
-    // what the lists of a change that is ready come to, the sorted ends after it, and what the global spans cost then;
-    // a difference writes over the first of these, unless nothing may cost anything, and makes none ready: sorting is
-    // for changes that are made
+    // of a change that is ready: what its lists come to, the sorted ends after it, and what the global spans cost then.
+    // A difference writes over the first of these, unless nothing may cost anything. It makes none ready: sorting is
+    // for changes that are made.
     next: ArrayVec<ListTimings, 2>,
     next_orders: Vec<SortedEnds>,
     next_cost: i64,
@@ -74,7 +78,7 @@ impl<'m> Model for GlobalSpan<'m> {
 }
 
 impl<'m> GlobalSpan<'m> {
-    /// What the global spans cost with the lists of routes. The only refusal is want of memory, as of each other call.
+    /// What the global spans cost with the lists of routes. The only error is out of memory, as of each other call.
     /// Tests alone call it: `vr_judge` shares what it looked up (`over`).
     pub fn open(
         alloc: Global,
@@ -127,10 +131,10 @@ impl<'m> GlobalSpan<'m> {
         self.rules.is_idle()
     }
 
-    /// What a change adds at least, where the lists after it are valid: what the global spans cost at least with its
-    /// lists and those that stay, less what they cost now. The caller hands in what the chosen schedules of the changed
-    /// lists come to at least. No schedule is built. The change must have been made on routes at which this stands;
-    /// they themselves are not needed.
+    /// What a change adds at least, if the lists after it are valid. It is what the global spans cost at least with its
+    /// lists and those that stay, less what they cost now. No schedule is built: the caller hands in what the chosen
+    /// schedules of the changed lists come to at least. The change must have been made on routes with which this is in
+    /// sync; they themselves are not needed.
     pub fn least(&self, earlies: &Earlies, change: &Change) -> i64
         requires { (tours : Tours) × AreSpansKnown self.now earlies.now change.now tours }
         ensures value { (tours : Tours) → AreSpansKnown self.now earlies.now change.now tours

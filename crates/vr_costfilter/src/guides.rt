@@ -1,9 +1,9 @@
-//! Floors are found from the end backwards; then a vehicle goes along its stops, at each at the least cumul that the
+//! Floors are found from the end backwards. Then a vehicle goes along its stops, at each at the least cumul that the
 //! one before it and the floor leave.
 //!
-//! Clauses bound what soft upper bounds cost by the number of stops that a stage has paid for: at most 1002 of a
-//! committed list, with at most 1000 steps of a trail behind its front 2002, and then at most 1001 more to the end.
-//! 4000 is above all of these.
+//! Clauses bound what soft upper bounds cost by the number of stops that a stage has paid for. That is at most 1002 of
+//! a committed list. With at most 1000 steps of a trail after the front of the list, it is 2002. Then at most 1001 more
+//! come up to the end. 4000 is above all of these.
 
 ghost use Rattle.std.proofs.Props.{props};
 ghost use Rattle.std.specs.Prelude.{◌≡◌, ◌<◌, ◌≤◌, ◌+◌, All, IfSome, IsTrue, Some, is_some, length, reverse};
@@ -28,8 +28,8 @@ use vr_plan::{Table, row_cost, row_of};
 use vr_reach::{Ahead, StopsFor, earliest_behind, single_runs, slack_of};
 use vr_spans::Run;
 
-/// How far a vehicle has come: the node of the stop where it is, its cumul there, and what the soft upper bounds of the
-/// stops so far cost, this one among them. Cumuls are in `0..=2^36`, costs at least 0.
+/// How far a vehicle has come: the node of the stop at which it is, its cumul there, and the cost so far. That is what
+/// the soft upper bounds of the stops up to this one cost, with this one. Cumuls are in `0..=2^36`, costs at least 0.
 #[derive(Clone, Copy, Default)]
 pub struct Stage {
     pub at: u32,
@@ -37,9 +37,9 @@ pub struct Stage {
     pub soft: i64,
 }
 
-/// What is looked up once for many arcs of vehicle `v` in dimension `d`, where it has no breaks and no stop allows more
-/// than one run of cumuls: not its start, its end or any visit of the model, whether it is in its list or not. The run
-/// of a stop that allows no cumul has no number.
+/// What is looked up once for many arcs of vehicle `v` in dimension `d`. The vehicle has no breaks there, and no stop
+/// allows more than one run of cumuls. This goes for its start, its end and each visit of the model, whether it is in
+/// its list or not. The run of a stop that allows no cumul has no number.
 #[derive(Drop)]
 pub struct Guide<'m> {
     pub model: &'m Model,
@@ -64,7 +64,7 @@ pub struct Guide<'m> {
 impl<'m> Guide<'m> {
     ghost use Rattle.vr_costfilter.specs.GuideRuns.{runs_of, HasItsRuns};
 
-    /// What is looked up once, nothing exactly where the vehicle has breaks, or a stop allows several runs of cumuls.
+    /// What is looked up once. Nothing exactly if the vehicle has breaks, or a stop allows several runs of cumuls.
     #[inline]
     pub fn of(closed: Closed<'m>, table: &'m Table, d: u32, v: u32) -> Option<Guide<'m>>
         requires known { IsLookedUp closed.model.now d table.now }
@@ -119,8 +119,8 @@ impl<'m> Guide<'m> {
         }
     }
 
-    /// Back to a visit, which comes before the next step: puts the step to it on the trail, and gives it; nothing
-    /// exactly where it allows no cumul from its floor on.
+    /// Back to a visit, which comes before the next step: puts the step to it on the trail, and gives it. Nothing
+    /// exactly if the visit allows no cumul from its floor on.
     #[inline]
     pub fn step_back(&self, node: u32, next: Step, trail: &mut Trail) -> Option<Step>
         requires node { IsTrue (is_visit self.now.model.now node) }
@@ -137,7 +137,8 @@ impl<'m> Guide<'m> {
         Some(step)
     }
 
-    /// The step to a visit that comes before the next step, nothing exactly where it allows no cumul from its floor on.
+    /// The step to a visit that comes before the next step. Nothing exactly if the visit allows no cumul from its floor
+    /// on.
     #[inline]
     pub fn before(&self, node: u32, next: Step) -> Option<Step>
         requires node { IsTrue (is_visit self.now.model.now node) }
@@ -149,7 +150,7 @@ impl<'m> Guide<'m> {
         Some(Step { node, floor })
     }
 
-    /// The floor of the start before the next step, nothing exactly where it allows no cumul from there on.
+    /// The floor of the start before the next step. Nothing exactly if the start allows no cumul from there on.
     #[inline]
     pub fn start_floor(&self, next: Step) -> Option<i64>
         requires next { IsStep self.now.model.now next }
@@ -160,7 +161,7 @@ impl<'m> Guide<'m> {
         self.floor_from(self.start, next)
     }
 
-    /// The same, where the start allows another run: `steps` asks it of the one cumul at which a tight schedule starts.
+    /// The same, if the start allows another run: `steps` asks it of the one cumul at which a tight schedule starts.
     #[inline]
     pub fn floor_from(&self, start: Run, next: Step) -> Option<i64>
         requires start { HasCumulEnds start }
@@ -173,9 +174,9 @@ impl<'m> Guide<'m> {
         self.floor_of(node, start, next)
     }
 
-    // The floor of a stop at a node, before the next step: from there the greatest slack just leads up to the next
-    // floor, or it is the least cumul that the stop allows. Nothing exactly where the stop allows none from its floor
-    // on.
+    // The floor of a stop at a node, before the next step. From there the greatest slack just leads up to the next
+    // floor. If the least cumul that the stop allows is greater, the floor is that. Nothing exactly if the stop allows
+    // none from its floor on.
     #[inline]
     fn floor_of(&self, node: u32, allowed: Run, next: Step) -> Option<i64>
         requires stop { IsStopAt self.now.model.now node allowed }
@@ -191,7 +192,7 @@ impl<'m> Guide<'m> {
         Some(floor)
     }
 
-    /// The vehicle stands at its start, at a cumul.
+    /// The vehicle is at its start, at a cumul.
     #[inline]
     pub fn standing(&self, cumul: i64) -> Stage
         requires cumul { IsIn (pos 0) horizon cumul }
@@ -206,7 +207,7 @@ impl<'m> Guide<'m> {
         }
     }
 
-    /// It goes on along a trail, from its top down, which is from the first visit to the last; nothing exactly where it
+    /// It goes on along a trail, from its top down, which is from the first visit to the last. Nothing exactly if it
     /// cannot.
     #[inline]
     pub fn along_trail(&self, trail: &Trail, stage: Stage) -> Option<Stage>
@@ -227,7 +228,7 @@ impl<'m> Guide<'m> {
         Some(gone)
     }
 
-    /// It goes on to a visit, where it may come to its floor or behind it; nothing exactly where it cannot.
+    /// It goes on to a visit, and comes there at its floor or later. Nothing exactly if it cannot.
     #[inline]
     pub fn to_visit(&self, stage: Stage, step: Step) -> Option<Stage>
         requires stage { IsStageOf self.now.model.now 4000 stage }
@@ -246,7 +247,7 @@ impl<'m> Guide<'m> {
         self.go_on(stage, step.node, raised, row)
     }
 
-    /// It goes on to its end, nothing exactly where it cannot.
+    /// It goes on to its end. Nothing exactly if it cannot.
     #[inline]
     pub fn to_end(&self, stage: Stage) -> Option<Stage>
         requires stage { IsStageOf self.now.model.now 4000 stage }
@@ -259,8 +260,8 @@ impl<'m> Guide<'m> {
         self.go_on(stage, self.finish.node, self.finish.allowed, row)
     }
 
-    // It goes on to a node that allows a run of cumuls, to the least of them that it reaches, and pays there what `row`
-    // asks; nothing exactly where it reaches none.
+    // It goes on to a node that allows a run of cumuls, to the least of them that it reaches. It pays there what `row`
+    // asks. Nothing exactly if it reaches none.
     #[inline]
     fn go_on(&self, stage: Stage, node: u32, allowed: Run, row: Option<&StopRow>) -> Option<Stage>
         requires stage { IsStageOf self.now.model.now 4000 stage }

@@ -1,6 +1,6 @@
 //! What is kept of committed lists, and what a change makes of them.
 //!
-//! A step is a stop of a list with its floor; a stage is how far the vehicle is at a stop, and what was paid until
+//! A step is a stop of a list with its floor. A stage is how far the vehicle is at a stop, and what was paid until
 //! then. The changed list is the one that `Asked` names.
 
 ghost use Rattle.std.specs.Prelude.{◌≡◌, ◌<◌, ◌+◌, ℕ, List, IfOk, IfSome, IsTrue, false, length, pos};
@@ -46,20 +46,20 @@ use vr_routes::{Piece, Routes, Splice};
 /// What is kept of the list of a vehicle.
 #[derive(Drop)]
 pub struct KeptList {
-    // the steps and the stages of its chosen schedule; none where there is no guide (breaks, or a stop with several
-    // runs), or where that schedule is tight and no stop has a soft upper bound; not a stage for each stop where the
-    // list is empty and has no schedule
+    // the steps and the stages of its chosen schedule:
+    // - none if there is no guide (breaks, or a stop with several runs)
+    // - none if that schedule is tight and no stop has a soft upper bound
+    // - not a stage for each stop if the list is empty and has no schedule
     steps: KeptSteps,
-    // the cumuls of its start and of its end, between which they are, where there is a guide, it chooses its tight
-    // schedule and a stop has a soft upper bound; else 0
+    // the cumuls of its start and of its end, between which the steps are. They are 0 unless there is a guide, the
+    // vehicle chooses its tight schedule and a stop has a soft upper bound.
     between: TightEnds,
-    // the ways and the rests that tell the ends of its schedule: one entry, where it chooses its tight one, and else
-    // none
+    // the ways and the rests that tell the ends of its schedule: one entry if it chooses its tight one, else none
     ends: Vec<KeptWays>,
 }
 
 impl KeptList {
-    // Of no list, with room for what such a rule asks. The only refusal is want of memory.
+    // Of no list, with room for what such a rule asks. The only error is out of memory.
     fn new(alloc: Global, rule: ScheduleRule) -> Result<KeptList, NoMemory>
         ensures room { IfOk result (HasRoom rule) }
         ensures none { IfOk result (λ kept. length kept.steps.stages.items ≡ 0) }
@@ -117,7 +117,7 @@ impl KeptList {
         self.write_between(on);
     }
 
-    // Writes the steps and the stages of a list between its two ends, where some stop has a soft upper bound.
+    // Writes the steps and the stages of a list between its two ends, if some stop has a soft upper bound.
     fn write_between(&mut self, on: &ListWithGuide)
         requires { HasWaysAlone on.now.guide.now.model.now on.now.guide.now.d on.now.guide.now.v
             (runs_of on.now.guide.now)
@@ -146,8 +146,8 @@ impl KeptList {
         });
     }
 
-    // What the tight schedule of the changed list comes to; nothing exactly where what is kept does not tell, which
-    // does not come: there is a guide, and so all ways of the list are kept.
+    // What the tight schedule of the changed list comes to. Nothing exactly if what is kept does not tell. That does
+    // not happen: there is a guide, and so all ways of the list are kept.
     fn tight_after(&self, asked: &Asked, trail: &mut Trail) -> Option<Timing>
         requires kept { IsKeptBy Tight asked.now self.now }
         requires feasible { IsFeasible (new_line asked.now) }
@@ -174,8 +174,8 @@ impl KeptList {
         self.timing_between(asked, ends, trail)
     }
 
-    // The same between its two ends: by what is kept, where there is a stage for each stop and the list ended as it
-    // does now, and else along the whole list. Nothing exactly where there is no such schedule, which does not come
+    // The same between its two ends. If there is a stage for each stop and the list ended as it does now, what is kept
+    // tells it. Else the whole list is walked. Nothing exactly if there is no such schedule, which does not happen
     // between these ends.
     fn timing_between(&self, asked: &Asked, ends: TightEnds, trail: &mut Trail) -> Option<Timing>
         requires allows { ChoiceAllows asked.now
@@ -193,8 +193,8 @@ impl KeptList {
         asked.timing_between(ends, trail)
     }
 
-    // The same from a start that is given to the end that is kept, by a guide of both ends that are kept, to which the
-    // kept steps belong.
+    // The same from a start that is given to the end that is kept. The guide is of both ends that are kept; the kept
+    // steps belong to it.
     fn timing_from(&self, asked: &Asked, start: i64, trail: &mut Trail) -> Option<Timing>
         requires allows { ChoiceAllows asked.now
             (between_runs (runs_of asked.now.guide.now) start self.now.between.last) }
@@ -213,8 +213,8 @@ impl KeptList {
         self.steps.after(&asked, Some(start), trail)
     }
 
-    // What the earliest schedule of the changed list comes to; nothing exactly where what is kept does not tell. There
-    // is a guide, so all stages are kept of a list that has a schedule, as each valid one has but an empty one, which
+    // What the earliest schedule of the changed list comes to. Nothing exactly if what is kept does not tell. There is
+    // a guide, so all stages are kept of a list that has a schedule. Each valid list has one, except that an empty list
     // may have none.
     fn earliest_after(&self, asked: &Asked, trail: &mut Trail) -> Option<Timing>
         requires { IsKeptBy Earliest asked.now self.now }
@@ -241,8 +241,8 @@ fn is_tight(rule: ScheduleRule) -> bool
     }
 }
 
-/// What is kept of the lists of all vehicles in one dimension; of no list where it has none of the costs for which they
-/// are kept. Contracts see what is kept of each.
+/// What is kept of the lists of all vehicles in one dimension. It is of no list if the dimension has none of the costs
+/// for which lists are kept. Contracts see what is kept of each.
 #[derive(Drop)]
 pub struct KeptCumuls {
     lists: Vec<KeptList>,
@@ -267,7 +267,7 @@ impl KeptCumuls {
         }
     }
 
-    /// Of the lists of routes in dimension `d`. The only refusal is want of memory.
+    /// Of the lists of routes in dimension `d`. The only error is out of memory.
     pub fn open(
         alloc: Global,
         closed: Closed<'_>,
@@ -294,7 +294,7 @@ impl KeptCumuls {
         Ok(KeptCumuls { lists })
     }
 
-    /// A vehicle gets another list. Nothing is done where nothing is kept. It takes no memory.
+    /// A vehicle gets another list. Nothing is done if nothing is kept. It takes no memory.
     pub fn write(&mut self, tour: &Tour, table: &Table, d: u32)
         requires known { IsLookedUp tour.now.closed.model.now d table.now }
         ensures kept { (lists : List (List ℕ)) → AreKept tour.now.closed.model.now d lists self.old
@@ -308,14 +308,22 @@ impl KeptCumuls {
         }
     }
 
-    /// What the chosen schedule of the list that pieces are joined to comes to in a dimension, where they are a splice
-    /// of the list that its vehicle has. Nothing exactly where what is kept does not tell: where nothing is kept, the
-    /// vehicle has breaks, a stop allows several runs of cumuls, or it is an earliest schedule and the list before is
-    /// empty and has none. Of an earliest schedule what the change keeps of the front of the list is walked as far back
-    /// as it gets another floor, and of its end as much as gets another cumul. Of a tight one what it keeps is not
-    /// walked for its two ends. Where some stop has a soft upper bound and the list ends at the cumul that is kept, it
-    /// is walked as an earliest one is, but from its start on, until a cumul is as kept; where it ends at another
-    /// cumul, or the list before has no schedule, the whole list is. The trail is written over.
+    /// What the chosen schedule of the list that pieces are joined to comes to in a dimension. The pieces are a splice
+    /// of the list that the vehicle has. The trail is written over.
+    ///
+    /// Nothing exactly if what is kept does not tell:
+    /// - nothing is kept;
+    /// - the vehicle has breaks;
+    /// - a stop allows several runs of cumuls;
+    /// - it is an earliest schedule, and the list before is empty and has none.
+    ///
+    /// An earliest schedule: the front that the change keeps is walked back as far as it gets another floor. The end
+    /// that it keeps is walked on as far as it gets another cumul.
+    ///
+    /// A tight schedule: what the change keeps is not walked for the two ends. If no stop has a soft upper bound, that
+    /// is all. If some stop has one and the list ends at the cumul that is kept, it is walked as an earliest one is.
+    /// That walk begins at its start, and ends when a cumul is as kept. If the list ends at another cumul, or the list
+    /// before has no schedule, the whole list is walked.
     pub fn timing_after(
         &self,
         at: &KnownDimension,
@@ -353,8 +361,8 @@ impl KeptCumuls {
     }
 }
 
-// Writes what is kept of the list of a vehicle in dimension `d`: nothing where there is no guide, since the vehicle has
-// breaks or a stop allows several runs of cumuls.
+// Writes what is kept of the list of a vehicle in dimension `d`. It is nothing if there is no guide, since the vehicle
+// has breaks or a stop allows several runs of cumuls.
 fn write_list(tour: &Tour, table: &Table, d: u32, kept: &mut KeptList)
     requires known { IsLookedUp tour.now.closed.model.now d table.now }
     ensures kept { IsKept tour.now.closed.model.now d tour.now.v tour.now.list.now kept.new }

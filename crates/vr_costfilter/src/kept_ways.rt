@@ -1,5 +1,5 @@
-//! What is kept of committed lists of vehicles that choose their tight schedules, so that the two ends of a changed
-//! list are known by a walk along what the change puts into it alone.
+//! What is kept of committed lists of vehicles that choose their tight schedules. By it the two ends of a changed list
+//! are known after a walk along what the change puts into it alone.
 
 ghost use Rattle.std.specs.Prelude.{◌≡◌, IsTrue, pos};
 ghost use Rattle.vr_model.specs.tables.Numbers.{horizon};
@@ -18,7 +18,7 @@ use vr_earliest::Walk;
 use vr_model::limits::HORIZON;
 
 /// What is kept of the list of a vehicle: the way along each number of its first visits, and what is left from each
-/// place on. No way where the vehicle has breaks, or a stop allows several runs of cumuls.
+/// place. There is no way if the vehicle has breaks, or a stop allows several runs of cumuls.
 pub type KeptWays = vr_earliest::KeptWays<Way, Rest>;
 
 // the walk of a vehicle that waits for the begins of runs alone, whatever the greatest slack is
@@ -75,8 +75,8 @@ impl<'m> Walk for Guide<'m> {
 }
 
 impl<'a, 'm> ListWithGuide<'a, 'm> {
-    /// The ends of the tight schedule of a list whose ways are kept: those that its whole way tells, brought within the
-    /// horizon, since the way of an empty list without a schedule may tell other numbers.
+    /// The ends of the tight schedule of a list whose ways are kept. They are those that its whole way tells, brought
+    /// within the horizon. (The way of an empty list without a schedule may tell other numbers.)
     pub fn ends(&self, kept: &KeptWays) -> TightEnds
         requires { HasWaysBy self.now.guide.now.model.now self.now.guide.now.d self.now.guide.now.v
             (runs_of self.now.guide.now) self.now.list.now kept.now }

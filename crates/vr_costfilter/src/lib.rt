@@ -1,38 +1,52 @@
-//! The parts of the cost of routes, each kept for the committed lists and known for a change of them. The name is that
-//! of OR-Tools, where a filter tells the cost; nothing is refused here.
+//! Soft upper bounds, spans and global spans: what they cost, and what a change of routes adds to it. These are the
+//! parts of the cost that ask schedules. `PlanCost` has soft upper bounds and spans, route by route. `GlobalSpan` has
+//! the span from the least start to the greatest end of all used vehicles, which `SortedEnds` sorts by both. The name
+//! of the crate is that of OR-Tools, in which a filter reports the cost; nothing is refused here.
 //!
-//! Arc costs, fixed costs and the penalties of groups come from `vr_arccosts` and `vr_usecosts`, the trait of a part
-//! from `vr_parts`. Here stand the two parts that ask schedules: `PlanCost` (soft upper bounds and spans, list by list)
-//! and `GlobalSpan` (from the least start to the greatest end of all used vehicles, which `SortedEnds` has sorted by
-//! both). Each stands at the committed lists: what it keeps of each of them is what the definitions give its chosen
-//! schedule (`StandsPlans`, `StandsSpans`). `vr_judge` adds all parts up.
+//! Most changes are priced without a line and without a schedule, by the cumuls that are kept of committed routes
+//! (`AllCumuls`). How far a changed route is walked depends on the schedule that its vehicle chooses:
+//! - Earliest: at each stop the vehicle goes to the least cumul that the stop before and a floor leave. Floors are
+//!   found from the end backwards. Floors and cumuls of the committed route are kept. A change is walked along what it
+//!   puts in, and before and after that only until floors and cumuls are as they were.
+//! - Tight: its two ends follow from a walk that waits for the begins of runs alone. The ways along the first visits of
+//!   the committed route are kept, and what is left after each place: forward and backward data. Between its ends a
+//!   tight schedule is an earliest one.
+//! - Tight, and soft upper bounds may cost anything: floors and cumuls are kept too. If the route ends as it did, its
+//!   start alone may be another. Then what was kept is met as soon as a cumul is as it was. If it ends at another
+//!   cumul, the whole route is walked.
 //!
-//! What a change makes of the chosen schedule of a list is known by the cumuls that are kept (`AllCumuls`), without a
-//! line, where a vehicle has no breaks and each stop allows one run of cumuls, unless it chooses its earliest schedule
-//! and its committed list is empty and has none (a vehicle that is not used needs none); only where they do not say it
-//! is a schedule built. So of a vehicle with breaks nothing is known: its changed list is written out, and where that
-//! may cost anything `vr_plan` finds its schedule. In dimensions in which no list may cost anything, nothing is kept or
-//! asked. A vehicle that chooses its earliest schedule goes, at each stop, to the least cumul that the stop before and
-//! a floor leave, and floors are found from the end backwards. Of its committed list floors and cumuls are kept: a
-//! change is walked along what it puts in, and before and behind that only until floors and cumuls are as they were.
-//! The two ends of a tight schedule follow from a walk that waits for the begins of runs alone: the ways along the
-//! first visits of the committed list are kept, and what is left behind each place. Between its ends a tight schedule
-//! is an earliest one. Where soft upper bounds may cost anything, floors and cumuls are kept of it too: where the list
-//! ends as it did, its start alone may be another, and what was kept is met as soon as a cumul is as it was; where it
-//! ends at another cumul, the whole list is walked.
+//! A schedule is built only if what is kept does not tell:
+//! - The vehicle has breaks, or some stop allows several runs of cumuls.
+//! - It chooses its earliest schedule, and its committed route is empty and has none. (A vehicle that is not used needs
+//!   none.)
 //!
-//! `trails` has steps, which are stops with their floors; `guides` has what is looked up of a vehicle to go along them,
-//! and stages: how far it has come, and what it has paid. `with_guide` finds floors back along the visits that a
-//! vehicle gets. `steps` keeps the steps and the stages of a list, and tells what a change makes of them. `tight` has
-//! the way of a vehicle that waits so, and the two ends that a whole way tells, `rests` what is left of a line, and
-//! `kept_ways` keeps ways and rests of a list. `asked` has a list that comes in the place of another: the two ends of
-//! its tight schedule, and the walk along all of it. All that is kept in one dimension is in `kept`, in all dimensions
-//! in `dimensions`. What the schedules cost is told by `schedule_costs` for `plan_cost`, and by `reaches` for
-//! `global_span`, with the sorted ends of `orders` (over `order`). What a change costs at least is told from how early
-//! its lists can end and how short their spans can be (`early_change`), for global spans by `spreads`. `tours` has the
-//! list of a vehicle, `parts_after` the list that a change gives it, and `scratch` the room that calls are lent.
+//! Then the changed route is written out. If it may cost anything, `vr_plan` finds its schedule. In dimensions in which
+//! no route may cost anything, nothing is kept or asked.
 //!
-//! What is kept is always of the committed lists (`AreAllKept`): who changes them commits the change here first.
+//! The invariant: what is kept is always of the committed routes (`AreAllKept`). Each part is in sync with them: what
+//! it keeps of a route is what the definitions give its chosen schedule (`StandsPlans`, `StandsSpans`). Who changes
+//! routes commits the change here first.
+//!
+//! `vr_judge` calls this crate, and adds all parts up. The trait of a part is from `vr_parts`, schedules are from
+//! `vr_plan`. How early routes can end and how short their spans can be is from `vr_earliest`. The other parts are in
+//! `vr_arccosts` (arc costs) and `vr_usecosts` (fixed costs, penalties of groups).
+//!
+//! Start reading at `plan_cost` and `kept`. In names and below, a route is a `list`:
+//! - `plan_cost` asks `schedule_costs` what schedules cost. `global_span` asks `reaches`, which has the sorted ends of
+//!   `orders` (over `order`).
+//! - `kept` has all that is kept in one dimension, `dimensions` in all of them.
+//! - `trails` has steps, which are stops with their floors. `guides` has what is looked up of a vehicle to go along
+//!   them, and stages: how far it has come, and what it has paid.
+//! - `with_guide` finds floors back along the visits that a vehicle gets. `steps` keeps the steps and the stages of a
+//!   list, and tells what a change makes of them.
+//! - `tight` has the way of a vehicle that waits for the begins of runs alone, and the two ends of a whole way. `rests`
+//!   has what is left of a line, and `kept_ways` keeps ways and rests of a list.
+//! - `asked` has a list that comes in the place of another, with the two ends of its tight schedule and the walk along
+//!   it.
+//! - `early_change` has how early the lists after a change can end and how short their spans can be. That bounds what a
+//!   change costs at least; for global spans `spreads` does it.
+//! - `tours` has the list of a vehicle, `parts_after` the list that a change gives it, and `scratch` what calls are
+//!   lent.
 #![tactic(auto)]
 
 mod asked;

@@ -15,7 +15,7 @@ use vr_plan::{Extent, Timing, wider};
 pub struct SortedEnds {
     /// By the cumul at the start.
     pub starts: SortedVehicles,
-    /// By what is left of the horizon behind the cumul at the end.
+    /// By what is left of the horizon after the cumul at the end.
     pub ends: SortedVehicles,
 }
 
@@ -31,8 +31,7 @@ impl SortedEnds {
         }
     }
 
-    /// By the first entries, from where to where the used vehicles reach that are none of these; nothing where there
-    /// are no others.
+    /// The extent of the used vehicles that are none of these, by the first entries; nothing if there are no others.
     pub fn extent_but(&self, vehicles: &[u32]) -> Option<Extent>
         requires range { AreInRange self.now }
         ensures value { result ≡ orders.extent_but vehicles.now self.now }
@@ -46,8 +45,8 @@ impl SortedEnds {
         })
     }
 
-    /// Becomes a copy of others: where the sorted ends after a change are written (`reaches`), of those of the
-    /// committed lists, in which the vehicles that get lists are then set anew.
+    /// Becomes a copy of others. So the sorted ends after a change are written (`reaches`). Those of the committed
+    /// lists are copied, and the vehicles that get lists are then set anew.
     pub fn copy_from(&mut self, other: &SortedEnds)
         ensures { self.new ≡ other.now }
     {
@@ -74,7 +73,7 @@ impl SortedEnds {
     }
 }
 
-/// An extent with the chosen schedule of one list more, where there is one.
+/// An extent with the chosen schedule of one list more, if there is one.
 pub fn beside(extent: Option<Extent>, timing: Option<Timing>) -> Option<Extent>
     requires extent { IfSome extent IsExtentInRange }
     requires timing { IfSome timing IsInRange }

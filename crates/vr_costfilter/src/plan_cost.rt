@@ -26,18 +26,20 @@ use vr_plan::Lookups;
 use vr_routes::{Change, Routes};
 
 /// What soft upper bounds and spans cost (`SetCumulVarSoftUpperBound` and `SetSpanCostCoefficientForVehicle` in
-/// OR-Tools). A change is known by the floors and cumuls that are kept of the committed lists: along what it puts in,
-/// in front of that until a floor is as it was, and behind it until a cumul is; of tight vehicles by the ways along
-/// their first visits and what is left behind each place, and where soft bounds may cost anything and the end is
-/// another, along the whole list. Only where they are not known so are the schedules of the changed lists built, in the
-/// dimensions where they may cost anything.
+/// OR-Tools).
+///
+/// A change is priced by the floors and cumuls that are kept of the committed lists. It is walked along what it puts
+/// in, before that until a floor is as it was, and after it until a cumul is. Tight vehicles go by the ways along their
+/// first visits, and by what is left after each place. If soft bounds may cost anything and the end is another, the
+/// whole list is walked. The schedules of the changed lists are built only if they are not known so, and in the
+/// dimensions in which they may cost anything.
 #[derive(Drop)]
 pub struct PlanCost<'m> {
     rules: PlanRules<'m>,
     // what the committed list of each vehicle costs
     costs: Vec<i64>,
-    // what the lists of a change that is ready cost; a difference makes its change ready too, since it asks for the
-    // same, unless this is idle
+    // what the lists of a change that is ready cost. A difference makes its change ready too, since it asks for the
+    // same, unless this is idle.
     next: ArrayVec<i64, 2>,
     // whether a change was made ready: contracts alone read it
     is_prepared: bool,
@@ -62,7 +64,7 @@ impl<'m> Model for PlanCost<'m> {
 }
 
 impl<'m> PlanCost<'m> {
-    /// What soft upper bounds and spans cost with the lists of routes. The only refusal is want of memory, as of each
+    /// What soft upper bounds and spans cost with the lists of routes. The only error is out of memory, as of each
     /// other call. Tests alone call it: `vr_judge` shares what it looked up (`over`).
     pub fn open(
         alloc: Global,
@@ -103,8 +105,8 @@ impl<'m> PlanCost<'m> {
         })
     }
 
-    /// Whether each span has the coefficient 0 and no stop has a soft upper bound, not one with the coefficient 0
-    /// either: all valid lists cost the same then.
+    /// Whether each span has the coefficient 0 and no stop has a soft upper bound, not even one with the coefficient 0.
+    /// All valid lists cost the same then.
     pub fn is_idle(&self) -> bool
         ensures idle { result ≡ pays_no_plan self.now.model }
         ensures alike { IsTrue result → CostAlike soft_and_span self.now.model }
@@ -112,10 +114,10 @@ impl<'m> PlanCost<'m> {
         self.rules.is_idle()
     }
 
-    /// What a change adds at least, where the lists after it are valid: what the spans of the changed lists cost at
-    /// least, and their soft upper bounds nothing, less what the lists of these vehicles cost now. The caller hands in
-    /// what the chosen schedules of the changed lists come to at least. No schedule is built. The change must have been
-    /// made on routes at which this stands; they themselves are not needed.
+    /// What a change adds at least, if the lists after it are valid. It is what the spans of the changed lists cost at
+    /// least, less what the lists of these vehicles cost now. Soft upper bounds of the changed lists are taken to cost
+    /// nothing. No schedule is built: the caller hands in what the chosen schedules of the changed lists come to at
+    /// least. The change must have been made on routes with which this is in sync; they themselves are not needed.
     pub fn least(&self, earlies: &Earlies, change: &Change) -> i64
         requires { (tours : Tours) × ArePlansKnown self.now earlies.now change.now tours }
         ensures value { (tours : Tours) → ArePlansKnown self.now earlies.now change.now tours

@@ -1,4 +1,4 @@
-//! From where to where the chosen schedules of lists reach, and what that costs.
+//! How far the chosen schedules of lists reach, from the least start to the greatest end, and what that costs.
 
 ghost use Rattle.std.specs.Prelude.{◌≡◌, ◌<◌, ◌+◌, ◌*ℤ◌, ℕ, List, [], IsTrue, IfOk, IfSome, OnOk};
 ghost use Rattle.std.specs.Prelude.{length, not, take};
@@ -36,8 +36,8 @@ use vr_model::{Closed, Model as RoutingModel, NoMemory};
 use vr_plan::{Extent, Lookups, Table, Timer, Timing, global_cost, timing_of};
 use vr_routes::{Change, Routes};
 
-/// What the schedule of a list comes to in each dimension whose global span has a coefficient; none in the others, and
-/// none of an empty list.
+/// What the schedule of a list comes to in each dimension whose global span has a coefficient. There is none in the
+/// others, and none of an empty list.
 pub type ListTimings = [Option<Timing>; 4];
 
 /// Asks about global spans, over what was looked up of a model. Contracts see the model.
@@ -61,7 +61,7 @@ impl<'m> Model for SpanRules<'m> {
 }
 
 impl<'m> SpanRules<'m> {
-    /// The rules, over what was looked up of a model. `NoMemory` only where as many share it as can be counted.
+    /// The rules, over what was looked up of a model. `NoMemory` only if as many share it as can be counted.
     pub fn over(lookups: &Lookups<'m>) -> Result<SpanRules<'m>, NoMemory>
         ensures { IfOk result (λ rules. rules ≡ lookups.now.closed.model.now) }
     {
@@ -78,9 +78,11 @@ impl<'m> SpanRules<'m> {
         self.idle
     }
 
-    /// What is kept of the lists of routes: the sorted ends of the used vehicles in each dimension whose global span
-    /// has a coefficient, scratch for those after a change, and in these dimensions the cumuls of the lists' schedules,
-    /// by which a later change is known with no schedule built, where they tell it.
+    /// What is kept of the lists of routes:
+    /// - the sorted ends of the used vehicles in each dimension whose global span has a coefficient;
+    /// - scratch for those after a change;
+    /// - in these dimensions the cumuls of the lists' schedules. If they tell a later change, no schedule is built for
+    ///   it.
     pub fn kept(
         &self,
         alloc: Global,
@@ -142,8 +144,8 @@ impl<'m> SpanRules<'m> {
         cumuls.commit(self.lookups.closed, self.lookups.tables(), routes, change);
     }
 
-    /// What the chosen schedules of the new list of part `k` of a change come to. The list is written out only where
-    /// what is kept does not tell its schedule.
+    /// What the chosen schedules of the new list of part `k` of a change come to. The list is written out only if what
+    /// is kept does not tell its schedule.
     pub fn row_after(
         &self,
         cumuls: &AllCumuls,
@@ -166,8 +168,8 @@ impl<'m> SpanRules<'m> {
         row_of_part(&part, self.lookups.tables(), cumuls, scratch)
     }
 
-    /// What the global spans cost, where these vehicles get lists of which these rows tell; of no vehicles what they
-    /// cost with the lists as they are.
+    /// What the global spans cost if these vehicles get the lists of which these rows tell. With no vehicles it is what
+    /// they cost with the lists as they are.
     pub fn cost(&self, orders: &[SortedEnds], vehicles: &[u32], next: &[ListTimings]) -> i64
         requires ranged { AreRanged self.now orders.now next.now }
         ensures value { result ≡ spans_cost_after self.now orders.now vehicles.now next.now }
@@ -233,7 +235,7 @@ fn is_some_spanned(model: &RoutingModel) -> bool
         .any(|dimension| dimension.global_span_cost != 0)
 }
 
-// What the chosen schedules of a list come to: asked at opening alone, where nothing is kept yet.
+// What the chosen schedules of a list come to. It is asked at opening alone, when nothing is kept yet.
 fn row_of_list(tour: &Tour, tables: &[Table], timer: &mut Timer) -> Result<ListTimings, NoMemory>
     requires tables { AreTables tour.now.closed.model.now tables.now }
     ensures { IfOk result (IsRow tour.now.closed.model.now tour.now.v tour.now.list.now) }
@@ -245,8 +247,8 @@ fn row_of_list(tour: &Tour, tables: &[Table], timer: &mut Timer) -> Result<ListT
     Ok(row)
 }
 
-// What the chosen schedule of a list comes to in one dimension; none of an empty list, or where nothing is paid for the
-// global span.
+// What the chosen schedule of a list comes to in one dimension. There is none of an empty list, and none if nothing is
+// paid for the global span.
 fn timing_of_tour(
     tour: &Tour,
     table: &Table,
@@ -285,8 +287,8 @@ fn row_of_part(
     Ok(timings)
 }
 
-// The same in one dimension, by what is kept where it tells; none of an empty list, or where nothing is paid for the
-// global span.
+// The same in one dimension, by what is kept if it tells. There is none of an empty list, and none if nothing is paid
+// for the global span.
 fn kept_after(
     part: &PartAfter,
     table: &Table,
@@ -357,8 +359,8 @@ fn cost_of_span(
     global_cost(dimension, reach(orders, vehicles, next, d))
 }
 
-// From where to where all lists reach in dimension `d`, where these vehicles get lists of which these rows tell; `None`
-// where no vehicle is used then.
+// The extent of all lists in dimension `d`, if these vehicles get the lists of which these rows tell. `None` if no
+// vehicle is used then.
 fn reach(orders: &SortedEnds, vehicles: &[u32], next: &[ListTimings], d: u32) -> Option<Extent>
     requires { AreRangedIn d orders.now next.now }
     ensures value { result ≡ extent_after d vehicles.now next.now orders.now }
@@ -371,8 +373,8 @@ fn reach(orders: &SortedEnds, vehicles: &[u32], next: &[ListTimings], d: u32) ->
     extent
 }
 
-// Sorts vehicle `v` in, by what the chosen schedules of its list come to, in the dimensions that pay; those before it
-// are in already.
+// Sorts vehicle `v` in, by what the chosen schedules of its list come to, in the dimensions that pay. The vehicles
+// before it are in already.
 fn set_list(
     closed: Closed<'_>,
     tables: &[Table],

@@ -1,4 +1,4 @@
-//! What is left of the line of a vehicle behind a stop.
+//! What is left of the line of a vehicle after a stop.
 
 ghost use Rattle.std.specs.Prelude.{◌≡◌};
 ghost use Rattle.vr_model.specs.tables.Tables.{transit as transit_of};
@@ -10,9 +10,12 @@ use crate::guides::Guide;
 use crate::tight::Way;
 use vr_spans::Run;
 
-/// What is left of a line from a stop on: its node, the transits of the arcs behind it, added up, the time before which
-/// the line does not end, however early the vehicle comes to the stop, and the greatest cumul of the stop from which
-/// it comes, without waiting, to each stop from there on before its run is over.
+/// What is left of a line from a stop on (backward segment data):
+/// - its node;
+/// - the transits of the arcs after it, added up;
+/// - the time before which the line does not end, however early the vehicle comes to the stop;
+/// - the greatest cumul of the stop from which it comes, without waiting, to each stop from there on before its run is
+///   over.
 #[derive(Clone, Copy, Default)]
 pub struct Rest {
     pub at: u32,

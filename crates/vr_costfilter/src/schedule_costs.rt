@@ -55,7 +55,7 @@ impl<'m> Model for PlanRules<'m> {
 }
 
 impl<'m> PlanRules<'m> {
-    /// The rules, over what was looked up of a model. `NoMemory` only where as many share it as can be counted.
+    /// The rules, over what was looked up of a model. `NoMemory` only if as many share it as can be counted.
     pub fn over(lookups: &Lookups<'m>) -> Result<PlanRules<'m>, NoMemory>
         ensures { IfOk result (λ rules. rules ≡ lookups.now.closed.model.now) }
     {
@@ -73,8 +73,8 @@ impl<'m> PlanRules<'m> {
         self.idle
     }
 
-    /// What is kept of the lists of routes: what each costs, and the cumuls of its schedules, where these tell a change
-    /// (`KeptList`): of a vehicle with breaks none.
+    /// What is kept of the lists of routes: what each costs, and the cumuls of its schedules, if these tell a change
+    /// (`KeptList`). Of a vehicle with breaks there are none.
     pub fn kept(
         &self,
         alloc: Global,
@@ -127,7 +127,7 @@ impl<'m> PlanRules<'m> {
     }
 
     /// What the new list of part `k` of a change costs, by soft bounds and spans in all dimensions. The list is written
-    /// out only where what is kept does not tell its schedule.
+    /// out only if what is kept does not tell its schedule.
     pub fn cost_after(
         &self,
         cumuls: &AllCumuls,
@@ -175,8 +175,8 @@ impl<'m> PlanRules<'m> {
     }
 }
 
-// What the list of a vehicle costs by the soft upper bounds of its stops and by its spans, in all dimensions: asked at
-// opening alone, where nothing is kept yet.
+// What the list of a vehicle costs by the soft upper bounds of its stops and by its spans, in all dimensions. It is
+// asked at opening alone, when nothing is kept yet.
 fn cost_of_plans(tour: &Tour, tables: &[Table], timer: &mut Timer) -> Result<i64, NoMemory>
     requires tables { AreTables tour.now.closed.model.now tables.now }
     ensures value { IfOk result (λ cost. cost
@@ -193,7 +193,7 @@ fn cost_of_plans(tour: &Tour, tables: &[Table], timer: &mut Timer) -> Result<i64
     Ok(cost)
 }
 
-// What the new list of a part of a change costs, where it has nodes.
+// What the new list of a part of a change costs, if it has nodes.
 fn cost_of_part(
     part: &PartAfter,
     tables: &[Table],

@@ -85,8 +85,8 @@ fn spread_but(orders: &SortedEnds, vehicles: &[u32]) -> Spread
     ensures range { IsSpreadInRange result }
 {
     match orders.extent_but(vehicles) {
-        // numbers that tell nothing: each end is at 0 or later, and each start at the horizon or before; where no list
-        // is used then, what they tell is below 0, which the global span costs
+        // numbers that bound nothing: each end is at 0 or later, and each start at the horizon or before. If no list is
+        // used then, the global span costs 0, and what they tell is below that.
         None => Spread {
             last: 0,
             start: HORIZON,

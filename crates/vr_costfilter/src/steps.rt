@@ -1,6 +1,6 @@
-//! What a change makes of a list whose steps and stages are kept. It is walked back along what the change puts in, and
-//! in front of that until a floor is as kept; then along this, and behind it until a cumul is as kept. Where the start
-//! is at a cumul that is given (of a tight schedule), the vehicle goes from there along the kept front too, until it
+//! What a change makes of a list whose steps and stages are kept. The walk goes back along what the change puts in, and
+//! before that until a floor is as kept. Then it goes on along this, and after it until a cumul is as kept. A tight
+//! schedule has a start at a cumul that is given. Then the vehicle goes from there along the kept front too, until it
 //! comes to a kept cumul.
 
 ghost use Rattle.std.specs.Prelude.{◌-ℤ◌, pos};
@@ -33,19 +33,21 @@ use vr_plan::Timing;
 pub struct KeptSteps {
     // the steps to its visits, from the last one to the first
     trail: Trail,
-    // the stages at the start, at each visit and at the end; fewer where there is no schedule
+    // the stages at the start, at each visit and at the end; fewer if there is no schedule
     stages: ArrayVec<Stage, 1002>,
 }
 
-/// What new steps come to in front: how many of the first visits have floors as kept, and the first step of all.
+/// What new steps come to at the front: how many of the first visits have floors as kept, and the first step of all.
 #[derive(Clone, Copy)]
 pub struct Lead {
     place: usize,
     first: Step,
 }
 
-/// Where a walk along new steps begins: a stage, the kept one where one is met; the cumul at the start; and what was
-/// paid up to there beyond what the stage says (below 0 where it was less), 0 where it is not a kept one.
+/// How a walk along new steps begins:
+/// - its stage, the kept one if one is met;
+/// - the cumul at the start;
+/// - what was paid up to there beyond what the stage says: below 0 if less, 0 if the stage is not a kept one.
 #[derive(Clone, Copy)]
 pub struct Outset {
     stage: Stage,
@@ -74,7 +76,7 @@ impl KeptSteps {
         }
     }
 
-    /// Forgets the list: steps are looked at only where there is a stage for each stop.
+    /// Forgets the list: steps are looked at only if there is a stage for each stop.
     pub fn forget(&mut self)
         ensures { length self.new.stages.items ≡ 0 }
     {
@@ -90,7 +92,7 @@ impl KeptSteps {
         self.stages.len() == n + 2
     }
 
-    /// Writes the steps and the stages of a list, as far as there are any: all of them where it is feasible.
+    /// Writes the steps and the stages of a list, as far as there are any. There are all of them if it is feasible.
     pub fn write(&mut self, on: &ListWithGuide)
         ensures stages { HasStages on.now.guide.now.model.now on.now.guide.now.d on.now.guide.now.v
             (runs_of on.now.guide.now) on.now.list.now self.new }
@@ -142,8 +144,8 @@ impl KeptSteps {
         }
     }
 
-    /// What the chosen schedule of the list comes to that is asked of, where its start is at a cumul that is given (of
-    /// a tight schedule), or else at its floor (of an earliest one); nothing exactly where there is none.
+    /// What the chosen schedule of the list comes to that is asked of. Its start is at a cumul that is given (of a
+    /// tight schedule), or else at its floor (of an earliest one). Nothing exactly if there is none.
     pub fn after(&self, asked: &Asked, start: Option<i64>, trail: &mut Trail) -> Option<Timing>
         requires allows { ChoiceAllows asked.now (starting (runs_of asked.now.guide.now)
             (start_run (runs_of asked.now.guide.now) start)) }
@@ -183,9 +185,9 @@ impl KeptSteps {
 }
 
 impl<'a, 'm> KnownSteps<'a, 'm> {
-    // Where new steps begin, behind the first `lead.place` visits, for a vehicle whose start is at the cumul that is
-    // given (of a tight schedule), or else at its floor (of an earliest one). Nothing exactly where the start allows no
-    // cumul from its floor on, or the vehicle cannot come so far along the kept steps.
+    // How new steps begin, after the first `lead.place` visits. The start of the vehicle is at the cumul that is given
+    // (of a tight schedule), or else at its floor (of an earliest one). Nothing exactly if the start allows no cumul
+    // from its floor on, or the vehicle cannot come so far along the kept steps.
     fn set_out(&self, start: Option<i64>, lead: Lead) -> Option<Outset>
         requires start { WherePresent (IsIn (pos 0) horizon) start }
         requires lead { IsLead self.now.guide.now.model.now (steps_of self.now.kept.now)
@@ -205,7 +207,7 @@ impl<'a, 'm> KnownSteps<'a, 'm> {
         }
     }
 
-    // The kept step to the stop behind the first `k` visits.
+    // The kept step to the stop after the first `k` visits.
     #[inline]
     fn step_behind(&self, k: usize) -> Step
         requires { k ≤ length self.now.list.now }
@@ -222,8 +224,8 @@ impl<'a, 'm> KnownSteps<'a, 'm> {
         }
     }
 
-    // Back along the first `front` visits of the list, which come before the next step, until a floor is as kept: puts
-    // the steps with other floors on the trail. Nothing exactly where some stop allows no cumul from its floor on.
+    // Back along the first `front` visits of the list, which come before the next step, until a floor is as kept. Puts
+    // the steps with other floors on the trail. Nothing exactly if some stop allows no cumul from its floor on.
     fn lead(&self, front: usize, next: Step, trail: &mut Trail) -> Option<Lead>
         requires place { front ≤ length self.now.list.now }
         requires next { IsStep self.now.guide.now.model.now next }
@@ -259,8 +261,8 @@ impl<'a, 'm> KnownSteps<'a, 'm> {
         Some(Lead { place: 0, first })
     }
 
-    // The stage where new steps begin: the kept one where a floor in front of them is as kept, and else that at the
-    // start. Nothing exactly where the start allows no cumul from its floor on.
+    // The stage at which new steps begin: the kept one if a floor before them is as kept, and else that at the start.
+    // Nothing exactly if the start allows no cumul from its floor on.
     fn meet(&self, lead: Lead) -> Option<Outset>
         requires lead { IsLead self.now.guide.now.model.now (steps_of self.now.kept.now)
             (length self.now.list.now) lead }
@@ -283,7 +285,7 @@ impl<'a, 'm> KnownSteps<'a, 'm> {
         })
     }
 
-    // The stage at the start before another step, nothing exactly where the start allows no cumul from its floor on.
+    // The stage at the start before another step. Nothing exactly if the start allows no cumul from its floor on.
     fn at_floor(&self, next: Step) -> Option<Outset>
         requires next { IsStep self.now.guide.now.model.now next }
         ensures value { option_map reached result
@@ -304,7 +306,7 @@ impl<'a, 'm> KnownSteps<'a, 'm> {
         })
     }
 
-    // The stage at the start at a cumul, the kept one where it is the same.
+    // The stage at the start at a cumul; the kept one if it has the same cumul.
     fn start_stage(&self, cumul: i64) -> Stage
         requires cumul { IsIn (pos 0) horizon cumul }
         ensures value { result ≡ stage_at_start self.now.guide.now.model.now self.now.guide.now.d self.now.guide.now.v
@@ -318,7 +320,7 @@ impl<'a, 'm> KnownSteps<'a, 'm> {
         self.guide.standing(cumul)
     }
 
-    // The stage where new steps begin, where the start is at a cumul that is given. Nothing exactly where that is below
+    // The stage at which new steps begin, if the start is at a cumul that is given. Nothing exactly if that is below
     // its floor, or the vehicle does not come from there to the new steps.
     fn meet_from(&self, start: i64, lead: Lead) -> Option<Outset>
         requires start { IsIn (pos 0) horizon start }
@@ -338,8 +340,8 @@ impl<'a, 'm> KnownSteps<'a, 'm> {
         self.pace(lead.place, out)
     }
 
-    // A vehicle goes on from a stage at the start along the first `place` visits of the list: to the kept stage there,
-    // once it comes to a cumul that is kept. Nothing exactly where it cannot.
+    // A vehicle goes on from a stage at the start along the first `place` visits of the list. Once it comes to a cumul
+    // that is kept, it takes the kept stage after these visits. Nothing exactly if it cannot go on.
     fn pace(&self, place: usize, out: Stage) -> Option<Outset>
         requires place { place ≤ length self.now.list.now }
         requires out { IsAtStart self.now.guide.now.model.now self.now.guide.now.d self.now.guide.now.v out }
@@ -378,7 +380,7 @@ impl<'a, 'm> KnownSteps<'a, 'm> {
         })
     }
 
-    // The stage at the end of a vehicle that goes on along the list from place `behind` on, nothing exactly where it
+    // The stage at the end of a vehicle that goes on along the list from place `behind` on. Nothing exactly if it
     // cannot. Once it comes to a cumul that is kept, all that follows is as kept.
     fn end_behind(&self, behind: usize, stage: Stage) -> Option<Stage>
         requires place { behind ≤ length self.now.list.now }
@@ -406,7 +408,7 @@ impl<'a, 'm> KnownSteps<'a, 'm> {
     }
 }
 
-// The stage at the end, where a vehicle comes to a cumul that is kept and has paid another cost before.
+// The stage at the end, if a vehicle comes to a cumul that is kept and has paid another cost before.
 #[inline]
 fn resumed(end: Stage, kept: Stage, gone: Stage) -> Stage
     requires { AreMet end kept gone }

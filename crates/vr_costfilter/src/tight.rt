@@ -1,8 +1,10 @@
-//! Tight schedules of changed lists. A walk along the stops, where a vehicle waits for the begins of runs alone, tells
-//! how early it can end and how late it can then start; what a change leaves at the ends of its list is not walked.
-//! Between these two cumuls the tight schedule is the earliest one, and is found as that is: by floors from the end
-//! backwards, and along them. (Clauses bound the numbers of a way by its arcs: at most 1000 along the front of a list,
-//! 8000 more along pieces, and then 1001 to the end.)
+//! Tight schedules of changed lists. A vehicle walks along its stops and waits for the begins of runs alone. That tells
+//! how early it can end and how late it can then start. What a change leaves at the ends of its list is not walked.
+//! Between these two cumuls the tight schedule is the earliest one. It is found as that is: by floors from the end
+//! backwards, and along them.
+//!
+//! Clauses bound the numbers of a way by its arcs. There are at most 1000 along the front of a list, 8000 more along
+//! pieces, and then 1001 to the end.
 
 ghost use Rattle.std.specs.Prelude.{◌≡◌, pos};
 ghost use Rattle.vr_model.specs.tables.Numbers.{horizon};
@@ -19,9 +21,11 @@ use crate::guides::Guide;
 use vr_reach::Ahead;
 use vr_spans::Run;
 
-/// How far a vehicle has come that waits for the begins of runs alone: the node of the stop where it is, its cumul
-/// there, the transits so far, added up, and the latest start from which it comes, without waiting, to each stop so far
-/// before its run is over.
+/// How far a vehicle has come that waits for the begins of runs alone (forward segment data):
+/// - the node of the stop at which it is;
+/// - its cumul there;
+/// - the transits so far, added up;
+/// - the latest start from which it comes, without waiting, to each stop so far before its run is over.
 #[derive(Clone, Copy, Default)]
 pub struct Way {
     pub at: u32,
@@ -38,7 +42,7 @@ pub struct TightEnds {
 }
 
 impl<'m> Guide<'m> {
-    /// The same guide, where the start and the end of the vehicle allow one cumul each.
+    /// The same guide, except that the start and the end of the vehicle allow one cumul each.
     pub fn between(&self, ends: TightEnds) -> Guide<'m>
         requires ends { HasCumuls ends }
         ensures model { result.model.now ≡ self.now.model.now }
@@ -82,8 +86,8 @@ impl<'m> Guide<'m> {
     }
 }
 
-/// The ends that a whole way tells: the time at which it comes to its end, and the start from which it then need not
-/// wait, or an earlier one where the run of some stop would be over.
+/// The ends that a whole way tells. The last cumul is the time at which it comes to its end. The start is that from
+/// which it then need not wait, or an earlier one if the run of some stop would be over.
 #[inline]
 pub fn ends_by(whole: Way) -> TightEnds
     requires { (model : Model) × IsTightWayOf model 10001 whole }

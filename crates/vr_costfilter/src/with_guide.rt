@@ -1,9 +1,9 @@
 //! A guide with the visits that its vehicle gets: a list, a chain, a piece or several.
 //!
-//! What goes along them is asked with both, so that it knows that they are at most 1000 visits. Backwards, from the
-//! next step on, their floors are found: the least cumul of each from which that of the next one can be met. `steps`
-//! goes back along a whole list that is committed and along what a change puts in, `asked` along all pieces of a
-//! changed list; `kept` hands in the lists.
+//! What goes along them is asked with both, so that it knows that they are at most 1000 visits. Their floors are found
+//! backwards, from the next step on: the least cumul of each from which that of the next one can be met. `steps` goes
+//! back along a whole list that is committed and along what a change puts in. `asked` goes back along all pieces of a
+//! changed list. `kept` hands in the lists.
 
 ghost use Rattle.std.proofs.Props.{props};
 ghost use Rattle.vr_routes.specs.Pieces.{joined, nodes_of};
@@ -57,9 +57,9 @@ pub struct PiecesWithGuide<'a, 'm> {
 }
 
 impl<'a, 'm> ChainWithGuide<'a, 'm> {
-    /// Back along them, which come before the next step: puts the steps to them on the trail, the last one first, and
-    /// gives the first one, or the next step where there is none. Nothing exactly where some stop allows no cumul from
-    /// its floor on.
+    /// Back along them, which come before the next step: puts the steps to them on the trail, the last one first. Gives
+    /// the first one, or the next step if there is none. Nothing exactly if some stop allows no cumul from its floor
+    /// on.
     #[inline]
     pub fn back_along(&self, next: Step, trail: &mut Trail) -> Option<Step>
         requires { CanWalkBack self.now.guide.now (in_order self.now.reversed self.now.nodes.now) next
@@ -80,9 +80,9 @@ impl<'a, 'm> ChainWithGuide<'a, 'm> {
 }
 
 impl<'a, 'm> PieceWithGuide<'a, 'm> {
-    /// Back along its nodes, which come before the next step: puts the steps to them on the trail, the last one first,
-    /// and gives the first one, or the next step where there is none. Nothing exactly where some stop allows no cumul
-    /// from its floor on.
+    /// Back along its nodes, which come before the next step: puts the steps to them on the trail, the last one first.
+    /// Gives the first one, or the next step if there is none. Nothing exactly if some stop allows no cumul from its
+    /// floor on.
     #[inline]
     pub fn back_along(&self, next: Step, trail: &mut Trail) -> Option<Step>
         requires { CanWalkBack self.now.guide.now (nodes_of self.now.routes.now.lists self.now.piece) next
@@ -111,9 +111,9 @@ impl<'a, 'm> PieceWithGuide<'a, 'm> {
 }
 
 impl<'a, 'm> PiecesWithGuide<'a, 'm> {
-    /// Back along them, which come before the next step: puts the steps to them on the trail, the last one first, and
-    /// gives the first one, or the next step where there is none. Nothing exactly where some stop allows no cumul from
-    /// its floor on.
+    /// Back along them, which come before the next step: puts the steps to them on the trail, the last one first. Gives
+    /// the first one, or the next step if there is none. Nothing exactly if some stop allows no cumul from its floor
+    /// on.
     #[inline]
     pub fn back_along(&self, next: Step, trail: &mut Trail) -> Option<Step>
         requires { CanWalkBack self.now.guide.now (joined self.now.routes.now.lists self.now.pieces.now) next

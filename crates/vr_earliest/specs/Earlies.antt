@@ -1,4 +1,4 @@
--- What is told of the lists after a change.
+-- What is known of the lists after a change.
 use Rattle.std.specs.Prelude.{◌≡◌, ◌<◌, ◌≤◌, ℕ, All, List, [], length, slice_index_or, pos, neg_ℤ}
 use Rattle.vr_model.specs.tables.Numbers.{horizon}
 use Rattle.vr_model.specs.tables.Tables.{dimension_at}
@@ -10,7 +10,7 @@ use Rattle.vr_earliest.specs.Kept.{IsUnpaid, KeptEarly, StandsEarliest}
 use Rattle.vr_earliest.specs.Ways.{earliest_end, least_span}
 use Rattle.vr_earliest.specs.declared.earlies.Early.{Early}
 
--- what is read where nothing is told
+-- what is read if nothing is known
 abbrev pub no_early : Early
 no_early = record { last = pos 0; span = pos 0 }
 
@@ -29,7 +29,7 @@ pub record IsEarly (model : Model) (d v : ℕ) (list : List ℕ) (early : Early)
 abbrev pub IsEarlyPart : Model → List (List ℕ) → ℕ → ListAfter → Early → Type 0
 IsEarlyPart model lists d part early = IsEarly model d part.vehicle (joined lists part.pieces) early
 
--- it is told of each part in dimension d
+-- it is known of each part in dimension d
 abbrev pub IsEarlyRow : Model → List (List ℕ) → List ListAfter → ℕ → List Early → Type 0
 IsEarlyRow model lists parts d row =
     (k : ℕ) → k < length parts → IsEarlyPart model lists d (part_at parts k) (slice_index_or row k no_early)
@@ -43,7 +43,7 @@ pub record MayTell (early : KeptEarly) (lists : List (List ℕ)) (parts : List L
   pub below : (k : ℕ) → k < length parts
       → All (λ node. node < early.model.nodes) (joined lists (part_at parts k).pieces)
 
--- it is told in each dimension where anything is paid for spans
+-- it is known in each dimension in which anything is paid for spans
 pub record AreEarlies (model : Model) (lists : List (List ℕ)) (parts : List ListAfter) (rows : List (List Early))
     : Type 0 where
   pub few : length parts ≤ 2

@@ -15,16 +15,16 @@ use Rattle.vr_model.specs.declared.records.StopRow.{StopRow}
 use Rattle.vr_model.specs.declared.records.Vehicle.{Vehicle}
 use Rattle.vr_earliest.specs.declared.floors.Floors.{Floors}
 
--- x, or the number behind a forbidden interval where x lies in it
+-- x, or the number after a forbidden interval if x lies in it
 abbrev pub behind_interval : ℤ → Interval → ℤ
 behind_interval x interval = cond (within interval.lo interval.hi x) (interval.hi +ℤ pos 1) x
 
--- where a window begins, 0 where there is none
+-- the begin of a window, 0 if there is none
 abbrev pub opening : Option Interval → ℤ
 opening None = pos 0
 opening (Some window) = window.lo
 
--- the floor of a stop with this row: where its window begins, behind each forbidden interval in turn, at most the
+-- the floor of a stop with this row: the begin of its window, after each forbidden interval in turn, at most the
 -- horizon
 abbrev pub floor_of : Option StopRow → ℤ
 floor_of None = pos 0

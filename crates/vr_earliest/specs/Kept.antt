@@ -17,7 +17,7 @@ use Rattle.vr_earliest.specs.Ways.{way_from_start, on_to_visit}
 abbrev pub KeptWays : Type 0
 KeptWays = KeptPlaces Way Rest
 
--- what is kept has the ways along the first nodes of a list of vehicle v, and what is left behind each of them
+-- what is kept has the ways along the first nodes of a list of vehicle v, and what is left after each of them
 abbrev pub HasWays : Model → ℕ → ℕ → List ℕ → KeptWays → Type 0
 HasWays model d v list kept =
     KeepsWays (way_from_start model d v) (on_to_visit model d v) (at_end model d v) (rest_with_visit model d v) list
@@ -28,8 +28,7 @@ pub record IsUnpaid (dimension : Dimension) : Type 0 where
   pub spans : (v : ℕ) → v < length dimension.span_costs → number_at dimension.span_costs v ≡ pos 0
   pub global : dimension.global_span_cost ≡ pos 0
 
--- what is kept in dimension d has those of these lists, of all of them where anything is paid for spans, and else of
--- none
+-- what is kept in dimension d has those of these lists: of all of them if anything is paid for spans, and else of none
 pub record HaveWays (model : Model) (d : ℕ) (lists : List (List ℕ)) (kept : List KeptWays) : Type 0 where
   pub many : (length kept ≡ length lists) ⊎ IsUnpaid (dimension_at model d)
   pub none : IsUnpaid (dimension_at model d) → length kept ≡ 0

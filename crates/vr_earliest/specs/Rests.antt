@@ -1,4 +1,4 @@
--- What is left of the line of a vehicle behind a way.
+-- What is left of the line of a vehicle after a way.
 use Rattle.std.specs.Prelude.{ℕ, List, pos, ◌+ℤ◌}
 use Rattle.std.specs.Int.{int_max}
 use Rattle.vr_model.specs.tables.Tables.{transit, vehicle_at}

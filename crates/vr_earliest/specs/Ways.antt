@@ -9,7 +9,7 @@ use Rattle.vr_model.specs.declared.records.Model.{Model}
 use Rattle.vr_earliest.specs.Floors.{end_floor, starts_freely, start_floor, visit_floor}
 use Rattle.vr_earliest.specs.declared.ways.Way.{Way}
 
--- a way goes on to a node, where no cumul lies below a floor
+-- a way goes on to a node, at no cumul below a floor
 abbrev pub to_node : Model → ℕ → ℕ → Way → ℕ → ℤ → Way
 to_node model d v way node floor = record {
   at = node;
@@ -25,7 +25,7 @@ on_to_visit model d v way node = to_node model d v way node (visit_floor model d
 abbrev pub to_visits : Model → ℕ → ℕ → Way → List ℕ → Way
 to_visits model d v way nodes = fold (on_to_visit model d v) way nodes
 
--- vehicle v stands at its start
+-- vehicle v is at its start
 abbrev pub way_from_start : Model → ℕ → ℕ → Way
 way_from_start model d v =
     record { at = (vehicle_at model v).start; time = start_floor model d v; transits = pos 0 }
@@ -42,8 +42,8 @@ whole_way model d v list = to_node model d v (way_along model d v list) (vehicle
 abbrev pub earliest_end : Model → ℕ → ℕ → List ℕ → ℤ
 earliest_end model d v list = int_min horizon (whole_way model d v list).time
 
--- what a whole way tells of the span: the transits; where the vehicle starts freely, the lesser of the time since the
--- floor of its start and of the greatest slack plus the transits
+-- what a whole way tells of the span: the transits. If the vehicle starts freely, it is the lesser of the time since
+-- its start's floor and of the greatest slack plus the transits.
 abbrev pub span_by : Model → ℕ → ℕ → Way → ℤ
 span_by model d v way = cond (starts_freely (vehicle_at model v) (dimension_at model d) v)
     (int_min (way.time -ℤ start_floor model d v) ((dimension_at model d).slack_max +ℤ way.transits))
@@ -86,6 +86,6 @@ IsMiddleWay model = IsWayOf model 9000
 abbrev pub IsLongWay : Model → Way → Type 0
 IsLongWay model = IsWayOf model 10000
 
--- a way on from the middle to a stop and along what is left behind it, 1000 arcs at most
+-- a way on from the middle to a stop and along what is left after it, 1000 arcs at most
 abbrev pub IsWholeWay : Model → Way → Type 0
 IsWholeWay model = IsWayOf model 10001

@@ -1,4 +1,4 @@
-//! How early the lists after a change can end and how short their spans can be, told once for all that ask.
+//! How early the lists after a change can end and how short their spans can be, worked out once for all that ask.
 
 ghost use Rattle.std.specs.Prelude.{◌≡◌, ◌<◌, length, slice_set};
 ghost use Rattle.vr_earliest.specs.Earlies.{early_at};
@@ -14,10 +14,12 @@ pub struct Early {
     pub span: i64,
 }
 
-/// What the chosen schedules of the lists after a change come to at least, in each dimension where anything is paid for
-/// spans: room that is written over for each change; in the other dimensions, and of a second part that a change does
-/// not have, it tells nothing. What it tells of an empty list is read by no one: a vehicle that is not used pays for no
-/// span. It takes no memory. Contracts see what is told in each dimension of each list.
+/// What the chosen schedules of the lists after a change come to at least, in each dimension in which anything is paid
+/// for spans. It is room that is written over for each change, and takes no memory. Contracts see what it has in each
+/// dimension of each list.
+///
+/// It says nothing of the other dimensions, nor of a second part that a change does not have. What it says of an empty
+/// list is read by no one: a vehicle that is not used pays for no span.
 #[derive(Drop)]
 pub struct Earlies {
     // of each dimension, of each part of a change
@@ -41,7 +43,7 @@ impl Earlies {
         }
     }
 
-    /// What is told in dimension `d` of the new list of part `k` of the change.
+    /// What is known in dimension `d` of the new list of part `k` of the change.
     #[inline]
     pub fn at(&self, d: u32, k: usize) -> Early
         requires dimension { d < 4 }
@@ -51,7 +53,7 @@ impl Earlies {
         self.rows[d as usize][k]
     }
 
-    /// Writes what is told in dimension `d` of each list.
+    /// Writes what is known in dimension `d` of each list.
     #[inline]
     pub fn set(&mut self, d: usize, row: [Early; 2])
         requires dimension { d < 4 }

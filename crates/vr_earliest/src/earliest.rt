@@ -22,9 +22,9 @@ use vr_model::limits::HORIZON;
 use vr_model::{Closed, Model as RoutingModel, NoMemory};
 use vr_routes::{Change, Routes, Row};
 
-/// How early vehicles can end lists. It keeps ways along the committed lists and what is left behind each place of
-/// them, so that in the dimensions where anything is paid for spans it walks along what a change puts between the kept
-/// ends of lists alone. Contracts see the model, and what is kept of the committed lists.
+/// How early vehicles can end lists. It keeps ways along the committed lists, and what is left after each place of
+/// them. So it walks along what a change puts between the kept ends of lists alone, in the dimensions in which anything
+/// is paid for spans. Contracts see the model, and what is kept of the committed lists.
 #[derive(Drop)]
 pub struct Earliest<'m> {
     model: &'m RoutingModel,
@@ -48,7 +48,7 @@ impl<'m> Model for Earliest<'m> {
 }
 
 impl<'m> Earliest<'m> {
-    /// That of the lists of routes. The only refusal is want of memory.
+    /// That of the lists of routes. The only error is out of memory.
     pub fn open(
         alloc: Global,
         model: &'m RoutingModel,
@@ -70,7 +70,7 @@ impl<'m> Earliest<'m> {
         })
     }
 
-    // What the chosen schedule of the list comes to at least that part `k` of a change gives its vehicle, in dimension
+    // What the chosen schedule of the list that part `k` of a change gives its vehicle comes to at least, in dimension
     // `d`. No schedule is built, and what stays at the ends of the list is not walked.
     fn after(&self, d: u32, routes: &Routes, change: &Change, k: usize) -> Early
         requires may { MayTell self.now routes.now.lists change.now d }
@@ -89,8 +89,8 @@ impl<'m> Earliest<'m> {
         early_of(&guide, whole)
     }
 
-    /// Writes what the chosen schedules of the lists after a change come to at least, in each dimension where anything
-    /// is paid for spans. It takes no memory.
+    /// Writes what the chosen schedules of the lists after a change come to at least, in each dimension in which
+    /// anything is paid for spans. It takes no memory.
     pub fn write_after(&self, routes: &Routes, change: &Change, out: &mut Earlies)
         requires stands { StandsEarliest self.now routes.now.lists }
         requires parts { AreParts routes.now.lists change.now }
@@ -107,8 +107,8 @@ impl<'m> Earliest<'m> {
         }
     }
 
-    // What the chosen schedules of the lists after a change come to at least in dimension `d`, by part; 0 of a second
-    // part that there is not.
+    // What the chosen schedules of the lists after a change come to at least in dimension `d`, by part. It is 0 of a
+    // second part that there is not.
     fn row_after(&self, d: u32, routes: &Routes, change: &Change) -> [Early; 2]
         requires { MayTell self.now routes.now.lists change.now d }
         ensures { IsEarlyRow self.now.model routes.now.lists change.now d result }
@@ -186,7 +186,7 @@ fn write_list(closed: Closed<'_>, floors: &[Floors], kept: &mut [KeptLists], v: 
     }
 }
 
-// What the whole way along a list tells of it, brought into the ranges that `Early` names: it stays a bound, since no
+// What the whole way along a list tells of it, brought into the ranges that `Early` names. It stays a bound, since no
 // schedule has cumuls outside of `0..=2^36`.
 #[inline(always)]
 fn early_of(guide: &Guide, whole: Way) -> Early

@@ -26,12 +26,13 @@ pub struct Floors {
     pub ends: Vec<i64>,
     /// Of each vehicle, whether it chooses its earliest schedule, has no breaks, and its start has no forbidden
     /// interval. Such a vehicle starts no later than the floor of its start, or has the greatest slack on its first
-    /// arc: so its span is bounded by its end too (`Guide::span_by`), that of another by its transits alone.
+    /// arc. So its span is bounded by its end too (`Guide::span_by`). That of another vehicle is bounded by its
+    /// transits alone.
     pub free: Vec<bool>,
 }
 
 impl Floors {
-    /// Those of dimension `d`. The only refusal is want of memory.
+    /// Those of dimension `d`. The only error is out of memory.
     pub fn of(alloc: Global, closed: Closed<'_>, d: u32) -> Result<Floors, NoMemory>
         requires { d < length closed.model.now.dimensions }
         ensures { IfOk result (AreFloors closed.entry.model.now d) }
@@ -105,8 +106,8 @@ fn forbids_none(row: Option<&StopRow>) -> bool
     row.forbidden.is_empty()
 }
 
-// The floor of a stop with this row: where its window begins, or behind the forbidden intervals there; 0 without a row.
-// It lies in `0..=2^36` also where the row allows no cumul.
+// The floor of a stop with this row: the begin of its window, or the first number after the forbidden intervals there.
+// It is 0 without a row. It lies in `0..=2^36` even if the row allows no cumul.
 fn floor_of(row: Option<&StopRow>) -> i64
     requires { WherePresent IsStopRow (option_copied row) }
     ensures value { result ≡ floor_of_row (option_copied row.entry) }
@@ -119,7 +120,7 @@ fn floor_of(row: Option<&StopRow>) -> i64
     floor.min(HORIZON)
 }
 
-// Where a window begins, 0 where there is none.
+// The begin of a window, 0 if there is none.
 fn opening(window: Option<Interval>) -> i64
     requires { WherePresent IsInterval window }
     ensures value { result ≡ opening_of window }
@@ -131,7 +132,7 @@ fn opening(window: Option<Interval>) -> i64
     }
 }
 
-// A number, or the one behind the intervals in which it lies, each in turn.
+// A number, or the one after the intervals in which it lies, each in turn.
 fn behind_all(intervals: &[Interval], from: i64) -> i64
     requires intervals { All IsInterval intervals.now }
     requires from { IsIn (pos 0) horizon from }
@@ -145,8 +146,8 @@ fn behind_all(intervals: &[Interval], from: i64) -> i64
     x
 }
 
-// A number, or the one behind an interval in which it lies. Taken of intervals in turn it is a bound from below, also
-// where they do not ascend.
+// A number, or the one after an interval in which it lies. Taken of intervals in turn it is a bound from below, even if
+// they do not ascend.
 fn behind(x: i64, interval: Interval) -> i64
     requires { IsInterval interval }
     ensures { result ≡ behind_interval x interval }

@@ -1,4 +1,4 @@
-//! What is kept of committed lists, so that a change is told by what it changes alone.
+//! What is kept of committed lists, so that a change is known by what it changes alone.
 
 ghost use Rattle.std.specs.Prelude.{◌≡◌, ◌≢◌, ◌<◌, ◌≤◌, All, ℕ, List, IfOk, IsTrue, false, length};
 ghost use Rattle.vr_model.specs.moves.Moves.{with_route};
@@ -14,8 +14,8 @@ use std::marker::Model;
 use vr_model::{Closed, Dimension, NoMemory};
 use vr_routes::Routes;
 
-/// What is kept of the lists of all vehicles in one dimension; of none where nothing is paid for spans. Contracts see
-/// what is kept of each.
+/// What is kept of the lists of all vehicles in one dimension; of none if nothing is paid for spans. Contracts see what
+/// is kept of each.
 #[derive(Drop)]
 pub struct KeptLists {
     pub lists: Vec<KeptWays<Way, Rest>>,
@@ -31,7 +31,7 @@ impl Model for KeptLists {
 }
 
 impl KeptLists {
-    /// What is kept of the lists of routes in dimension `d`. The only refusal is want of memory.
+    /// What is kept of the lists of routes in dimension `d`. The only error is out of memory.
     pub fn of(
         alloc: Global,
         closed: Closed<'_>,
@@ -55,7 +55,7 @@ impl KeptLists {
         Ok(KeptLists { lists })
     }
 
-    /// Vehicle `v` gets another list. Nothing is done where nothing is kept in the dimension.
+    /// Vehicle `v` gets another list. Nothing is done if nothing is kept in the dimension.
     pub fn write(&mut self, closed: Closed<'_>, floors: &Floors, d: u32, v: u32, list: &[u32])
         requires dimension { d < length closed.model.now.dimensions }
         requires vehicle { v < length closed.model.now.vehicles }
@@ -72,7 +72,7 @@ impl KeptLists {
     }
 }
 
-// Of how many lists something is kept in a dimension: of all where anything is paid for spans, and else of none.
+// Of how many lists something is kept in a dimension: of all if anything is paid for spans, and else of none.
 fn how_many(dimension: &Dimension, routes: &Routes) -> u32
     ensures all { result ≢ length routes.now.lists → IsUnpaid dimension.now }
     ensures none { IsUnpaid dimension.now → result ≡ 0 }

@@ -1,4 +1,4 @@
-//! What is kept of a list place by place, so that a change of it is told by a walk along what the change puts in alone.
+//! What is kept of a list place by place. So a change of it is known by a walk along what the change puts in alone.
 
 ghost use Rattle.std.specs.Prelude.{◌≡◌, ◌↔◌, ◌<◌, ◌≤◌, ◌+◌, ◌-◌, All, IsTrue, length, slice_index_or};
 ghost use Rattle.vr_earliest.specs.Entries.{AreRestsTo, AreWaysTo, KeepsWays};
@@ -53,7 +53,7 @@ impl<W: Copy + Default + Drop, R: Copy + Default + Drop> KeptWays<W, R> {
         self.ways[place as usize]
     }
 
-    /// What is left from a place of the list on, or from the end on, which is the place behind the last visit.
+    /// What is left from a place of the list on, or from the end on, which is the place after the last visit.
     #[inline(always)]
     pub fn rest(&self, place: u32) -> R
         requires place { place < length self.now.rests.items }

@@ -5,8 +5,8 @@ ghost use Rattle.vr_routes.specs.Pieces.{joined, nodes_of, IsWithin};
 
 use vr_routes::{Piece, Routes};
 
-/// Goes along lists of a vehicle, one visit at a time. There are two: the guide of `ways`, whose ways and rests tell
-/// bounds for any vehicle, and that of `vr_costfilter`, whose ways and rests tell the ends of tight schedules.
+/// Goes along lists of a vehicle, one visit at a time. There are two. The ways and rests of the guide of `ways` tell
+/// bounds for any vehicle. Those of `vr_costfilter` tell the ends of tight schedules.
 pub trait Walk {
     /// How far the vehicle is on its way.
     type Way: Copy + Default + Drop;
@@ -17,7 +17,7 @@ pub trait Walk {
     /// The vehicle can be sent to a node.
     ghost can_visit: { Self → ℕ → Type 0 };
 
-    /// The numbers of a way are those of so many arcs at most: 1000 along a kept front, and 8000 more along pieces.
+    /// The numbers of a way are those of this many arcs at most: 1000 along a kept front, and 8000 more along pieces.
     ghost is_way: { Self → ℕ → Self.Way → Type 0 };
 
     /// The same of what is left.
@@ -35,7 +35,7 @@ pub trait Walk {
     /// What is left from a visit on, which comes before what is left from the next stop on.
     ghost rest_from: { Self → ℕ → Self.Rest → Self.Rest };
 
-    /// The vehicle stands at its start.
+    /// The vehicle is at its start.
     fn way_out(&self) -> Self::Way
         ensures value { result ≡ start_way self.now }
         ensures range { (n : ℕ) → is_way self.now n result };
@@ -59,7 +59,7 @@ pub trait Walk {
         ensures value { result ≡ rest_from self.now node rest }
         ensures range { (n m : ℕ) → n < m → is_rest self.now n rest → is_rest self.now m result };
 
-    /// A way of so many arcs at most is one of more.
+    /// A way of at most `n` arcs is one of at most `m`, if `m` is no less.
     ghost way_grows: { (walk : Self) (n m : ℕ) (way : Self.Way) → n ≤ m → is_way walk n way → is_way walk m way };
 }
 

@@ -18,8 +18,10 @@ use crate::floors::Floors;
 use crate::walks::Walk;
 use vr_model::{Closed, Evaluator, Model};
 
-/// How far a vehicle is on its way: the node of the stop where it is, the earliest time there as far as floors and
-/// transits tell it, and the transits of the arcs so far, added up.
+/// How far a vehicle is on its way (forward segment data):
+/// - the node of the stop at which it is;
+/// - the earliest time there, as far as floors and transits tell it;
+/// - the transits of the arcs so far, added up.
 #[derive(Clone, Copy, Default)]
 pub struct Way {
     pub at: u32,
@@ -27,8 +29,10 @@ pub struct Way {
     pub transits: i64,
 }
 
-/// What is left of a line from a stop on: its node, the transits of the arcs behind it, added up, and the time before
-/// which the line does not end, however early the vehicle comes to the stop.
+/// What is left of a line from a stop on (backward segment data):
+/// - its node;
+/// - the transits of the arcs after it, added up;
+/// - the time before which the line does not end, however early the vehicle comes to the stop.
 #[derive(Clone, Copy, Default)]
 pub struct Rest {
     pub at: u32,
@@ -36,8 +40,8 @@ pub struct Rest {
     pub least_end: i64,
 }
 
-/// What is looked up of vehicle `v` in dimension `d` once for many arcs, of any vehicle (the guide of `vr_costfilter`
-/// is of one without breaks, with one run a stop).
+/// What is looked up of vehicle `v` in dimension `d` once for many arcs. It is of any vehicle; the guide of
+/// `vr_costfilter` is of one without breaks, with one run a stop.
 #[derive(Drop)]
 pub struct Guide<'m> {
     pub model: &'m Model,
@@ -69,7 +73,7 @@ impl<'m> Guide<'m> {
         }
     }
 
-    // A way goes on to a node, where no time lies below a floor.
+    // A way goes on to a node, at no time below a floor.
     #[inline(always)]
     fn to_node(&self, way: Way, node: u32, floor: i64) -> Way
         requires way { IsLongWay self.now.model.now way }
@@ -101,9 +105,9 @@ impl<'m> Guide<'m> {
         }
     }
 
-    /// What a whole way tells of the span: it is no less than the transits, and of a vehicle that starts freely no less
-    /// than the lesser of the time from the floor of its start to its end and the greatest slack with the transits
-    /// (`Floors::free`).
+    /// What a whole way tells of the span. It is no less than the transits. Of a vehicle that starts freely
+    /// (`Floors::free`) it is no less than the lesser of two numbers. One is the time from the floor of its start to
+    /// its end, the other the greatest slack with the transits.
     #[inline(always)]
     pub fn span_by(&self, way: Way) -> i64
         requires way { IsWholeWay self.now.model.now way }

@@ -32,18 +32,18 @@ has_penalty group = nat_lt 0 (pay group.penalty)
 abbrev pub is_some_paid : Model → Bool
 is_some_paid model = list_any has_penalty model.groups
 
--- what a node saves where it is active: the penalty of the first group that has it, 0 where there is none
+-- what a node saves if it is active: the penalty of the first group that has it, 0 if there is none
 abbrev pub saved_by : List Group → ℕ → ℕ
 saved_by [] node = 0
 saved_by (group ∷ groups) node = cond (holds group.nodes node) (pay group.penalty) (saved_by groups node)
 
--- if a move is one of the lists, and the lists after it are valid, the penalties are lower by so much after it
+-- if a move is one of the lists, and the lists after it are valid, the penalties are lower by this much after it
 abbrev pub Saves : Model → List (List ℕ) → Move → ℤ → Type 0
 Saves model lists mv saved =
     IsTrue (is_move model lists mv) → IsTrue (is_valid model (apply model lists mv))
     → penalty_part model lists -ℤ penalty_part model (apply model lists mv) ≡ saved
 
--- the same, lower by so much at most
+-- the same, lower by this much at most
 abbrev pub SavesAtMost : Model → List (List ℕ) → Move → ℤ → Type 0
 SavesAtMost model lists mv saved =
     IsTrue (is_move model lists mv) → IsTrue (is_valid model (apply model lists mv))
@@ -83,8 +83,8 @@ IsForPieces = IsUpTo 18000
 abbrev pub saved_in : List ℤ → List (List ℕ) → List Piece → ℤ
 saved_in saved lists pieces = total_by (λ piece. total_by (number_at saved) (nodes_of lists piece)) pieces
 
--- these are valid lists of the model, each node has what it saves, it is said what a node saves at most and whether
--- some group has a penalty other than 0, and the total is what the groups cost
+-- these are valid lists of the model, each node has what it saves, and the total is what the groups cost. It is said
+-- what a node saves at most, and whether some group has a penalty other than 0.
 pub record StandsGroups (kept : KeptGroups) (tours : Tours) : Type 0 where
   pub well_formed : IsWellFormed kept.model
   pub of_model : tours.visits ≡ visits kept.model

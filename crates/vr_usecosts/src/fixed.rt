@@ -20,7 +20,7 @@ use vr_routes::{Change, Routes, Splice};
 #[derive(Drop)]
 pub struct FixedCost<'m> {
     model: &'m RoutingModel,
-    // where this is false, each vehicle has a fixed cost of 0
+    // if this is false, each vehicle has a fixed cost of 0
     pays: bool,
 }
 
@@ -44,7 +44,8 @@ fn is_some_fixed(model: &RoutingModel) -> bool
 }
 
 impl<'m> FixedCost<'m> {
-    /// The fixed costs of a model's vehicles. Nothing of the lists is kept: they stand at any valid lists of the model.
+    /// The fixed costs of a model's vehicles. Nothing of the lists is kept: they are in sync with any valid lists of
+    /// the model.
     pub fn of(model: &'m RoutingModel) -> FixedCost<'m>
         requires well_formed { IsWellFormed model.now }
         ensures model { result.model ≡ model.now }
@@ -74,7 +75,7 @@ impl<'m> ListCost for FixedCost<'m> {
 
 impl<'m> FixedCost<'m> {
     /// Whether no vehicle has a fixed cost other than 0: all valid lists cost the same then. `vr_judge` asks it once,
-    /// as it tells of runs of moves only where arcs and penalties alone are paid.
+    /// as it bounds runs of moves only if arcs and penalties alone are paid.
     pub fn is_idle(&self) -> bool
         requires pays { self.now.pays ≡ fixed_costs.is_some_fixed self.now.model }
         ensures idle { result ≡ not (fixed_costs.is_some_fixed self.now.model) }
@@ -83,7 +84,7 @@ impl<'m> FixedCost<'m> {
         !self.pays
     }
 
-    // What a vehicle costs, where it is used and where it is not.
+    // What a vehicle costs if it is used, and if it is not.
     #[inline]
     fn fixed(&self, v: u32, used: bool) -> i64
         requires well_formed { IsWellFormed self.now.model }

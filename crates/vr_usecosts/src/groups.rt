@@ -27,18 +27,18 @@ use vr_parts::InfallibleCost;
 use vr_routes::{Change, Piece, Routes};
 
 /// The penalties of groups that have fewer active nodes than they may have (`AddDisjunction` in OR-Tools). For a change
-/// it looks at the pieces that come and those that go alone, where the same piece on both sides cancels out: not at
-/// nodes that only stand elsewhere in such a piece.
+/// it looks at the pieces that come and those that go alone. The same piece on both sides cancels out, so it does not
+/// look at nodes that are only elsewhere in such a piece.
 #[derive(Drop)]
 pub struct GroupCost<'m> {
     model: &'m RoutingModel,
-    // for each node what it saves where it is active: the penalty of its group, 0 where it is in none or that has none
+    // for each node what it saves if it is active: the penalty of its group, 0 if it is in none or that has none
     saved: Seq<i64>,
     // none of these is more: what a visit saves at most of which it is not known which one it is (`SwapActive`)
     most: i64,
     // whether some group has a penalty that is not 0
     pays: bool,
-    // the penalties at the committed lists: where they are 0, no change saves anything
+    // the penalties at the committed lists: if they are 0, no change saves anything
     total: i64,
     // scratch: the pieces that a change brings in and takes out
     balance: Balance,
@@ -58,7 +58,7 @@ impl<'m> Model for GroupCost<'m> {
     } };
 }
 
-// What an active node of a group saves: 0 where the group has no penalty, as it is never short of nodes then.
+// What an active node of a group saves: 0 if the group has no penalty, as it is never short of nodes then.
 fn penalty(group: &Group) -> i64
     requires present { WherePresent (IsIn (pos 0) greatest_cost) group.now.penalty }
     ensures value { result ≡ pos (pay group.now.penalty) }
@@ -77,8 +77,8 @@ fn has_node(group: &Group, node: u32) -> bool
     group.nodes.as_slice().contains(&node)
 }
 
-// What a node saves where it is active: the penalty of the first group that has it, which is the only one, since no
-// node is in two groups; 0 where none has it.
+// What a node saves if it is active: the penalty of the first group that has it. That is the only one, since no node is
+// in two groups. It is 0 if none has it.
 fn saving(closed: Closed<'_>, node: u32) -> i64
     ensures value { result ≡ pos (saved_by closed.entry.model.now.groups node) }
     ensures range { IsUpTo 1 result }
@@ -92,7 +92,7 @@ fn saving(closed: Closed<'_>, node: u32) -> i64
     0
 }
 
-// What each node saves where it is active.
+// What each node saves if it is active.
 fn savings(alloc: Global, closed: Closed<'_>) -> Result<Seq<i64>, NoMemory>
     ensures { IfOk result (AreSaved closed.entry.model.now) }
 {
@@ -199,7 +199,7 @@ fn saved_in(saved: &Seq<i64>, routes: &Routes, pieces: &[Piece]) -> i64
     total
 }
 
-// A penalty for each of so many nodes.
+// A penalty for each of this many nodes.
 fn for_each(penalty: i64, nodes: u32) -> i64
     requires penalty { IsUpTo 1 penalty }
     requires few { nodes ≤ 1000 }
@@ -237,7 +237,7 @@ fn penalties(closed: Closed<'_>, routes: &Routes) -> i64
 }
 
 impl<'m> GroupCost<'m> {
-    /// The penalties at the lists of routes. The only refusal is want of memory.
+    /// The penalties at the lists of routes. The only error is out of memory.
     pub fn open(
         alloc: Global,
         model: &'m RoutingModel,
@@ -272,8 +272,8 @@ impl<'m> GroupCost<'m> {
         self.total == 0
     }
 
-    /// What a change of the committed lists adds at least, where the lists after it are valid: 0, without a look at the
-    /// change, where the committed ones have no penalty to pay, and else what it adds.
+    /// What a change of the committed lists adds at least, if the lists after it are valid. If the committed ones have
+    /// no penalty to pay, it is 0, without a look at the change. Else it is what the change adds.
     #[inline]
     pub fn least(&mut self, routes: &Routes, change: &Change) -> i64
         requires stands { StandsGroups self.old routes.now }
@@ -294,9 +294,9 @@ impl<'m> GroupCost<'m> {
         self.added(routes, change)
     }
 
-    /// What each move of a run saves of the penalties, where the lists after it are valid: what a visit or a pair saves
-    /// that is put into a list. The moves of a run differ in their last number. `None` of moves of other kinds, and
-    /// where there is no such pair. Called by `saved_at_most_by_run` alone.
+    /// What each move of a run saves of the penalties, if the lists after it are valid. It is what a visit or a pair
+    /// saves that is put into a list. The moves of a run differ in their last number. `None` of moves of other kinds,
+    /// and if there is no such pair. Called by `saved_at_most_by_run` alone.
     #[inline]
     pub fn saved_by_run(&self, mv: Move) -> Option<i64>
         requires well_formed { IsWellFormed self.now.model }
@@ -312,10 +312,13 @@ impl<'m> GroupCost<'m> {
         }
     }
 
-    /// What each move of a run saves of the penalties at most, where the lists after it are valid: what a visit or a
-    /// pair saves that is put into a list, and, where a visit takes the place of a node, the most that a visit saves
-    /// less what the node does. The moves of a run differ in their last number, which is the visit where it takes the
-    /// place of a node. `None` of moves of other kinds, and where there is no such pair or place.
+    /// What each move of a run saves of the penalties at most, if the lists after it are valid. The moves of a run
+    /// differ in their last number.
+    /// - A visit or a pair is put into a list: it is what they save.
+    /// - A visit takes the place of a node: it is the most that a visit saves, less what the node does. The last number
+    ///   is the visit.
+    ///
+    /// `None` of moves of other kinds, and if there is no such pair or place.
     #[inline]
     pub fn saved_at_most_by_run(&self, routes: &Routes, mv: Move) -> Option<i64>
         requires stands { StandsGroups self.now routes.now }
@@ -329,7 +332,7 @@ impl<'m> GroupCost<'m> {
         }
     }
 
-    // What a visit saves at most that takes the place of a node; `None` where there is no such place.
+    // What a visit saves at most that takes the place of a node; `None` if there is no such place.
     #[inline]
     fn saved_by_newcomer(&self, routes: &Routes, v: u32, a: u32) -> Option<i64>
         requires stands { StandsGroups self.now routes.now }
@@ -357,7 +360,7 @@ impl<'m> GroupCost<'m> {
         saved_at(&self.saved, u)
     }
 
-    // What a pair saves that is put into a list; `None` where there is no such pair.
+    // What a pair saves that is put into a list; `None` if there is no such pair.
     #[inline]
     fn saved_by_pair(&self, p: u32) -> Option<i64>
         requires well_formed { IsWellFormed self.now.model }
