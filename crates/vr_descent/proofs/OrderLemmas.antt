@@ -2,8 +2,8 @@
 use Rattle.std.proofs.Common.{◌≡◌, ◌≢◌, ◌∙◌, ℕ, zero, suc, ◌+◌, ◌<◌, ◌≤◌, Bool, true, false, cond, List, [], ◌∷◌, ◌++◌, length, map, refl, sym, ap, subst, arith, inl, inr, ◌⊎◌, append_assoc}
 use Rattle.std.specs.Prelude.{IsTrue, ◌-◌, filter, ◌==◌, ◌&&◌, ◌||◌, nat_lt}
 use Rattle.std.specs.List.{range_with_len}
-use Rattle.std.proofs.lemmas.Bool.Decides.{eqb_tells}
-use Rattle.vr_model.specs.deciding.Testing.{and_left, and_right, or_cases, eq_of_test}
+use Rattle.std.proofs.lemmas.Bool.{cases_Bool}
+use Rattle.vr_model.specs.deciding.Testing.{and_left, and_right, or_cases}
 use Rattle.vr_model.specs.tables.Numbers.{below, from_to, each}
 use Rattle.vr_model.specs.tables.Tables.{pair_at}
 use Rattle.vr_model.specs.routes.Routes.{route, vehicles, inactive}
@@ -17,8 +17,10 @@ use Rattle.vr_model.specs.declared.neighbours.Neighbourhood.TheVariants as all
 use Rattle.vr_model.proofs.tables.Members.{In, of_contains, of_range, from_each, from_map}
 use Rattle.vr_model.proofs.tables.Tests.{lt_of_test, clash}
 use Rattle.vr_model.proofs.moves.MoveMembers.{moves_as_tested}
-use Rattle.vr_model.specs.tables.WellFormed.{neighbourhood_number as kind_at}
-use Rattle.vr_known.specs.Blocks.{kind_of, first_of, is_behind, is_kind_of}
+use Rattle.vr_model.specs.declared.neighbours.Owner.TheVariants as own
+use Rattle.vr_model.specs.moves.Kinds.{is_same_kind, kind_of, owner}
+use Rattle.vr_known.specs.Blocks.{first_of, is_behind, is_kind_of}
+use Rattle.vr_known.proofs.MemoryLemmas.{same_kind, same_test}
 
 -- ---- lists that are split at a move
 
@@ -76,56 +78,24 @@ map_filter p f (x ∷ xs) = by (p x) (map_filter p f xs)
     by true same = ap (λ l. f x ∷ l) same
     by false same = same
 
--- all moves of a kind that changes activity are one row, but for pairs that are taken out
-one_row : (mv : Move) → 5 < kind_of mv → kind_of mv ≢ 7 → first_of mv ≡ 0
-one_row (TwoOpt v a b) high other = absurd (omega (arith, high))
-one_row (OrOpt v a k t) high other = absurd (omega (arith, high))
-one_row (Relocate v a w t) high other = absurd (omega (arith, high))
-one_row (Exchange v a w b) high other = absurd (omega (arith, high))
-one_row (Cross v a w b) high other = absurd (omega (arith, high))
-one_row (RelocatePair p w s t) high other = absurd (omega (arith, high))
-one_row (PairInactive p) high other = absurd (other refl)
-one_row (PairActive p w s t) high other = refl
-one_row (MakeActive u w t) high other = refl
-one_row (MakeInactive v a) high other = refl
-one_row (SwapActive v a u) high other = refl
-
--- ---- kinds
-
-neighbourhood_of : ℕ → Neighbourhood
-neighbourhood_of zero = all.TwoOpt
-neighbourhood_of (suc zero) = all.OrOpt
-neighbourhood_of (suc (suc zero)) = all.Relocate
-neighbourhood_of (suc (suc (suc zero))) = all.Exchange
-neighbourhood_of (suc (suc (suc (suc zero)))) = all.Cross
-neighbourhood_of (suc (suc (suc (suc (suc zero))))) = all.RelocatePair
-neighbourhood_of (suc (suc (suc (suc (suc (suc zero)))))) = all.PairActive
-neighbourhood_of (suc (suc (suc (suc (suc (suc (suc zero))))))) = all.PairInactive
-neighbourhood_of (suc (suc (suc (suc (suc (suc (suc (suc zero)))))))) = all.MakeActive
-neighbourhood_of (suc (suc (suc (suc (suc (suc (suc (suc (suc zero))))))))) = all.MakeInactive
-neighbourhood_of n = all.SwapActive
-
-numbered : (n : Neighbourhood) → neighbourhood_of (kind_at n) ≡ n
-unfolding neighbourhood_of
-numbered all.TwoOpt = refl
-numbered all.OrOpt = refl
-numbered all.Relocate = refl
-numbered all.Exchange = refl
-numbered all.Cross = refl
-numbered all.RelocatePair = refl
-numbered all.PairActive = refl
-numbered all.PairInactive = refl
-numbered all.MakeActive = refl
-numbered all.MakeInactive = refl
-numbered all.SwapActive = refl
-
-same_kind : (n o : Neighbourhood) → kind_at n ≡ kind_at o → n ≡ o
-same_kind n o e = sym (numbered n) ∙ ap neighbourhood_of e ∙ numbered o
+-- all moves are one row if nobody owns the rows
+one_row : (mv : Move) → owner (kind_of mv) ≡ own.Nobody → first_of mv ≡ 0
+one_row (TwoOpt v a b) none = Prim.cc
+one_row (OrOpt v a k t) none = Prim.cc
+one_row (Relocate v a w t) none = Prim.cc
+one_row (Exchange v a w b) none = Prim.cc
+one_row (Cross v a w b) none = Prim.cc
+one_row (RelocatePair p w s t) none = Prim.cc
+one_row (PairInactive p) none = Prim.cc
+one_row (PairActive p w s t) none = refl
+one_row (MakeActive u w t) none = refl
+one_row (MakeInactive v a) none = refl
+one_row (SwapActive v a u) none = refl
 
 module _ (model : Model) (lists : List (List ℕ)) where
   -- the moves of a neighbourhood are of its kind
   abbrev OfKind : Neighbourhood → Type 0
-  OfKind n = (mv : Move) → In (moves_in model lists n) mv → kind_of mv ≡ kind_at n
+  OfKind n = (mv : Move) → In (moves_in model lists n) mv → kind_of mv ≡ n
 
   kind_two_opt : OfKind all.TwoOpt
   kind_two_opt mv h = from_each _ (vehicles lists) mv h λ v _ h2. from_each _ (places (route lists v)) mv h2 λ a _ h3. from_map (TwoOpt v a) (from_to (suc a) (length (route lists v))) mv h3 λ b _ e. ap kind_of e
@@ -182,10 +152,10 @@ module _ (model : Model) (lists : List (List ℕ)) where
   of_kind all.SwapActive = kind_swap_active
 
   -- a move of the lists is one of the neighbourhood of its kind
-  one_of : (mv : Move) → IsTrue (is_move model lists mv) → (n : Neighbourhood) → kind_at n ≡ kind_of mv → In (moves_in model lists n) mv
+  one_of : (mv : Move) → IsTrue (is_move model lists mv) → (n : Neighbourhood) → n ≡ kind_of mv → In (moves_in model lists n) mv
   unfolding moves_over
   one_of mv h n same = from_each (moves_in model lists) all_neighbourhoods mv (of_contains (moves_over model all_neighbourhoods lists) mv ((moves_as_tested model lists mv).1 h)) λ o _ there.
-      subst (λ k. In (moves_in model lists k) mv) (same_kind o n (sym (of_kind o mv there) ∙ sym same)) there
+      subst (λ k. In (moves_in model lists k) mv) (sym (of_kind o mv there) ∙ sym same) there
 
   -- ---- vehicles
 
@@ -258,7 +228,7 @@ module _ (model : Model) (lists : List (List ℕ)) where
       by false there = absurd there
 
   -- in a neighbourhood the moves of a row stand in front of those of the next
-  before_kind : (n : Neighbourhood) (ys before : List Move) (mv : Move) (after : List Move) → kind_at n ≡ kind_of mv → moves_in model lists n ++ ys ≡ before ++ mv ∷ after
+  before_kind : (n : Neighbourhood) (ys before : List Move) (mv : Move) (after : List Move) → n ≡ kind_of mv → moves_in model lists n ++ ys ≡ before ++ mv ∷ after
       → (m : Move) → In (moves_in model lists n) m → first_of m < first_of mv → In before m
   before_kind all.TwoOpt ys before mv after same e m h low = before_rows _ first_two_opt 0 (length lists) ys before mv after e m h low
   before_kind all.OrOpt ys before mv after same e m h low = before_rows _ first_or_opt 0 (length lists) ys before mv after e m h low
@@ -268,13 +238,13 @@ module _ (model : Model) (lists : List (List ℕ)) where
   before_kind all.RelocatePair ys before mv after same e m h low =
       let as_rows = each_filter (is_pair_served model lists) moves_of_pair (pairs model) in
       before_rows moves_where_served first_where 0 (length model.pairs) ys before mv after (ap (λ l. l ++ ys) (sym as_rows) ∙ e) m (subst (λ l. In l m) as_rows h) low
-  before_kind all.PairActive ys before mv after same e m h low = let none = one_row mv (omega (arith, same)) (λ is. omega (arith, same, is)) in absurd (omega (arith, none, low))
+  before_kind all.PairActive ys before mv after same e m h low = let none = one_row mv (ap owner (sym same)) in absurd (omega (arith, none, low))
   before_kind all.PairInactive ys before mv after same e m h low =
       let as_rows = map_filter (is_pair_together model lists) PairInactive (pairs model) in
       before_rows moves_where_together first_together 0 (length model.pairs) ys before mv after (ap (λ l. l ++ ys) (sym as_rows) ∙ e) m (subst (λ l. In l m) as_rows h) low
-  before_kind all.MakeActive ys before mv after same e m h low = let none = one_row mv (omega (arith, same)) (λ is. omega (arith, same, is)) in absurd (omega (arith, none, low))
-  before_kind all.MakeInactive ys before mv after same e m h low = let none = one_row mv (omega (arith, same)) (λ is. omega (arith, same, is)) in absurd (omega (arith, none, low))
-  before_kind all.SwapActive ys before mv after same e m h low = let none = one_row mv (omega (arith, same)) (λ is. omega (arith, same, is)) in absurd (omega (arith, none, low))
+  before_kind all.MakeActive ys before mv after same e m h low = let none = one_row mv (ap owner (sym same)) in absurd (omega (arith, none, low))
+  before_kind all.MakeInactive ys before mv after same e m h low = let none = one_row mv (ap owner (sym same)) in absurd (omega (arith, none, low))
+  before_kind all.SwapActive ys before mv after same e m h low = let none = one_row mv (ap owner (sym same)) in absurd (omega (arith, none, low))
 
   over_more : (n : Neighbourhood) (ns : List Neighbourhood) → moves_over model (n ∷ ns) lists ≡ moves_in model lists n ++ moves_over model ns lists
   unfolding moves_over
@@ -284,18 +254,21 @@ module _ (model : Model) (lists : List (List ℕ)) where
   pub stand_before : (ns : List Neighbourhood) (before : List Move) (mv : Move) (after : List Move) → moves_over model ns lists ≡ before ++ mv ∷ after
       → (m : Move) → IsTrue (is_move model lists m) → IsTrue (is_behind ns (kind_of m) (first_of m) mv) → In before m
   stand_before [] before mv after e m one h = absurd (clash false h refl)
-  stand_before (n ∷ ns) before mv after e m one h = elim (eqb_tells (kind_at n) (kind_of mv)) [
-    | inl same ↦ (
-        let here : IsTrue ((kind_of m == kind_of mv) && nat_lt (first_of m) (first_of mv)) = sym (ap (λ b. cond b ((kind_of m == kind_of mv) && nat_lt (first_of m) (first_of mv)) ((kind_of m == kind_at n) || is_behind ns (kind_of m) (first_of m) mv)) same.0) ∙ h in
-        let alike : kind_of m ≡ kind_of mv = eq_of_test (kind_of m) (kind_of mv) (and_left (kind_of m == kind_of mv) _ here) in
-        let at : kind_at n ≡ kind_of m = same.1 ∙ sym alike in
-        before_kind n (moves_over model ns lists) before mv after same.1 (sym (over_more n ns) ∙ e) m (one_of m one n at)
-        (lt_of_test (first_of m) (first_of mv) (and_right (kind_of m == kind_of mv) _ here)))
+  stand_before (n ∷ ns) before mv after e m one h = elim (cases_Bool (is_same_kind n (kind_of mv))) [
+    | inl is ↦ (
+        let same : n ≡ kind_of mv = same_kind n (kind_of mv) is in
+        let here : IsTrue (is_same_kind (kind_of m) (kind_of mv) && nat_lt (first_of m) (first_of mv)) =
+            sym (ap (λ b. cond b (is_same_kind (kind_of m) (kind_of mv) && nat_lt (first_of m) (first_of mv)) (is_same_kind (kind_of m) n || is_behind ns (kind_of m) (first_of m) mv)) is) ∙ h in
+        let alike : kind_of m ≡ kind_of mv = same_kind (kind_of m) (kind_of mv) (and_left (is_same_kind (kind_of m) (kind_of mv)) _ here) in
+        before_kind n (moves_over model ns lists) before mv after same (sym (over_more n ns) ∙ e) m (one_of m one n (same ∙ sym alike))
+        (lt_of_test (first_of m) (first_of mv) (and_right (is_same_kind (kind_of m) (kind_of mv)) _ here)))
     | inr other ↦ (
-        let later : IsTrue ((kind_of m == kind_at n) || is_behind ns (kind_of m) (first_of m) mv) = sym (ap (λ b. cond b ((kind_of m == kind_of mv) && nat_lt (first_of m) (first_of mv)) ((kind_of m == kind_at n) || is_behind ns (kind_of m) (first_of m) mv)) other.0) ∙ h in
-        let r = begins (moves_in model lists n) (moves_over model ns lists) before mv after (sym (over_more n ns) ∙ e) (λ there. other.1 (sym (of_kind n mv there))) in
-        subst (λ l. In l m) (sym r.before_is) (elim (or_cases (kind_of m == kind_at n) _ later) [
-          | inl here ↦ in_left (moves_in model lists n) r.rest m (one_of m one n (sym (eq_of_test (kind_of m) (kind_at n) here)))
+        let later : IsTrue (is_same_kind (kind_of m) n || is_behind ns (kind_of m) (first_of m) mv) =
+            sym (ap (λ b. cond b (is_same_kind (kind_of m) (kind_of mv) && nat_lt (first_of m) (first_of mv)) (is_same_kind (kind_of m) n || is_behind ns (kind_of m) (first_of m) mv)) other) ∙ h in
+        let r = begins (moves_in model lists n) (moves_over model ns lists) before mv after (sym (over_more n ns) ∙ e)
+            (λ there. clash (is_same_kind n (kind_of mv)) (same_test n (kind_of mv) (sym (of_kind n mv there))) other) in
+        subst (λ l. In l m) (sym r.before_is) (elim (or_cases (is_same_kind (kind_of m) n) _ later) [
+          | inl here ↦ in_left (moves_in model lists n) r.rest m (one_of m one n (sym (same_kind (kind_of m) n here)))
           | inr behind ↦ in_right (moves_in model lists n) r.rest m (stand_before ns r.rest mv after r.left m one behind)
         ]))
   ]
@@ -303,7 +276,7 @@ module _ (model : Model) (lists : List (List ℕ)) where
   -- a move of a kind that some of the neighbourhoods has is one of theirs
   pub are_listed : (ns : List Neighbourhood) (m : Move) → IsTrue (is_move model lists m) → IsTrue (is_kind_of ns (kind_of m)) → In (moves_over model ns lists) m
   are_listed [] m one h = absurd (clash false h refl)
-  are_listed (n ∷ ns) m one h = subst (λ l. In l m) (sym (over_more n ns)) (elim (or_cases (kind_of m == kind_at n) _ h) [
-    | inl here ↦ in_left (moves_in model lists n) (moves_over model ns lists) m (one_of m one n (sym (eq_of_test (kind_of m) (kind_at n) here)))
+  are_listed (n ∷ ns) m one h = subst (λ l. In l m) (sym (over_more n ns)) (elim (or_cases (is_same_kind (kind_of m) n) _ h) [
+    | inl here ↦ in_left (moves_in model lists n) (moves_over model ns lists) m (one_of m one n (sym (same_kind (kind_of m) n here)))
     | inr later ↦ in_right (moves_in model lists n) (moves_over model ns lists) m (are_listed ns m one later)
   ])

@@ -25,7 +25,9 @@ use Rattle.vr_descent.proofs.EndLemmas.{both}
 use Rattle.vr_routes.specs.Judging.{cost_change}
 use Rattle.vr_descent.specs.Scanned.{is_acceptable, scan_end, taken_difference, takes_less}
 use Rattle.vr_descent.specs.declared.scanning.ScanEnd.TheVariants as ends
-use Rattle.vr_known.specs.Blocks.{Memory, is_known, covers, kind_of, first_of, second_of, is_behind, is_kind_of, rows_of, IsApart, Agree}
+use Rattle.vr_model.specs.declared.neighbours.Neighbourhood.{Neighbourhood}
+use Rattle.vr_model.specs.moves.Kinds.{kind_of, rows_of}
+use Rattle.vr_known.specs.Blocks.{Memory, is_known, covers, first_of, second_of, is_behind, is_kind_of, IsApart, Agree}
 use Rattle.vr_known.specs.Locality.{HasNoGlobalSpans}
 use Rattle.vr_known.proofs.Applied.{first_low}
 use Rattle.vr_known.proofs.Local.{activity_stays, moves_local}
@@ -43,7 +45,7 @@ pub less_stays : (model : Model) → IsWellFormed model → HasNoGlobalSpans mod
 less_stays model well none lists other mv both = λ i. validity_is_local model well lists other mv both i && int_lt (cost_is_local model none lists other mv both i) (pos 0)
 
 -- nothing is remembered
-pub nothing_refused : (model : Model) (takes : List (List ℕ) → Move → ℤ → Bool) (lists : List (List ℕ)) (memory : Memory) → ((kind v w : ℕ) → is_known memory kind v w ≡ false) → AreRefused model takes lists memory
+pub nothing_refused : (model : Model) (takes : List (List ℕ) → Move → ℤ → Bool) (lists : List (List ℕ)) (memory : Memory) → ((kind : Neighbourhood) (v w : ℕ) → is_known memory kind v w ≡ false) → AreRefused model takes lists memory
 nothing_refused model takes lists memory none mv one covered = absurd (clash (is_known memory (kind_of mv) (first_of mv) (second_of mv)) covered (none (kind_of mv) (first_of mv) (second_of mv)))
 
 module _ (model : Model) (takes : List (List ℕ) → Move → ℤ → Bool) (lists : List (List ℕ)) where
@@ -51,11 +53,11 @@ module _ (model : Model) (takes : List (List ℕ) → Move → ℤ → Bool) (li
 
   -- a move is of a row of its kind
   pub row_low : IsWellFormed model → length lists < 101 → (mv : Move) → IsTrue (is_move model lists mv) → first_of mv < rows_of (kind_of mv)
-  row_low well few (TwoOpt v a b) one = let low = first_low model lists (TwoOpt v a b) one (omega arith) in omega (arith, low, few)
-  row_low well few (OrOpt v a k t) one = let low = first_low model lists (OrOpt v a k t) one (omega arith) in omega (arith, low, few)
-  row_low well few (Relocate v a w t) one = let low = first_low model lists (Relocate v a w t) one (omega arith) in omega (arith, low, few)
-  row_low well few (Exchange v a w b) one = let low = first_low model lists (Exchange v a w b) one (omega arith) in omega (arith, low, few)
-  row_low well few (Cross v a w b) one = let low = first_low model lists (Cross v a w b) one (omega arith) in omega (arith, low, few)
+  row_low well few (TwoOpt v a b) one = let low = first_low model lists (TwoOpt v a b) one refl in omega (arith, low, few)
+  row_low well few (OrOpt v a k t) one = let low = first_low model lists (OrOpt v a k t) one refl in omega (arith, low, few)
+  row_low well few (Relocate v a w t) one = let low = first_low model lists (Relocate v a w t) one refl in omega (arith, low, few)
+  row_low well few (Exchange v a w b) one = let low = first_low model lists (Exchange v a w b) one refl in omega (arith, low, few)
+  row_low well few (Cross v a w b) one = let low = first_low model lists (Cross v a w b) one refl in omega (arith, low, few)
   row_low well few (RelocatePair p w s t) one =
       let others = and_right (is_pair_served model lists p) _ one in
       let low = pair_of_test model lists p (and_left (nat_lt p (length model.pairs)) _ (and_left (may_put_pair model lists p w (length (without_pair (pair_at model p) (route lists w))) s t) _ others)) in
@@ -72,7 +74,7 @@ module _ (model : Model) (takes : List (List ℕ) → Move → ℤ → Bool) (li
 
   -- what was remembered, and the moves in front of the one that was accepted, are refused
   pub noted : (old new : Memory) (place rest : ℕ) (mv : Move) → IsWellFormed model → length lists < 101 → scan (moves model lists) (is_acceptable model takes lists) rest ≡ Accepted place mv
-      → ((k u w : ℕ) → u < rows_of k → IsTrue (is_known new k u w) → IsTrue (is_known old k u w) ⊎ IsTrue (is_behind model.search.neighbourhoods k u mv))
+      → ((k : Neighbourhood) (u w : ℕ) → u < rows_of k → IsTrue (is_known new k u w) → IsTrue (is_known old k u w) ⊎ IsTrue (is_behind model.search.neighbourhoods k u mv))
       → AreRefused model takes lists old → AreRefused model takes lists new
   noted old new place rest mv well few scanned learned refused m one covered =
       elim (learned (kind_of m) (first_of m) (second_of m) (row_low well few m one) covered) [
@@ -84,7 +86,7 @@ module _ (model : Model) (takes : List (List ℕ) → Move → ℤ → Bool) (li
 
   -- what was remembered, and all moves of a scan that accepted none, are refused
   pub noted_all : (old new : Memory) (n rest : ℕ) → IsWellFormed model → length lists < 101 → scan (moves model lists) (is_acceptable model takes lists) rest ≡ Complete n
-      → ((k u w : ℕ) → u < rows_of k → IsTrue (is_known new k u w) → IsTrue (is_known old k u w) ⊎ IsTrue (is_kind_of model.search.neighbourhoods k))
+      → ((k : Neighbourhood) (u w : ℕ) → u < rows_of k → IsTrue (is_known new k u w) → IsTrue (is_known old k u w) ⊎ IsTrue (is_kind_of model.search.neighbourhoods k))
       → AreRefused model takes lists old → AreRefused model takes lists new
   noted_all old new n rest well few scanned learned refused m one covered =
       elim (learned (kind_of m) (first_of m) (second_of m) (row_low well few m one) covered) [
@@ -101,13 +103,13 @@ module _ (model : Model) (takes : List (List ℕ) → Move → ℤ → Bool) (li
       many = as_many model lists mv;
       source = λ v is. let off = apart.source v is in others v off.0 off.1;
       second = others (second_of m) apart.target.0 apart.target.1;
-      active = λ high. activity_stays model lists mv one (apart.active high);
+      active = λ changes. activity_stays model lists mv one (apart.active changes);
     }
 
     -- what is still remembered after the move is refused
     pub changed : (old new : Memory) → IsTrue (is_valid model lists) → IsTrue (is_valid model (apply model lists mv))
-        → ((k u w : ℕ) → IsTrue (is_known new k u w) → StaysRefused model takes)
-        → ((k u w : ℕ) → IsTrue (is_known new k u w) → IsTrue (is_known old k u w))
+        → ((k : Neighbourhood) (u w : ℕ) → IsTrue (is_known new k u w) → StaysRefused model takes)
+        → ((k : Neighbourhood) (u w : ℕ) → IsTrue (is_known new k u w) → IsTrue (is_known old k u w))
         → ((m : Move) → IsTrue (is_move model (apply model lists mv) m) → IsTrue (covers new m) → IsApart model (apply model lists mv) mv first second m)
         → AreRefused model takes lists old → AreRefused model takes (apply model lists mv) new
     changed old new valid valid_after local fewer apart refused m there covered =
@@ -120,7 +122,7 @@ module _ (model : Model) (takes : List (List ℕ) → Move → ℤ → Bool) (li
 -- ---- what a scan passes over
 
 -- the moves of a block that is remembered
-pub passes_known : (model : Model) (takes : List (List ℕ) → Move → ℤ → Bool) (lists : List (List ℕ)) (rest : ℕ) (memory : Memory) (kind v w : ℕ) → rest ≤ 1000000000
+pub passes_known : (model : Model) (takes : List (List ℕ) → Move → ℤ → Bool) (lists : List (List ℕ)) (rest : ℕ) (memory : Memory) (kind : Neighbourhood) (v w : ℕ) → rest ≤ 1000000000
     → AreRefused model takes lists memory → IsTrue (is_known memory kind v w) → CoversBlock (IsPassed model takes lists rest) kind v w
 passes_known model takes lists rest memory kind v w few refused known mv k f s =
     record { few = few; refused = λ one. refused mv one (covers_known memory kind v w known mv k f s) }

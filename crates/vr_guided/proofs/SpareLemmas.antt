@@ -24,7 +24,9 @@ use Rattle.vr_model.proofs.routes.Lists.{are-lists, are_lists-count, route-visit
 use Rattle.vr_model.proofs.moves.KeptLists.{as_many, few, moves_keep_lists}
 use Rattle.vr_model.proofs.moves.Times.{held_times, joined_times, times, times_in, times_of_distinct, times_set}
 use Rattle.vr_routes.specs.Judging.{cost_change}
-use Rattle.vr_known.specs.Blocks.{AreSettled, Memory, first_of, is_known, is_later, kind_of, second_of}
+use Rattle.vr_model.specs.declared.neighbours.Neighbourhood.{Neighbourhood}
+use Rattle.vr_model.specs.moves.Kinds.{kind_of}
+use Rattle.vr_known.specs.Blocks.{AreSettled, Memory, first_of, is_known, is_later, second_of}
 use Rattle.vr_known.proofs.Applied.{same_or_not}
 use Rattle.vr_known.proofs.Local.{has_source, others_stay}
 use Rattle.vr_known.proofs.MemoryLemmas.{later_known, later_source}
@@ -93,7 +95,7 @@ held_false list node none = fails (holds list node) none
 -- the arcs of a vehicle were raised, which changed since any move was refused
 pub spares_more : (model : Model) (best : Worth) (lists : List (List ℕ)) (v : ℕ) (first old new : Penalties) (before after : Memory)
     → new ≡ raised_in_turn model best old (arcs_of model v (route lists v))
-    → ((k r u : ℕ) → IsTrue (is_later after k r u) → IsTrue (is_later before k r u)) → ((k r : ℕ) → is_later after k r v ≡ false)
+    → ((k : Neighbourhood) (r u : ℕ) → IsTrue (is_later after k r u) → IsTrue (is_later before k r u)) → ((k : Neighbourhood) (r : ℕ) → is_later after k r v ≡ false)
     → SparesKnown lists first old before → SparesKnown lists first new after
 spares_more model best lists v first old new before after raises earlier changes spares kind row u w one two origin target from to =
     let not_first : v ≢ u = λ e. clash (is_later after kind row v) (subst (λ x. IsTrue (is_later after kind row x)) (sym e) one) (changes kind row) in
@@ -254,7 +256,7 @@ module _ (model : Model) (well : IsWellFormed model) (lists : List (List ℕ)) (
 
 -- what is known still after a round is refused still
 pub still_refused : (model : Model) → IsWellFormed model → (lambda : Lambda) (p q : Penalties) (lists : List (List ℕ)) → IsTrue (is_valid model lists) → (old new : Memory)
-    → ((k u w : ℕ) → IsTrue (is_known new k u w) → IsTrue (is_known old k u w)) → SparesKnown lists p q new → AreSettled model lists new
+    → ((k : Neighbourhood) (u w : ℕ) → IsTrue (is_known new k u w) → IsTrue (is_known old k u w)) → SparesKnown lists p q new → AreSettled model lists new
     → AreRefused model (makes_less model lambda p) lists old → AreRefused model (makes_less model lambda q) lists new
 still_refused model well lambda p q lists valid old new fewer spares settled refused m one covered =
     let once = few model lists (are-lists model lists valid) in

@@ -2,6 +2,7 @@
 use Rattle.std.specs.Prelude.{◌≡◌, ◌≢◌, ℕ, List, IsTrue}
 use Rattle.vr_model.specs.routes.Routes.{holds, route}
 use Rattle.vr_model.specs.search.GuidedSearches.{Penalties}
+use Rattle.vr_model.specs.declared.neighbours.Neighbourhood.{Neighbourhood}
 use Rattle.vr_known.specs.Blocks.{Memory, is_later}
 
 -- a node is in no list but those of two vehicles
@@ -16,5 +17,6 @@ AreSpared lists old new u w = (origin target : ℕ) → StandsNowhereElse lists 
 -- no arc was raised between nodes that are in no list but those of two vehicles, if some row was refused after both
 -- last changed
 abbrev pub SparesKnown : List (List ℕ) → Penalties → Penalties → Memory → Type 0
-SparesKnown lists old new memory = (kind row u w : ℕ) → IsTrue (is_later memory kind row u)
+SparesKnown lists old new memory =
+    (kind : Neighbourhood) (row u w : ℕ) → IsTrue (is_later memory kind row u)
     → IsTrue (is_later memory kind row w) → AreSpared lists old new u w

@@ -5,6 +5,7 @@ ghost use Rattle.vr_guided.specs.Counts.{AreUpTo, AtMost, counted};
 ghost use Rattle.vr_guided.specs.Sparing.{SparesKnown};
 ghost use Rattle.vr_guided.specs.Worths.{greatest_worth, raised_in_turn, raised_once, worth_of, worthless};
 ghost use Rattle.vr_known.specs.Blocks.{AreSettled, Learns, is_known};
+ghost use Rattle.vr_model.specs.declared.neighbours.Neighbourhood.{Neighbourhood as Kind};
 ghost use Rattle.vr_model.specs.search.GuidedSearches.{has_costly_arc, raised, Penalties as Raised};
 ghost use Rattle.vr_model.specs.routes.Routes.{arcs_of, route, used_arcs};
 ghost use Rattle.vr_model.specs.routes.Rules.{is_valid};
@@ -26,7 +27,7 @@ impl Penalties {
         requires counts { AreUpTo closed.model.now.nodes 1000000000 self.old }
         ensures nodes { self.new.nodes ≡ self.old.nodes }
         ensures raised { counted self.new ≡ raised closed.entry.model.now (counted self.old) routes.now.lists }
-        ensures fewer { (k u w : ℕ) → IsTrue (is_known known.new k u w) → IsTrue (is_known known.old k u w) }
+        ensures fewer { (k : Kind) (u w : ℕ) → IsTrue (is_known known.new k u w) → IsTrue (is_known known.old k u w) }
         ensures spares { SparesKnown routes.now.lists (counted self.old) (counted self.new) known.new }
         ensures settled { AreSettled closed.entry.model.now routes.now.lists known.new }
         ensures learns { Learns known.new → Learns known.old }
@@ -55,7 +56,7 @@ impl Penalties {
         ensures raised { counted self.new
             ≡ raised_in_turn list.now.closed.model.now greatest.now (counted self.old)
             (arcs_of list.now.closed.model.now list.now.vehicle list.now.nodes.now) }
-        ensures fewer { (k u w : ℕ) → IsTrue (is_known known.new k u w) → IsTrue (is_known known.old k u w) }
+        ensures fewer { (k : Kind) (u w : ℕ) → IsTrue (is_known known.new k u w) → IsTrue (is_known known.old k u w) }
         ensures spares { (lists : List (List ℕ)) (first : Raised) → list.now.nodes.now ≡ route lists list.now.vehicle
             → SparesKnown lists first (counted self.old) known.old
             → SparesKnown lists first (counted self.new) known.new }

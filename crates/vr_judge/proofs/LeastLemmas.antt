@@ -1,6 +1,6 @@
 -- What moves add at least, where arcs and groups alone are paid.
-use Rattle.std.proofs.Common.{◌≡◌, ◌∙◌, ℕ, ◌<◌, Bool, true, false, List, refl, sym, ap, subst, arith}
-use Rattle.std.specs.Prelude.{ℤ, pos, ◌+ℤ◌, ◌-ℤ◌, ◌&&◌, ◌||◌, nat_lt, IsTrue, Option, Some, None, IfSome, count_by}
+use Rattle.std.proofs.Common.{◌≡◌, ◌∙◌, ℕ, Bool, true, false, List, refl, sym, ap, subst, arith}
+use Rattle.std.specs.Prelude.{ℤ, pos, ◌+ℤ◌, ◌-ℤ◌, ◌&&◌, ◌||◌, not, IsTrue, Option, Some, None, IfSome, count_by}
 use Rattle.std.proofs.lemmas.Int.{ints}
 use Rattle.vr_model.specs.tables.Numbers.{is_same_number, total_by}
 use Rattle.vr_model.specs.tables.WellFormed.{IsWellFormed}
@@ -12,7 +12,8 @@ use Rattle.vr_model.specs.declared.neighbours.Move.TheVariants.{TwoOpt, OrOpt, R
 use Rattle.vr_model.specs.declared.records.Model.{Model}
 use Rattle.vr_model.proofs.routes.CostBounds.{penalties-up_to}
 use Rattle.vr_routes.specs.Runs.{with_last}
-use Rattle.vr_known.specs.Blocks.{kind_of}
+use Rattle.vr_model.specs.declared.neighbours.Neighbourhood.{Neighbourhood}
+use Rattle.vr_model.specs.moves.Kinds.{changes_activity, kind_of}
 use Rattle.vr_usecosts.specs.Groups.{SavesAtMost}
 use Rattle.vr_judge.proofs.PairLemmas.{stay_active}
 use Rattle.vr_arccosts.specs.Runs.{AddsNoLess}
@@ -56,21 +57,21 @@ module _ (model : Model) (pays : PaysArcsAndGroups model) (lists : List (List �
       omega (arith, ints, low, none)
 
   -- the same visits are active, and so the penalties stay
-  pub same_to_pay : (mv : Move) → kind_of mv < 6 → AddArcsBut model lists mv (pos 0)
-  same_to_pay mv low = groups_save mv (pos 0) λ k one after.
+  pub same_to_pay : (mv : Move) → changes_activity (kind_of mv) ≡ false → AddArcsBut model lists mv (pos 0)
+  same_to_pay mv still = groups_save mv (pos 0) λ k one after.
       let other : Move = with_last mv k in
-      let stay : penalty_part model (apply model lists other) ≡ penalty_part model lists = ap (penalties model) (stay_active model lists other one (subst (λ n. n < 6) (sym (same_kind mv k)) low)) in
+      let stay : penalty_part model (apply model lists other) ≡ penalty_part model lists = ap (penalties model) (stay_active model lists other one (ap changes_activity (same_kind mv k) ∙ still)) in
       omega (arith, ints, stay)
 
 -- where more than arcs and groups is paid, or where it is not but penalties may fall, a kind adds less than to arcs
-pub unpaid : (model : Model) (lists : List (List ℕ)) (kind : ℕ) → pays_arcs_and_groups model ≡ false → false ≡ is_least_by_arcs model lists kind
-unpaid model lists kind pays = sym (ap (λ b. b && (is_same_number (penalty_part model lists) (pos 0) || nat_lt kind 6)) pays)
+pub unpaid : (model : Model) (lists : List (List ℕ)) (kind : Neighbourhood) → pays_arcs_and_groups model ≡ false → false ≡ is_least_by_arcs model lists kind
+unpaid model lists kind pays = sym (ap (λ b. b && (is_same_number (penalty_part model lists) (pos 0) || not (changes_activity kind))) pays)
 
 -- where arcs and groups alone are paid, it depends on the penalties that are to pay, and on the kind
-pub by_penalties : (model : Model) (lists : List (List ℕ)) (kind : ℕ) (none : Bool) → pays_arcs_and_groups model ≡ true → is_same_number (penalty_part model lists) (pos 0) ≡ none
-    → (none || nat_lt kind 6) ≡ is_least_by_arcs model lists kind
+pub by_penalties : (model : Model) (lists : List (List ℕ)) (kind : Neighbourhood) (none : Bool) → pays_arcs_and_groups model ≡ true → is_same_number (penalty_part model lists) (pos 0) ≡ none
+    → (none || not (changes_activity kind)) ≡ is_least_by_arcs model lists kind
 by_penalties model lists kind none pays is =
-    sym (ap (λ b. b && (is_same_number (penalty_part model lists) (pos 0) || nat_lt kind 6)) pays ∙ ap (λ b. b || nat_lt kind 6) is)
+    sym (ap (λ b. b && (is_same_number (penalty_part model lists) (pos 0) || not (changes_activity kind))) pays ∙ ap (λ b. b || not (changes_activity kind)) is)
 
 -- what is told of the arcs of a model that is the same
 pub known_of : (m model : Model) (lists : List (List ℕ)) (mv : Move) (bound : ℤ) → m ≡ model → AddsNoLess m lists mv bound → AddsNoLess model lists mv bound

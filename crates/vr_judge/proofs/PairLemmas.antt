@@ -2,6 +2,7 @@
 use Rattle.std.proofs.Common.{◌≡◌, ◌∙◌, ℕ, ◌+◌, ◌<◌, ◌≤◌, Bool, true, false, cond, not, ◌||◌, List, [], ◌∷◌, map, refl, sym, ap, subst, inl, inr, arith}
 use Rattle.std.specs.Prelude.{IsTrue, ◌==◌, filter}
 use Rattle.std.specs.List.{concat}
+use Rattle.std.proofs.lemmas.Bool.{false≢true}
 use Rattle.std.proofs.lemmas.List.{length-map}
 use Rattle.std.proofs.lemmas.Bool.Decides.{eqb_tells}
 use Rattle.vr_model.specs.deciding.Testing.{and_left, or_cases, or_left, or_right, test_of_eq}
@@ -19,7 +20,7 @@ use Rattle.vr_model.proofs.moves.Kept.{pair_times}
 use Rattle.vr_model.proofs.moves.Times.{times, times_in, hit, here_or_later, held_times, joined_times, times_held, times_set}
 use Rattle.vr_routes.specs.Pairs.{are_in_order}
 use Rattle.vr_routes.proofs.FactLemmas.{of_relocate_pair}
-use Rattle.vr_known.specs.Blocks.{kind_of}
+use Rattle.vr_model.specs.moves.Kinds.{changes_activity, kind_of}
 use Rattle.vr_known.proofs.Activity.{same_active}
 
 -- both of two nodes that come one before the other stand in the list
@@ -107,11 +108,11 @@ pair_active model lists p w s t one x =
     ]
 
 -- the same visits are active after a move that puts visits or a pair elsewhere
-pub stay_active : (model : Model) (lists : List (List ℕ)) (mv : Move) → IsTrue (is_move model lists mv) → kind_of mv < 6 → is_active (apply model lists mv) ≡ is_active lists
+pub stay_active : (model : Model) (lists : List (List ℕ)) (mv : Move) → IsTrue (is_move model lists mv) → changes_activity (kind_of mv) ≡ false → is_active (apply model lists mv) ≡ is_active lists
 stay_active model lists (RelocatePair p w s t) one low = λ i x. pair_active model lists p w s t one x i
-stay_active model lists (TwoOpt v a b) one low = same_active model lists (TwoOpt v a b) one (omega arith)
-stay_active model lists (OrOpt v a k t) one low = same_active model lists (OrOpt v a k t) one (omega arith)
-stay_active model lists (Relocate v a w t) one low = same_active model lists (Relocate v a w t) one (omega arith)
-stay_active model lists (Exchange v a w b) one low = same_active model lists (Exchange v a w b) one (omega arith)
-stay_active model lists (Cross v a w b) one low = same_active model lists (Cross v a w b) one (omega arith)
-stay_active model lists other one low = absurd (omega (arith, low))
+stay_active model lists (TwoOpt v a b) one low = same_active model lists (TwoOpt v a b) one refl
+stay_active model lists (OrOpt v a k t) one low = same_active model lists (OrOpt v a k t) one refl
+stay_active model lists (Relocate v a w t) one low = same_active model lists (Relocate v a w t) one refl
+stay_active model lists (Exchange v a w b) one low = same_active model lists (Exchange v a w b) one refl
+stay_active model lists (Cross v a w b) one low = same_active model lists (Cross v a w b) one refl
+stay_active model lists other one still = absurd (false≢true (sym still))

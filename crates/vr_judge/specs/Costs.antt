@@ -1,8 +1,10 @@
 -- What the parts of the cost know of the lists that they are in sync with.
-use Rattle.std.specs.Prelude.{◌≡◌, ℕ, ℤ, Bool, not, ◌&&◌, ◌||◌, nat_lt, IsTrue, List}
+use Rattle.std.specs.Prelude.{◌≡◌, ℕ, ℤ, Bool, not, ◌&&◌, ◌||◌, IsTrue, List}
 use Rattle.std.specs.Prelude.{pos, ◌*◌, ◌+ℤ◌, ◌-ℤ◌}
 use Rattle.vr_model.specs.tables.Numbers.{is_same_number}
 use Rattle.vr_model.specs.routes.Costs.{arcs_part, cost, penalty_part}
+use Rattle.vr_model.specs.declared.neighbours.Neighbourhood.{Neighbourhood}
+use Rattle.vr_model.specs.moves.Kinds.{changes_activity}
 use Rattle.vr_model.specs.moves.MoveTests.{is_move}
 use Rattle.vr_model.specs.routes.Rules.{is_valid}
 use Rattle.vr_model.specs.declared.neighbours.Move.{Move}
@@ -32,10 +34,10 @@ PaysArcsAndGroups model =
 abbrev pub pays_arcs_and_groups : Model → Bool
 pays_arcs_and_groups model = (not (is_some_fixed model) && pays_no_plan model) && not (is_some_spanned model)
 
--- arcs and groups alone are paid, and either the lists have no penalty to pay or moves of the kind change no activity
-abbrev pub is_least_by_arcs : Model → List (List ℕ) → ℕ → Bool
+-- arcs and groups alone are paid, and either the lists have no penalty to pay or the moves change no activity
+abbrev pub is_least_by_arcs : Model → List (List ℕ) → Neighbourhood → Bool
 is_least_by_arcs model lists kind =
-    pays_arcs_and_groups model && (is_same_number (penalty_part model lists) (pos 0) || nat_lt kind 6)
+    pays_arcs_and_groups model && (is_same_number (penalty_part model lists) (pos 0) || not (changes_activity kind))
 
 -- each move of a run adds to the cost of lists at least what it adds to their arcs, less what it saves. The moves of a
 -- run differ in their last number.

@@ -1,6 +1,6 @@
 //! The parts of the cost together.
 
-ghost use Rattle.std.specs.Prelude.{◌≡◌, ℕ, ◌<◌, ◌≤◌, ◌+ℤ◌, ◌-ℤ◌, ◌≤ℤ◌, pos, true, nat_lt, IsTrue};
+ghost use Rattle.std.specs.Prelude.{◌≡◌, ℕ, ◌<◌, ◌≤◌, ◌+ℤ◌, ◌-ℤ◌, ◌≤ℤ◌, pos, true, not, IsTrue};
 ghost use Rattle.std.specs.Prelude.{Some, IfOk, IfSome, OnOk, OnErr};
 ghost use Rattle.vr_model.specs.routes.Costs.{cost};
 ghost use Rattle.vr_model.specs.routes.Rules.{is_valid};
@@ -9,7 +9,7 @@ ghost use Rattle.vr_routes.specs.Changes.{IsMadeOn, after};
 ghost use Rattle.vr_routes.specs.Pieces.{changed};
 ghost use Rattle.vr_routes.specs.Judging.{IsNoLess};
 ghost use Rattle.vr_routes.specs.Runs.{with_last};
-ghost use Rattle.vr_known.specs.Blocks.{kind_of};
+ghost use Rattle.vr_model.specs.moves.Kinds.{changes_activity, kind_of};
 ghost use Rattle.vr_usecosts.specs.Fixed.{is_some_fixed};
 ghost use Rattle.vr_parts.specs.Bounds.{IsAddedByChange};
 ghost use Rattle.vr_judge.specs.Costs.{AddArcsBut, PaysArcsAndGroups, StandsCosts};
@@ -79,21 +79,9 @@ fn are_idle(fixed: &FixedCost, plans: &PlanCost, spans: &GlobalSpan) -> bool
 // so.
 #[inline(always)]
 fn keeps_activity(mv: Move) -> bool
-    ensures { result ≡ nat_lt (kind_of mv) 6 }
+    ensures { result ≡ not (changes_activity (kind_of mv)) }
 {
-    match mv {
-        Move::TwoOpt { .. } => true,
-        Move::OrOpt { .. } => true,
-        Move::Relocate { .. } => true,
-        Move::Exchange { .. } => true,
-        Move::Cross { .. } => true,
-        Move::RelocatePair { .. } => true,
-        Move::PairActive { .. } => false,
-        Move::PairInactive { .. } => false,
-        Move::MakeActive { .. } => false,
-        Move::MakeInactive { .. } => false,
-        Move::SwapActive { .. } => false,
-    }
+    !mv.neighbourhood().changes_activity()
 }
 
 // What all cost terms add together.

@@ -1,9 +1,10 @@
--- A move of one of five kinds leaves each visit as often in the lists as it was, so the same visits are active.
+-- A move whose rows are vehicles leaves each visit as often in the lists as it was, so the same visits are active.
 use Rattle.std.proofs.Common.{◌⊎◌, ◌≡◌, ◌≢◌, ◌∙◌, ℕ, suc, ◌+◌, ◌<◌, ◌≤◌, true, false, List, ◌++◌, length, reverse, take, drop, sym, ap, inl, inr, arith, length-set}
 use Rattle.std.specs.Prelude.{IsTrue, ◌==◌, slice_index, slice_range, slice_set}
 use Rattle.std.specs.List.{concat}
 use Rattle.std.proofs.lemmas.List.{get_or-set_other}
 use Rattle.std.proofs.Math.Dec.{eqb}
+use Rattle.std.proofs.lemmas.Bool.{false≢true}
 use Rattle.std.proofs.lemmas.Bool.Decides.{eqb_tells}
 use Rattle.std.proofs.lemmas.List.Folds.{drop_split}
 use Rattle.vr_model.specs.routes.Routes.{route, holds, is_active}
@@ -16,7 +17,7 @@ use Rattle.vr_model.proofs.tables.Tests.{same_tests}
 use Rattle.vr_model.proofs.routes.Lists.{route_set_same, route_set_other, is_active-concat}
 use Rattle.vr_model.proofs.moves.Times.{times, times_in, hit, times_append, times_split, times_reverse, times_set, joined_times, held_times, times_held}
 use Rattle.vr_model.proofs.moves.Kept.{removed_times, inserted_times, replaced_times}
-use Rattle.vr_known.specs.Blocks.{kind_of}
+use Rattle.vr_known.proofs.Applied.{NamesVehicles}
 
 reversed_times : (x : ℕ) (xs : List ℕ) (a e : ℕ) → a ≤ e → times x (reversed_between xs a e) ≡ times x xs
 reversed_times x xs a e low =
@@ -53,7 +54,7 @@ module _ (model : Model) (lists : List (List ℕ)) where
       omega (arith, one, two, same, less, more)
 
   -- a number stands as often after the move as before it
-  pub as_often : (mv : Move) → IsTrue (is_move model lists mv) → kind_of mv < 5 → (x : ℕ) → times_in x (apply model lists mv) ≡ times_in x lists
+  pub as_often : (mv : Move) → IsTrue (is_move model lists mv) → NamesVehicles mv → (x : ℕ) → times_in x (apply model lists mv) ≡ times_in x lists
   as_often (TwoOpt v a b) h kind x =
       let low : v < length lists = Prim.grind arith in
       let order : a ≤ suc b = Prim.grind arith in
@@ -118,7 +119,7 @@ module _ (model : Model) (lists : List (List ℕ)) where
       let join_v = times_append x (take b (route lists w)) (drop a (route lists v)) in
       let join_w = times_append x (take a (route lists v)) (drop b (route lists w)) in
       omega (arith, one, two, same, cut_v, cut_w, join_v, join_w)
-  as_often other h kind x = absurd (omega (arith, kind))
+  as_often other h kind x = absurd (false≢true kind)
 
 -- a number that stands as often or more is active where it was
 active_where : (lists more : List (List ℕ)) (x : ℕ) → times_in x lists ≡ times_in x more → IsTrue (is_active lists x) → IsTrue (is_active more x)
@@ -134,5 +135,5 @@ pub active_same : (lists more : List (List ℕ)) → ((x : ℕ) → times_in x l
 active_same lists more same = λ i x. same_tests (is_active lists x) (is_active more x) (active_where lists more x (same x)) (active_where more lists x (sym (same x))) i
 
 -- the same visits are active after the move as before it
-pub same_active : (model : Model) (lists : List (List ℕ)) (mv : Move) → IsTrue (is_move model lists mv) → kind_of mv < 5 → is_active (apply model lists mv) ≡ is_active lists
+pub same_active : (model : Model) (lists : List (List ℕ)) (mv : Move) → IsTrue (is_move model lists mv) → NamesVehicles mv → is_active (apply model lists mv) ≡ is_active lists
 same_active model lists mv h kind = active_same (apply model lists mv) lists (as_often model lists mv h kind)

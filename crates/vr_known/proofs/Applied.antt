@@ -1,6 +1,7 @@
 -- The lists after a move of one of five kinds: those of its vehicles come from these vehicles' lists, and all others stay.
 use Rattle.std.proofs.Common.{◌≡◌, ◌≢◌, ◌∙◌, ◌⊎◌, ℕ, suc, ◌<◌, List, ◌++◌, length, take, drop, sym, ap, ap₂, inl, inr, arith, length-set}
 use Rattle.std.specs.Prelude.{IsTrue, ◌==◌, ◌&&◌, ◌||◌, ◌-◌, nat_lt, nat_le, slice_set, insert, remove}
+use Rattle.std.proofs.lemmas.Bool.{false≢true}
 use Rattle.std.proofs.lemmas.Bool.Decides.{eqb_tells}
 use Rattle.vr_model.specs.routes.Routes.{route}
 use Rattle.vr_model.specs.moves.Moves.{apply, with_route, reversed_between, chain_moved, node_at, has_chain, is_other, has_some_front}
@@ -10,7 +11,8 @@ use Rattle.vr_model.specs.declared.neighbours.Move.{Move}
 use Rattle.vr_model.specs.declared.neighbours.Move.TheVariants.{TwoOpt, OrOpt, Relocate, Exchange, Cross}
 use Rattle.vr_model.proofs.routes.Lists.{route_set_same, route_set_other}
 use Rattle.vr_routes.proofs.FactLemmas.{of_cross, of_exchange, of_or_opt, of_relocate, of_two_opt}
-use Rattle.vr_known.specs.Blocks.{kind_of, first_of, second_of}
+use Rattle.vr_model.specs.moves.Kinds.{is_by_vehicle, kind_of, owner}
+use Rattle.vr_known.specs.Blocks.{first_of, second_of}
 
 pub same_or_not : (u v : ℕ) → (u ≡ v) ⊎ (u ≢ v)
 same_or_not u v = elim (eqb_tells u v) [ inl same ↦ inl same.1 | inr other ↦ inr other.1 ]
@@ -30,34 +32,38 @@ set_alike lists other v u list more many low same there = elim (same_or_not u v)
   | inr apart ↦ route_set_other lists v u list apart ∙ there ∙ sym (route_set_other other v u more apart)
 ]
 
+-- the rows of the moves are vehicles
+abbrev pub NamesVehicles : Move → Type 0
+NamesVehicles mv = IsTrue (is_by_vehicle (owner (kind_of mv)))
+
 module _ (model : Model) (lists : List (List ℕ)) where
   -- the lists of other vehicles stay
-  pub stays : (mv : Move) (u : ℕ) → kind_of mv < 5 → u ≢ first_of mv → u ≢ second_of mv → route (apply model lists mv) u ≡ route lists u
+  pub stays : (mv : Move) (u : ℕ) → NamesVehicles mv → u ≢ first_of mv → u ≢ second_of mv → route (apply model lists mv) u ≡ route lists u
   stays (TwoOpt v a b) u kind e f = route_set_other lists v u _ e
   stays (OrOpt v a k t) u kind e f = route_set_other lists v u _ e
   stays (Relocate v a w t) u kind e f = route_set_other (with_route lists v _) w u _ f ∙ route_set_other lists v u _ e
   stays (Exchange v a w b) u kind e f = route_set_other (with_route lists v _) w u _ f ∙ route_set_other lists v u _ e
   stays (Cross v a w b) u kind e f = route_set_other (with_route lists v _) w u _ f ∙ route_set_other lists v u _ e
-  stays other u kind e f = absurd (omega (arith, kind))
+  stays other u kind e f = absurd (false≢true kind)
 
-  -- the vehicles that a move of one of five kinds names have lists
-  both_low : (mv : Move) → IsTrue (is_move model lists mv) → kind_of mv < 5 → (first_of mv < length lists) × (second_of mv < length lists)
+  -- the vehicles that such a move names have lists
+  both_low : (mv : Move) → IsTrue (is_move model lists mv) → NamesVehicles mv → (first_of mv < length lists) × (second_of mv < length lists)
   both_low (TwoOpt v a b) h kind = let f = of_two_opt model lists v a b h in (f.vehicle, f.vehicle)
   both_low (OrOpt v a k t) h kind = let f = of_or_opt model lists v a k t h in (f.vehicle, f.vehicle)
   both_low (Relocate v a w t) h kind = let f = of_relocate model lists v a w t h in (f.vehicle, f.other)
   both_low (Exchange v a w b) h kind = let f = of_exchange model lists v a w b h in (f.vehicle, f.other)
   both_low (Cross v a w b) h kind = let f = of_cross model lists v a w b h in (f.vehicle, f.other)
-  both_low other h kind = absurd (omega (arith, kind))
+  both_low other h kind = absurd (false≢true kind)
 
-  pub first_low : (mv : Move) → IsTrue (is_move model lists mv) → kind_of mv < 5 → first_of mv < length lists
+  pub first_low : (mv : Move) → IsTrue (is_move model lists mv) → NamesVehicles mv → first_of mv < length lists
   first_low mv h kind = (both_low mv h kind).0
 
-  pub second_low : (mv : Move) → IsTrue (is_move model lists mv) → kind_of mv < 5 → second_of mv < length lists
+  pub second_low : (mv : Move) → IsTrue (is_move model lists mv) → NamesVehicles mv → second_of mv < length lists
   second_low mv h kind = (both_low mv h kind).1
 
   module _ (other : List (List ℕ)) where
     -- where two lists agree at a vehicle, so do the lists after the move
-    pub alike : (mv : Move) → IsTrue (is_move model lists mv) → kind_of mv < 5 → NamesSame mv lists other → (u : ℕ) → route lists u ≡ route other u
+    pub alike : (mv : Move) → IsTrue (is_move model lists mv) → NamesVehicles mv → NamesSame mv lists other → (u : ℕ) → route lists u ≡ route other u
         → route (apply model lists mv) u ≡ route (apply model other mv) u
     alike (TwoOpt v a b) h kind agree u there =
         set_alike lists other v u _ _ agree.many (first_low (TwoOpt v a b) h kind) (ap (λ l. reversed_between l a (suc b)) agree.first) there
@@ -91,10 +97,10 @@ module _ (model : Model) (lists : List (List ℕ)) where
         set_alike (with_route lists v list) (with_route other v more) w u _ _ many (let l = length-set lists v list in let s = second_low mv h kind in omega (arith, l, s))
         (ap₂ (λ l m. take a l ++ drop b m) agree.first agree.second)
         (set_alike lists other v u list more agree.many (first_low mv h kind) one there)
-    alike mv h kind agree u there = absurd (omega (arith, kind))
+    alike mv h kind agree u there = absurd (false≢true kind)
 
   -- a move of the one is a move of the other
-  pub named_move_local : (other : List (List ℕ)) (mv : Move) → kind_of mv < 5 → NamesSame mv lists other → is_move model other mv ≡ is_move model lists mv
+  pub named_move_local : (other : List (List ℕ)) (mv : Move) → NamesVehicles mv → NamesSame mv lists other → is_move model other mv ≡ is_move model lists mv
   named_move_local other (TwoOpt v a b) kind agree = let n = sym agree.many in let l = sym agree.first in
       λ i. nat_lt v (n i) && (nat_lt a b && nat_lt b (length (l i)))
   named_move_local other (OrOpt v a k t) kind agree = let n = sym agree.many in let l = sym agree.first in
@@ -105,4 +111,4 @@ module _ (model : Model) (lists : List (List ℕ)) where
       λ i. nat_lt v (n i) && (nat_lt w (n i) && (nat_lt a (length (l i)) && (nat_lt b (length (m i)) && (nat_lt v w || ((v == w) && nat_lt a b)))))
   named_move_local other (Cross v a w b) kind agree = let n = sym agree.many in let l = sym agree.first in let m = sym agree.second in
       λ i. nat_lt w (n i) && (nat_lt v w && (nat_le a (length (l i)) && (nat_le b (length (m i)) && has_some_front a b)))
-  named_move_local other mv kind agree = absurd (omega (arith, kind))
+  named_move_local other mv kind agree = absurd (false≢true kind)

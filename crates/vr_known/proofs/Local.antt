@@ -1,6 +1,7 @@
 -- What a move does to the list of each vehicle and to the active visits is the same in lists that agree at the move.
 use Rattle.std.proofs.Common.{◌⊎◌, ◌≡◌, ◌≢◌, ◌∙◌, ℕ, ◌<◌, ◌≤◌, Bool, true, false, not, List, [], length, map, refl, sym, ap, subst, inl, inr, arith}
 use Rattle.std.specs.Prelude.{IsTrue, ◌&&◌, nat_lt, nat_le, insert, remove, slice_set}
+use Rattle.std.proofs.lemmas.Bool.{false≢true}
 use Rattle.std.proofs.lemmas.List.{length-map}
 use Rattle.std.proofs.lemmas.List.Folds.{list_any_at}
 use Rattle.vr_model.specs.deciding.Testing.{and_left, and_right, and_both}
@@ -18,9 +19,10 @@ use Rattle.vr_model.proofs.routes.Lists.{are-lists, route_set_same, route_set_ot
 use Rattle.vr_model.proofs.moves.Times.{times, times_in, times_set}
 use Rattle.vr_model.proofs.moves.Kept.{inactive_times}
 use Rattle.vr_model.proofs.moves.KeptLists.{few}
-use Rattle.vr_known.specs.Blocks.{kind_of, first_of, second_of, IsSource, Agree}
+use Rattle.vr_model.specs.moves.Kinds.{changes_activity, kind_of}
+use Rattle.vr_known.specs.Blocks.{first_of, second_of, IsSource, Agree}
 use Rattle.vr_known.specs.Locality.{Alike}
-use Rattle.vr_known.proofs.Applied.{same_or_not, NamesSame, stays, alike, set_alike, named_move_local}
+use Rattle.vr_known.proofs.Applied.{same_or_not, NamesSame, NamesVehicles, stays, alike, set_alike, named_move_local}
 use Rattle.vr_known.proofs.Activity.{active_same, same_active}
 use Rattle.vr_known.proofs.Pairs.{one_of_lists, comes_held, active_some, route_map, off_the_list, Serves, serves, serves_together, delivers_too, served, target_low, same_active_pair, keeps, active_without}
 
@@ -33,20 +35,20 @@ pub record IsLocal (model : Model) (mv : Move) (lists other : List (List ℕ)) :
   pub each : (u : ℕ) → ComesToSame (route lists u) (route other u) (route (apply model lists mv) u) (route (apply model other mv) u)
   pub active : ComesToSame (is_active lists) (is_active other) (is_active (apply model lists mv)) (is_active (apply model other mv))
 
--- ---- moves of five kinds
+-- ---- moves whose rows are vehicles
 
-five_same : (model : Model) (mv : Move) (lists other : List (List ℕ)) → kind_of mv < 5 → Agree model mv lists other → NamesSame mv lists other
-five_same model (TwoOpt v a b) lists other kind agree = record { many = agree.many; first = agree.source v refl; second = agree.second }
-five_same model (OrOpt v a k t) lists other kind agree = record { many = agree.many; first = agree.source v refl; second = agree.second }
-five_same model (Relocate v a w t) lists other kind agree = record { many = agree.many; first = agree.source v refl; second = agree.second }
-five_same model (Exchange v a w b) lists other kind agree = record { many = agree.many; first = agree.source v refl; second = agree.second }
-five_same model (Cross v a w b) lists other kind agree = record { many = agree.many; first = agree.source v refl; second = agree.second }
-five_same model mv lists other kind agree = absurd (omega (arith, kind))
+owned_same : (model : Model) (mv : Move) (lists other : List (List ℕ)) → NamesVehicles mv → Agree model mv lists other → NamesSame mv lists other
+owned_same model (TwoOpt v a b) lists other kind agree = record { many = agree.many; first = agree.source v refl; second = agree.second }
+owned_same model (OrOpt v a k t) lists other kind agree = record { many = agree.many; first = agree.source v refl; second = agree.second }
+owned_same model (Relocate v a w t) lists other kind agree = record { many = agree.many; first = agree.source v refl; second = agree.second }
+owned_same model (Exchange v a w b) lists other kind agree = record { many = agree.many; first = agree.source v refl; second = agree.second }
+owned_same model (Cross v a w b) lists other kind agree = record { many = agree.many; first = agree.source v refl; second = agree.second }
+owned_same model mv lists other kind agree = absurd (false≢true kind)
 
-module _ (model : Model) (mv : Move) (lists other : List (List ℕ)) (h : IsTrue (is_move model lists mv)) (kind : kind_of mv < 5) (agree : NamesSame mv lists other) where
+module _ (model : Model) (mv : Move) (lists other : List (List ℕ)) (h : IsTrue (is_move model lists mv)) (kind : NamesVehicles mv) (agree : NamesSame mv lists other) where
   -- a vehicle is one of the move's, and so has the same list in both, or its list stays in both
-  five_each : (u : ℕ) → ComesToSame (route lists u) (route other u) (route (apply model lists mv) u) (route (apply model other mv) u)
-  five_each u = elim (same_or_not u (first_of mv)) [
+  owned_each : (u : ℕ) → ComesToSame (route lists u) (route other u) (route (apply model lists mv) u) (route (apply model other mv) u)
+  owned_each u = elim (same_or_not u (first_of mv)) [
     | inl here ↦ same (ap (route lists) here ∙ agree.first ∙ ap (route other) (sym here))
     | inr apart ↦ elim (same_or_not u (second_of mv)) [
       | inl here ↦ same (ap (route lists) here ∙ agree.second ∙ ap (route other) (sym here))
@@ -57,10 +59,10 @@ module _ (model : Model) (mv : Move) (lists other : List (List ℕ)) (h : IsTrue
       same : route lists u ≡ route other u → ComesToSame (route lists u) (route other u) (route (apply model lists mv) u) (route (apply model other mv) u)
       same e = inl (e, alike model lists other mv h kind agree u e)
 
-  five_local : IsLocal model mv lists other
-  five_local = record {
+  owned_local : IsLocal model mv lists other
+  owned_local = record {
     many = agree.many;
-    each = five_each;
+    each = owned_each;
     active = inr (same_active model lists mv h kind, same_active model other mv (named_move_local model lists other mv kind agree ∙ h) kind);
   }
 
@@ -214,7 +216,7 @@ module _ (model : Model) (lists other : List (List ℕ)) (p : ℕ) (h : IsTrue (
 
     out_local : IsLocal model (PairInactive p) lists other
     out_local =
-        let same = agree.active (omega arith) in
+        let same = agree.active refl in
         record {
           many = agree.many;
           each = out_each;
@@ -226,20 +228,20 @@ module _ (model : Model) (lists other : List (List ℕ)) (p : ℕ) (h : IsTrue (
 -- a move of the one is a move of the other
 pub moves_local : (model : Model) (lists other : List (List ℕ)) (mv : Move) → IsTrue (is_move model lists mv) → Agree model mv lists other → is_move model other mv ≡ is_move model lists mv
 moves_local model lists other (RelocatePair p w s t) h agree = pair_moves model lists other p w s t h agree ∙ sym h
-moves_local model lists other (PairActive p w s t) h agree = let n = sym agree.many in let l = sym agree.second in let f = sym (agree.active (omega arith)) in
+moves_local model lists other (PairActive p w s t) h agree = let n = sym agree.many in let l = sym agree.second in let f = sym (agree.active refl) in
     λ i. (not (f i (pair_at model p).pickup) && not (f i (pair_at model p).delivery)) && (nat_lt p (length model.pairs) && (nat_lt w (n i) && (nat_le s t && nat_le t (length (l i)))))
 moves_local model lists other (PairInactive p) h agree = out_moves model lists other p h agree ∙ sym h
-moves_local model lists other (MakeActive u w t) h agree = let n = sym agree.many in let l = sym agree.second in let f = sym (agree.active (omega arith)) in
+moves_local model lists other (MakeActive u w t) h agree = let n = sym agree.many in let l = sym agree.second in let f = sym (agree.active refl) in
     λ i. (is_visit model u && not (f i u)) && (nat_lt w (n i) && nat_le t (length (l i)))
 moves_local model lists other (MakeInactive v a) h agree = let n = sym agree.many in let l = sym agree.second in
     λ i. nat_lt v (n i) && nat_lt a (length (l i))
-moves_local model lists other (SwapActive v a u) h agree = let n = sym agree.many in let l = sym agree.second in let f = sym (agree.active (omega arith)) in
+moves_local model lists other (SwapActive v a u) h agree = let n = sym agree.many in let l = sym agree.second in let f = sym (agree.active refl) in
     λ i. nat_lt v (n i) && (nat_lt a (length (l i)) && (is_visit model u && not (f i u)))
-moves_local model lists other (TwoOpt v a b) h agree = named_move_local model lists other (TwoOpt v a b) (omega arith) (five_same model (TwoOpt v a b) lists other (omega arith) agree)
-moves_local model lists other (OrOpt v a k t) h agree = named_move_local model lists other (OrOpt v a k t) (omega arith) (five_same model (OrOpt v a k t) lists other (omega arith) agree)
-moves_local model lists other (Relocate v a w t) h agree = named_move_local model lists other (Relocate v a w t) (omega arith) (five_same model (Relocate v a w t) lists other (omega arith) agree)
-moves_local model lists other (Exchange v a w b) h agree = named_move_local model lists other (Exchange v a w b) (omega arith) (five_same model (Exchange v a w b) lists other (omega arith) agree)
-moves_local model lists other (Cross v a w b) h agree = named_move_local model lists other (Cross v a w b) (omega arith) (five_same model (Cross v a w b) lists other (omega arith) agree)
+moves_local model lists other (TwoOpt v a b) h agree = named_move_local model lists other (TwoOpt v a b) refl (owned_same model (TwoOpt v a b) lists other refl agree)
+moves_local model lists other (OrOpt v a k t) h agree = named_move_local model lists other (OrOpt v a k t) refl (owned_same model (OrOpt v a k t) lists other refl agree)
+moves_local model lists other (Relocate v a w t) h agree = named_move_local model lists other (Relocate v a w t) refl (owned_same model (Relocate v a w t) lists other refl agree)
+moves_local model lists other (Exchange v a w b) h agree = named_move_local model lists other (Exchange v a w b) refl (owned_same model (Exchange v a w b) lists other refl agree)
+moves_local model lists other (Cross v a w b) h agree = named_move_local model lists other (Cross v a w b) refl (owned_same model (Cross v a w b) lists other refl agree)
 
 module _ (model : Model) (lists other : List (List ℕ)) (valid : IsTrue (is_valid model lists)) (other_valid : IsTrue (is_valid model other)) where
   few_in : (x : ℕ) → times_in x lists ≤ 1
@@ -248,11 +250,11 @@ module _ (model : Model) (lists other : List (List ℕ)) (valid : IsTrue (is_val
   few_in_other : (x : ℕ) → times_in x other ≤ 1
   few_in_other = few model other (are-lists model other other_valid)
 
-  one_list : (mv : Move) (w : ℕ) (list more : List ℕ) → apply model lists mv ≡ with_route lists w list → apply model other mv ≡ with_route other w more → second_of mv ≡ w → 5 < kind_of mv
+  one_list : (mv : Move) (w : ℕ) (list more : List ℕ) → apply model lists mv ≡ with_route lists w list → apply model other mv ≡ with_route other w more → second_of mv ≡ w → IsTrue (changes_activity (kind_of mv))
       → w < length lists → list ≡ more → Agree model mv lists other → IsLocal model mv lists other
-  one_list mv w list more made made_too named high low same agree =
+  one_list mv w list more made made_too named changes low same agree =
       let there : route lists w ≡ route other w = ap (route lists) (sym named) ∙ agree.second ∙ ap (route other) named in
-      let active = agree.active high in
+      let active = agree.active changes in
       record {
         many = agree.many;
         each = λ u. subst (λ l. ComesToSame (route lists u) (route other u) (route l u) (route (apply model other mv) u)) (sym made)
@@ -263,34 +265,34 @@ module _ (model : Model) (lists other : List (List ℕ)) (valid : IsTrue (is_val
   local_of : (mv : Move) → IsTrue (is_move model lists mv) → Agree model mv lists other → IsLocal model mv lists other
   local_of (RelocatePair p w s t) h agree = pair_local model lists other p w s t h agree few_in few_in_other
   local_of (PairActive p w s t) h agree =
-      one_list (PairActive p w s t) w _ _ refl refl refl (omega arith) (let low : w < length lists = Prim.grind arith in low) (ap (with_pair (pair_at model p) s t) agree.second) agree
+      one_list (PairActive p w s t) w _ _ refl refl refl refl (let low : w < length lists = Prim.grind arith in low) (ap (with_pair (pair_at model p) s t) agree.second) agree
   local_of (PairInactive p) h agree = out_local model lists other p h agree few_in few_in_other
   local_of (MakeActive u w t) h agree =
-      one_list (MakeActive u w t) w _ _ refl refl refl (omega arith) (let low : w < length lists = Prim.grind arith in low) (ap (λ l. insert l t u) agree.second) agree
+      one_list (MakeActive u w t) w _ _ refl refl refl refl (let low : w < length lists = Prim.grind arith in low) (ap (λ l. insert l t u) agree.second) agree
   local_of (MakeInactive v a) h agree =
-      one_list (MakeInactive v a) v _ _ refl refl refl (omega arith) (let low : v < length lists = Prim.grind arith in low) (ap (λ l. remove l a) agree.second) agree
+      one_list (MakeInactive v a) v _ _ refl refl refl refl (let low : v < length lists = Prim.grind arith in low) (ap (λ l. remove l a) agree.second) agree
   local_of (SwapActive v a u) h agree =
-      one_list (SwapActive v a u) v _ _ refl refl refl (omega arith) (let low : v < length lists = Prim.grind arith in low) (ap (λ l. slice_set l a u) agree.second) agree
-  local_of (TwoOpt v a b) h agree = five_local model (TwoOpt v a b) lists other h (omega arith) (five_same model (TwoOpt v a b) lists other (omega arith) agree)
-  local_of (OrOpt v a k t) h agree = five_local model (OrOpt v a k t) lists other h (omega arith) (five_same model (OrOpt v a k t) lists other (omega arith) agree)
-  local_of (Relocate v a w t) h agree = five_local model (Relocate v a w t) lists other h (omega arith) (five_same model (Relocate v a w t) lists other (omega arith) agree)
-  local_of (Exchange v a w b) h agree = five_local model (Exchange v a w b) lists other h (omega arith) (five_same model (Exchange v a w b) lists other (omega arith) agree)
-  local_of (Cross v a w b) h agree = five_local model (Cross v a w b) lists other h (omega arith) (five_same model (Cross v a w b) lists other (omega arith) agree)
+      one_list (SwapActive v a u) v _ _ refl refl refl refl (let low : v < length lists = Prim.grind arith in low) (ap (λ l. slice_set l a u) agree.second) agree
+  local_of (TwoOpt v a b) h agree = owned_local model (TwoOpt v a b) lists other h refl (owned_same model (TwoOpt v a b) lists other refl agree)
+  local_of (OrOpt v a k t) h agree = owned_local model (OrOpt v a k t) lists other h refl (owned_same model (OrOpt v a k t) lists other refl agree)
+  local_of (Relocate v a w t) h agree = owned_local model (Relocate v a w t) lists other h refl (owned_same model (Relocate v a w t) lists other refl agree)
+  local_of (Exchange v a w b) h agree = owned_local model (Exchange v a w b) lists other h refl (owned_same model (Exchange v a w b) lists other refl agree)
+  local_of (Cross v a w b) h agree = owned_local model (Cross v a w b) lists other h refl (owned_same model (Cross v a w b) lists other refl agree)
 
 pub is_local : (model : Model) (lists other : List (List ℕ)) (mv : Move) → Alike model mv lists other → IsLocal model mv lists other
 is_local model lists other mv both = local_of model lists other both.valid both.other_valid mv both.is_one both.agree
 
 -- ---- what a move leaves
 
--- a move of a kind that changes no activity leaves the active visits
-pub activity_stays : (model : Model) (lists : List (List ℕ)) (mv : Move) → IsTrue (is_move model lists mv) → kind_of mv < 6 → is_active (apply model lists mv) ≡ is_active lists
+-- a move that changes no activity leaves the active visits
+pub activity_stays : (model : Model) (lists : List (List ℕ)) (mv : Move) → IsTrue (is_move model lists mv) → changes_activity (kind_of mv) ≡ false → is_active (apply model lists mv) ≡ is_active lists
 activity_stays model lists (RelocatePair p w s t) h low = same_active_pair model lists p w s t h
-activity_stays model lists (TwoOpt v a b) h low = same_active model lists (TwoOpt v a b) h (omega arith)
-activity_stays model lists (OrOpt v a k t) h low = same_active model lists (OrOpt v a k t) h (omega arith)
-activity_stays model lists (Relocate v a w t) h low = same_active model lists (Relocate v a w t) h (omega arith)
-activity_stays model lists (Exchange v a w b) h low = same_active model lists (Exchange v a w b) h (omega arith)
-activity_stays model lists (Cross v a w b) h low = same_active model lists (Cross v a w b) h (omega arith)
-activity_stays model lists mv h low = absurd (omega (arith, low))
+activity_stays model lists (TwoOpt v a b) h low = same_active model lists (TwoOpt v a b) h refl
+activity_stays model lists (OrOpt v a k t) h low = same_active model lists (OrOpt v a k t) h refl
+activity_stays model lists (Relocate v a w t) h low = same_active model lists (Relocate v a w t) h refl
+activity_stays model lists (Exchange v a w b) h low = same_active model lists (Exchange v a w b) h refl
+activity_stays model lists (Cross v a w b) h low = same_active model lists (Cross v a w b) h refl
+activity_stays model lists mv h still = absurd (false≢true (sym still))
 
 -- the list of a vehicle that is none of the move's stays
 module _ (model : Model) (lists : List (List ℕ)) (few_here : (x : ℕ) → times_in x lists ≤ 1) where
@@ -309,11 +311,11 @@ module _ (model : Model) (lists : List (List ℕ)) (few_here : (x : ℕ) → tim
   others_stay (MakeActive x w t) h v source u apart too = route_set_other lists w u _ too
   others_stay (MakeInactive x a) h v source u apart too = route_set_other lists x u _ too
   others_stay (SwapActive x a y) h v source u apart too = route_set_other lists x u _ too
-  others_stay (TwoOpt x a b) h v source u apart too = stays model lists (TwoOpt x a b) u (omega arith) too too
-  others_stay (OrOpt x a k t) h v source u apart too = stays model lists (OrOpt x a k t) u (omega arith) too too
-  others_stay (Relocate x a w t) h v source u apart too = stays model lists (Relocate x a w t) u (omega arith) (λ e. apart (e ∙ sym source)) too
-  others_stay (Exchange x a w b) h v source u apart too = stays model lists (Exchange x a w b) u (omega arith) (λ e. apart (e ∙ sym source)) too
-  others_stay (Cross x a w b) h v source u apart too = stays model lists (Cross x a w b) u (omega arith) (λ e. apart (e ∙ sym source)) too
+  others_stay (TwoOpt x a b) h v source u apart too = stays model lists (TwoOpt x a b) u refl too too
+  others_stay (OrOpt x a k t) h v source u apart too = stays model lists (OrOpt x a k t) u refl too too
+  others_stay (Relocate x a w t) h v source u apart too = stays model lists (Relocate x a w t) u refl (λ e. apart (e ∙ sym source)) too
+  others_stay (Exchange x a w b) h v source u apart too = stays model lists (Exchange x a w b) u refl (λ e. apart (e ∙ sym source)) too
+  others_stay (Cross x a w b) h v source u apart too = stays model lists (Cross x a w b) u refl (λ e. apart (e ∙ sym source)) too
 
   -- a vehicle of the move's
   pub has_source : (mv : Move) → IsTrue (is_move model lists mv) → (v : ℕ) × IsSource model lists mv v

@@ -2,26 +2,27 @@
 use Rattle.std.proofs.Common.{◌≡◌, ◌≢◌, ◌∙◌, ◌⊎◌, ℕ, zero, suc, ◌+◌, ◌*◌, ◌<◌, ◌≤◌, Bool, true, false, ◌&&◌, ◌||◌, cond, List, [], ◌∷◌, length, drop, drop-cons, add-one, refl, sym, ap, subst, inl, inr, arith, nat_lt}
 use Rattle.std.specs.Prelude.{IsTrue, ◌==◌, slice_index_or, slice_set}
 use Rattle.std.proofs.Math.ListN.{replicate}
-use Rattle.std.proofs.lemmas.Bool.{cases_lt}
-use Rattle.std.proofs.lemmas.Bool.Decides.{eqb_tells}
+use Rattle.std.proofs.lemmas.Bool.{cases_Bool, cases_lt, false≢true}
 use Rattle.std.proofs.lemmas.List.{get_or-set_same, get_or-set_other, get_or_past}
 use Rattle.vr_model.specs.deciding.Testing.{and_left, and_right, and_both, eq_of_test, or_cases, or_left, or_right, test_of_eq}
 use Rattle.vr_model.specs.tables.Tables.{pair_at}
 use Rattle.vr_model.specs.routes.Routes.{route, holds, is_active}
-use Rattle.vr_model.specs.moves.Moves.{is_pair_served, without_pair}
+use Rattle.vr_model.specs.moves.Moves.{all_neighbourhoods, is_pair_served, without_pair}
 use Rattle.vr_model.specs.moves.MoveTests.{is_move, may_put_pair}
 use Rattle.vr_model.specs.declared.records.Model.{Model}
 use Rattle.vr_model.specs.declared.neighbours.Move.{Move}
 use Rattle.vr_model.specs.declared.neighbours.Move.TheVariants.{TwoOpt, OrOpt, Relocate, Exchange, Cross, RelocatePair, PairActive, PairInactive, MakeActive, MakeInactive, SwapActive}
 use Rattle.vr_model.specs.declared.neighbours.Neighbourhood.{Neighbourhood}
+use Rattle.vr_model.specs.declared.neighbours.Neighbourhood.TheVariants as all
 use Rattle.vr_model.proofs.tables.Tests.{clash, test_of_lt}
 use Rattle.vr_model.proofs.routes.Lists.{held_at}
 use Rattle.vr_model.proofs.moves.Times.{held_times, times_route}
 use Rattle.vr_model.proofs.moves.Kept.{pair_of_test}
 use Rattle.vr_routes.specs.Seats.{IsSeat, IsOnce}
 use Rattle.vr_routes.proofs.OnceLemmas.{few_times}
-use Rattle.vr_model.specs.tables.WellFormed.{neighbourhood_number as kind_at}
-use Rattle.vr_known.specs.Blocks.{Memory, AreSettled, IsApart, IsSource, common_change, covers, seen_at, changed_at, is_known, is_later, is_behind, is_by_pair, is_kind_of, rows_of, stamp_of, kind_of, first_of, second_of}
+use Rattle.vr_model.specs.tables.WellFormed.{neighbourhood_number as number}
+use Rattle.vr_model.specs.moves.Kinds.{changes_activity, is_by_pair, is_by_vehicle, is_same_kind, kind_of, owner, rows_of}
+use Rattle.vr_known.specs.Blocks.{Memory, AreSettled, IsApart, IsSource, common_change, covers, seen_at, changed_at, is_known, is_later, is_behind, is_kind_of, rows_before, stamp_of, first_of, second_of}
 use Rattle.vr_known.proofs.Applied.{same_or_not}
 use Rattle.vr_known.proofs.Pairs.{nowhere_else, some_active}
 
@@ -45,84 +46,98 @@ fails_right false b e = refl
 
 -- ---- rows
 
--- the four ways in which stamps stand
-abbrev Stands : ℕ → ℕ → ℕ → Type 0
-Stands k u s = ((k < 5) × (u < 100) × (s ≡ k * 100 + u))
-    ⊎ (((k ≡ 5) × (u < 500) × (s ≡ 500 + u)) ⊎ (((k ≡ 7) × (u < 500) × (s ≡ 1000 + u)) ⊎ ((5 < k) × (k ≢ 7) × (u ≡ 0) × (s ≡ 1500 + k))))
+-- the neighbourhood of a number
+neighbourhood_of : ℕ → Neighbourhood
+neighbourhood_of zero = all.TwoOpt
+neighbourhood_of (suc zero) = all.OrOpt
+neighbourhood_of (suc (suc zero)) = all.Relocate
+neighbourhood_of (suc (suc (suc zero))) = all.Exchange
+neighbourhood_of (suc (suc (suc (suc zero)))) = all.Cross
+neighbourhood_of (suc (suc (suc (suc (suc zero))))) = all.RelocatePair
+neighbourhood_of (suc (suc (suc (suc (suc (suc zero)))))) = all.PairActive
+neighbourhood_of (suc (suc (suc (suc (suc (suc (suc zero))))))) = all.PairInactive
+neighbourhood_of (suc (suc (suc (suc (suc (suc (suc (suc zero)))))))) = all.MakeActive
+neighbourhood_of (suc (suc (suc (suc (suc (suc (suc (suc (suc zero))))))))) = all.MakeInactive
+neighbourhood_of n = all.SwapActive
 
-stands : (k u : ℕ) → u < rows_of k → Stands k u (stamp_of k u)
-stands k u low = elim (cases_lt k 5) [
-  | inl five ↦ inl (five, row_of_five five low, at_five five)
-  | inr more ↦ elim (cases_lt k 6) [
-    | inl pair ↦ (let is : k ≡ 5 = omega (arith, more, pair) in inr (inl (is, row_of_pair is low, at_pair is)))
-    | inr high ↦ elim (same_or_not k 7) [
-      | inl out ↦ inr (inr (inl (out, row_of_out out low, at_out out)))
-      | inr other ↦ inr (inr (inr (omega (arith, high), other, row_of_kind high other low, at_kind high other)))
-    ]
-  ]
-]
+numbered : (n : Neighbourhood) → neighbourhood_of (number n) ≡ n
+unfolding neighbourhood_of
+numbered all.TwoOpt = refl
+numbered all.OrOpt = refl
+numbered all.Relocate = refl
+numbered all.Exchange = refl
+numbered all.Cross = refl
+numbered all.RelocatePair = refl
+numbered all.PairActive = refl
+numbered all.PairInactive = refl
+numbered all.MakeActive = refl
+numbered all.MakeInactive = refl
+numbered all.SwapActive = refl
+
+-- two neighbourhoods are the same if their test says so, and only then
+pub same_kind : (n o : Neighbourhood) → IsTrue (is_same_kind n o) → n ≡ o
+same_kind n o same = sym (numbered n) ∙ ap neighbourhood_of (eq_of_test (number n) (number o) same) ∙ numbered o
+
+pub same_test : (n o : Neighbourhood) → n ≡ o → IsTrue (is_same_kind n o)
+same_test n o same = test_of_eq (number n) (number o) (ap number same)
+
+-- a neighbourhood is among some
+abbrev is_among : Neighbourhood → List Neighbourhood → Bool
+is_among kind [] = false
+is_among kind (n ∷ ns) = is_same_kind n kind || is_among kind ns
+
+-- each row has a place of its own among those of neighbourhoods
+one_place : (ns : List Neighbourhood) (k kind : Neighbourhood) (u row : ℕ) → IsTrue (is_among k ns) → IsTrue (is_among kind ns) → u < rows_of k → row < rows_of kind
+    → rows_before k ns + u ≡ rows_before kind ns + row → (k ≡ kind) × (u ≡ row)
+one_place [] k kind u row among too low low_row same = absurd (false≢true among)
+one_place (n ∷ ns) k kind u row among too low low_row same =
+    by (is_same_kind n k) (is_same_kind n kind) (λ a b s. one_place ns k kind u row a b low low_row s) refl refl among too same
   where
-    row_of_five : k < 5 → u < rows_of k → u < 100
-    row_of_five five low = Prim.grind arith
+    by : (b c : Bool) → (IsTrue (is_among k ns) → IsTrue (is_among kind ns) → rows_before k ns + u ≡ rows_before kind ns + row → (k ≡ kind) × (u ≡ row))
+        → is_same_kind n k ≡ b → is_same_kind n kind ≡ c → IsTrue (b || is_among k ns) → IsTrue (c || is_among kind ns)
+        → cond b 0 (rows_of n + rows_before k ns) + u ≡ cond c 0 (rows_of n + rows_before kind ns) + row → (k ≡ kind) × (u ≡ row)
+    by true true later is is_too among too same = (sym (same_kind n k is) ∙ same_kind n kind is_too, omega (arith, same))
+    by true false later is other among too same = absurd (
+        let few : u < rows_of n = subst (λ m. u < rows_of m) (sym (same_kind n k is)) low in
+        omega (arith, few, same))
+    by false true later other is among too same = absurd (
+        let few : row < rows_of n = subst (λ m. row < rows_of m) (sym (same_kind n kind is)) low_row in
+        omega (arith, few, same))
+    by false false later other other_too among too same = later among too (omega (arith, same))
 
-    at_five : k < 5 → stamp_of k u ≡ k * 100 + u
-    at_five five = Prim.grind arith
-
-    row_of_pair : k ≡ 5 → u < rows_of k → u < 500
-    row_of_pair is low = subst (λ n. u < rows_of n) is low
-
-    at_pair : k ≡ 5 → stamp_of k u ≡ 500 + u
-    at_pair is = ap (λ n. stamp_of n u) is
-
-    row_of_out : k ≡ 7 → u < rows_of k → u < 500
-    row_of_out is low = subst (λ n. u < rows_of n) is low
-
-    at_out : k ≡ 7 → stamp_of k u ≡ 1000 + u
-    at_out is = ap (λ n. stamp_of n u) is
-
-    row_of_kind : 6 ≤ k → k ≢ 7 → u < rows_of k → u ≡ 0
-    row_of_kind high other low = Prim.grind arith
-
-    at_kind : 6 ≤ k → k ≢ 7 → stamp_of k u ≡ 1500 + k
-    at_kind high other = Prim.grind arith
+each_among : (k : Neighbourhood) → IsTrue (is_among k all_neighbourhoods)
+each_among all.TwoOpt = refl
+each_among all.OrOpt = refl
+each_among all.Relocate = refl
+each_among all.Exchange = refl
+each_among all.Cross = refl
+each_among all.RelocatePair = refl
+each_among all.PairActive = refl
+each_among all.PairInactive = refl
+each_among all.MakeActive = refl
+each_among all.MakeInactive = refl
+each_among all.SwapActive = refl
 
 -- each row has a stamp of its own
-pub one_stamp : (k u kind row : ℕ) → u < rows_of k → row < rows_of kind → stamp_of k u ≡ stamp_of kind row → (k ≡ kind) × (u ≡ row)
-one_stamp k u kind row low low_row same = by (stands k u low) (stands kind row low_row)
-  where
-    by : Stands k u (stamp_of k u) → Stands kind row (stamp_of kind row) → (k ≡ kind) × (u ≡ row)
-    by (inl a) (inl b) = let x = a.0 in let y = a.1 in let s = a.2 in let z = b.0 in let w = b.1 in let t = b.2 in (omega (arith, same, x, y, s, z, w, t), omega (arith, same, x, y, s, z, w, t))
-    by (inl a) (inr (inl b)) = let x = a.0 in let y = a.1 in let s = a.2 in let z = b.0 in let w = b.1 in let t = b.2 in absurd (omega (arith, same, x, y, s, z, w, t))
-    by (inl a) (inr (inr (inl b))) = let x = a.0 in let y = a.1 in let s = a.2 in let z = b.0 in let w = b.1 in let t = b.2 in absurd (omega (arith, same, x, y, s, z, w, t))
-    by (inl a) (inr (inr (inr b))) = let x = a.0 in let y = a.1 in let s = a.2 in let z = b.0 in let w = b.2 in let t = b.3 in absurd (omega (arith, same, x, y, s, z, w, t))
-    by (inr (inl a)) (inl b) = let x = a.0 in let y = a.1 in let s = a.2 in let z = b.0 in let w = b.1 in let t = b.2 in absurd (omega (arith, same, x, y, s, z, w, t))
-    by (inr (inl a)) (inr (inl b)) = let x = a.0 in let y = a.1 in let s = a.2 in let z = b.0 in let w = b.1 in let t = b.2 in (omega (arith, same, x, y, s, z, w, t), omega (arith, same, x, y, s, z, w, t))
-    by (inr (inl a)) (inr (inr (inl b))) = let x = a.0 in let y = a.1 in let s = a.2 in let z = b.0 in let w = b.1 in let t = b.2 in absurd (omega (arith, same, x, y, s, z, w, t))
-    by (inr (inl a)) (inr (inr (inr b))) = let x = a.0 in let y = a.1 in let s = a.2 in let z = b.0 in let w = b.2 in let t = b.3 in absurd (omega (arith, same, x, y, s, z, w, t))
-    by (inr (inr (inl a))) (inl b) = let x = a.0 in let y = a.1 in let s = a.2 in let z = b.0 in let w = b.1 in let t = b.2 in absurd (omega (arith, same, x, y, s, z, w, t))
-    by (inr (inr (inl a))) (inr (inl b)) = let x = a.0 in let y = a.1 in let s = a.2 in let z = b.0 in let w = b.1 in let t = b.2 in absurd (omega (arith, same, x, y, s, z, w, t))
-    by (inr (inr (inl a))) (inr (inr (inl b))) = let x = a.0 in let y = a.1 in let s = a.2 in let z = b.0 in let w = b.1 in let t = b.2 in (omega (arith, same, x, y, s, z, w, t), omega (arith, same, x, y, s, z, w, t))
-    by (inr (inr (inl a))) (inr (inr (inr b))) = let x = a.0 in let y = a.1 in let s = a.2 in let z = b.0 in let w = b.2 in let t = b.3 in absurd (omega (arith, same, x, y, s, z, w, t))
-    by (inr (inr (inr a))) (inl b) = let x = a.0 in let y = a.2 in let s = a.3 in let z = b.0 in let w = b.1 in let t = b.2 in absurd (omega (arith, same, x, y, s, z, w, t))
-    by (inr (inr (inr a))) (inr (inl b)) = let x = a.0 in let y = a.2 in let s = a.3 in let z = b.0 in let w = b.1 in let t = b.2 in absurd (omega (arith, same, x, y, s, z, w, t))
-    by (inr (inr (inr a))) (inr (inr (inl b))) = let x = a.0 in let y = a.2 in let s = a.3 in let z = b.0 in let w = b.1 in let t = b.2 in absurd (omega (arith, same, x, y, s, z, w, t))
-    by (inr (inr (inr a))) (inr (inr (inr b))) = let x = a.0 in let y = a.2 in let s = a.3 in let z = b.0 in let w = b.2 in let t = b.3 in (omega (arith, same, x, y, s, z, w, t), omega (arith, same, x, y, s, z, w, t))
+pub one_stamp : (k : Neighbourhood) (u : ℕ) (kind : Neighbourhood) (row : ℕ) → u < rows_of k → row < rows_of kind → stamp_of k u ≡ stamp_of kind row → (k ≡ kind) × (u ≡ row)
+one_stamp k u kind row low low_row same = one_place all_neighbourhoods k kind u row (each_among k) (each_among kind) low low_row same
 
-pub stamp_within : (kind row : ℕ) → kind < 11 → row < rows_of kind → stamp_of kind row < 1511
-stamp_within kind row few low = elim (stands kind row low) [
-  | inl a ↦ (let x = a.0 in let y = a.1 in let e = a.2 in omega (arith, x, y, e))
-  | inr more ↦ elim more [
-    | inl a ↦ (let x = a.1 in let e = a.2 in omega (arith, x, e))
-    | inr most ↦ elim most [
-      | inl a ↦ (let x = a.1 in let e = a.2 in omega (arith, x, e))
-      | inr a ↦ (let e = a.3 in omega (arith, few, e))
-    ]
-  ]
-]
+pub stamp_within : (kind : Neighbourhood) (row : ℕ) → row < rows_of kind → stamp_of kind row < 1504
+stamp_within all.TwoOpt row low = omega (arith, low)
+stamp_within all.OrOpt row low = omega (arith, low)
+stamp_within all.Relocate row low = omega (arith, low)
+stamp_within all.Exchange row low = omega (arith, low)
+stamp_within all.Cross row low = omega (arith, low)
+stamp_within all.RelocatePair row low = omega (arith, low)
+stamp_within all.PairActive row low = omega (arith, low)
+stamp_within all.PairInactive row low = omega (arith, low)
+stamp_within all.MakeActive row low = omega (arith, low)
+stamp_within all.MakeInactive row low = omega (arith, low)
+stamp_within all.SwapActive row low = omega (arith, low)
 
 -- ---- what is known
 
-module _ (memory : Memory) (kind row : ℕ) where
+module _ (memory : Memory) (kind : Neighbourhood) (row : ℕ) where
   pub first_known : (w : ℕ) → IsTrue (is_known memory kind row w) → IsTrue (nat_lt (common_change memory kind row) (seen_at memory kind row))
   first_known w h = and_left (nat_lt (common_change memory kind row) (seen_at memory kind row)) _ h
 
@@ -151,7 +166,7 @@ module _ (memory : Memory) where
   unsettled = record memory { active = memory.clock }
 
   -- one row is learned
-  pub learns : (kind row i : ℕ) → i ≡ stamp_of kind row → row < rows_of kind → (k u w : ℕ) → u < rows_of k → IsTrue (is_known (learned i) k u w) → IsTrue (is_known memory k u w) ⊎ ((k ≡ kind) × (u ≡ row))
+  pub learns : (kind : Neighbourhood) (row i : ℕ) → i ≡ stamp_of kind row → row < rows_of kind → (k : Neighbourhood) (u w : ℕ) → u < rows_of k → IsTrue (is_known (learned i) k u w) → IsTrue (is_known memory k u w) ⊎ ((k ≡ kind) × (u ≡ row))
   learns kind row i is low k u w low_u h = elim (same_or_not (stamp_of k u) i) [
     | inl same ↦ inr (one_stamp k u kind row low_u low (same ∙ is))
     | inr apart ↦ inl (subst (λ s. IsTrue (nat_lt (common_change memory k u) s && nat_lt (changed_at memory w) s)) (get_or-set_other memory.seen i (stamp_of k u) memory.clock 0 apart) h)
@@ -159,31 +174,31 @@ module _ (memory : Memory) where
 
   -- one row is forgotten
   module _ (i : ℕ) (low : i < length memory.seen) where
-    emptied_seen : (k u : ℕ) → (seen_at (emptied i) k u ≡ 0) ⊎ (seen_at (emptied i) k u ≡ seen_at memory k u)
+    emptied_seen : (k : Neighbourhood) (u : ℕ) → (seen_at (emptied i) k u ≡ 0) ⊎ (seen_at (emptied i) k u ≡ seen_at memory k u)
     emptied_seen k u = elim (same_or_not (stamp_of k u) i) [
       | inl same ↦ inl (ap (λ j. slice_index_or (slice_set memory.seen i 0) j 0) same ∙ get_or-set_same memory.seen i 0 0 low)
       | inr apart ↦ inr (get_or-set_other memory.seen i (stamp_of k u) 0 0 apart)
     ]
 
-    pub emptied_fewer : (k u w : ℕ) → IsTrue (is_known (emptied i) k u w) → IsTrue (is_known memory k u w)
+    pub emptied_fewer : (k : Neighbourhood) (u w : ℕ) → IsTrue (is_known (emptied i) k u w) → IsTrue (is_known memory k u w)
     emptied_fewer k u w h = elim (emptied_seen k u) [
       | inl none ↦ absurd (clash (is_known (emptied i) k u w) h (unseen_unknown (emptied i) k u w none))
       | inr same ↦ subst (λ s. IsTrue (nat_lt (common_change memory k u) s && nat_lt (changed_at memory w) s)) same h
     ]
 
-    pub emptied_earlier : (k u w : ℕ) → IsTrue (is_later (emptied i) k u w) → IsTrue (is_later memory k u w)
+    pub emptied_earlier : (k : Neighbourhood) (u w : ℕ) → IsTrue (is_later (emptied i) k u w) → IsTrue (is_later memory k u w)
     emptied_earlier k u w h = elim (emptied_seen k u) [
       | inl none ↦ absurd (clash (is_later (emptied i) k u w) h (unseen_not_later (emptied i) k u w none))
       | inr same ↦ subst (λ s. IsTrue (nat_lt (changed_at memory w) s)) same h
     ]
 
-    pub emptied_keeps : (k u w v : ℕ) → IsTrue (is_known (emptied i) k u w) → IsTrue (is_later memory k u v) → IsTrue (is_later (emptied i) k u v)
+    pub emptied_keeps : (k : Neighbourhood) (u w v : ℕ) → IsTrue (is_known (emptied i) k u w) → IsTrue (is_later memory k u v) → IsTrue (is_later (emptied i) k u v)
     emptied_keeps k u w v h before = elim (emptied_seen k u) [
       | inl none ↦ absurd (clash (is_known (emptied i) k u w) h (unseen_unknown (emptied i) k u w none))
       | inr same ↦ subst (λ s. IsTrue (nat_lt (changed_at memory v) s)) (sym same) before
     ]
 
-    pub emptied_unknown : (kind row : ℕ) → i ≡ stamp_of kind row → (w : ℕ) → is_known (emptied i) kind row w ≡ false
+    pub emptied_unknown : (kind : Neighbourhood) (row : ℕ) → i ≡ stamp_of kind row → (w : ℕ) → is_known (emptied i) kind row w ≡ false
     emptied_unknown kind row is w = unseen_unknown (emptied i) kind row w (ap (λ j. slice_index_or (slice_set memory.seen i 0) j 0) (sym is) ∙ get_or-set_same memory.seen i 0 0 low)
 
   module _ (each : (i : ℕ) → slice_index_or memory.seen i 0 ≤ memory.clock) where
@@ -192,114 +207,106 @@ module _ (memory : Memory) where
       there : changed_at (forgotten v) v ≡ memory.clock
       there = get_or-set_same memory.changed v memory.clock 0 low
 
-      pub forgets_later : (k u : ℕ) → is_later (forgotten v) k u v ≡ false
+      pub forgets_later : (k : Neighbourhood) (u : ℕ) → is_later (forgotten v) k u v ≡ false
       forgets_later k u = ap (λ c. nat_lt c (seen_at memory k u)) there ∙ not_less memory.clock (seen_at memory k u) (each (stamp_of k u))
 
-      pub forgets_earlier : (k u x : ℕ) → IsTrue (is_later (forgotten v) k u x) → IsTrue (is_later memory k u x)
+      pub forgets_earlier : (k : Neighbourhood) (u x : ℕ) → IsTrue (is_later (forgotten v) k u x) → IsTrue (is_later memory k u x)
       forgets_earlier k u x h = elim (same_or_not x v) [
         | inl same ↦ absurd (clash (is_later (forgotten v) k u v) (subst (λ y. IsTrue (is_later (forgotten v) k u y)) same h) (forgets_later k u))
         | inr apart ↦ subst (λ c. IsTrue (nat_lt c (seen_at memory k u))) (get_or-set_other memory.changed v x memory.clock 0 apart) h
       ]
 
-      pub forgets : (k u w : ℕ) → IsTrue (is_known (forgotten v) k u w) → IsTrue (is_known memory k u w)
+      pub forgets : (k : Neighbourhood) (u w : ℕ) → IsTrue (is_known (forgotten v) k u w) → IsTrue (is_known memory k u w)
       forgets k u w h = and_both (nat_lt (common_change memory k u) (seen_at memory k u)) _
-          (by (nat_lt k 5) (first_known (forgotten v) k u w h))
+          (by (changes_activity k) (is_by_vehicle (owner k)) (first_known (forgotten v) k u w h))
           (forgets_earlier k u w (later_known (forgotten v) k u w h))
         where
-          by : (b : Bool) → IsTrue (nat_lt (cond b (changed_at (forgotten v) u) (cond (nat_lt k 6) 0 memory.active)) (seen_at memory k u))
-              → IsTrue (nat_lt (cond b (changed_at memory u) (cond (nat_lt k 6) 0 memory.active)) (seen_at memory k u))
-          by true g = forgets_earlier k u u g
-          by false g = g
+          by : (b c : Bool) → IsTrue (nat_lt (cond b memory.active (cond c (changed_at (forgotten v) u) 0)) (seen_at memory k u))
+              → IsTrue (nat_lt (cond b memory.active (cond c (changed_at memory u) 0)) (seen_at memory k u))
+          by true c g = g
+          by false true g = forgets_earlier k u u g
+          by false false g = g
 
     -- activity changes now
-    pub unsettled_none : (k u w : ℕ) → 5 < k → is_known unsettled k u w ≡ false
-    unsettled_none k u w high = fails_left _ (is_later memory k u w)
-        (ap (λ c. nat_lt c (seen_at memory k u)) (is_active high) ∙ not_less memory.clock (seen_at memory k u) (each (stamp_of k u)))
-      where
-        is_active : 5 < k → common_change unsettled k u ≡ memory.clock
-        is_active high = Prim.grind arith
+    pub unsettled_none : (k : Neighbourhood) (u w : ℕ) → IsTrue (changes_activity k) → is_known unsettled k u w ≡ false
+    unsettled_none k u w active = fails_left _ (is_later memory k u w)
+        (ap (λ b. nat_lt (cond b memory.clock (cond (is_by_vehicle (owner k)) (changed_at memory u) 0)) (seen_at memory k u)) active
+        ∙ not_less memory.clock (seen_at memory k u) (each (stamp_of k u)))
 
-    pub unsettled_fewer : (k u w : ℕ) → IsTrue (is_known unsettled k u w) → IsTrue (is_known memory k u w)
-    unsettled_fewer k u w h = elim (cases_lt 5 k) [
-      | inl high ↦ absurd (clash (is_known unsettled k u w) h (unsettled_none k u w high))
-      | inr low ↦ subst (λ c. IsTrue (nat_lt c (seen_at memory k u) && is_later memory k u w)) (as_before low) h
+    pub unsettled_fewer : (k : Neighbourhood) (u w : ℕ) → IsTrue (is_known unsettled k u w) → IsTrue (is_known memory k u w)
+    unsettled_fewer k u w h = elim (cases_Bool (changes_activity k)) [
+      | inl active ↦ absurd (clash (is_known unsettled k u w) h (unsettled_none k u w active))
+      | inr still ↦ subst (λ c. IsTrue (nat_lt c (seen_at memory k u) && is_later memory k u w)) (as_before still) h
     ]
       where
-        as_before : k ≤ 5 → common_change unsettled k u ≡ common_change memory k u
-        as_before low = Prim.grind arith
+        as_before : changes_activity k ≡ false → common_change unsettled k u ≡ common_change memory k u
+        as_before still = ap (λ b. cond b memory.clock (cond (is_by_vehicle (owner k)) (changed_at memory u) 0)) still
+            ∙ sym (ap (λ b. cond b memory.active (cond (is_by_vehicle (owner k)) (changed_at memory u) 0)) still)
 
 -- ---- neighbourhoods in turn
 
 -- what was learned of the neighbourhoods so far stands in front of the move in the list of all
 pub record SoFar (all : List Neighbourhood) (mv : Move) (begin now : Memory) (left : List Neighbourhood) : Type 0 where
-  pub behind : (k u : ℕ) → IsTrue (is_behind left k u mv) → IsTrue (is_behind all k u mv)
-  pub learned_so : (k u w : ℕ) → u < rows_of k → IsTrue (is_known now k u w) → IsTrue (is_known begin k u w) ⊎ IsTrue (is_behind all k u mv)
+  pub behind : (k : Neighbourhood) (u : ℕ) → IsTrue (is_behind left k u mv) → IsTrue (is_behind all k u mv)
+  pub learned_so : (k : Neighbourhood) (u w : ℕ) → u < rows_of k → IsTrue (is_known now k u w) → IsTrue (is_known begin k u w) ⊎ IsTrue (is_behind all k u mv)
 
 module _ (all : List Neighbourhood) (mv : Move) (begin now : Memory) (n : Neighbourhood) (left : List Neighbourhood) (so : SoFar all mv begin now (n ∷ left)) where
-  abbrev told : Bool → ℕ → ℕ → Bool
-  told b k u = cond b ((k == kind_of mv) && nat_lt u (first_of mv)) ((k == kind_at n) || is_behind left k u mv)
+  abbrev told : Bool → Neighbourhood → ℕ → Bool
+  told b k u = cond b (is_same_kind k (kind_of mv) && nat_lt u (first_of mv)) (is_same_kind k n || is_behind left k u mv)
 
   -- another neighbourhood stands in front, and its moves were learned
-  pub goes_on : (next : Memory) → (kind_at n == kind_of mv) ≡ false → ((k u w : ℕ) → u < rows_of k → IsTrue (is_known next k u w) → IsTrue (is_known now k u w) ⊎ (k ≡ kind_at n)) → SoFar all mv begin next left
+  pub goes_on : (next : Memory) → is_same_kind n (kind_of mv) ≡ false → ((k : Neighbourhood) (u w : ℕ) → u < rows_of k → IsTrue (is_known next k u w) → IsTrue (is_known now k u w) ⊎ (k ≡ n)) → SoFar all mv begin next left
   goes_on next other more = record {
-    behind = λ k u h. so.behind k u (ap (λ b. told b k u) other ∙ or_right (k == kind_at n) _ h);
+    behind = λ k u h. so.behind k u (ap (λ b. told b k u) other ∙ or_right (is_same_kind k n) _ h);
     learned_so = λ k u w low h. elim (more k u w low h) [
       | inl before ↦ so.learned_so k u w low before
-      | inr same ↦ inr (so.behind k u (ap (λ b. told b k u) other ∙ or_left (k == kind_at n) _ (test_of_eq k (kind_at n) same)))
+      | inr same ↦ inr (so.behind k u (ap (λ b. told b k u) other ∙ or_left (is_same_kind k n) _ (same_test k n same)))
     ];
   }
 
   -- it is that of the move: the moves of the vehicles before were learned
-  pub stops : (next : Memory) → (kind_at n == kind_of mv) ≡ true → ((k u w : ℕ) → u < rows_of k → IsTrue (is_known next k u w) → IsTrue (is_known now k u w) ⊎ ((k ≡ kind_of mv) × (u < first_of mv)))
-      → (k u w : ℕ) → u < rows_of k → IsTrue (is_known next k u w) → IsTrue (is_known begin k u w) ⊎ IsTrue (is_behind all k u mv)
+  pub stops : (next : Memory) → is_same_kind n (kind_of mv) ≡ true → ((k : Neighbourhood) (u w : ℕ) → u < rows_of k → IsTrue (is_known next k u w) → IsTrue (is_known now k u w) ⊎ ((k ≡ kind_of mv) × (u < first_of mv)))
+      → (k : Neighbourhood) (u w : ℕ) → u < rows_of k → IsTrue (is_known next k u w) → IsTrue (is_known begin k u w) ⊎ IsTrue (is_behind all k u mv)
   stops next same more k u w low h = elim (more k u w low h) [
     | inl before ↦ so.learned_so k u w low before
-    | inr here ↦ inr (so.behind k u (ap (λ b. told b k u) same ∙ and_both (k == kind_of mv) _ (test_of_eq k (kind_of mv) here.0) (test_of_lt u (first_of mv) here.1)))
+    | inr here ↦ inr (so.behind k u (ap (λ b. told b k u) same ∙ and_both (is_same_kind k (kind_of mv)) _ (same_test k (kind_of mv) here.0) (test_of_lt u (first_of mv) here.1)))
   ]
 
 -- what was learned of the neighbourhoods so far is of kinds of theirs
 pub record AllSoFar (all : List Neighbourhood) (begin now : Memory) (left : List Neighbourhood) : Type 0 where
-  pub kind_in : (k : ℕ) → IsTrue (is_kind_of left k) → IsTrue (is_kind_of all k)
-  pub learned_so : (k u w : ℕ) → u < rows_of k → IsTrue (is_known now k u w) → IsTrue (is_known begin k u w) ⊎ IsTrue (is_kind_of all k)
+  pub kind_in : (k : Neighbourhood) → IsTrue (is_kind_of left k) → IsTrue (is_kind_of all k)
+  pub learned_so : (k : Neighbourhood) (u w : ℕ) → u < rows_of k → IsTrue (is_known now k u w) → IsTrue (is_known begin k u w) ⊎ IsTrue (is_kind_of all k)
 
 pub all_goes_on : (all : List Neighbourhood) (begin now next : Memory) (n : Neighbourhood) (left : List Neighbourhood) → AllSoFar all begin now (n ∷ left)
-    → ((k u w : ℕ) → u < rows_of k → IsTrue (is_known next k u w) → IsTrue (is_known now k u w) ⊎ (k ≡ kind_at n)) → AllSoFar all begin next left
+    → ((k : Neighbourhood) (u w : ℕ) → u < rows_of k → IsTrue (is_known next k u w) → IsTrue (is_known now k u w) ⊎ (k ≡ n)) → AllSoFar all begin next left
 all_goes_on all begin now next n left so more = record {
-  kind_in = λ k h. so.kind_in k (or_right (k == kind_at n) _ h);
+  kind_in = λ k h. so.kind_in k (or_right (is_same_kind k n) _ h);
   learned_so = λ k u w low h. elim (more k u w low h) [
     | inl before ↦ so.learned_so k u w low before
-    | inr same ↦ inr (so.kind_in k (or_left (k == kind_at n) _ (test_of_eq k (kind_at n) same)))
+    | inr same ↦ inr (so.kind_in k (or_left (is_same_kind k n) _ (same_test k n same)))
   ];
 }
 
 -- as the loops over neighbourhoods ask it
-module _ (all : List Neighbourhood) (begin now next : Memory) (k kind end : ℕ) (d : Neighbourhood) (low : k < length all) (is : kind ≡ kind_at (slice_index_or all k d))
-    (more : (j u w : ℕ) → u < rows_of j → IsTrue (is_known next j u w) → IsTrue (is_known now j u w) ⊎ ((j ≡ kind) × (u < end))) where
-  abbrev here : Neighbourhood
-  here = slice_index_or all k d
+module _ (all : List Neighbourhood) (begin now next : Memory) (k end : ℕ) (kind d : Neighbourhood) (low : k < length all) (is : kind ≡ slice_index_or all k d)
+    (more : (j : Neighbourhood) (u w : ℕ) → u < rows_of j → IsTrue (is_known next j u w) → IsTrue (is_known now j u w) ⊎ ((j ≡ kind) × (u < end))) where
+  left_is : drop k all ≡ kind ∷ drop (k + 1) all
+  left_is = drop-cons all k d low ∙ ap (λ n. slice_index_or all k d ∷ drop n all) (sym (add-one k)) ∙ ap (λ n. n ∷ drop (k + 1) all) (sym is)
 
-  left_is : drop k all ≡ here ∷ drop (k + 1) all
-  left_is = drop-cons all k d low ∙ ap (λ n. here ∷ drop n all) (sym (add-one k))
+  learned_kind : (j : Neighbourhood) (u w : ℕ) → u < rows_of j → IsTrue (is_known next j u w) → IsTrue (is_known now j u w) ⊎ (j ≡ kind)
+  learned_kind j u w row h = elim (more j u w row h) [ inl before ↦ inl before | inr same ↦ inr same.0 ]
 
-  learned_kind : (j u w : ℕ) → u < rows_of j → IsTrue (is_known next j u w) → IsTrue (is_known now j u w) ⊎ (j ≡ kind_at here)
-  learned_kind j u w row h = elim (more j u w row h) [ inl before ↦ inl before | inr same ↦ inr (same.0 ∙ is) ]
+  pub notes_on : (mv : Move) → is_same_kind kind (kind_of mv) ≡ false → SoFar all mv begin now (drop k all) → SoFar all mv begin next (drop (k + 1) all)
+  notes_on mv other so = goes_on all mv begin now kind (drop (k + 1) all) (subst (SoFar all mv begin now) left_is so) next other learned_kind
 
-  pub notes_on : (mv : Move) (last : ℕ) → last ≡ kind_of mv → kind ≢ last → SoFar all mv begin now (drop k all) → SoFar all mv begin next (drop (k + 1) all)
-  notes_on mv last e other so =
-      goes_on all mv begin now here (drop (k + 1) all) (subst (SoFar all mv begin now) left_is so) next (elim (eqb_tells (kind_at here) (kind_of mv)) [
-        | inl same ↦ absurd (other (is ∙ same.1 ∙ sym e))
-        | inr apart ↦ apart.0
-      ]) learned_kind
-
-  pub notes_last : (mv : Move) (last : ℕ) → last ≡ kind_of mv → kind ≡ last → end ≡ first_of mv → SoFar all mv begin now (drop k all)
-      → (j u w : ℕ) → u < rows_of j → IsTrue (is_known next j u w) → IsTrue (is_known begin j u w) ⊎ IsTrue (is_behind all j u mv)
-  notes_last mv last e same ends so =
-      let alike : kind ≡ kind_of mv = same ∙ e in
-      stops all mv begin now here (drop (k + 1) all) (subst (SoFar all mv begin now) left_is so) next (test_of_eq (kind_at here) (kind_of mv) (sym is ∙ alike))
-      (λ j u w row h. elim (more j u w row h) [ inl before ↦ inl before | inr there ↦ inr (there.0 ∙ alike, subst (λ n. u < n) ends there.1) ])
+  pub notes_last : (mv : Move) → is_same_kind kind (kind_of mv) ≡ true → end ≡ first_of mv → SoFar all mv begin now (drop k all)
+      → (j : Neighbourhood) (u w : ℕ) → u < rows_of j → IsTrue (is_known next j u w) → IsTrue (is_known begin j u w) ⊎ IsTrue (is_behind all j u mv)
+  notes_last mv same ends so =
+      stops all mv begin now kind (drop (k + 1) all) (subst (SoFar all mv begin now) left_is so) next same
+      (λ j u w row h. elim (more j u w row h) [ inl before ↦ inl before | inr there ↦ inr (there.0 ∙ same_kind kind (kind_of mv) same, subst (λ n. u < n) ends there.1) ])
 
   pub notes_all : AllSoFar all begin now (drop k all) → AllSoFar all begin next (drop (k + 1) all)
-  notes_all so = all_goes_on all begin now next here (drop (k + 1) all) (subst (AllSoFar all begin now) left_is so) learned_kind
+  notes_all so = all_goes_on all begin now next kind (drop (k + 1) all) (subst (AllSoFar all begin now) left_is so) learned_kind
 
 -- ---- no stamps
 
@@ -309,11 +316,11 @@ zeros (suc n) zero = refl
 zeros (suc n) (suc i) = zeros n i
 
 -- where no row was ever refused, nothing is known
-pub knows_nothing : (memory : Memory) → ((i : ℕ) → slice_index_or memory.seen i 0 ≡ 0) → (kind row w : ℕ) → is_known memory kind row w ≡ false
+pub knows_nothing : (memory : Memory) → ((i : ℕ) → slice_index_or memory.seen i 0 ≡ 0) → (kind : Neighbourhood) (row w : ℕ) → is_known memory kind row w ≡ false
 knows_nothing memory none kind row w = unseen_unknown memory kind row w (none (stamp_of kind row))
 
 -- a memory without stamps knows nothing
-pub knows_none : (memory : Memory) → length memory.seen ≡ 0 → (kind row w : ℕ) → is_known memory kind row w ≡ false
+pub knows_none : (memory : Memory) → length memory.seen ≡ 0 → (kind : Neighbourhood) (row w : ℕ) → is_known memory kind row w ≡ false
 knows_none memory e kind row w = unseen_unknown memory kind row w (get_or_past memory.seen (stamp_of kind row) 0 (omega (arith, e)))
 
 -- ---- pairs and the vehicles that serve them
@@ -340,15 +347,15 @@ module _ (lists : List (List ℕ)) where
 
 -- what is settled of the pairs so far
 pub record SettledSoFar (model : Model) (lists : List (List ℕ)) (begin now : Memory) (n : ℕ) : Type 0 where
-  pub fewer : (k u w : ℕ) → IsTrue (is_known now k u w) → IsTrue (is_known begin k u w)
-  pub earlier : (k u w : ℕ) → IsTrue (is_later now k u w) → IsTrue (is_later begin k u w)
-  pub settled : (kind p w v : ℕ) → IsTrue (is_by_pair kind) → p < n → IsTrue (is_known now kind p w) → IsTrue (holds (route lists v) (pair_at model p).pickup) → IsTrue (is_later now kind p v)
+  pub fewer : (k : Neighbourhood) (u w : ℕ) → IsTrue (is_known now k u w) → IsTrue (is_known begin k u w)
+  pub earlier : (k : Neighbourhood) (u w : ℕ) → IsTrue (is_later now k u w) → IsTrue (is_later begin k u w)
+  pub settled : (kind : Neighbourhood) (p w v : ℕ) → IsTrue (is_by_pair (owner kind)) → p < n → IsTrue (is_known now kind p w) → IsTrue (holds (route lists v) (pair_at model p).pickup) → IsTrue (is_later now kind p v)
 
 -- the row of a pair and a kind is forgotten where the list of a vehicle has changed since
-pub record SettlesRow (now next : Memory) (kind n at : ℕ) : Type 0 where
-  pub fewer : (k u w : ℕ) → IsTrue (is_known next k u w) → IsTrue (is_known now k u w)
-  pub earlier : (k u w : ℕ) → IsTrue (is_later next k u w) → IsTrue (is_later now k u w)
-  pub keeps : (k u w v : ℕ) → IsTrue (is_known next k u w) → IsTrue (is_later now k u v) → IsTrue (is_later next k u v)
+pub record SettlesRow (now next : Memory) (kind : Neighbourhood) (n at : ℕ) : Type 0 where
+  pub fewer : (k : Neighbourhood) (u w : ℕ) → IsTrue (is_known next k u w) → IsTrue (is_known now k u w)
+  pub earlier : (k : Neighbourhood) (u w : ℕ) → IsTrue (is_later next k u w) → IsTrue (is_later now k u w)
+  pub keeps : (k : Neighbourhood) (u w v : ℕ) → IsTrue (is_known next k u w) → IsTrue (is_later now k u v) → IsTrue (is_later next k u v)
   pub settled : (w : ℕ) → IsTrue (is_known next kind n w) → IsTrue (is_later next kind n at)
 
 module _ (model : Model) (lists : List (List ℕ)) (begin now : Memory) (n : ℕ) (so : SettledSoFar model lists begin now n) where
@@ -365,14 +372,14 @@ module _ (model : Model) (lists : List (List ℕ)) (begin now : Memory) (n : ℕ
 
   -- a pair whose rows of both kinds are settled one after the other
   pub settles_one : (mid next : Memory) (at k : ℕ) → IsOnce lists → IsSeat lists (pair_at model n).pickup at k
-      → SettlesRow now mid 5 n at → SettlesRow mid next 7 n at → SettledSoFar model lists begin next (n + 1)
-  settles_one mid next at k once seat five seven = record {
-    fewer = λ j u w h. so.fewer j u w (five.fewer j u w (seven.fewer j u w h));
-    earlier = λ j u w h. so.earlier j u w (five.earlier j u w (seven.earlier j u w h));
+      → SettlesRow now mid all.RelocatePair n at → SettlesRow mid next all.PairInactive n at → SettledSoFar model lists begin next (n + 1)
+  settles_one mid next at k once seat put out = record {
+    fewer = λ j u w h. so.fewer j u w (put.fewer j u w (out.fewer j u w h));
+    earlier = λ j u w h. so.earlier j u w (put.earlier j u w (out.earlier j u w h));
     settled = λ kind p w v paired low known h. elim (cases_lt p n) [
       | inl before ↦ (
-          let before_seven = seven.fewer kind p w known in
-          seven.keeps kind p w v known (five.keeps kind p w v before_seven (so.settled kind p w v paired before (five.fewer kind p w before_seven) h)))
+          let before_out = out.fewer kind p w known in
+          out.keeps kind p w v known (put.keeps kind p w v before_out (so.settled kind p w v paired before (put.fewer kind p w before_out) h)))
       | inr here ↦ (
           let same : p ≡ n = omega (arith, low, here) in
           let is : v ≡ at = held_once lists once (pair_at model n).pickup at k v seat (subst (λ q. IsTrue (holds (route lists v) (pair_at model q).pickup)) same h) in
@@ -381,56 +388,50 @@ module _ (model : Model) (lists : List (List ℕ)) (begin now : Memory) (n : ℕ
     ];
   }
     where
-      here_settled : (kind w : ℕ) → IsTrue (is_by_pair kind) → IsTrue (is_known next kind n w) → IsTrue (is_later next kind n at)
-      here_settled kind w paired known = elim (or_cases (kind == 5) _ paired) [
-        | inl is ↦ (
-            let e : kind ≡ 5 = eq_of_test kind 5 is in
-            let there : IsTrue (is_known next 5 n w) = subst (λ j. IsTrue (is_known next j n w)) e known in
-            subst (λ j. IsTrue (is_later next j n at)) (sym e) (seven.keeps 5 n w at there (five.settled w (seven.fewer 5 n w there))))
-        | inr is ↦ (
-            let e : kind ≡ 7 = eq_of_test kind 7 is in
-            subst (λ j. IsTrue (is_later next j n at)) (sym e) (seven.settled w (subst (λ j. IsTrue (is_known next j n w)) e known)))
-      ]
+      here_settled : (kind : Neighbourhood) (w : ℕ) → IsTrue (is_by_pair (owner kind)) → IsTrue (is_known next kind n w) → IsTrue (is_later next kind n at)
+      here_settled all.RelocatePair w paired known = out.keeps all.RelocatePair n w at known (put.settled w (out.fewer all.RelocatePair n w known))
+      here_settled all.PairInactive w paired known = out.settled w known
+      here_settled kind w paired known = absurd (false≢true paired)
 
 -- ---- moves that are known still after another was made
 
 -- the list of a vehicle from which a known move takes has not changed either
 module _ (model : Model) (lists : List (List ℕ)) (memory : Memory) (settled : AreSettled model lists memory) where
-  later_first : (k u w : ℕ) → k < 5 → IsTrue (is_known memory k u w) → (v : ℕ) → v ≡ u → IsTrue (is_later memory k u v)
-  later_first k u w low known v is = subst (λ x. IsTrue (is_later memory k u x)) (sym is) (subst (λ c. IsTrue (nat_lt c (seen_at memory k u))) (is_first low) (first_known memory k u w known))
+  later_first : (k : Neighbourhood) (u w : ℕ) → changes_activity k ≡ false → IsTrue (is_by_vehicle (owner k)) → IsTrue (is_known memory k u w) → (v : ℕ) → v ≡ u → IsTrue (is_later memory k u v)
+  later_first k u w still owned known v is = subst (λ x. IsTrue (is_later memory k u x)) (sym is) (subst (λ c. IsTrue (nat_lt c (seen_at memory k u))) is_first (first_known memory k u w known))
     where
-      is_first : k < 5 → common_change memory k u ≡ changed_at memory u
-      is_first low = Prim.grind arith
+      is_first : common_change memory k u ≡ changed_at memory u
+      is_first = ap (λ b. cond b memory.active (cond (is_by_vehicle (owner k)) (changed_at memory u) 0)) still ∙ ap (λ b. cond b (changed_at memory u) 0) owned
 
-  later_second : (k w : ℕ) → IsTrue (is_known memory k 0 w) → (v : ℕ) → v ≡ w → IsTrue (is_later memory k 0 v)
+  later_second : (k : Neighbourhood) (w : ℕ) → IsTrue (is_known memory k 0 w) → (v : ℕ) → v ≡ w → IsTrue (is_later memory k 0 v)
   later_second k w known v is = subst (λ x. IsTrue (is_later memory k 0 x)) (sym is) (later_known memory k 0 w known)
 
   pub later_source : (m : Move) → IsTrue (is_move model lists m) → IsTrue (is_known memory (kind_of m) (first_of m) (second_of m))
       → (v : ℕ) → IsSource model lists m v → IsTrue (is_later memory (kind_of m) (first_of m) v)
-  later_source (TwoOpt x a b) one known v is = later_first 0 x x (omega arith) known v is
-  later_source (OrOpt x a k t) one known v is = later_first 1 x x (omega arith) known v is
-  later_source (Relocate x a w t) one known v is = later_first 2 x w (omega arith) known v is
-  later_source (Exchange x a w b) one known v is = later_first 3 x w (omega arith) known v is
-  later_source (Cross x a w b) one known v is = later_first 4 x w (omega arith) known v is
-  later_source (RelocatePair p w s t) one known v is = settled 5 p w v refl (pair_low one) known is
+  later_source (TwoOpt x a b) one known v is = later_first all.TwoOpt x x refl refl known v is
+  later_source (OrOpt x a k t) one known v is = later_first all.OrOpt x x refl refl known v is
+  later_source (Relocate x a w t) one known v is = later_first all.Relocate x w refl refl known v is
+  later_source (Exchange x a w b) one known v is = later_first all.Exchange x w refl refl known v is
+  later_source (Cross x a w b) one known v is = later_first all.Cross x w refl refl known v is
+  later_source (RelocatePair p w s t) one known v is = settled all.RelocatePair p w v refl (pair_low one) known is
     where
       pair_low : IsTrue (is_move model lists (RelocatePair p w s t)) → p < length model.pairs
       pair_low one =
           let others = and_right (is_pair_served model lists p) _ one in
           pair_of_test model lists p (and_left (nat_lt p (length model.pairs)) _ (and_left (may_put_pair model lists p w (length (without_pair (pair_at model p) (route lists w))) s t) _ others))
-  later_source (PairActive p w s t) one known v is = later_second 6 w known v is
-  later_source (PairInactive p) one known v is = settled 7 p 0 v refl (pair_of_test model lists p (and_left (nat_lt p (length model.pairs)) _ one)) known is
-  later_source (MakeActive u w t) one known v is = later_second 8 w known v is
-  later_source (MakeInactive x a) one known v is = later_second 9 x known v is
-  later_source (SwapActive x a u) one known v is = later_second 10 x known v is
+  later_source (PairActive p w s t) one known v is = later_second all.PairActive w known v is
+  later_source (PairInactive p) one known v is = settled all.PairInactive p 0 v refl (pair_of_test model lists p (and_left (nat_lt p (length model.pairs)) _ one)) known is
+  later_source (MakeActive u w t) one known v is = later_second all.MakeActive w known v is
+  later_source (MakeInactive x a) one known v is = later_second all.MakeInactive x known v is
+  later_source (SwapActive x a u) one known v is = later_second all.SwapActive x known v is
 
 module _ (model : Model) (lists : List (List ℕ)) (made : Move) (first second : ℕ) (mid memory : Memory)
-    (no_first : (k u : ℕ) → is_later mid k u first ≡ false) (no_second : (k u : ℕ) → is_later mid k u second ≡ false)
-    (activity : (k u w : ℕ) → 5 < k → IsTrue (is_known mid k u w) → kind_of made < 6)
-    (fewer : (k u w : ℕ) → IsTrue (is_known memory k u w) → IsTrue (is_known mid k u w))
-    (earlier : (k u w : ℕ) → IsTrue (is_later memory k u w) → IsTrue (is_later mid k u w))
+    (no_first : (k : Neighbourhood) (u : ℕ) → is_later mid k u first ≡ false) (no_second : (k : Neighbourhood) (u : ℕ) → is_later mid k u second ≡ false)
+    (activity : (k : Neighbourhood) (u w : ℕ) → IsTrue (changes_activity k) → IsTrue (is_known mid k u w) → changes_activity (kind_of made) ≡ false)
+    (fewer : (k : Neighbourhood) (u w : ℕ) → IsTrue (is_known memory k u w) → IsTrue (is_known mid k u w))
+    (earlier : (k : Neighbourhood) (u w : ℕ) → IsTrue (is_later memory k u w) → IsTrue (is_later mid k u w))
     (settled : AreSettled model lists memory) where
-  off : (k u v : ℕ) → IsTrue (is_later memory k u v) → (v ≢ first) × (v ≢ second)
+  off : (k : Neighbourhood) (u v : ℕ) → IsTrue (is_later memory k u v) → (v ≢ first) × (v ≢ second)
   off k u v later = (
     λ e. clash (is_later mid k u first) (subst (λ x. IsTrue (is_later mid k u x)) e (earlier k u v later)) (no_first k u),
     λ e. clash (is_later mid k u second) (subst (λ x. IsTrue (is_later mid k u x)) e (earlier k u v later)) (no_second k u),

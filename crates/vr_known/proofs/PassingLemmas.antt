@@ -6,10 +6,11 @@ use Rattle.std.proofs.lemmas.List.{append-nil, length-map, map-append}
 use Rattle.std.proofs.lemmas.List.Elements.{All-append, All-cons, All-head, All-nil, filter-append}
 use Rattle.vr_model.proofs.tables.Tests.{clash}
 use Rattle.vr_model.specs.tables.Numbers.{from_to}
-use Rattle.vr_model.specs.tables.WellFormed.{neighbourhood_number as kind_at}
+use Rattle.vr_model.specs.moves.Kinds.{kind_of}
+use Rattle.vr_model.specs.declared.neighbours.Neighbourhood.{Neighbourhood}
 use Rattle.vr_model.specs.declared.neighbours.Move.{Move}
 use Rattle.vr_known.proofs.NestLemmas.{joined_opens, range_split}
-use Rattle.vr_known.specs.Blocks.{Memory, covers, is_known, kind_of, first_of, second_of}
+use Rattle.vr_known.specs.Blocks.{Memory, covers, is_known, first_of, second_of}
 use Rattle.vr_known.specs.Nests.{joined_of, run_of}
 use Rattle.vr_known.specs.declared.blocks.Block.{Block}
 use Rattle.vr_known.specs.Passing.{capped, ArePassed, CoversBlock, IsBlockOf, Passes, IsFirst, Takes}
@@ -94,7 +95,7 @@ module _ (covers : Move → Type 0) where
 
   -- all moves of a run stand in a block that is covered
   pub run_passed : (p : ℕ → Bool) (f : ℕ → Move) (a b many : ℕ) (block : Block) → IsBlockOf block f
-      → CoversBlock covers (kind_at block.neighbourhood) block.row block.vehicle → many ≡ length (filter p (from_to a b))
+      → CoversBlock covers block.neighbourhood block.row block.vehicle → many ≡ length (filter p (from_to a b))
       → ArePassed covers (run_of p f a b) many
   run_passed p f a b many block stands known number = record {
     covered = run_covered p f a (b - a) (λ k low high. known (f k) (stands.kind k) (stands.first k) (stands.second k));
@@ -139,10 +140,10 @@ takes_unknown covers none old left count counted result t =
     subst (λ l. IsFirst l result left) (sym (t.passes.split ∙ ap (λ l. l ++ t.behind) (none_passed covers none t.passes.passed t.passes.covered))) t.first
 
 -- nothing is covered where nothing is known
-pub covers_none : (memory : Memory) → ((kind v w : ℕ) → is_known memory kind v w ≡ false) → (mv : Move) → IsTrue (covers memory mv) → ⊥
+pub covers_none : (memory : Memory) → ((kind : Neighbourhood) (v w : ℕ) → is_known memory kind v w ≡ false) → (mv : Move) → IsTrue (covers memory mv) → ⊥
 covers_none memory none mv covered = clash (is_known memory (kind_of mv) (first_of mv) (second_of mv)) covered (none (kind_of mv) (first_of mv) (second_of mv))
 
 -- the moves of a block that is known are covered
-pub covers_known : (memory : Memory) (kind v w : ℕ) → IsTrue (is_known memory kind v w) → CoversBlock (λ mv. IsTrue (covers memory mv)) kind v w
+pub covers_known : (memory : Memory) (kind : Neighbourhood) (v w : ℕ) → IsTrue (is_known memory kind v w) → CoversBlock (λ mv. IsTrue (covers memory mv)) kind v w
 covers_known memory kind v w known mv k f s =
     subst (λ n. IsTrue (is_known memory n (first_of mv) (second_of mv))) (sym k) (subst (λ n. IsTrue (is_known memory kind n (second_of mv))) (sym f) (subst (λ n. IsTrue (is_known memory kind v n)) (sym s) known))

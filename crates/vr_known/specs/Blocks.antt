@@ -1,9 +1,10 @@
 -- Blocks of moves: those of one kind and row with the same last vehicle. What is known of blocks.
-use Rattle.std.specs.Prelude.{◌≡◌, ◌≢◌, ℕ, ◌+◌, ◌*◌, ◌<◌, Bool, false, true, ◌&&◌, ◌||◌, ◌==◌, cond, nat_lt}
+use Rattle.std.specs.Prelude.{◌≡◌, ◌≢◌, ℕ, ◌+◌, ◌<◌, Bool, false, true, ◌&&◌, ◌||◌, cond, nat_lt}
 use Rattle.std.specs.Prelude.{List, [], ◌∷◌, slice_index_or, length, Option, Some, None, IsTrue}
 use Rattle.vr_model.specs.routes.Routes.{route, holds, is_active}
 use Rattle.vr_model.specs.tables.Tables.{pair_at}
-use Rattle.vr_model.specs.tables.WellFormed.{neighbourhood_number as kind_at}
+use Rattle.vr_model.specs.moves.Kinds.{changes_activity, is_by_pair, is_by_vehicle, is_same_kind, kind_of, owner, rows_of}
+use Rattle.vr_model.specs.moves.Moves.{all_neighbourhoods}
 use Rattle.vr_model.specs.declared.records.Model.{Model}
 use Rattle.vr_model.specs.declared.neighbours.Move.{Move}
 use Rattle.vr_model.specs.declared.neighbours.Move.TheVariants.{TwoOpt, OrOpt, Relocate, Exchange, Cross, RelocatePair}
@@ -11,23 +12,8 @@ use Rattle.vr_model.specs.declared.neighbours.Move.TheVariants.{PairActive, Pair
 use Rattle.vr_model.specs.declared.neighbours.Move.TheVariants.{SwapActive}
 use Rattle.vr_model.specs.declared.neighbours.Neighbourhood.{Neighbourhood}
 
--- the number of the kind of a move, that of its neighbourhood: those below 5 name their vehicles, those below 6 change
--- no activity
-abbrev pub kind_of : Move → ℕ
-kind_of (TwoOpt v a b) = 0
-kind_of (OrOpt v a k t) = 1
-kind_of (Relocate v a w t) = 2
-kind_of (Exchange v a w b) = 3
-kind_of (Cross v a w b) = 4
-kind_of (RelocatePair p w s t) = 5
-kind_of (PairActive p w s t) = 6
-kind_of (PairInactive p) = 7
-kind_of (MakeActive u w t) = 8
-kind_of (MakeInactive v a) = 9
-kind_of (SwapActive v a u) = 10
-
--- the row of a move among those of its kind: of a kind below 5 the first vehicle that it names, of relocate_pair and of
--- pair_inactive the pair; all moves of any other kind are one row
+-- the row of a move among those of its neighbourhood: the vehicle that it names first, or its pair. It is 0 if nobody
+-- owns the rows of its neighbourhood
 abbrev pub first_of : Move → ℕ
 first_of (TwoOpt v a b) = v
 first_of (OrOpt v a k t) = v
@@ -54,14 +40,6 @@ second_of (PairInactive p) = 0
 second_of (MakeActive u w t) = w
 second_of (MakeInactive v a) = v
 second_of (SwapActive v a u) = v
-
--- the rows of a kind are pairs: those of relocate_pair and of pair_inactive
-abbrev pub is_by_pair : ℕ → Bool
-is_by_pair kind = (kind == 5) || (kind == 7)
-
--- how many rows a kind has at most
-abbrev pub rows_of : ℕ → ℕ
-rows_of kind = cond (nat_lt kind 5) 100 (cond (is_by_pair kind) 500 1)
 
 -- a vehicle whose list a move changes, beside its second one or the same: the vehicle that serves the pair of
 -- relocate_pair and of pair_inactive, the first one that any other move names
@@ -107,12 +85,17 @@ memory_of (Some stamps) = record {
   learns = true;
 }
 
--- where the stamp of a row of a kind stands
-abbrev pub stamp_of : ℕ → ℕ → ℕ
-stamp_of kind row = cond (nat_lt kind 6) (kind * 100 + row) (cond (kind == 7) (1000 + row) (1500 + kind))
+-- how many rows those of some neighbourhoods have that come before one
+abbrev pub rows_before : Neighbourhood → List Neighbourhood → ℕ
+rows_before kind [] = 0
+rows_before kind (n ∷ ns) = cond (is_same_kind n kind) 0 (rows_of n + rows_before kind ns)
+
+-- the place of the stamp of a row: the rows of a neighbourhood follow those of the neighbourhoods before it
+abbrev pub stamp_of : Neighbourhood → ℕ → ℕ
+stamp_of kind row = rows_before kind all_neighbourhoods + row
 
 -- when the moves of a row were last found not to be acceptable
-abbrev pub seen_at : Memory → ℕ → ℕ → ℕ
+abbrev pub seen_at : Memory → Neighbourhood → ℕ → ℕ
 seen_at memory kind row = slice_index_or memory.seen (stamp_of kind row) 0
 
 -- when the list of a vehicle, or the penalty of an arc of it, last changed
@@ -121,17 +104,18 @@ changed_at memory v = slice_index_or memory.changed v 0
 
 -- the moves of a row were found not to be acceptable after the list of a vehicle, or the penalty of an arc of it, last
 -- changed
-abbrev pub is_later : Memory → ℕ → ℕ → ℕ → Bool
+abbrev pub is_later : Memory → Neighbourhood → ℕ → ℕ → Bool
 is_later memory kind row v = nat_lt (changed_at memory v) (seen_at memory kind row)
 
--- when what the moves of a row have in common last changed: the list of the first vehicle or the penalty of an arc of
--- it, or which visits are active; never for relocate_pair: a row of a pair is forgotten once the vehicle that serves
--- the pair has another list
-abbrev pub common_change : Memory → ℕ → ℕ → ℕ
-common_change memory kind row = cond (nat_lt kind 5) (changed_at memory row) (cond (nat_lt kind 6) 0 memory.active)
+-- when what the moves of a row have in common last changed: which visits are active, if the moves change that; else the
+-- route of the vehicle that owns the row, or the penalty of an arc of it. It is 0 for a pair that is put elsewhere: a row
+-- of a pair is forgotten once the vehicle that serves the pair has another route
+abbrev pub common_change : Memory → Neighbourhood → ℕ → ℕ
+common_change memory kind row =
+    cond (changes_activity kind) memory.active (cond (is_by_vehicle (owner kind)) (changed_at memory row) 0)
 
 -- the moves of a block were found not to be acceptable after the last change of anything that they depend on
-abbrev pub is_known : Memory → ℕ → ℕ → ℕ → Bool
+abbrev pub is_known : Memory → Neighbourhood → ℕ → ℕ → Bool
 is_known memory kind row w =
     nat_lt (common_change memory kind row) (seen_at memory kind row) && is_later memory kind row w
 
@@ -142,32 +126,33 @@ covers memory mv = is_known memory (kind_of mv) (first_of mv) (second_of mv)
 -- where the row of a pair is known, neither the list of the vehicle that serves it nor the penalty of an arc of it has
 -- changed since
 abbrev pub AreSettled : Model → List (List ℕ) → Memory → Type 0
-AreSettled model lists memory = (kind p w v : ℕ) → IsTrue (is_by_pair kind) → p < length model.pairs
+AreSettled model lists memory =
+    (kind : Neighbourhood) (p w v : ℕ) → IsTrue (is_by_pair (owner kind)) → p < length model.pairs
     → IsTrue (is_known memory kind p w) → IsTrue (holds (route lists v) (pair_at model p).pickup)
     → IsTrue (is_later memory kind p v)
 
 -- all moves of a row stand in front of a move in the list of some neighbourhoods
-abbrev pub is_behind : List Neighbourhood → ℕ → ℕ → Move → Bool
+abbrev pub is_behind : List Neighbourhood → Neighbourhood → ℕ → Move → Bool
 is_behind [] kind row mv = false
-is_behind (n ∷ ns) kind row mv = cond (kind_at n == kind_of mv)
-    ((kind == kind_of mv) && nat_lt row (first_of mv))
-    ((kind == kind_at n) || is_behind ns kind row mv)
+is_behind (n ∷ ns) kind row mv = cond (is_same_kind n (kind_of mv))
+    (is_same_kind kind (kind_of mv) && nat_lt row (first_of mv))
+    (is_same_kind kind n || is_behind ns kind row mv)
 
--- some neighbourhood of a list has moves of a kind
-abbrev pub is_kind_of : List Neighbourhood → ℕ → Bool
+-- a neighbourhood is one of a list
+abbrev pub is_kind_of : List Neighbourhood → Neighbourhood → Bool
 is_kind_of [] kind = false
-is_kind_of (n ∷ ns) kind = (kind == kind_at n) || is_kind_of ns kind
+is_kind_of (n ∷ ns) kind = is_same_kind kind n || is_kind_of ns kind
 
 -- two lists have the same lists for the vehicles of a move, and the same active visits where it changes these
 pub record Agree (model : Model) (mv : Move) (lists other : List (List ℕ)) : Type 0 where
   pub many : length lists ≡ length other
   pub source : (v : ℕ) → IsSource model lists mv v → route lists v ≡ route other v
   pub second : route lists (second_of mv) ≡ route other (second_of mv)
-  pub active : 5 < kind_of mv → is_active lists ≡ is_active other
+  pub active : IsTrue (changes_activity (kind_of mv)) → is_active lists ≡ is_active other
 
 -- a move of lists is not one of those that a move changed which was made before: its vehicles are others than two, and
 -- where it changes activity, that one did not
 pub record IsApart (model : Model) (lists : List (List ℕ)) (made : Move) (first second : ℕ) (mv : Move) : Type 0 where
   pub source : (v : ℕ) → IsSource model lists mv v → (v ≢ first) × (v ≢ second)
   pub target : (second_of mv ≢ first) × (second_of mv ≢ second)
-  pub active : 5 < kind_of mv → kind_of made < 6
+  pub active : IsTrue (changes_activity (kind_of mv)) → changes_activity (kind_of made) ≡ false

@@ -1,8 +1,9 @@
-//! The kind of a move and its row among those of its kind, as numbers, and the block of a run.
+//! The block of a run, the row of a move among those of its neighbourhood, and the place of the stamp of a row.
 
 ghost use Rattle.std.specs.Prelude.{◌≡◌, ◌<◌};
 ghost use Rattle.vr_known.specs.Blocks as blocks;
-ghost use Rattle.vr_model.specs.tables.WellFormed.{neighbourhood_number};
+ghost use Rattle.vr_model.specs.moves.Kinds.{rows_of};
+ghost use Rattle.vr_model.specs.moves.Moves.{all_neighbourhoods};
 
 use vr_model::{Move, Neighbourhood};
 
@@ -29,49 +30,8 @@ impl Block {
     }
 }
 
-/// The number of a kind of moves. Those below 5 name each vehicle whose list they change, those above 5 change which
-/// visits are active, and the rows of 5 and 7 are pairs.
-#[inline(always)]
-pub(crate) fn kind_at(neighbourhood: Neighbourhood) -> u32
-    ensures value { result ≡ neighbourhood_number neighbourhood }
-    ensures few { result < 11 }
-{
-    match neighbourhood {
-        Neighbourhood::TwoOpt => 0,
-        Neighbourhood::OrOpt => 1,
-        Neighbourhood::Relocate => 2,
-        Neighbourhood::Exchange => 3,
-        Neighbourhood::Cross => 4,
-        Neighbourhood::RelocatePair => 5,
-        Neighbourhood::PairActive => 6,
-        Neighbourhood::PairInactive => 7,
-        Neighbourhood::MakeActive => 8,
-        Neighbourhood::MakeInactive => 9,
-        Neighbourhood::SwapActive => 10,
-    }
-}
-
-/// The number of the kind of a move.
-pub(crate) fn kind_of(mv: Move) -> u32
-    ensures { result ≡ blocks.kind_of mv }
-{
-    match mv {
-        Move::TwoOpt { .. } => 0,
-        Move::OrOpt { .. } => 1,
-        Move::Relocate { .. } => 2,
-        Move::Exchange { .. } => 3,
-        Move::Cross { .. } => 4,
-        Move::RelocatePair { .. } => 5,
-        Move::PairActive { .. } => 6,
-        Move::PairInactive { .. } => 7,
-        Move::MakeActive { .. } => 8,
-        Move::MakeInactive { .. } => 9,
-        Move::SwapActive { .. } => 10,
-    }
-}
-
-/// The row of a move among those of its kind: of a kind below 5 the first vehicle that it names, of `RelocatePair` and
-/// `PairInactive` the pair. All moves of any other kind are row 0.
+/// The row of a move among those of its neighbourhood: the vehicle that it names first, or its pair. It is 0 if nobody
+/// owns the rows of its neighbourhood.
 pub(crate) fn first_of(mv: Move) -> u32
     ensures { result ≡ blocks.first_of mv }
 {
@@ -87,33 +47,35 @@ pub(crate) fn first_of(mv: Move) -> u32
     }
 }
 
-/// How many rows a kind has at most: one for each vehicle, of which there are 100 at most, or for each pair, 500 at
-/// most, or one.
+/// The rows of all neighbourhoods.
+pub(crate) const ROWS: usize = 1504;
+
+// How many rows the neighbourhoods before one have, in the order of all.
 #[inline(always)]
-pub(crate) fn rows_of(kind: u32) -> u32
-    ensures { result ≡ blocks.rows_of kind }
+fn rows_before(kind: Neighbourhood) -> u32
+    ensures { result ≡ blocks.rows_before kind all_neighbourhoods }
 {
-    if kind < 5 {
-        return 100;
+    match kind {
+        Neighbourhood::TwoOpt => 0,
+        Neighbourhood::OrOpt => 100,
+        Neighbourhood::Relocate => 200,
+        Neighbourhood::Exchange => 300,
+        Neighbourhood::Cross => 400,
+        Neighbourhood::RelocatePair => 500,
+        Neighbourhood::PairActive => 1000,
+        Neighbourhood::PairInactive => 1001,
+        Neighbourhood::MakeActive => 1501,
+        Neighbourhood::MakeInactive => 1502,
+        Neighbourhood::SwapActive => 1503,
     }
-    if kind == 5 || kind == 7 { 500 } else { 1 }
 }
 
-/// Where the stamp of a row of a kind stands: of each of the first five kinds 100 rows, of `RelocatePair` 500 from 500
-/// on, of `PairInactive` 500 from 1000 on, and of each other kind one behind 1500.
+/// The place of the stamp of a row, among those of all neighbourhoods.
 #[inline(always)]
-pub(crate) fn stamp_of(kind: u32, row: u32) -> usize
-    requires kind { kind < 11 }
-    requires row { row < blocks.rows_of kind }
+pub(crate) fn stamp_of(kind: Neighbourhood, row: u32) -> usize
+    requires row { row < rows_of kind }
     ensures value { result ≡ blocks.stamp_of kind row }
-    ensures within { result < 1511 }
+    ensures within { result < 1504 }
 {
-    let place = if kind < 6 {
-        kind * 100 + row
-    } else if kind == 7 {
-        1000 + row
-    } else {
-        1500 + kind
-    };
-    place as usize
+    (rows_before(kind) + row) as usize
 }

@@ -2,14 +2,16 @@
 
 ghost use Rattle.std.specs.Prelude.{◌≡◌, ℕ, ◌⊎◌, ◌<◌, false, IsTrue};
 ghost use Rattle.vr_known.specs.Blocks.{AreSettled, IsApart, Learns, covers, first_of, is_behind, is_kind_of};
-ghost use Rattle.vr_known.specs.Blocks.{is_known, is_later, kind_of, rows_of};
+ghost use Rattle.vr_known.specs.Blocks.{is_known, is_later};
 ghost use Rattle.vr_known.specs.Locality.{HasNoGlobalSpans};
 ghost use Rattle.vr_model.specs.moves.MoveTests.{is_move};
-ghost use Rattle.vr_model.specs.tables.WellFormed.{IsWellFormed, neighbourhood_number as kind_at};
+ghost use Rattle.vr_model.specs.moves.Kinds.{kind_of, rows_of};
+ghost use Rattle.vr_model.specs.tables.WellFormed.{IsWellFormed};
 ghost use Rattle.vr_model.specs.declared.neighbours.Move.{Move as Moved};
+ghost use Rattle.vr_model.specs.declared.neighbours.Neighbourhood.{Neighbourhood as Kind};
 
 use crate::stamps::Stamps;
-use crate::{Touched, blocks};
+use crate::Touched;
 use std::marker::Model;
 use vr_model::{Closed, Model as RoutingModel, Move, Neighbourhood};
 use vr_routes::Routes;
@@ -36,7 +38,7 @@ impl Known {
     /// use it too, and so pass over none.
     #[inline]
     pub fn none() -> Known
-        ensures none { (kind v w : ℕ) → is_known result kind v w ≡ false }
+        ensures none { (kind : Kind) (v w : ℕ) → is_known result kind v w ≡ false }
         ensures learns { Learns result → ⊥ }
     {
         Known { stamps: None }
@@ -46,7 +48,7 @@ impl Known {
     /// then does what a move makes depend on nothing but the lists of its vehicles, and, if it changes activity, the
     /// active visits.
     pub fn of(model: &RoutingModel) -> Known
-        ensures none { (kind v w : ℕ) → is_known result kind v w ≡ false }
+        ensures none { (kind : Kind) (v w : ℕ) → is_known result kind v w ≡ false }
         ensures learns { Learns result → HasNoGlobalSpans model.now }
     {
         if !has_no_global_spans(model) {
@@ -67,12 +69,12 @@ impl Known {
     /// A move that names no vehicle counts as one that names 0.
     #[inline(always)]
     pub fn has(&self, neighbourhood: Neighbourhood, v: u32, w: u32) -> bool
-        requires first { v < rows_of (kind_at neighbourhood) }
+        requires first { v < rows_of neighbourhood }
         requires second { w < 100 }
-        ensures { result ≡ is_known self.now (kind_at neighbourhood) v w }
+        ensures { result ≡ is_known self.now neighbourhood v w }
     {
         match &self.stamps {
-            Some(stamps) => stamps.has(blocks::kind_at(neighbourhood), v, w),
+            Some(stamps) => stamps.has(neighbourhood, v, w),
             None => false,
         }
     }
@@ -82,7 +84,7 @@ impl Known {
     /// `Progress::advance`).
     pub fn note(&mut self, neighbourhoods: &[Neighbourhood], mv: Move)
         requires first { first_of mv < rows_of (kind_of mv) }
-        ensures learned { (k u w : ℕ) → u < rows_of k → IsTrue (is_known self.new k u w)
+        ensures learned { (k : Kind) (u w : ℕ) → u < rows_of k → IsTrue (is_known self.new k u w)
             → IsTrue (is_known self.old k u w) ⊎ IsTrue (is_behind neighbourhoods.now k u mv) }
         ensures learns { Learns self.new → Learns self.old }
     {
@@ -93,7 +95,7 @@ impl Known {
 
     /// All moves of some neighbourhoods were refused.
     pub fn note_all(&mut self, neighbourhoods: &[Neighbourhood])
-        ensures learned { (k u w : ℕ) → u < rows_of k → IsTrue (is_known self.new k u w)
+        ensures learned { (k : Kind) (u w : ℕ) → u < rows_of k → IsTrue (is_known self.new k u w)
             → IsTrue (is_known self.old k u w) ⊎ IsTrue (is_kind_of neighbourhoods.now k) }
         ensures learns { Learns self.new → Learns self.old }
     {
@@ -111,10 +113,10 @@ impl Known {
         requires well_formed { IsWellFormed model.now }
         requires first { touched.first < 100 }
         requires second { touched.second < 100 }
-        ensures fewer { (k u w : ℕ) → IsTrue (is_known self.new k u w) → IsTrue (is_known self.old k u w) }
+        ensures fewer { (k : Kind) (u w : ℕ) → IsTrue (is_known self.new k u w) → IsTrue (is_known self.old k u w) }
         ensures apart { (m : Moved) → IsTrue (is_move model.now routes.now.lists m) → IsTrue (covers self.new m)
             → IsApart model.now routes.now.lists mv touched.first touched.second m }
-        ensures known { (k u w : ℕ) → IsTrue (is_known self.new k u w) → Learns self.new }
+        ensures known { (k : Kind) (u w : ℕ) → IsTrue (is_known self.new k u w) → Learns self.new }
         ensures learns { Learns self.new → Learns self.old }
     {
         if let Some(stamps) = &mut self.stamps {
@@ -127,10 +129,10 @@ impl Known {
     /// after it has raised the penalties of each vehicle.
     pub fn forget(&mut self, v: u32)
         requires vehicle { v < 100 }
-        ensures fewer { (k u w : ℕ) → IsTrue (is_known self.new k u w) → IsTrue (is_known self.old k u w) }
-        ensures earlier { (k u w : ℕ) → IsTrue (is_later self.new k u w) → IsTrue (is_later self.old k u w) }
-        ensures changes { (k u : ℕ) → is_later self.new k u v ≡ false }
-        ensures known { (k u w : ℕ) → IsTrue (is_known self.new k u w) → Learns self.new }
+        ensures fewer { (k : Kind) (u w : ℕ) → IsTrue (is_known self.new k u w) → IsTrue (is_known self.old k u w) }
+        ensures earlier { (k : Kind) (u w : ℕ) → IsTrue (is_later self.new k u w) → IsTrue (is_later self.old k u w) }
+        ensures changes { (k : Kind) (u : ℕ) → is_later self.new k u v ≡ false }
+        ensures known { (k : Kind) (u w : ℕ) → IsTrue (is_known self.new k u w) → Learns self.new }
         ensures learns { Learns self.new → Learns self.old }
     {
         if let Some(stamps) = &mut self.stamps {
@@ -143,8 +145,8 @@ impl Known {
     /// since. A vehicle changes with its list, or with penalties of its arcs.
     pub fn settle(&mut self, model: &RoutingModel, routes: &Routes)
         requires well_formed { IsWellFormed model.now }
-        ensures fewer { (k u w : ℕ) → IsTrue (is_known self.new k u w) → IsTrue (is_known self.old k u w) }
-        ensures earlier { (k u w : ℕ) → IsTrue (is_later self.new k u w) → IsTrue (is_later self.old k u w) }
+        ensures fewer { (k : Kind) (u w : ℕ) → IsTrue (is_known self.new k u w) → IsTrue (is_known self.old k u w) }
+        ensures earlier { (k : Kind) (u w : ℕ) → IsTrue (is_later self.new k u w) → IsTrue (is_later self.old k u w) }
         ensures settled { AreSettled model.now routes.now.lists self.new }
         ensures learns { Learns self.new → Learns self.old }
     {

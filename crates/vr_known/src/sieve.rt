@@ -3,8 +3,8 @@
 ghost use Rattle.std.specs.Prelude.{◌≡◌, ℕ, ◌+◌, ◌<◌, ◌≤◌, IfSome, IsTrue};
 ghost use Rattle.vr_model.specs.declared.neighbours.Move.{Move as Moved};
 ghost use Rattle.vr_routes.specs.Runs.{with_last};
-ghost use Rattle.vr_model.specs.tables.WellFormed.{neighbourhood_number as kind_at};
-ghost use Rattle.vr_known.specs.Blocks.{covers, rows_of};
+ghost use Rattle.vr_model.specs.moves.Kinds.{rows_of};
+ghost use Rattle.vr_known.specs.Blocks.{covers};
 ghost use Rattle.vr_known.specs.Passing.{CoversBlock};
 
 use crate::Known;
@@ -41,9 +41,9 @@ pub trait Sieve {
     /// name last. Rows are those of [`Known::has`].
     fn has(&self, neighbourhood: Neighbourhood, v: u32, w: u32) -> bool
         requires ready { is_ready self.now }
-        requires first { v < rows_of (kind_at neighbourhood) }
+        requires first { v < rows_of neighbourhood }
         requires second { w < 100 }
-        ensures { IsTrue result → CoversBlock (covers self.now) (kind_at neighbourhood) v w };
+        ensures { IsTrue result → CoversBlock (covers self.now) neighbourhood v w };
 
     /// Goes over a run of moves, which differ in their last number: those of the numbers from `from` on, below `end`.
     /// Says from which number on they are to be tried: all before it can be passed over. The last number of `mv` is

@@ -2,12 +2,14 @@
 
 ghost use Rattle.std.specs.Prelude.{◌≡◌, ℕ, ◌⊎◌, ◌<◌, ◌≤◌, false, IsTrue, length, slice_index_or};
 ghost use Rattle.vr_known.specs.Blocks.{AreSettled, IsApart, common_change, covers, first_of, is_behind};
-ghost use Rattle.vr_known.specs.Blocks.{is_by_pair, is_kind_of, is_known, is_later, kind_of, rows_of};
+ghost use Rattle.vr_known.specs.Blocks.{is_kind_of, is_known, is_later};
+ghost use Rattle.vr_model.specs.moves.Kinds.{changes_activity, is_by_pair, kind_of, owner, rows_of};
 ghost use Rattle.vr_model.specs.moves.MoveTests.{is_move};
 ghost use Rattle.vr_model.specs.declared.neighbours.Move.{Move as Moved};
+ghost use Rattle.vr_model.specs.declared.neighbours.Neighbourhood.{Neighbourhood as Kind};
 
 use crate::Touched;
-use crate::blocks::{first_of, kind_at, kind_of, rows_of, stamp_of};
+use crate::blocks::{ROWS, first_of, stamp_of};
 use std::marker::Model;
 use vr_model::{Closed, Move, Neighbourhood};
 use vr_routes::Routes;
@@ -15,8 +17,8 @@ use vr_routes::Routes;
 /// A clock, and what was stamped with it.
 #[derive(Drop)]
 pub(crate) struct Stamps {
-    // For each row of a kind, when its moves were last refused, 0 where they never were or `settle` forgot them.
-    seen: [u64; 1511],
+    // For each row of a neighbourhood, when its moves were last refused: 0 if they never were, or `settle` forgot them.
+    seen: [u64; ROWS],
     // For each vehicle, when its list, or a penalty of its arcs, last changed.
     changed: [u64; 100],
     // When a move last changed which visits are active.
@@ -45,7 +47,7 @@ impl Model for Stamps {
 impl Stamps {
     /// No moves were refused.
     pub(crate) fn new() -> Stamps
-        ensures { (kind row w : ℕ) → is_known result kind row w ≡ false }
+        ensures { (kind : Kind) (row w : ℕ) → is_known result kind row w ≡ false }
     {
         Stamps {
             seen: unseen(),
@@ -57,8 +59,7 @@ impl Stamps {
 
     /// Whether the moves of a row and a vehicle were refused, and nothing on which they depend has changed since.
     #[inline(always)]
-    pub(crate) fn has(&self, kind: u32, row: u32, w: u32) -> bool
-        requires kind { kind < 11 }
+    pub(crate) fn has(&self, kind: Neighbourhood, row: u32, w: u32) -> bool
         requires row { row < rows_of kind }
         requires second { w < 100 }
         ensures { result ≡ is_known self.now kind row w }
@@ -67,35 +68,35 @@ impl Stamps {
         self.common_change(kind, row) < seen && self.changed[w as usize] < seen
     }
 
-    // When what the moves of a row have in common last changed: of the first five kinds the list of the vehicle of the
-    // row, of `relocate_pair` nothing (`settle` forgets its rows), of the kinds that change activity that (of these
-    // `settle` forgets rows of `pair_inactive` too).
+    // When what the moves of a row have in common last changed: which visits are active, if the moves change that; else
+    // the route of the vehicle that owns the row. It is 0 for a pair that is put elsewhere: `settle` forgets its row.
     #[inline(always)]
-    fn common_change(&self, kind: u32, row: u32) -> u64
+    fn common_change(&self, kind: Neighbourhood, row: u32) -> u64
         requires row { row < rows_of kind }
         ensures { result ≡ common_change self.now kind row }
     {
-        if kind < 5 {
+        if kind.changes_activity() {
+            return self.active;
+        }
+        if kind.owner().is_vehicle() {
             return self.changed[row as usize];
         }
-        if kind < 6 { 0 } else { self.active }
+        0
     }
 
     // The moves of a row were refused.
-    fn learn(&mut self, kind: u32, row: u32)
-        requires kind { kind < 11 }
+    fn learn(&mut self, kind: Neighbourhood, row: u32)
         requires row { row < rows_of kind }
-        ensures { (k u w : ℕ) → u < rows_of k → IsTrue (is_known self.new k u w)
+        ensures { (k : Kind) (u w : ℕ) → u < rows_of k → IsTrue (is_known self.new k u w)
             → IsTrue (is_known self.old k u w) ⊎ ((k ≡ kind) × (u ≡ row)) }
     {
         self.seen[stamp_of(kind, row)] = self.clock;
     }
 
-    // The moves of a kind and all its rows below one were refused.
-    fn learn_below(&mut self, kind: u32, end: u32)
-        requires kind { kind < 11 }
+    // The moves of all rows of a neighbourhood below one were refused.
+    fn learn_below(&mut self, kind: Neighbourhood, end: u32)
         requires end { end ≤ rows_of kind }
-        ensures { (k u w : ℕ) → u < rows_of k → IsTrue (is_known self.new k u w)
+        ensures { (k : Kind) (u w : ℕ) → u < rows_of k → IsTrue (is_known self.new k u w)
             → IsTrue (is_known self.old k u w) ⊎ ((k ≡ kind) × (u < end)) }
     {
         for row in 0..end {
@@ -103,67 +104,67 @@ impl Stamps {
         }
     }
 
-    /// The rows are learned that stand as a whole in front of a move, in the list of some neighbourhoods.
+    /// Learns the rows that come as a whole before a move, in the moves of some neighbourhoods.
     pub(crate) fn note(&mut self, neighbourhoods: &[Neighbourhood], mv: Move)
         requires first { first_of mv < rows_of (kind_of mv) }
-        ensures { (k u w : ℕ) → u < rows_of k → IsTrue (is_known self.new k u w)
+        ensures { (k : Kind) (u w : ℕ) → u < rows_of k → IsTrue (is_known self.new k u w)
             → IsTrue (is_known self.old k u w) ⊎ IsTrue (is_behind neighbourhoods.now k u mv) }
     {
-        let last = kind_of(mv);
+        let last = mv.neighbourhood();
         for k in 0..neighbourhoods.len() {
-            let kind = kind_at(neighbourhoods[k]);
-            if kind == last {
+            let kind = neighbourhoods[k];
+            if kind.is_same(last) {
                 self.learn_below(kind, first_of(mv));
                 return;
             }
-            self.learn_below(kind, rows_of(kind));
+            self.learn_below(kind, kind.owner().rows());
         }
     }
 
     /// All moves of some neighbourhoods were refused.
     pub(crate) fn note_all(&mut self, neighbourhoods: &[Neighbourhood])
-        ensures { (k u w : ℕ) → u < rows_of k → IsTrue (is_known self.new k u w)
+        ensures { (k : Kind) (u w : ℕ) → u < rows_of k → IsTrue (is_known self.new k u w)
             → IsTrue (is_known self.old k u w) ⊎ IsTrue (is_kind_of neighbourhoods.now k) }
     {
         for k in 0..neighbourhoods.len() {
-            let kind = kind_at(neighbourhoods[k]);
-            self.learn_below(kind, rows_of(kind));
+            let kind = neighbourhoods[k];
+            self.learn_below(kind, kind.owner().rows());
         }
     }
 
     /// What the moves of a vehicle depend on changes now: its list, or what penalises its arcs.
     pub(crate) fn forget(&mut self, v: u32)
         requires vehicle { v < 100 }
-        ensures fewer { (k u w : ℕ) → IsTrue (is_known self.new k u w) → IsTrue (is_known self.old k u w) }
-        ensures earlier { (k u w : ℕ) → IsTrue (is_later self.new k u w) → IsTrue (is_later self.old k u w) }
-        ensures changes { (k u : ℕ) → is_later self.new k u v ≡ false }
+        ensures fewer { (k : Kind) (u w : ℕ) → IsTrue (is_known self.new k u w) → IsTrue (is_known self.old k u w) }
+        ensures earlier { (k : Kind) (u w : ℕ) → IsTrue (is_later self.new k u w) → IsTrue (is_later self.old k u w) }
+        ensures changes { (k : Kind) (u : ℕ) → is_later self.new k u v ≡ false }
     {
         self.changed[v as usize] = self.clock;
     }
 
     // Other visits are active now.
     fn forget_active(&mut self)
-        ensures fewer { (k u w : ℕ) → IsTrue (is_known self.new k u w) → IsTrue (is_known self.old k u w) }
-        ensures earlier { (k u w : ℕ) → IsTrue (is_later self.new k u w) → IsTrue (is_later self.old k u w) }
-        ensures changes { (k u w : ℕ) → 5 < k → is_known self.new k u w ≡ false }
+        ensures fewer { (k : Kind) (u w : ℕ) → IsTrue (is_known self.new k u w) → IsTrue (is_known self.old k u w) }
+        ensures earlier { (k : Kind) (u w : ℕ) → IsTrue (is_later self.new k u w) → IsTrue (is_later self.old k u w) }
+        ensures changes { (k : Kind) (u w : ℕ) → IsTrue (changes_activity k) → is_known self.new k u w ≡ false }
     {
         self.active = self.clock;
     }
 
     /// What is refused from now on is refused after all changes so far.
     pub(crate) fn go_on(&mut self)
-        ensures known { (k u w : ℕ) → is_known self.new k u w ≡ is_known self.old k u w }
-        ensures later { (k u w : ℕ) → is_later self.new k u w ≡ is_later self.old k u w }
+        ensures known { (k : Kind) (u w : ℕ) → is_known self.new k u w ≡ is_known self.old k u w }
+        ensures later { (k : Kind) (u w : ℕ) → is_later self.new k u w ≡ is_later self.old k u w }
     {
         self.clock = self.clock.saturating_add(1);
     }
 
-    /// A move was made, and `routes` are those after it: the lists of the vehicles that it touched changed, and where
-    /// it is of a kind that changes activity, so did that.
+    /// A move was made, and `routes` are those after it. The routes of the vehicles that it touched changed, and which
+    /// visits are active, if the move changes that.
     pub(crate) fn change(&mut self, closed: Closed<'_>, routes: &Routes, mv: Move, touched: Touched)
         requires first { touched.first < 100 }
         requires second { touched.second < 100 }
-        ensures fewer { (k u w : ℕ) → IsTrue (is_known self.new k u w) → IsTrue (is_known self.old k u w) }
+        ensures fewer { (k : Kind) (u w : ℕ) → IsTrue (is_known self.new k u w) → IsTrue (is_known self.old k u w) }
         ensures apart { (m : Moved) → IsTrue (is_move closed.entry.model.now routes.now.lists m)
             → IsTrue (covers self.new m)
             → IsApart closed.entry.model.now routes.now.lists mv touched.first touched.second m }
@@ -172,28 +173,29 @@ impl Stamps {
         self.settle(closed, routes);
     }
 
-    // The lists of two vehicles change now, and activity where a move is of a kind above 5, which changes it.
+    // The routes of two vehicles change now, and which visits are active, if the move changes that.
     fn stamp(&mut self, mv: Move, touched: Touched)
         requires first { touched.first < 100 }
         requires second { touched.second < 100 }
-        ensures fewer { (k u w : ℕ) → IsTrue (is_known self.new k u w) → IsTrue (is_known self.old k u w) }
-        ensures first { (k u : ℕ) → is_later self.new k u touched.first ≡ false }
-        ensures second { (k u : ℕ) → is_later self.new k u touched.second ≡ false }
-        ensures active { (k u w : ℕ) → 5 < k → IsTrue (is_known self.new k u w) → kind_of mv < 6 }
+        ensures fewer { (k : Kind) (u w : ℕ) → IsTrue (is_known self.new k u w) → IsTrue (is_known self.old k u w) }
+        ensures first { (k : Kind) (u : ℕ) → is_later self.new k u touched.first ≡ false }
+        ensures second { (k : Kind) (u : ℕ) → is_later self.new k u touched.second ≡ false }
+        ensures active { (k : Kind) (u w : ℕ) → IsTrue (changes_activity k) → IsTrue (is_known self.new k u w)
+            → changes_activity (kind_of mv) ≡ false }
     {
         self.forget(touched.first);
         self.forget(touched.second);
-        if kind_of(mv) > 5 {
+        if mv.neighbourhood().changes_activity() {
             self.forget_active();
         }
         self.go_on();
     }
 
-    /// The rows of each pair, of `relocate_pair` (kind 5) and `pair_inactive` (7), are forgotten where the list or the
-    /// penalties of the vehicle that serves it changed since they were refused: their moves need not name that vehicle.
+    /// The rows of a pair are forgotten if the route or the penalties of the vehicle that serves it changed since they were
+    /// refused. The moves of such a row need not name that vehicle.
     pub(crate) fn settle(&mut self, closed: Closed<'_>, routes: &Routes)
-        ensures fewer { (k u w : ℕ) → IsTrue (is_known self.new k u w) → IsTrue (is_known self.old k u w) }
-        ensures earlier { (k u w : ℕ) → IsTrue (is_later self.new k u w) → IsTrue (is_later self.old k u w) }
+        ensures fewer { (k : Kind) (u w : ℕ) → IsTrue (is_known self.new k u w) → IsTrue (is_known self.old k u w) }
+        ensures earlier { (k : Kind) (u w : ℕ) → IsTrue (is_later self.new k u w) → IsTrue (is_later self.old k u w) }
         ensures settled { AreSettled closed.entry.model.now routes.now.lists self.new }
     {
         routes.know_once();
@@ -203,23 +205,23 @@ impl Stamps {
             let pair = closed.model.pairs.get(p);
             match routes.vehicle_of(pair.pickup) {
                 Some(v) => {
-                    self.settle_row(5, p as u32, v);
-                    self.settle_row(7, p as u32, v);
+                    self.settle_row(Neighbourhood::RelocatePair, p as u32, v);
+                    self.settle_row(Neighbourhood::PairInactive, p as u32, v);
                 }
-                // A pair whose pickup stands nowhere has no moves of these kinds.
+                // A pair whose pickup is in no route has no such moves.
                 None => {}
             }
         }
     }
 
-    // The row of a pair and a kind is forgotten where it was not refused after the vehicle `v` last changed.
-    fn settle_row(&mut self, kind: u32, p: u32, v: u32)
-        requires kind { IsTrue (is_by_pair kind) }
+    // The row of a pair is forgotten if it was not refused after the vehicle `v` last changed.
+    fn settle_row(&mut self, kind: Neighbourhood, p: u32, v: u32)
+        requires kind { IsTrue (is_by_pair (owner kind)) }
         requires pair { p < 500 }
         requires vehicle { v < 100 }
-        ensures fewer { (k u w : ℕ) → IsTrue (is_known self.new k u w) → IsTrue (is_known self.old k u w) }
-        ensures earlier { (k u w : ℕ) → IsTrue (is_later self.new k u w) → IsTrue (is_later self.old k u w) }
-        ensures keeps { (k u w x : ℕ) → IsTrue (is_known self.new k u w) → IsTrue (is_later self.old k u x)
+        ensures fewer { (k : Kind) (u w : ℕ) → IsTrue (is_known self.new k u w) → IsTrue (is_known self.old k u w) }
+        ensures earlier { (k : Kind) (u w : ℕ) → IsTrue (is_later self.new k u w) → IsTrue (is_later self.old k u w) }
+        ensures keeps { (k : Kind) (u w x : ℕ) → IsTrue (is_known self.new k u w) → IsTrue (is_later self.old k u x)
             → IsTrue (is_later self.new k u x) }
         ensures settled { (w : ℕ) → IsTrue (is_known self.new kind p w) → IsTrue (is_later self.new kind p v) }
     {
@@ -232,8 +234,8 @@ impl Stamps {
 }
 
 // No stamps.
-fn unseen() -> [u64; 1511]
+fn unseen() -> [u64; ROWS]
     ensures { (i : ℕ) → slice_index_or result i 0 ≡ 0 }
 {
-    [0; 1511]
+    [0; ROWS]
 }

@@ -36,7 +36,7 @@ mod words;
 
 pub use closed::Closed;
 pub use memory::NoMemory;
-pub use neighbours::{Move, Neighbourhood};
+pub use neighbours::{Move, Neighbourhood, Owner};
 pub use records::{
     Allowed, BreakRow, Dimension, End, Evaluator, First, Group, Improve, Interval, Matrix, Model,
     Pair, Parts, Policy, Report, ScheduleRule, SearchRow, Soft, StopRow, Vehicle, VehicleBreaks,

@@ -69,19 +69,11 @@ const CUT: u32 = 10;
 // For how many rounds a changed visit is tabu, if a model does not say it.
 const TENURE: u32 = 10;
 
-// Whether two neighbourhoods are the same.
-fn is_same_neighbourhood(one: Neighbourhood, other: Neighbourhood) -> bool
-    ensures { result ≡ (neighbourhood_number one == neighbourhood_number other) }
-{
-    one as u8 == other as u8
-}
-
 // Whether a neighbourhood is among some.
 fn has_neighbourhood(some: &[Neighbourhood], neighbourhood: Neighbourhood) -> bool
     ensures { result ≡ list_any (λ other. neighbourhood_number other == neighbourhood_number neighbourhood) some.now }
 {
-    some.iter()
-        .any(|other| is_same_neighbourhood(*other, neighbourhood))
+    some.iter().any(|other| other.is_same(neighbourhood))
 }
 
 impl Reader for NeighbourhoodTable {

@@ -21,7 +21,9 @@ use Rattle.vr_descent.proofs.AskingLemmas.{on_by, on_same}
 use Rattle.vr_descent.specs.Searching.{after_move, events_after, move_event, progress_after, routes_after, scan_of}
 use Rattle.vr_descent.proofs.EndLemmas.{AcceptedAt, accepted_at, completed, was_cut}
 use Rattle.vr_model.specs.declared.neighbours.Move.{Move}
-use Rattle.vr_known.specs.Blocks.{IsApart, covers, is_behind, is_kind_of, is_known, rows_of}
+use Rattle.vr_model.specs.declared.neighbours.Neighbourhood.{Neighbourhood}
+use Rattle.vr_model.specs.moves.Kinds.{rows_of}
+use Rattle.vr_known.specs.Blocks.{IsApart, covers, is_behind, is_kind_of, is_known}
 use Rattle.vr_routes.specs.Tours.{Tours}
 use Rattle.vr_descent.specs.Refused.{AreRefused, CanJudge}
 use Rattle.vr_descent.proofs.RefusedLemmas.{changed, few_lists, noted, noted_all, row_low}
@@ -240,7 +242,7 @@ returns-in_ok-take-in-Accepted-clause-known g c =
     let stays = same g (goal.at.returns-in_ok-take-in-Accepted-clause-known g c).In_ok-ended in
     let made = accepted g (goal.at.returns-in_ok-take-in-Accepted-clause-known g c).In-Accepted in
     let few = few_lists model c.requires.well_formed lists c.requires.judge.holds.valid in
-    let learned = subst (λ ns. (k u w : ℕ) → u < rows_of k → IsTrue (is_known c.note.new.self k u w) → IsTrue (is_known c.args.known.now k u w) ⊎ IsTrue (is_behind ns k u mv)) c.as_slice.ensures c.note.ensures.learned in
+    let learned = subst (λ ns. (k : Neighbourhood) (u w : ℕ) → u < rows_of k → IsTrue (is_known c.note.new.self k u w) → IsTrue (is_known c.args.known.now k u w) ⊎ IsTrue (is_behind ns k u mv)) c.as_slice.ensures c.note.ensures.learned in
     let before = noted model takes lists c.args.known.now c.note.new.self c.in-Accepted.place (c.args.limit.tries - c.args.self.now.used) mv c.requires.well_formed few made.scanned learned c.requires.known in
     let routes_are : c.take.new.routes ≡ moved model c.args.routes.now mv = c.in_ok-take-in-Accepted.ensures.routes ∙ ap (λ k. moved k c.args.routes.now mv) stays in
     let apart = subst (λ r. (m : Move) → IsTrue (is_move model r.lists m) → IsTrue (covers c.change.new.self m) → IsApart model r.lists mv first second m) routes_are c.change.ensures.apart in
@@ -255,5 +257,5 @@ returns-in-Complete-clause-known g c =
     let lists = c.args.routes.now.lists in
     let done = tried_all g (goal.at.returns-in-Complete-clause-known g c).In-Complete in
     let few = few_lists model c.requires.well_formed lists c.requires.judge.holds.valid in
-    let learned = subst (λ ns. (k u w : ℕ) → u < rows_of k → IsTrue (is_known c.note_all.new.self k u w) → IsTrue (is_known c.args.known.now k u w) ⊎ IsTrue (is_kind_of ns k)) c.as_slice-in-Complete.ensures c.note_all.ensures.learned in
+    let learned = subst (λ ns. (k : Neighbourhood) (u w : ℕ) → u < rows_of k → IsTrue (is_known c.note_all.new.self k u w) → IsTrue (is_known c.args.known.now k u w) ⊎ IsTrue (is_kind_of ns k)) c.as_slice-in-Complete.ensures c.note_all.ensures.learned in
     noted_all model takes lists c.args.known.now c.note_all.new.self c.in-Complete.length (c.args.limit.tries - c.args.self.now.used) c.requires.well_formed few done.0 learned c.requires.known

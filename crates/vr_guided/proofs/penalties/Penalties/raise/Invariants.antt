@@ -5,6 +5,7 @@ use Rattle.vr_model.specs.routes.Routes.{arcs_of, route}
 use Rattle.vr_model.specs.search.GuidedSearches.{raised}
 use Rattle.vr_guided.specs.Counts.{AtMost, counted}
 use Rattle.std.specs.Prelude.{IsTrue}
+use Rattle.vr_model.specs.declared.neighbours.Neighbourhood.{Neighbourhood}
 use Rattle.vr_known.specs.Blocks.{Learns, is_known}
 use Rattle.vr_guided.specs.Sparing.{SparesKnown}
 use Rattle.vr_guided.specs.Worths.{raised_in_turn}
@@ -17,7 +18,7 @@ invariant-loop-vehicle l = record {
       ≡ raised l.closed.model.now (counted l.initial.self) l.routes.lists;
   nodes : l.self.nodes ≡ l.closed.model.now.nodes;
   few : AtMost (1000000000 + 1001 * l.vehicle) (counted l.self);
-  fewer : (k u w : ℕ) → IsTrue (is_known l.known k u w) → IsTrue (is_known l.initial.known k u w);
+  fewer : (k : Neighbourhood) (u w : ℕ) → IsTrue (is_known l.known k u w) → IsTrue (is_known l.initial.known k u w);
   spares : SparesKnown l.routes.lists (counted l.initial.self) (counted l.self) l.known;
   learns : Learns l.known → Learns l.initial.known;
 }

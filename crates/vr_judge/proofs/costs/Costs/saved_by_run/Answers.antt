@@ -1,15 +1,14 @@
 use Rattle.std.proofs.Common.{◌≡◌, ◌∙◌, ℕ, List, false, ap, sym, subst}
 use Rattle.std.specs.Prelude.{IfSome, IsTrue, pos}
-use Rattle.std.proofs.lemmas.Bool.{false≢true}
+use Rattle.std.proofs.lemmas.Bool.{false≢true, not-true}
 use Rattle.vr_model.specs.deciding.Testing.{eq_of_tests}
 use Rattle.vr_model.specs.routes.Costs.{penalty_part}
 use Rattle.vr_model.specs.routes.Rules.{is_valid}
 use Rattle.vr_model.specs.tables.Numbers.{is_same_number}
 use Rattle.vr_model.specs.tables.WellFormed.{IsWellFormed}
 use Rattle.vr_model.specs.declared.records.Model.{Model}
-use Rattle.vr_model.proofs.tables.Tests.{lt_of_test}
 use Rattle.vr_routes.specs.Runs.{with_last}
-use Rattle.vr_known.specs.Blocks.{kind_of}
+use Rattle.vr_model.specs.moves.Kinds.{changes_activity, kind_of}
 use Rattle.vr_usecosts.specs.Groups.{SavesAtMost}
 use Rattle.vr_judge.proofs.LeastLemmas.{all_save, by_penalties, none_to_pay, same_to_pay, unpaid}
 use Rattle.vr_judge.proofs.costs.Costs.saved_by_run.Goals as goal
@@ -45,7 +44,7 @@ returns-then-pays_none-clause-least c =
     let total : penalty_part model lists ≡ c.self.inside.groups.total = ap (λ (m : Model). penalty_part m lists) (sym h.groups_model) ∙ sym h.groups.total_is ∙ ap (λ k. k.groups.total) (sym c.self.view_is) in
     elim c.then-pays_none.branch [
       | then-pays_none-via-then-pays_none w ↦ none_to_pay model pays lists valid well (total ∙ eq_of_tests _ (pos 0) (sym c.pays_none.ensures ∙ w.if-pays_none.true)) c.args.mv
-      | then-pays_none-via-else-pays_none+then-keeps_activity w ↦ same_to_pay model pays lists valid c.args.mv (lt_of_test (kind_of c.args.mv) 6 (sym w.keeps_activity.ensures ∙ w.if-keeps_activity.true))
+      | then-pays_none-via-else-pays_none+then-keeps_activity w ↦ same_to_pay model pays lists valid c.args.mv (not-true (changes_activity (kind_of c.args.mv)) (sym w.keeps_activity.ensures ∙ w.if-keeps_activity.true))
     ]
 
 pub returns-clause-least : goal.returns-clause-least
