@@ -3,7 +3,8 @@ use Rattle.std.specs.Prelude.{◌≡◌, ◌≢◌, ℕ, ◌+◌, ◌<◌, Bool,
 use Rattle.std.specs.Prelude.{List, [], ◌∷◌, slice_index_or, length, Option, Some, None, IsTrue}
 use Rattle.vr_model.specs.routes.Routes.{route, holds, is_active}
 use Rattle.vr_model.specs.tables.Tables.{pair_at}
-use Rattle.vr_model.specs.moves.Kinds.{changes_activity, is_by_pair, is_by_vehicle, is_same_kind, kind_of, owner, rows_of}
+use Rattle.vr_model.specs.moves.Kinds.{changes_activity, is_by_pair, is_by_vehicle, is_same_kind}
+use Rattle.vr_model.specs.moves.Kinds.{kind_of, owner, rows_of}
 use Rattle.vr_model.specs.moves.Moves.{all_neighbourhoods}
 use Rattle.vr_model.specs.declared.records.Model.{Model}
 use Rattle.vr_model.specs.declared.neighbours.Move.{Move}
@@ -27,7 +28,7 @@ first_of (MakeActive u w t) = 0
 first_of (MakeInactive v a) = 0
 first_of (SwapActive v a u) = 0
 
--- the vehicle that a move names last, 0 where it names none
+-- the vehicle that a move names last, or 0 if it names none
 abbrev pub second_of : Move → ℕ
 second_of (TwoOpt v a b) = v
 second_of (OrOpt v a k t) = v
@@ -41,8 +42,8 @@ second_of (MakeActive u w t) = w
 second_of (MakeInactive v a) = v
 second_of (SwapActive v a u) = v
 
--- a vehicle whose list a move changes, beside its second one or the same: the vehicle that serves the pair of
--- relocate_pair and of pair_inactive, the first one that any other move names
+-- a vehicle whose list a move changes, beside its second one or the same. Of relocate_pair and pair_inactive it is the
+-- vehicle that serves the pair. Of any other move it is the first vehicle that the move names
 abbrev pub IsSource : Model → List (List ℕ) → Move → ℕ → Type 0
 IsSource model lists (TwoOpt v a b) x = x ≡ v
 IsSource model lists (OrOpt v a k t) x = x ≡ v
@@ -56,9 +57,9 @@ IsSource model lists (MakeActive u w t) x = x ≡ w
 IsSource model lists (MakeInactive v a) x = x ≡ v
 IsSource model lists (SwapActive v a u) x = x ≡ v
 
--- what is remembered: for each row of a kind, when its moves were last found not to be acceptable; for each vehicle,
--- when its list, or the penalty of an arc of it, last changed; when the activity of visits last changed; the time; and
--- whether anything is ever learned
+-- what is remembered. `seen`: for each row, when its moves were last found not to be acceptable. `changed`: for each
+-- vehicle, when its list, or the penalty of an arc of it, last changed. `active`: when the activity of visits last
+-- changed. `clock`: the time. `learns`: whether anything is ever learned
 pub record Memory : Type 0 where
   pub seen : List ℕ
   pub changed : List ℕ
@@ -70,7 +71,7 @@ pub record Memory : Type 0 where
 abbrev pub Learns : Memory → Type 0
 Learns memory = IsTrue memory.learns
 
--- where there are no stamps nothing is known, and nothing is ever learned
+-- without stamps nothing is known, and nothing is ever learned
 abbrev pub none : Memory
 none = record { seen = []; changed = []; active = 0; clock = 0; learns = false }
 
@@ -102,14 +103,14 @@ seen_at memory kind row = slice_index_or memory.seen (stamp_of kind row) 0
 abbrev pub changed_at : Memory → ℕ → ℕ
 changed_at memory v = slice_index_or memory.changed v 0
 
--- the moves of a row were found not to be acceptable after the list of a vehicle, or the penalty of an arc of it, last
--- changed
+-- the moves of a row were found not to be acceptable after a vehicle last changed: its list, or the penalty of an arc
+-- of it
 abbrev pub is_later : Memory → Neighbourhood → ℕ → ℕ → Bool
 is_later memory kind row v = nat_lt (changed_at memory v) (seen_at memory kind row)
 
--- when what the moves of a row have in common last changed: which visits are active, if the moves change that; else the
--- route of the vehicle that owns the row, or the penalty of an arc of it. It is 0 for a pair that is put elsewhere: a row
--- of a pair is forgotten once the vehicle that serves the pair has another route
+-- when what the moves of a row have in common last changed. If they change which visits are active, that is it. Else it
+-- is the list of the vehicle that owns the row, or the penalty of an arc of it. For a pair that is put elsewhere it is 0:
+-- its row is forgotten once the vehicle that serves the pair has another list
 abbrev pub common_change : Memory → Neighbourhood → ℕ → ℕ
 common_change memory kind row =
     cond (changes_activity kind) memory.active (cond (is_by_vehicle (owner kind)) (changed_at memory row) 0)
@@ -123,15 +124,15 @@ is_known memory kind row w =
 abbrev pub covers : Memory → Move → Bool
 covers memory mv = is_known memory (kind_of mv) (first_of mv) (second_of mv)
 
--- where the row of a pair is known, neither the list of the vehicle that serves it nor the penalty of an arc of it has
--- changed since
+-- if the row of a pair is known, the vehicle that serves it has not changed since: neither its list nor the penalty of
+-- an arc of it
 abbrev pub AreSettled : Model → List (List ℕ) → Memory → Type 0
 AreSettled model lists memory =
     (kind : Neighbourhood) (p w v : ℕ) → IsTrue (is_by_pair (owner kind)) → p < length model.pairs
     → IsTrue (is_known memory kind p w) → IsTrue (holds (route lists v) (pair_at model p).pickup)
     → IsTrue (is_later memory kind p v)
 
--- all moves of a row stand in front of a move in the list of some neighbourhoods
+-- all moves of a row come before a move in the list of some neighbourhoods
 abbrev pub is_behind : List Neighbourhood → Neighbourhood → ℕ → Move → Bool
 is_behind [] kind row mv = false
 is_behind (n ∷ ns) kind row mv = cond (is_same_kind n (kind_of mv))
@@ -143,15 +144,15 @@ abbrev pub is_kind_of : List Neighbourhood → Neighbourhood → Bool
 is_kind_of [] kind = false
 is_kind_of (n ∷ ns) kind = is_same_kind kind n || is_kind_of ns kind
 
--- two lists have the same lists for the vehicles of a move, and the same active visits where it changes these
+-- two lists have the same lists for the vehicles of a move, and the same active visits if it changes these
 pub record Agree (model : Model) (mv : Move) (lists other : List (List ℕ)) : Type 0 where
   pub many : length lists ≡ length other
   pub source : (v : ℕ) → IsSource model lists mv v → route lists v ≡ route other v
   pub second : route lists (second_of mv) ≡ route other (second_of mv)
   pub active : IsTrue (changes_activity (kind_of mv)) → is_active lists ≡ is_active other
 
--- a move of lists is not one of those that a move changed which was made before: its vehicles are others than two, and
--- where it changes activity, that one did not
+-- a move is not one of those that a move made before it has changed. Its vehicles are not the two of that move. If it
+-- changes activity, that move did not
 pub record IsApart (model : Model) (lists : List (List ℕ)) (made : Move) (first second : ℕ) (mv : Move) : Type 0 where
   pub source : (v : ℕ) → IsSource model lists mv v → (v ≢ first) × (v ≢ second)
   pub target : (second_of mv ≢ first) × (second_of mv ≢ second)

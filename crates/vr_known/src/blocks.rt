@@ -17,7 +17,7 @@ pub struct Block {
 }
 
 impl Block {
-    /// The moves of a neighbourhood that stand in a row and name a vehicle last.
+    /// The moves of a neighbourhood in one row that name one vehicle last.
     #[inline(always)]
     pub fn new(neighbourhood: Neighbourhood, row: u32, vehicle: u32) -> Block
         ensures { result ≡ record { neighbourhood = neighbourhood; row = row; vehicle = vehicle } }

@@ -68,8 +68,9 @@ impl Stamps {
         self.common_change(kind, row) < seen && self.changed[w as usize] < seen
     }
 
-    // When what the moves of a row have in common last changed: which visits are active, if the moves change that; else
-    // the route of the vehicle that owns the row. It is 0 for a pair that is put elsewhere: `settle` forgets its row.
+    // When what the moves of a row have in common last changed. If they change which visits are active, that is it. Else
+    // it is the route of the vehicle that owns the row. For a pair that is put elsewhere it is 0: `settle` forgets its
+    // row.
     #[inline(always)]
     fn common_change(&self, kind: Neighbourhood, row: u32) -> u64
         requires row { row < rows_of kind }
@@ -191,7 +192,7 @@ impl Stamps {
         self.go_on();
     }
 
-    /// The rows of a pair are forgotten if the route or the penalties of the vehicle that serves it changed since they were
+    /// Forgets the rows of a pair if the route or the penalties of the vehicle that serves it changed since they were
     /// refused. The moves of such a row need not name that vehicle.
     pub(crate) fn settle(&mut self, closed: Closed<'_>, routes: &Routes)
         ensures fewer { (k : Kind) (u w : ℕ) → IsTrue (is_known self.new k u w) → IsTrue (is_known self.old k u w) }
