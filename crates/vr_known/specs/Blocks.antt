@@ -103,14 +103,14 @@ seen_at memory kind row = slice_index_or memory.seen (stamp_of kind row) 0
 abbrev pub changed_at : Memory → ℕ → ℕ
 changed_at memory v = slice_index_or memory.changed v 0
 
--- the moves of a row were found not to be acceptable after a vehicle last changed: its list, or the penalty of an arc
--- of it
+-- the moves of a row were found not to be acceptable after a vehicle last changed, in its list or in the penalty of an
+-- arc of it
 abbrev pub is_later : Memory → Neighbourhood → ℕ → ℕ → Bool
 is_later memory kind row v = nat_lt (changed_at memory v) (seen_at memory kind row)
 
--- when what the moves of a row have in common last changed. If they change which visits are active, that is it. Else it
--- is the list of the vehicle that owns the row, or the penalty of an arc of it. For a pair that is put elsewhere it is 0:
--- its row is forgotten once the vehicle that serves the pair has another list
+-- when what the moves of a row have in common last changed. If they change which visits are active, that is it. Else
+-- it is the list of the vehicle that owns the row, or the penalty of an arc of it. For a pair that is put elsewhere it
+-- is 0: its row is forgotten once the vehicle that serves the pair has another list
 abbrev pub common_change : Memory → Neighbourhood → ℕ → ℕ
 common_change memory kind row =
     cond (changes_activity kind) memory.active (cond (is_by_vehicle (owner kind)) (changed_at memory row) 0)
@@ -124,8 +124,8 @@ is_known memory kind row w =
 abbrev pub covers : Memory → Move → Bool
 covers memory mv = is_known memory (kind_of mv) (first_of mv) (second_of mv)
 
--- if the row of a pair is known, the vehicle that serves it has not changed since: neither its list nor the penalty of
--- an arc of it
+-- if the row of a pair is known, the vehicle that serves it has not changed since, in its list or in the penalty of an
+-- arc
 abbrev pub AreSettled : Model → List (List ℕ) → Memory → Type 0
 AreSettled model lists memory =
     (kind : Neighbourhood) (p w v : ℕ) → IsTrue (is_by_pair (owner kind)) → p < length model.pairs

@@ -68,9 +68,9 @@ impl Stamps {
         self.common_change(kind, row) < seen && self.changed[w as usize] < seen
     }
 
-    // When what the moves of a row have in common last changed. If they change which visits are active, that is it. Else
-    // it is the route of the vehicle that owns the row. For a pair that is put elsewhere it is 0: `settle` forgets its
-    // row.
+    // When what the moves of a row have in common last changed. If they change which visits are active, that is it.
+    // Else it is the route of the vehicle that owns the row. For a pair that is put elsewhere it is 0: `settle` forgets
+    // its row.
     #[inline(always)]
     fn common_change(&self, kind: Neighbourhood, row: u32) -> u64
         requires row { row < rows_of kind }
