@@ -77,8 +77,8 @@ Finds asked bytes = (given : Given) × IsReadAs given_of bytes given × HasFound
 abbrev pub FindsNone : Mode → List ℕ → Type 0
 FindsNone asked bytes = (given : Given) × IsReadAs given_of bytes given × HasFoundNone asked given
 
--- ruin and recreate began with these lists, which are open; its answer is the first cheapest of the valid lists that it
--- had, its first cost is that of the first valid ones, and its tries and solutions are within the limits of the model
+-- ruin and recreate began with these lists, which are open. Its answer is the first cheapest of the valid lists that it
+-- had, and its first cost is that of the first valid ones. Its tries and solutions are within the limits of the model
 pub record IsRefined (model : Model) (routes : Option (List (List ℕ))) (wish : Wish) (found : Found) : Type 0 where
   pub lists : List (List ℕ)
   pub begins : ruin_begin model routes ≡ Some lists
@@ -91,8 +91,8 @@ abbrev pub IsSought : Model → Option (List (List ℕ)) → Option Wish → Fou
 IsSought model routes None found = begin_lists model routes ≡ Some found.first
 IsSought model routes (Some wish) found = IsRefined model routes wish found
 
--- it is a model from which something is found, the first cost being that of given valid routes; and the text is the
--- line of the solution that is asked for, and after it the reports of the watchers if these are asked for
+-- it is a model from which something is found, the first cost being that of given valid routes. The text is the line of
+-- the solution that is asked for, and after it the reports of the watchers if these are asked for
 pub record IsFoundBy (asked : Mode) (reports : List Event → List ℕ) (bytes text : List ℕ) : Type 0 where
   pub given : Given
   pub found : Found

@@ -6,8 +6,8 @@ use Rattle.vr_app.specs.Status.{IsStatus}
 use Rattle.vr_refine.specs.Promises.{HasCause, HasFailed, IsComplete, IsEmptied, IsNotAccepted, IsPricing, IsReply}
 use Rattle.vr_refine.specs.Promises.{IsSearching}
 
--- all that is promised of a run: its status and its text, what is given exactly when, whose failure gives 2 and 3, how
--- far the source is read, and when source and sink are left as they are
+-- all that is promised of a run: its status and its text, and what is given exactly when. It says whose failure gives 2
+-- and 3, how far the source is read, and when source and sink are left as they are
 pub record Logged {S K : Type 0} (reports : List Event → List ℕ) (run : Run) (source : Passed S) (sink : Passed K)
     : Type 0 where
   pub status : IsStatus run.status

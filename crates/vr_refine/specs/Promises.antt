@@ -1,5 +1,5 @@
--- What is promised of a run, by subject. When 0, 1, 4, 5, 6, 8 or 9 comes is said of runs whose status is none of 2, 3
--- and 7; what is JSON or a model is not too long.
+-- What is promised of a run, by subject. When 0, 1, 4, 5, 6, 8 or 9 comes is said of runs that end with none of 2, 3
+-- and 7. What is JSON or a model is not too long.
 use Rattle.std.specs.Prelude.{◌≡◌, ◌↔◌, ℕ, List, Some, None, true}
 use Rattle.vr_json.specs.Trees.{text_line}
 use Rattle.vr_json.specs.declared.fault.Fault.{Fault}
@@ -36,9 +36,9 @@ IsAskedFor asked words = request_of words ≡ Some (Find asked)
 abbrev pub IsSolutionAsked : List (List ℕ) → Type 0
 IsSolutionAsked words = (asked : Mode) × IsAskedFor asked words
 
--- Of `price`, 0 comes exactly if the given routes are valid; what is written is their line, with their cost. 9 comes of
--- this word alone, exactly if they break a rule; the text says the first. 5 comes exactly if the input is refused; the
--- text says code and path.
+-- What is promised of `price`. Status 0 comes exactly if the given routes are valid; what is written is their line,
+-- with their cost. Status 9 comes of this word alone, exactly if they break a rule; the text says the first. Status 5
+-- comes exactly if the input is refused; the text says code and path.
 pub record IsPricing (run : Run) : Type 0 where
   pub done : WhereSettled (AsksPrice run.words) run.left_before run.status (λ bytes. (run.status ≡ 0) ↔ HasValid bytes)
   pub price : run.status ≡ 0 → AsksPrice run.words → WhereKnown run.left_before (λ bytes.
@@ -53,11 +53,11 @@ pub record IsPricing (run : Run) : Type 0 where
   pub refusal : run.status ≡ 5 → AsksPrice run.words → WhereKnown run.left_before (λ bytes.
       (fault : Fault) → HasFault priced_of bytes fault → Wrote run (text_line (refused_tree fault)))
 
--- Of words that ask for a solution, 0 comes exactly if one is found, 6 exactly if none is: there are no lists to begin
--- with, or the best ones of ruin and recreate lack something. 6 comes of no other words. What is written is a solution,
--- which meets a check: valid lists with their chosen schedules and their cost, no dearer than the lists of the first
--- cost; with `--log` the watchers' reports follow. 5 comes exactly if the input is refused; the text says code and
--- path.
+-- What is promised of words that ask for a solution. Status 0 comes exactly if one is found, 6 exactly if none is.
+-- There is none if there are no lists to begin with, or if the best ones of ruin and recreate lack something. Status 6
+-- comes of no other words. What is written is a solution, which meets a check: valid lists with their chosen schedules
+-- and their cost. They cost no more than the lists of the first cost. With `--log` the watchers' reports follow. Status
+-- 5 comes exactly if the input is refused; the text says code and path.
 pub record IsSearching (reports : List Event → List ℕ) (run : Run) : Type 0 where
   pub done : (asked : Mode) → WhereSettled (IsAskedFor asked run.words) run.left_before run.status
       (λ bytes. (run.status ≡ 0) ↔ Finds asked bytes)
@@ -71,8 +71,8 @@ pub record IsSearching (reports : List Event → List ℕ) (run : Run) : Type 0 
   pub refusal : run.status ≡ 5 → (asked : Mode) → IsAskedFor asked run.words → WhereKnown run.left_before (λ bytes.
       (fault : Fault) → HasFault given_of bytes fault → Wrote run (text_line (refused_tree fault)))
 
--- Of accepted words, 8 comes exactly if the input is too long, and 4 exactly if it is no JSON. 4, 5 and 8 come of no
--- other words. 1 comes exactly if the words are not accepted.
+-- What is promised of all accepted words. Status 8 comes exactly if the input is too long, and 4 exactly if it is no
+-- JSON. Statuses 4, 5 and 8 come of no other words. Status 1 comes exactly if the words are not accepted.
 pub record HasCause (run : Run) : Type 0 where
   pub too_long : WhereSettled (ReadsInput run.words) run.left_before run.status
       (λ bytes. (run.status ≡ 8) ↔ IsTooLong bytes)

@@ -22,8 +22,8 @@ use Rattle.vr_refine.specs.declared.inputs.Priced.{Priced}
 use Rattle.vr_refine.specs.declared.words.Request.{Request}
 use Rattle.vr_refine.specs.declared.words.Request.TheVariants.{Find, Price}
 
--- the reply to lists that are priced: the line of them as they are, their cost being the first cost too, or the first
--- rule that they break
+-- the reply to lists that are priced: the line of them as they are, or the first rule that they break. Their cost is
+-- the first cost too
 abbrev pub reply_to_lists : Model → List (List ℕ) → Option ListFault → Reply
 reply_to_lists model lists None = done (line_of_found model (found_from mode.First model lists))
 reply_to_lists model lists (Some fault) = breaks (list_rule_word fault.rule) fault.spot.vehicle fault.spot.place

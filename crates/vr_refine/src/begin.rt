@@ -113,9 +113,9 @@ fn begin_with(
     Ok(if_kept(valid, routes))
 }
 
-/// The routes with which the model's own search begins, valid ones: given valid ones as they are, given open ones
-/// filled up by parallel cheapest insertion, and without any the first solution. `None` exactly if none of these are
-/// valid.
+/// The routes with which the model's own search begins, which are valid. Given valid ones are taken as they are, and
+/// given open ones are filled up by parallel cheapest insertion. Without any it is the first solution. `None` exactly
+/// if none of these are valid.
 ///
 /// `NoMemory` if there is none.
 pub fn begin_routes(
@@ -163,9 +163,9 @@ fn ruin_without(alloc: Global, lookups: &Lookups<'_>) -> Result<Option<Routes>, 
     Ok(Some(routes))
 }
 
-/// The routes with which ruin and recreate begins, open ones that may lack something: given valid ones as they are,
-/// given open ones filled up by parallel cheapest insertion, and without any those at which the model's construction
-/// ends. `None` exactly if given ones are not open.
+/// The routes with which ruin and recreate begins, which are open and may lack something. Given valid ones are taken as
+/// they are, and given open ones are filled up by parallel cheapest insertion. Without any it is those at which the
+/// model's construction ends. `None` exactly if given ones are not open.
 ///
 /// `NoMemory` if there is none.
 pub fn ruin_routes(

@@ -46,8 +46,8 @@ pub fn read_priced(alloc: Global, value: Value) -> Result<Priced, ReadFail>
     priced_from(alloc, given, &path)
 }
 
-/// What a search begins with: a well-formed model, lists of it and what is asked of a search, if they are there; the
-/// first fault of the input. It fails too if memory runs out. The value is let go.
+/// What a search begins with: a well-formed model, and beside it lists of it and what is asked of a search, if they are
+/// there. Else the first fault of the input. It fails too if memory runs out. The value is let go.
 pub fn read_begun(alloc: Global, value: Value) -> Result<Given, ReadFail>
     ensures found { Answers result (given_of (view value)) }
     ensures sound { IfOk result IsGiven }

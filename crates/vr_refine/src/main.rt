@@ -1,20 +1,21 @@
-//! The second program: it prices routes that a planner gives, fills them up, and goes on from them, by the search that
-//! their model names or by ruin and recreate.
+//! The second program: it prices routes that a planner gives, fills them up, and goes on from them. It searches as
+//! their model says, or by ruin and recreate.
 //!
-//! An input is an object with a model, and beside it the routes of its vehicles and what is asked of ruin and recreate,
+//! An input is an object with a model. Beside it are the routes of its vehicles and what is asked of ruin and recreate,
 //! if they are there (`vr_given`). Three words ask something of it. `price` says what the routes cost as they are, or
-//! the first rule that they break. `first` says with which routes the model's own search begins: given valid ones as
-//! they are, given open ones filled up by parallel cheapest insertion, and without any the first solution. `solve` says
-//! the best routes that a search finds from there: ruin and recreate, if it is asked for, else the model's own.
+//! the first rule that they break. `first` says with which routes the model's own search begins. Given valid ones are
+//! taken as they are, and given open ones are filled up by parallel cheapest insertion. Without any it is the first
+//! solution. `solve` says the best routes that a search finds from there: ruin and recreate, if it is asked for, else
+//! the model's own.
 //!
-//! What is replied to words and bytes is defined in `specs/Reply`, and `reply::run` gives it. Whatever may be said of
-//! runs of both programs is said in `vr_app` (`specs/Programs`); what is said of this one alone is in `specs/Promises`.
+//! What is replied to words and bytes is defined in `specs/Reply`, and `reply::run` gives it. What may be said of runs
+//! of both programs is said in `vr_app` (`specs/Programs`); what is said of this one alone is in `specs/Promises`.
 //! `vr_app` also has the search, the line and the texts, so that both programs write the same of the same routes.
 //!
-//! The way down: `main` has the words and the two standard streams, and `run_watched` the watchers. `reply` reads the
-//! source and writes to the sink; `answers` has the answer to a value, by `pricing` or from where a search begins
-//! (`begin`), which is the model's own or that of `refining`; `inputs` is what each word reads. It ends with the
-//! statuses of `vr_cli`.
+//! The way down begins at `main`, which has the words and the two standard streams, and `run_watched`, which has the
+//! watchers. `reply` reads the source and writes to the sink. `answers` has the answer to a value: by `pricing`, or
+//! from the routes with which a search begins (`begin`). The search is the model's own or that of `refining`. `inputs`
+//! is what each word reads. It ends with the statuses of `vr_cli`.
 #![tactic(auto)]
 
 mod answers;
@@ -41,7 +42,7 @@ use std::{env, io};
 use vr_io::{Sink, Source, StdSink, StdSource};
 use vr_watch::{Tally, Trace, Watch};
 
-// As `run` ends where it finds no memory.
+// As `run` ends if it finds no memory.
 const NO_MEMORY: u8 = 7;
 
 // No status of `run`: these are 0 to 9.
@@ -56,7 +57,7 @@ fn main(rt: HostRuntime) -> ExitCode {
         }
         Err(_) => return ExitCode::from(NO_WORDS),
     };
-    // the program's own name stands in front of the words
+    // the program's own name is before the words
     let Ok(words) = args.skip(1).collect::<Vec<String>>(alloc) else {
         return ExitCode::from(NO_MEMORY);
     };
@@ -92,7 +93,7 @@ fn run_with<S: Source, K: Sink>(
     run(alloc, words, source, sink, watch)
 }
 
-// Runs with a tally and a trace, which report in this order: what is written is the reply of the definition, with the
+// Runs with a tally and a trace, which report in this order. What is written is the reply of the definition, with the
 // log of the search's events. It fails only if memory for these watchers runs out; then nothing is read or written.
 fn run_watched<S: Source, K: Sink>(
     alloc: Global,

@@ -80,8 +80,8 @@ fn answer_read(alloc: Global, priced: &Priced) -> Result<Answer, NoMemory>
     price(alloc, &lookups, priced.lists.as_slice())
 }
 
-/// The answer to a value whose routes are priced, as they are: their line if they are valid, else the first rule that
-/// they break; or the first fault of the value. No watcher is told. `NoMemory` if there is none.
+/// The answer to a value whose routes are priced, as they are. It is their line if they are valid, else the first rule
+/// that they break; or the first fault of the value. No watcher is told. `NoMemory` if there is none.
 pub fn answer_priced(alloc: Global, value: Value) -> Result<Answer, NoMemory>
     ensures reply { IfOk result (AnswersReply (replies.reply_to_priced (priced_of (view value)))) }
     ensures status { IfOk result (λ a. IsOfChecking a.status) }

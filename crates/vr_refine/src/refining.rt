@@ -118,8 +118,8 @@ fn answer_from(
     }
 }
 
-/// The answer of a mode that meets a wish, from the open routes with which ruin and recreate begins: the line of the
-/// best routes that it finds, and the reports of watchers if they are asked for; that there is no solution if the best
+/// The answer of a mode that meets a wish, from the open routes with which ruin and recreate begins. It is the line of
+/// the best routes that are found, and the reports of watchers if they are asked for. There is no solution if the best
 /// routes lack something, or if there are none to begin with.
 ///
 /// `NoMemory` if there is none, also if a watcher finds none.

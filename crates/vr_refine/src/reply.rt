@@ -111,12 +111,12 @@ fn run_lent<S: Source, K: Sink>(
 /// | `solve --log` | the same | the same, and after it what each watcher reports of the search, in order |
 ///
 /// What is read is an object with the field `model`, and beside it `routes` and `refine`, if they are there
-/// (`vr_given::read_given`). A search begins with given valid routes as they are; with given open routes filled up by
-/// parallel cheapest insertion, if that makes them valid; and without any with the first solution.
+/// (`vr_given::read_given`). A search begins with given valid routes as they are. Given open routes are filled up by
+/// parallel cheapest insertion, and taken if that makes them valid. Without any it begins with the first solution.
 ///
 /// With `refine`, `solve` searches by ruin and recreate in place of the search that the model names. Such a search may
-/// begin with routes that lack something: those that insertion fills up need not be valid then, and without any it
-/// begins where the model's construction ends. `price` and `first` read `refine` and do not use it.
+/// begin with routes that lack something. Those that insertion fills up need not be valid then, and without any it
+/// begins with the routes at which the model's construction ends. `price` and `first` read `refine` and do not use it.
 ///
 /// | status | comes | written |
 /// |---|---|---|
@@ -131,19 +131,22 @@ fn run_lent<S: Source, K: Sink>(
 /// | 8 | exactly if the input has more than 67108864 bytes | `{"status":"TOO_LONG"}` |
 /// | 9 | `price`: exactly if a rule is broken | `{"place":L,"rule":"R","status":"NOT_MET","vehicle":V}` |
 ///
-/// With 5, C is the code and P the path of the first fault of reading; that `price` finds no routes comes after all
+/// With 5, C is the code and P the path of the first fault of reading. That `price` finds no routes comes after all
 /// other faults. With 6 there are no routes to begin with, or the best routes of ruin and recreate lack something. With
-/// 9, R is the first rule (`vr_given::ListRule`) that is broken, with its vehicle V and place L, -1 where one does not
-/// apply. Of routes that are priced, both the cost and the first cost are theirs; of routes that are found, the first
-/// cost is that of the routes with which the search began, or of the first ones that it had which lack nothing. 4, 5
-/// and 8 come of accepted words alone, 6 and 9 of those alone that are named with them.
+/// 9, R is the first rule (`vr_given::ListRule`) that is broken, with its vehicle V and place L. Either is -1 if it
+/// does not apply.
 ///
-/// Only with `--log` is an event of the search noted, to every watcher in order; a watcher that finds no memory for it
+/// Of routes that are priced, both the cost and the first cost are theirs. Of routes that are found, the first cost is
+/// that of the routes with which the search began. If these lack something, it is that of the first ones that the
+/// search had which lack nothing. Statuses 4, 5 and 8 come of accepted words alone, 6 and 9 of those alone that are
+/// named with them.
+///
+/// Only with `--log` is an event of the search noted, to every watcher in order. A watcher that finds no memory for it
 /// ends the run with status 7. All watchers are dropped at the end.
 ///
-/// The words are looked at first, then the source is read, then come the length, the JSON, the fields, the rules or the
-/// beginning, and the writing. The first that fails gives the status. "Exactly if" is said of calls that end with none
-/// of 2, 3 and 7.
+/// The words are looked at first, and then the source is read. Then come the length, the JSON, the fields, the rules or
+/// the beginning, and the writing. The first that fails gives the status. "Exactly if" is said of calls that end with
+/// none of 2, 3 and 7.
 pub fn run<S: Source, K: Sink>(
     alloc: Global,
     words: &[String],
@@ -153,7 +156,7 @@ pub fn run<S: Source, K: Sink>(
 ) -> u8
     ensures status { IsStatus result }
 
-    // Status and text are those of the reply, and a front of it where the sink failed. With no failure it is whole, or
+    // Status and text are those of the reply, and a front of it if the sink failed. With no failure it is whole, or
     // memory was wanting.
     ensures reply { let reports = joined_reports (λ w later. after w later) watch.items in
         IsReply reports (program_run (bytes_of words.now)
@@ -182,8 +185,8 @@ pub fn run<S: Source, K: Sink>(
         (K.written sink.old) (K.written sink.new) (K.faults sink.old) (K.faults sink.new) result) }
     ensures unwritten { (result ≡ 2) ⊎ (result ≡ 7) → sink.new ≡ sink.old }
 
-    // Accepted words have the source read to its end, unless it failed, too many bytes came or memory was wanting;
-    // others leave it as it is.
+    // Accepted words have the source read to its end, unless it failed, too many bytes came or memory was wanting.
+    // Others leave it as it is.
     ensures emptied { let reports = joined_reports (λ w later. after w later) watch.items in
         IsEmptied reports (program_run (bytes_of words.now)
         (S.left source.old) (S.left source.new) (S.faults source.old) (S.faults source.new)

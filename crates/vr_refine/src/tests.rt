@@ -1,4 +1,4 @@
-//! What no contract of `run` says: that each kind of reply is given if memory is ample, and what is left where a device
+//! What no contract of `run` says: that each kind of reply is given if memory is ample, and what is left when a device
 //! fails. A row that fails is named.
 
 use crate::reply::run;

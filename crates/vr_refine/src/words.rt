@@ -15,7 +15,7 @@ pub enum Request {
     Find(Mode),
 }
 
-/// What the words ask for, `None` where they are not accepted.
+/// What the words ask for, `None` if they are not accepted.
 pub fn request_of(words: &[String]) -> Option<Request>
     ensures { result ≡ words_of.request_of (bytes_of words.now) }
 {

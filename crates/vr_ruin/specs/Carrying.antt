@@ -14,7 +14,7 @@ abbrev pub carries : Model → ℕ → ℕ → List ℕ → List ℕ → Bool
 carries model d v list nodes =
     int_le (load_of model d v list +ℤ total_by (taken model d v) nodes) (number_at (dimension_at model d).capacities v)
 
--- it can where the dimension is a load
+-- it can if the dimension is a load
 abbrev pub carries_in : Model → ℕ → List ℕ → List ℕ → ℕ → Bool
 carries_in model v list nodes d = not (is_load model d) || carries model d v list nodes
 

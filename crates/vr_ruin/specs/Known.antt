@@ -40,7 +40,7 @@ abbrev pub IsCarriedBy : Model → ℕ → List ℕ → Type 0
 IsCarriedBy model v list = (d : ℕ) → d < length model.dimensions → is_load model d ≡ true
     → is_feasible (line model d v list) ≡ true
 
--- a list may be walked through where it differs from the one whose rows are known
+-- a list may be walked through from the one whose rows are known: what both share at their ends is said
 pub record MayGo (changed : Changed) : Type 0 where
   pub vehicle : changed.vehicle < length changed.lookups.now.closed.model.now.vehicles
   pub known : IsKnownRoute changed.lookups.now.closed.model.now changed.vehicle changed.known.now

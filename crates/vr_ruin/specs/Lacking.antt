@@ -34,8 +34,8 @@ is_below model new old bound = nat_lt (lack model new) (lack model old)
 abbrev pub moving_cost : Model → List (List ℕ) → ℕ
 moving_cost model lists = nat_abs ((cost model lists -ℤ fixed_part model lists) -ℤ penalty_part model lists)
 
--- the heat of a search that begins at these lists. If none is given, it is what an active visit moves for: the moving
--- cost over one more than the number of active visits, at most 2 ^ 40
+-- the heat of a search that begins at these lists. If none is given, it is what an active visit moves for, at most 2 ^
+-- 40. That is the moving cost over one more than the number of active visits
 abbrev pub heat_of : Model → List (List ℕ) → Option ℕ → ℕ
 heat_of model lists None = min (moving_cost model lists / (1 + active_count lists)) (2 ^ 40)
 heat_of model lists (Some heat) = heat

@@ -55,7 +55,8 @@ offers_of model lists item asked = each asked λ v. option_to_list (offer model 
 abbrev pub empty_vehicles : List (List ℕ) → List ℕ
 empty_vehicles lists = filter (λ v. is_empty (route lists v)) (vehicles lists)
 
--- the offers for an item: of the used vehicles, and of the empty ones too if the step is wide or no used one has any
+-- the offers for an item, of the used vehicles. The empty ones are asked too if the step is wide or no used one has an
+-- offer
 abbrev pub offers : Model → Bool → List (List ℕ) → List ℕ → List Insertion
 offers model wide lists item = let from_used = offers_of model lists item (used_vehicles lists) in
     cond (wide || is_empty from_used) (from_used ++ offers_of model lists item (empty_vehicles lists)) from_used
@@ -80,7 +81,7 @@ penalty_of_group (Some group) = unwrap_or group.penalty (pos 0)
 abbrev pub penalty_at : Model → ℕ → ℤ
 penalty_at model node = penalty_of_group (find (λ group. holds group.nodes node) model.groups)
 
--- an insertion pays if its item is not of class 2, or if its price is less than the penalties of the nodes of its item
+-- an insertion pays if its item is not of class 2, or if its price is below the penalties of the nodes of its item
 abbrev pub is_paid : Model → List (List ℕ) → Insertion → Bool
 is_paid model lists insertion = not (class model insertion.item == 2)
     || int_lt (price_of model lists insertion) (total_by (penalty_at model) insertion.item)
@@ -90,7 +91,7 @@ abbrev pub with_offer : Model → List (List ℕ) → Option Insertion → List 
 with_offer model lists None = lists
 with_offer model lists (Some insertion) = cond (is_paid model lists insertion) (inserted lists insertion) lists
 
--- an item in its turn. If a group would get too many nodes from it, it stays out and takes no word; else its word says
+-- an item in its turn. If a group would get too many nodes from it, it stays out and takes no word. Else its word says
 -- which offer is taken: nearly always the first, 1 time in 128 a later one
 abbrev pub put_back : Model → Bool → List (List ℕ) × Lcg → List ℕ → List (List ℕ) × Lcg
 put_back model wide at item = elim (fits_beside model at.0 item) [

@@ -37,7 +37,7 @@ abbrev pub AreWithin : List ℕ → Placing → Type 0
 AreWithin list (One node t) = t ≤ length list
 AreWithin list (Two pickup delivery s t) = (s ≤ t) × (t ≤ length list)
 
--- the insertion that an offer stands for
+-- the insertion that an offer is for
 abbrev pub insertion_of : Offer → Insertion
 insertion_of offer = record {
   item = item_nodes (item_in offer.placing);

@@ -43,8 +43,8 @@ pub record AreRoutesOf (model : Model) (routes : Tours) : Type 0 where
   pub visits_are : routes.visits ≡ visits model
   pub built : AreBuilt model routes.lists
 
--- a search that was in a state has come to its end as it is defined: the last lists, the best ones, what is kept beside
--- them, and what each watcher was told
+-- a search that was in a state has come to its end as it is defined. The last lists are so, the best ones, what is kept
+-- beside them, and what each watcher was told
 pub record HasComeTo {W : Type 0} (after : W → List Event → List ℕ) (model : Model) (rest : RefineEnd)
     (last best : List (List ℕ)) (at : Standing) (old new : List W) (stop : End) : Type 0 where
   pub last_is : rest.outcome.last ≡ last

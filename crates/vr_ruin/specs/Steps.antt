@@ -17,8 +17,8 @@ use Rattle.vr_strings.specs.declared.sizes.Ruin.{Ruin}
 use Rattle.vr_strings.specs.Turns.{turns}
 use Rattle.vr_ruin.specs.Offers.{recreated}
 
--- the state of a search: its lists, best lists, tries and solutions; its first lists, which are replaced by each
--- accepted ones as long as they lack something; and the generator of words
+-- the state of a search. It has its lists, best lists, tries and solutions, and the generator of words. Its first lists
+-- are replaced by each accepted ones as long as they lack something
 pub record RefineState : Type 0 where
   pub search : SearchState
   pub first : List (List ℕ)
@@ -43,8 +43,8 @@ heat_at heat tries used = cooled (64 * (used - 1) / tries) (heat * 2 ^ 16)
 
 -- ---- what comes out
 
--- lists of a model with visits after a ruin and a recreation; in between, the order of the items is drawn, and whether
--- the step is wide, which one in eight is: then all vehicles are asked, also the empty ones
+-- lists of a model with visits after a ruin and a recreation. In between, the order of the items is drawn, and whether
+-- the step is wide. One in eight is: then all vehicles are asked, also the empty ones
 abbrev pub remade : Model → Ruin → List (List ℕ) → Lcg → List (List ℕ) × Lcg
 remade model ruin lists words =
     let rest = ruined model ruin lists words in
@@ -52,8 +52,8 @@ remade model ruin lists words =
     let wide = draw 8 order.1 in
     recreated model (wide.0 == 0) order.0 rest.lists wide.1
 
--- new lists are accepted if they lack less than the old ones; or if they lack as much, and cost less than the old ones
--- and what the heat allows at e zeros
+-- new lists are accepted if they lack less than the old ones. They are too if they lack as much, and cost less than the
+-- old ones and what the heat allows at e zeros
 abbrev pub is_accepted_at : Model → ℕ → ℕ → List (List ℕ) → List (List ℕ) → Bool
 is_accepted_at model h e old new = is_below model new old (cost model old +ℤ pos (h * e / 2 ^ 16))
 

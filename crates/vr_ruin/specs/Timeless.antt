@@ -25,7 +25,7 @@ costs_no_time dimension = int_eq dimension.global_span_cost (pos 0) && is_free d
 abbrev pub is_timeless : Model → Bool
 is_timeless model = list_all (λ d. costs_no_time (dimension_at model d)) (below (length model.dimensions))
 
--- what lists cost without penalties, where it is known; where it is not, no schedules cost anything
+-- what lists cost without penalties, if it is known; if it is not, no schedules cost anything
 abbrev pub IsPaid : Model → List (List ℕ) → Option ℤ → Type 0
 IsPaid model lists None = IsTrue (is_timeless model)
 IsPaid model lists (Some paid) = (paid ≡ paid_cost model lists) × IsCost paid
@@ -35,8 +35,8 @@ abbrev pub AddsToArcs : Model → List (List ℕ) → Offer → Type 0
 AddsToArcs model lists offer = let list = route lists offer.vehicle in
     offer.increase ≡ route_cost model offer.vehicle (placed list offer.placing) -ℤ route_cost model offer.vehicle list
 
--- what an asker keeps of a model: rules of it, which dimensions are loads, the columns of its cost matrices, and
--- whether no schedules cost anything
+-- what an asker keeps of a model: rules of it, which dimensions are loads, and the columns of its cost matrices. It
+-- also keeps whether no schedules cost anything
 pub record IsAsker (model rules : Model) (carrier : Carrier) (columns : List MatrixColumns) (timeless : Bool) :
     Type 0 where
   pub rules_are : rules ≡ model

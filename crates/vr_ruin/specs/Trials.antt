@@ -12,8 +12,8 @@ pub record OnTrial : Type 0 where
   pub model : Model
   pub lists : List (List ℕ)
 
--- routes with the visits of a model hold open lists of it, each vehicle has a list whose rows are known, and other
--- routes and other lists are as many
+-- routes with the visits of a model hold open lists of it, and each vehicle has a list whose rows are known. Other
+-- routes and other lists are as many as these
 pub record AreOnTrial (model : Model) (routes : Tours) (known : List KnownRoute) (spare : Tours)
     (room : List (List ℕ)) : Type 0 where
   pub visits_are : routes.visits ≡ visits model

@@ -47,7 +47,7 @@ pub(crate) struct Asker<'m> {
     columns: Vec<MatrixColumns>,
     // whether no schedules cost anything
     timeless: bool,
-    // a list with an item placed in it, and what is written over where it is tested
+    // a list with an item placed in it, and what is written over when it is tested
     longer: Seq<u32>,
     walk: Walk,
     pairs: PairPlaces,
@@ -198,7 +198,7 @@ impl<'m> Asker<'m> {
         }
     }
 
-    /// What open routes cost, also where visits are missing that must be served.
+    /// What open routes cost, also if visits are missing that must be served.
     pub(crate) fn cost(&mut self, routes: &Routes) -> Result<Parts, NoMemory>
         requires built { AreBuilt self.old routes.now.lists }
         ensures parts { IfOk result (λ parts. parts ≡ parts_at self.old (assigned self.old routes.now.lists)) }
@@ -247,7 +247,7 @@ impl<'m> Asker<'m> {
     }
 
     // Whether the vehicle of a list may drive it with an item placed in it, which it can carry. That is all of a plain
-    // model; else the list is walked through where it differs.
+    // model. Else a walk goes through the part that differs.
     fn opens(&mut self, list: VehicleList<'_, '_>, placing: Placing) -> Result<bool, NoMemory>
         requires vehicle { list.vehicle < length self.old.vehicles }
         requires within { AreWithin list.nodes.now placing }
@@ -302,8 +302,8 @@ impl<'m> Asker<'m> {
         }
     }
 
-    // The first place of a visit from place `t` on before which it adds no more than a bound, past all places if there
-    // is none.
+    // The first place of a visit from place `t` on at which it adds no more than a bound. Past all places if there is
+    // none.
     fn next_below(&self, list: VehicleList<'_, '_>, node: u32, t: usize, bound: i64) -> usize
         requires vehicle { list.vehicle < length self.now.vehicles }
         requires may { MayHold self.now list.nodes.now (Visit node) }
@@ -325,7 +325,7 @@ impl<'m> Asker<'m> {
         next_place(&driven, known.arcs.as_slice(), costs, node, t, bound)
     }
 
-    // The same, where there may be no bound.
+    // The same, if there may be no bound.
     fn next(&self, list: VehicleList<'_, '_>, node: u32, t: usize, bound: Option<i64>) -> usize
         requires vehicle { list.vehicle < length self.now.vehicles }
         requires may { MayHold self.now list.nodes.now (Visit node) }
@@ -419,7 +419,7 @@ impl<'m> Asker<'m> {
         Ok(best)
     }
 
-    /// The best places of an item in the list of a vehicle: those at which it adds least to the arc costs, of these the
+    /// The best places of an item in the list of a vehicle: those at which it adds least to the arc costs. Of these the
     /// first. `None` if the list is open with it at none, or if it adds more than a limit there.
     pub(crate) fn best(
         &mut self,

@@ -44,7 +44,7 @@ fn answered(best: Routes, at: Standing, end: End) -> Option<Refined>
     })
 }
 
-// How many visits stand in routes.
+// How many visits are in routes.
 fn count_active(routes: &Routes) -> u32
     ensures value { result ≡ active_count routes.now.lists }
     ensures few { result ≤ 100000 }
@@ -112,10 +112,10 @@ fn refine_from(
 /// The search by ruin and recreate from open routes of a model. They need not be valid: what they lack is sought first.
 /// The routes then hold the last lists. The answer has the best ones, and is `None` if these lack something.
 ///
-/// `limit` allows up to 10^9 tries, which are steps, and from 1 to 10^9 solutions: all lists that the search has count,
+/// `limit` allows up to 10^9 tries, which are steps, and from 1 to 10^9 solutions. All lists that the search has count,
 /// valid or not. The watchers are told of the first valid lists, and of each that are the best after them.
 ///
-/// It fails only if memory runs out. The routes are open then, valid if they were before, and the watchers have been
+/// It fails only if memory runs out. The routes are open then, and valid if they were before. The watchers have been
 /// told the events up to there: of the event in hand, the first few.
 pub fn refine_over(
     alloc: Global,

@@ -1,4 +1,4 @@
-//! Whether a vehicle can carry an item beside a list, in the dimensions that are loads: sums tell it, wherever in the
+//! Whether a vehicle can carry an item beside a list, in the dimensions that are loads. Sums tell it, wherever in the
 //! list the item goes.
 
 ghost use Rattle.std.specs.Prelude.{◌≡◌, ◌<◌, ◌≤◌, ◌≤ℤ◌, ◌*◌, All, false, true, not, ◌||◌, IfOk, IsTrue, OnOk, length};
@@ -67,8 +67,8 @@ fn loads_of(alloc: Global, closed: Closed<'_>) -> Result<Vec<bool>, NoMemory>
     Ok(loads)
 }
 
-// Whether nothing but loads says which lists are open: each dimension is a load, no visit is in a pair, and none asks
-// for certain vehicles.
+// Whether nothing but loads says which lists are open. Then each dimension is a load, no visit is in a pair, and none
+// asks for certain vehicles.
 fn is_plain(closed: Closed<'_>, loads: &[bool]) -> bool
     requires { AreLoads closed.model.now loads.now }
     ensures { IsTrue result → IsPlain closed.entry.model.now }
@@ -146,7 +146,7 @@ fn taken_by(list: &Driven<'_, '_>, d: u32, item: Item) -> i64
     }
 }
 
-// What it carries at its end with the list, where it takes nothing along to its start.
+// What it carries at its end with the list, if it takes nothing along to its start.
 fn load_along(list: &Driven<'_, '_>, d: u32) -> i64
     requires load { HasLoad list.now.closed.model.now d }
     requires few { length list.now.nodes.now ≤ 1000 }

@@ -1,5 +1,5 @@
-//! The cheapest offer for an item, where no schedules cost anything. A list in which the item adds too much to come
-//! first is not looked through.
+//! The cheapest offer for an item, if no schedules cost anything. A list in which the item adds too much to come first
+//! is not looked through.
 
 ghost use Rattle.std.specs.Prelude.{◌≡◌, ◌<◌, ◌++◌, List, [], ◌∷◌, IfOk, IfSome, IsTrue};
 ghost use Rattle.std.specs.Prelude.{false, filter, length, option_to_list, true};
@@ -154,8 +154,8 @@ fn cheapest_narrow(trial: &mut Trial<'_>, item: Item) -> Result<Option<Priced>, 
     cheapest_among(trial, false, item, None)
 }
 
-/// The offer for an item that comes first by price and vehicle, where no schedules cost anything: of the used vehicles,
-/// and of the others too if the step is wide or no used one has any.
+/// The offer for an item that comes first by price and vehicle, if no schedules cost anything. The used vehicles are
+/// asked. The others are asked too if the step is wide or no used one has an offer.
 pub(crate) fn cheapest(
     trial: &mut Trial<'_>,
     wide: bool,

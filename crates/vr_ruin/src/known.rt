@@ -72,7 +72,7 @@ impl KnownRoute {
         if is_same(self.nodes.as_slice(), list) {
             return Ok(());
         }
-        // of the empty list nothing is known, whatever stands in the rows
+        // of the empty list nothing is known, whatever the rows hold
         self.nodes.clear();
         write_each(alloc, lookups, v, list, loads, &mut self.rows)?;
         let driven = Driven {
@@ -229,8 +229,8 @@ fn goes_unless(
     goes_in(changed, d, walk)
 }
 
-/// Whether the line of a list is feasible in each dimension, if it is in those that are loads: found by walks through
-/// what differs in the others.
+/// Whether the line of a list is feasible in each dimension, if it is in those that are loads. In the others walks go
+/// through what differs.
 pub(crate) fn goes_in_each(
     changed: &Changed<'_, '_, '_, '_>,
     loads: &[bool],

@@ -4,8 +4,8 @@ ghost use Rattle.vr_ruin.specs.Answering.{CoolingGoesOn, HeatIsBounded, OpenIsVa
 ghost use Rattle.vr_ruin.specs.Answering.{RefiningAnswers, RefiningIsSound, RefiningStops};
 ghost use Rattle.vr_ruin.specs.Answering.{StepsStayOpen, ValidFirstIsKept};
 
-/// Open routes are valid exactly if they lack nothing: each visit in no group is in one, and each group without a
-/// penalty has as many active nodes as it may have.
+/// Open routes are valid exactly if they lack nothing. That is, each visit in no group is in one, and each group
+/// without a penalty has as many active nodes as it may have.
 pub fn open_is_valid_without_lack()
     ensures { OpenIsValidWithoutLack }
 {}

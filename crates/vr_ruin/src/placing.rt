@@ -70,8 +70,8 @@ pub(crate) fn improves(best: Option<Offer>, next: Offer) -> bool
     }
 }
 
-/// Offers that add more than this need not be looked at, where something is known: what the best one so far adds, or
-/// else the limit.
+/// Offers that add more than this need not be looked at: what the best one so far adds, or else the limit. `None` if
+/// there is neither.
 pub(crate) fn bound_of(best: Option<Offer>, limit: Option<i64>) -> Option<i64>
     ensures { result ≡ bound_for best limit }
 {

@@ -17,8 +17,8 @@ use vr_model::{End, NoMemory};
 use vr_routes::Routes;
 use vr_watch::Watch;
 
-/// The search from where it is to its end: step after step, until it found its solutions or used its tries. If memory
-/// runs out the routes are open, and the watchers have been told the events up to there.
+/// The search from here to its end: step after step, until it found its solutions or used its tries. If memory runs out
+/// the routes are open, and the watchers have been told the events up to there.
 pub(crate) fn search(
     stepper: &mut Stepper<'_>,
     trial: &mut Trial<'_>,

@@ -137,8 +137,8 @@ fn known_routes(
     Ok(routes)
 }
 
-// Takes a string out of the list of vehicle `v`, and with each of its visits the other node of its pair, if what is
-// left is open. If memory runs out the routes are as before.
+// Takes a string out of the list of vehicle `v`, and with each of its visits the other node of its pair. It does so if
+// what is left is open. If memory runs out the routes are as before.
 fn cut_list(
     asker: &mut Asker<'_>,
     routes: &mut Routes,
@@ -338,7 +338,7 @@ impl<'m> Trial<'m> {
         self.asker.is_timeless()
     }
 
-    /// How much more the routes cost after an offer, without penalties, where no schedules cost anything.
+    /// How much more the routes cost after an offer, without penalties, if no schedules cost anything.
     pub(crate) fn price_by_arcs(&self, offer: Offer) -> i64
         requires offer { MayBeMade self.now.model self.now.lists offer }
         requires adds { AddsToArcs self.now.model self.now.lists offer }

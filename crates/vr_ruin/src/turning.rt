@@ -48,7 +48,8 @@ fn penalty_of(nodes: &NodeTables<'_>, item: Item) -> i64
     }
 }
 
-// Whether a price is paid for an item: always if it is not of class 2, else if it is below the penalties of its nodes.
+// Whether a price is paid for an item. It is always if the item is not of class 2, else if it is below the penalties of
+// its nodes.
 fn pays(nodes: &NodeTables<'_>, candidate: Candidate, price: i64) -> bool
     ensures { result ≡ (not (candidate.class == 2)
         || int_lt price (total_by (penalty_at_of nodes.now) (item_nodes candidate.item))) }
@@ -102,8 +103,8 @@ fn choose(
     Ok(chosen(ranked, r))
 }
 
-// An item in its turn: put back by the offer that a word chooses, if no group would get too many nodes from it, and
-// the offer pays. It draws a word only if the groups have room.
+// An item in its turn: put back by the offer that a word chooses, if it pays. It stays out, and draws no word, if a
+// group would get too many nodes from it.
 fn put_back(
     trial: &mut Trial<'_>,
     candidate: Candidate,

@@ -25,7 +25,7 @@ use Rattle.vr_strings.specs.declared.drawing.StringPlaces.{StringPlaces}
 abbrev pub active_count : List (List ℕ) → ℕ
 active_count lists = length (concat lists)
 
--- how many visits a string of these lists may take out: as many as a used list has on average, rounded down, but at
+-- how many visits a string of these lists may take out: as many as a used list has on average, rounded down. It is at
 -- least 1 and at most `string`
 abbrev pub greatest_string : ℕ → List (List ℕ) → ℕ
 greatest_string string lists = let used = length (used_vehicles lists) in
@@ -39,22 +39,22 @@ string_share removed longest = (4 * removed + longest) / (1 + longest)
 abbrev pub greatest_count : ℕ → ℕ → ℕ
 greatest_count removed longest = max 1 (string_share removed longest - 1)
 
--- how much a step takes out of lists: the visit where it begins, which is drawn first, how many visits a string may
--- take out, and how many lists are cut, which is drawn then
+-- how much a step takes out of lists. The visit at which it begins is drawn first, and how many lists are cut then.
+-- Between them it has how many visits a string may take out, which is not drawn
 abbrev pub step_size : List ℕ → Ruin → List (List ℕ) → Lcg → StepSize × Lcg
 step_size visits ruin lists words = let longest = greatest_string ruin.string lists in
     let centre = draw (length visits) words in
     let count = draw (greatest_count ruin.removed longest) centre.1 in
     (record { centre = slice_index visits centre.0; longest = longest; count = 1 + count.0 }, count.1)
 
--- ---- where
+-- ---- around a visit
 
 -- a visit, then the others: those to which the arc of vehicle 0 costs least first, then the least number
 abbrev pub ring : Model → ℕ → List ℕ
 ring model visit = visit ∷
     sorted_by (λ other. arc_cost model 0 visit other ∷ pos other ∷ []) (filter (is_other visit) (visits model))
 
--- the key of a visit in a ring, by the entries of a matrix, of which the row of the first visit begins at place `first`
+-- the key of a visit in a ring, by the entries of a matrix. The row of the first visit begins at place `first`
 abbrev pub ring_key : List ℤ → ℕ → ℕ → List ℤ
 ring_key entries first other = number_at entries (first + other) ∷ pos other ∷ []
 
@@ -88,8 +88,8 @@ drawn_first width n p words = let lo = least_first width p in
     let shift = draw ((greatest_first width n p - lo) + 1) words in
     (lo + shift.0, shift.1)
 
--- the place that stays, in a string that begins at place a and takes this many visits out: neither the first nor the
--- last of it
+-- the place that stays, in a string that begins at place a and takes this many visits out. It is neither the first nor
+-- the last of the string
 abbrev pub stay_of : Bool → ℕ → ℕ → Lcg → Option ℕ × Lcg
 stay_of true out a words = (None, words)
 stay_of false out a words = let inside = draw (out - 1) words in (Some ((a + 1) + inside.0), inside.1)
@@ -193,8 +193,8 @@ cut_at_visit model longest count state visit = elim (length state.cut == count) 
   | false ↦ cut_unless_passed model longest visit state (vehicle_of state.lists visit)
 ]
 
--- the ruin of lists of a model with visits: it is drawn how much is taken out; then the visits are gone through, from
--- the drawn one on
+-- the ruin of lists of a model with visits. First it is drawn how much is taken out. Then the visits are gone through,
+-- from the drawn one on
 unfoldable pub ruined : Model → Ruin → List (List ℕ) → Lcg → Ruined
 ruined model ruin lists words = let size = step_size (visits model) ruin lists words in
     fold (cut_at_visit model size.0.longest size.0.count) (record { lists = lists; cut = []; words = size.1 })

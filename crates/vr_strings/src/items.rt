@@ -16,8 +16,8 @@ use vr_model::{Group, Model as RoutingModel, NoMemory, Pair, Seq};
 pub struct ItemKey {
     /// Its first node.
     pub first: u32,
-    /// Its class: 0 if it must be placed, 1 if it is in a group without a penalty, 2 if it is in one with a penalty; of
-    /// a pair the lesser of the classes of its two nodes.
+    /// Its class: 0 if it must be placed, 1 if its group has no penalty, 2 if its group has one. Of a pair it is the
+    /// lesser of the classes of its two nodes.
     pub class: u32,
     /// The cost of the arc of vehicle 0 from its start to the first node, below 0: the farthest item has the least.
     pub near: i64,

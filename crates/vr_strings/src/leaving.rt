@@ -20,7 +20,7 @@ fn takes(string: StringPlaces, place: u32) -> bool
     }
 }
 
-// Whether a node stands in the list of vehicle `v` and is taken out by a string of it.
+// Whether a node is in the list of vehicle `v` and is taken out by a string of it.
 fn is_taken(routes: &Routes, v: u32, string: StringPlaces, node: u32) -> bool
     requires vehicle { v < length routes.now.lists }
     requires string { IsStringIn (length (route routes.now.lists v)) string }

@@ -22,7 +22,7 @@ pub struct Ruin {
 /// How much a step takes out of routes.
 #[derive(Clone, Copy)]
 pub struct StepSize {
-    /// The visit where it begins.
+    /// The visit at which it begins.
     pub centre: u32,
     /// How many visits a string takes out at most, 1 or more.
     pub longest: u32,
@@ -30,7 +30,7 @@ pub struct StepSize {
     pub count: u32,
 }
 
-// How many visits stand in routes, and how many vehicles are used.
+// How many visits are in routes, and how many vehicles are used.
 #[derive(Clone, Copy)]
 struct Counts {
     active: u32,
@@ -94,8 +94,9 @@ fn greatest_count(removed: u32, longest: u32) -> u32
     1.max(share.saturating_sub(1))
 }
 
-/// Draws how much a step takes out of routes: the visit where it begins, out of `visits`, and then how many routes are
-/// cut. A string is at most as long as a used route is on average. It makes two draws and takes no memory.
+/// Draws how much a step takes out of routes. First it draws the visit at which it begins, out of `visits`, and then
+/// how many routes are cut. A string is at most as long as a used route is on average. It makes two draws and takes no
+/// memory.
 pub fn draw_step_size(ruin: Ruin, visits: &[u32], routes: &Routes, words: &mut Words) -> StepSize
     requires some { 0 < length visits.now }
     requires few { length visits.now ≤ 1000 }
