@@ -165,7 +165,7 @@ def read_day(places: TableSource, vans: TableSource) -> DayTables:
     """The day of two CSV files, each a path, or a name and the bytes of an upload.
 
     Places have the columns name, x and y (or lat and lon). They may have demand, open and close (when a visit may
-    begin), service, and penalty. If that is empty, the visit must be made.
+    begin), service, and penalty. If the penalty is empty, the visit must be made.
 
     Vehicles have start and end (names of places; an empty end is the start), name and capacity. The others are fixed
     (the cost of using it), from and to (its shift).

@@ -257,8 +257,8 @@ class Rounds:
     def anew(self, search: Search) -> Solution:
         """The solution of a round that begins anew. Raises `ProgramSlow` at the limit.
 
-        The first round of another construction has less: a twentieth of the limit. If twice the time of the very first
-        round is more, it has that.
+        The first round of another construction has less: a twentieth of the limit, or twice the very first round's time
+        if that is more.
         """
         seconds = None if self.best is None else self.left()
         if seconds is not None and search.first not in self.pace:

@@ -38,8 +38,7 @@ MOST_NAME = 80
 
 @dataclass(frozen=True)
 class Step:
-    """A step of a day: its number, the step that it was made from, what was done, the state after it, and what it
-    costs.
+    """A step of a day: its number, the step that it was made from, what was done, the state after it, and its cost.
 
     `is_fine` says whether the program found that it keeps all rules. It is None if the program was not asked about the
     whole day yet.

@@ -33,8 +33,8 @@ def read_vrplib(
     """The model of a file. Distances, weights, windows and service times are multiplied by `factor` and rounded.
 
     `vehicles` is how many there are, in place of the file's VEHICLES. Raises `BadFile` at a line that is none of the
-    form, and at a keyword or section that a model cannot say. It raises that too if something is missing; else
-    `OSError` and `Refused`.
+    form, and at a keyword or section that a model cannot say. It raises that too if something is missing. `OSError` and
+    `Refused` may come as well.
     """
     found = File(path)
     count = vehicles if vehicles is not None else found.whole("VEHICLES", 1, HORIZON)
