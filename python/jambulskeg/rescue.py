@@ -90,9 +90,8 @@ def rescue(
     """An answer of the model, by other constructions, by ruin and recreate or by penalties if its own finds none.
 
     `seconds` is the most that each run may take. `solver` solves a model in place of the program's `solve`, for
-    instance `timed_solver(10)`. `tries` is the least number of tries of guided local search over penalties; if
-    visits stay out, more may bring them in. Raises what `solve` raises; `NoFirstSolution` only if penalties do not
-    help.
+    instance `timed_solver(10)`. `tries` is the least number of tries of guided local search over penalties. If visits
+    stay out, more may bring them in. Raises what `solve` raises; `NoFirstSolution` only if penalties do not help.
     """
     found = program_of(program)
     once: Solver = lambda asked: Solved(asked, solve(asked, found, checked=checked, seconds=seconds))

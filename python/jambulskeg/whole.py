@@ -1,7 +1,7 @@
 """What only the whole model tells of its fields: lengths, and numbers of nodes, vehicles and matrices that are there.
 
 With it a `Model` that was made can be looked into without a fault. The rules on values (codes 20 to 23) are left to the
-program. These forbid negative arc costs and transits, and vehicles that are not alike under SAVINGS.
+program. They are about negative arc costs and transits, and about vehicles that SAVINGS asks to be alike.
 """
 
 from __future__ import annotations

@@ -37,8 +37,8 @@ def can_go_on(day: Model, van: Van, clock: Clock) -> bool:
 
 
 def held_start(day: Model, van: Van, clock: Clock) -> Optional[int]:
-    """The cumul at which a vehicle at home starts that leaves now, though all its starts are earlier. That can be as it
-    may wait on its first arc for as long as it likes. None for other vehicles."""
+    """The cumul at which a vehicle at home starts that leaves now, though all its starts are earlier. It may leave now,
+    since it may wait on its first arc for as long as it likes. None for other vehicles."""
     if van.where is not Where.HOME or clock.time is None:
         return None
     dimension = day.dimensions[clock.time]

@@ -108,7 +108,7 @@ class UnknownName(Unsupported, AttributeError):
 
 
 def refuse(name: str, why: str = "") -> Unsupported:
-    """The exception that refuses a name, with the reason that is known if none is given."""
+    """The exception that refuses a name. Without a reason given, it has the one that is known of the name."""
     return Unsupported(name, why or WHY.get(name, ELSE))
 
 
