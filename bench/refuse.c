@@ -1,6 +1,6 @@
 // Counts what a program asks of its machine, when it is run with this library loaded first: requests for memory, reads
 // of standard input and writes to standard output. The request whose number (from 0) an environment variable has is
-// refused: REFUSE_MEMORY, REFUSE_READ, REFUSE_WRITE. Where COUNTS names a file, the three counts are written to it.
+// refused: REFUSE_MEMORY, REFUSE_READ, REFUSE_WRITE. If COUNTS names a file, the three counts are written to it.
 #define _GNU_SOURCE
 #include <dlfcn.h>
 #include <errno.h>

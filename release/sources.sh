@@ -4,7 +4,7 @@
 # The programs that are released.
 programs='vr_cli vr_refine'
 
-# The crates of the programs: each of them, and those of the repository that it stands on.
+# The crates of the programs: each of them, and those of the repository that it uses.
 program_crates() {
     awk -v programs="$programs" '
         { sub(/#.*/, "") }

@@ -1,6 +1,6 @@
 """python -m jambulskeg: plans from spreadsheets, pictures of a day, what looks wrong in a model, many searches.
 
-Ends with 0 where there is an answer, with 1 and a sentence where there is none, with 2 where the words are unknown.
+Ends with 0 if there is an answer, with 1 and a sentence if there is none, with 2 if the words are unknown.
 `plan` ends with 3 if visits that must be made are left out.
 """
 
@@ -42,7 +42,7 @@ from .view.day import time_dimension
 __all__ = ["main"]
 
 STOPPED = 130
-"""The exit status where it is stopped from the keyboard, as shells have it."""
+"""The exit status if it is stopped from the keyboard, as shells have it."""
 BELONGS = {
     "sshlogin": ("parallel",), "folder": ("slurm",), "option": ("parallel", "slurm"),
     "remote_program": ("parallel", "slurm"), "remote_refine": ("parallel", "slurm"),
@@ -114,7 +114,7 @@ def add_view(command: argparse.ArgumentParser) -> None:
     command.add_argument("solution", metavar="SOLUTION", nargs="?", help="the solution, as the program wrote it")
     command.add_argument("--compare", nargs=2, metavar=("A", "B"), help="two solutions of the model, side by side")
     command.add_argument(
-        "--shorter", action="store_true", help="beside it the same routes, as short as can be where that is no dearer"
+        "--shorter", action="store_true", help="beside it the same routes, as short as can be if that is no dearer"
     )
     command.add_argument("-o", "--output", metavar="FILE", help="the page that is written")
     command.add_argument("--svg", action="store_true", help="an SVG in place of a page")
@@ -141,7 +141,7 @@ def add_search(command: argparse.ArgumentParser) -> None:
     command.add_argument(
         "--lambda", dest="lambdas", type=weight, action="append", metavar="P/Q", help="weights of guided searches"
     )
-    command.add_argument("--keep-going", action="store_true", help="take the best where some searches were ended")
+    command.add_argument("--keep-going", action="store_true", help="take the best if some searches were ended")
     command.add_argument("--with", dest="engine", choices=("own", "parallel", "slurm"), default="own",
                          help="processes of this machine, GNU parallel, or a job array of Slurm")
     command.add_argument("--sshlogin", action="append", default=[], metavar="LOGIN", help="GNU parallel's machines")
@@ -223,7 +223,7 @@ def exported(
 
 
 def check_file(model: Model, file: str, solution: Solution) -> None:
-    """Raises `ValueError` where the solution of a file does not meet the model, of its form with the first fault."""
+    """Raises `ValueError` if the solution of a file does not meet the model, of its form with the first fault."""
     try:
         meets(model, solution)
     except NotMet as broken:
@@ -249,7 +249,8 @@ def text_of(
 
 
 def titles_of(asked: argparse.Namespace, files: Sequence[str]) -> List[str]:
-    """What the days are called: by the title, or by the names of their files, apart where these are equal."""
+    """What the days are called: by the title, or by the names of their files. Equal names are told apart by
+    more of the name, or by numbers."""
     names = [os.path.basename(file).split(".")[0] for file in files]
     if len(set(names)) < len(names):
         names = [os.path.splitext(os.path.basename(file))[0] for file in files]
@@ -260,7 +261,7 @@ def titles_of(asked: argparse.Namespace, files: Sequence[str]) -> List[str]:
 
 
 def tables_of(asked: argparse.Namespace) -> Optional[DayTables]:
-    """The places and vehicles that are named beside the model; None where there are none."""
+    """The places and vehicles that are named beside the model; None if there are none."""
     if asked.vehicles and not asked.places:
         raise ValueError("--vehicles asks for --places, where its starts and ends have their names")
     if not asked.places:
@@ -336,7 +337,7 @@ def outcome_line(outcome: Outcome) -> str:
 
 
 def run_batch(asked: argparse.Namespace) -> int:
-    """Writes the cheapest answer of each model, and a line for each; 1 where a model has none."""
+    """Writes the cheapest answer of each model, and a line for each; 1 if a model has none."""
     models, faulty = read_folder(asked.models)
     if not models and not faulty:
         return failed(f"the folder {asked.models} has no file NAME.json")

@@ -29,9 +29,9 @@ def batch(
 ) -> Dict[str, Found]:
     """For each model what `portfolio` gives or raises; one that has no answer leaves the others alone. Once the event
     `stop` is set, running searches are ended. `progress` is told of each search that has ended, with the name of its
-    model; where it is None, a terminal is.
+    model; if it is None, a terminal is.
 
-    Raises `EngineFailed` where the engine itself fails.
+    Raises `EngineFailed` if the engine itself fails.
     """
     used = engine or OwnProcesses(1, program)
     asked = {name: searches_of(model, used, tries, lambdas) for name, model in models.items()}

@@ -1,5 +1,7 @@
-"""Plans made by hand: the schedule and costs of lists, or why they cannot be driven; drivers that leave later, and
-routes as short as they can be; faults of a solution's form.
+"""Plans made by hand, from lists of visits.
+
+`complete` gives lists their schedules and costs, or says why they cannot be driven. `leave_later` lets drivers leave
+later, and `shorten` makes routes as short as they can be. `shape_faults` finds faults of a solution's form.
 
     plan = complete(model, [[3, 1], [2]])       # vehicle 0 makes the visits 3 and 1, vehicle 1 the visit 2
     plan = leave_later(model, plan)
@@ -27,8 +29,10 @@ __all__ = ["CannotBeDriven", "complete", "leave_later", "shape_faults", "shorten
 
 
 class CannotBeDriven(JambulskegError, ValueError):
-    """No schedule keeps the rules: the `vehicle`, the name of the `dimension`, and the first `stop` of the list that
-    no cumul is left for, the start being stop 0; `node` is the node there."""
+    """No schedule of the list of `vehicle` keeps the rules of the dimension of the name `dimension`.
+
+    `stop` is the first stop of the list that no cumul is left for, the start being stop 0. `node` is the node there.
+    """
 
     def __init__(self, vehicle: int, dimension: str, stop: int, node: int, why: str) -> None:
         self.vehicle, self.dimension, self.stop, self.node = vehicle, dimension, stop, node
@@ -41,9 +45,9 @@ def complete(
 ) -> Solution:
     """The solution whose vehicles make these visits in this order, with the schedule that the program would choose.
 
-    `lists` has the visits of each vehicle, without start and end; an empty list leaves it at home. Raises `Refused`
-    where the lists are none of the model's nodes, `CannotBeDriven` where a list has no schedule, and, where `checked`,
-    `NotMet` with the rule that the lists break otherwise (a visit twice, a pair apart, a vehicle that may not ..).
+    `lists` has the visits of each vehicle, without start and end; an empty list leaves it at home. Raises `Refused` if
+    the lists are none of the model's nodes, and `CannotBeDriven` if a list has no schedule. If `checked`, it raises
+    `NotMet` with the rule that the lists break otherwise: a visit twice, a pair apart, a vehicle that may not ..
     """
     faults = list(Row(Row(NODE, 0, MOST_NODES), len(model.vehicles), len(model.vehicles)).faults(lists, ""))
     faults += list(unknown_nodes(model, lists)) if not faults else []
@@ -81,7 +85,7 @@ def solution_of_routes(model: Model, routes: Sequence[Route]) -> Solution:
 
 
 def route_of(model: Model, vehicle: int, visits: Sequence[int]) -> Route:
-    """The route of a vehicle with its chosen schedules. Raises `CannotBeDriven` where there is none."""
+    """The route of a vehicle with its chosen schedules. Raises `CannotBeDriven` if there is none."""
     if not visits:
         return Route(vehicle, (), ())
     nodes = [model.vehicles[vehicle].start, *visits, model.vehicles[vehicle].end]
@@ -125,11 +129,11 @@ def why_not(line: Line, nodes: Sequence[int], stop: int) -> str:
 def leave_later(
     model: Model, solution: Solution, program: ProgramLike = None, *, checked: bool = True
 ) -> Solution:
-    """The same routes, each day ending as early as it can and beginning as late as that allows, where it is no dearer.
+    """The same routes, each day ending as early as it can and beginning as late as that allows, if it is no dearer.
 
     No stop comes later than it did beyond its soft bound. A vehicle that does not ask for `tight` has the earliest
-    schedule, in which a driver who may wait leaves early and is paid for standing. Raises `NotMet` where the solution
-    breaks a rule; where it is not `checked`, it has to meet its model.
+    schedule: a driver who may wait leaves early and is paid for waiting. Raises `NotMet` if the solution breaks a rule.
+    If it is not `checked`, it has to meet its model.
     """
     solution = meets(model, solution, program) if checked else solution
     for vehicle, route in enumerate(solution.routes):
@@ -167,10 +171,10 @@ def later_plan(model: Model, number: int, route: Route) -> Plan:
 
 @asks(model=A_MODEL, solution=A_SOLUTION)
 def shorten(model: Model, solution: Solution, program: ProgramLike = None, *, checked: bool = True) -> Solution:
-    """The same routes, each with the schedule of its least span, as `model.spans` tells it, where it is no dearer.
+    """The same routes, each with the schedule of its least span, as `model.spans` tells it, if it is no dearer.
 
-    Unlike `leave_later` it lets a day end later where it is shorter so; a dimension in which some vehicle has breaks
-    keeps its schedules. Raises `NotMet` where the solution breaks a rule.
+    Unlike `leave_later` it lets a day end later if it is shorter so. A dimension in which some vehicle has breaks keeps
+    its schedules. Raises `NotMet` if the solution breaks a rule.
     """
     numbers = {dimension.name: number for number, dimension in enumerate(model.dimensions)}
     for span in spans(model, solution, program):
@@ -183,8 +187,8 @@ def shorten(model: Model, solution: Solution, program: ProgramLike = None, *, ch
 
 @asks(model=A_MODEL)
 def shape_faults(model: Model, tree: Any) -> List[Fault]:
-    """Each fault of the form of a solution, given as the JSON object, with its path; none where `check` finds no fault
-    of the rule `shape`. The rules of the form are those of docs/FORMAT.md."""
+    """Each fault of the form of a solution, given as the JSON object, with its path. There is none if `check` finds no
+    fault of the rule `shape`. The rules of the form are those of docs/FORMAT.md."""
     faults = list(Solution.faults_of(tree))
     faults += [fault for fault in route_faults(model, tree)] if not faults else []
     return faults

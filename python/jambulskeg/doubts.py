@@ -1,6 +1,6 @@
 """What a model may say and what looks wrong all the same: `for doubt in doubts(model): print(doubt.sentence)`.
 
-Nothing here is a fault: the program solves such models, and tells neither that a visit can never be made nor that
+Nothing here is a fault: the program solves such models. It does not tell that a visit can never be made, or that
 seconds are beside minutes. A doubt says where to look, and may be unfounded.
 """
 
@@ -19,7 +19,7 @@ from .schedules import chain_of, numbers_of
 __all__ = ["Doubt", "DoubtKind", "doubts"]
 
 SECONDS = 60
-"""How many of the smaller unit the larger one may have, where units are doubted."""
+"""How many of the smaller unit the larger one may have, when units are doubted."""
 
 
 class DoubtKind(Enum):
@@ -88,8 +88,8 @@ def open_times(model: Model, number: int, row: NodeRow, vehicle: int) -> Numbers
 
 
 def is_reached(model: Model, number: int, row: NodeRow, vehicle: int) -> bool:
-    """Whether a vehicle that drives straight there from its start can be there while a visit is open, and whether it
-    can be at its end in time after it."""
+    """Whether a vehicle that drives straight there from its start can be there while a visit is open, and then at its
+    end in time."""
     dimension, ends = model.dimensions[number], model.vehicles[vehicle]
     start, end = (
         numbers_of(next((stop for stop in stops if stop.vehicle == vehicle), None), dimension.capacity_of(vehicle))

@@ -40,7 +40,7 @@ Told = Callable[[int, Answer], None]
 LOOKS = 1.0
 """How many seconds pass between two looks at which tasks of another program have ended."""
 MOST_TASKS = 1000
-"""The most tasks of one job array; Slurm takes 1001 where its operator says nothing else."""
+"""The most tasks of one job array; Slurm takes 1001 if its operator says nothing else."""
 LATE_FILES = 30.0
 """How many seconds results may come after their job, as on file systems of a network."""
 Results = Dict[int, Tuple[int, str]]
@@ -116,7 +116,7 @@ class OwnProcesses:
 
 
 def look_at_jobs(engine: "Union[OwnProcesses, GnuParallel, Slurm]") -> None:
-    """Raises `WrongArgument` where an engine is to run no searches at a time, or the number is none."""
+    """Raises `WrongArgument` if an engine is to run no searches at a time, or the number is none."""
     wanted = A_COUNT(engine.jobs)
     if wanted:
         raise WrongArgument(type(engine).__name__, "jobs", engine.jobs, wanted)
@@ -139,7 +139,7 @@ class GnuParallel:
     """GNU parallel with at most `jobs` tasks at a time on each machine.
 
     `sshlogins` are its `--sshlogin` words (`:` is this machine), `options` further words of its own. Models go to the
-    tasks, and answers come back, by their pipes, so machines need no common files; the program lies at the same path
+    tasks, and answers come back, by their pipes, so machines need no common files. The program lies at the same path
     everywhere, or `program` is a name that is on the path there. So it is with vr_refine and `refiner`; if `program` is
     named and `refiner` is not, nothing is refined.
     """
@@ -179,7 +179,7 @@ class GnuParallel:
     def called(
         self, words: Sequence[str], texts: IO[str], stop: Optional[Event], tellings: "Tellings"
     ) -> Tuple[str, str]:
-        """What GNU parallel wrote to its two outputs; it is ended where this process is stopped."""
+        """What GNU parallel wrote to its two outputs; it is ended if this process is stopped."""
         with tempfile.TemporaryFile("w+", encoding="utf-8") as out:
             process = started(words, os.getcwd(), texts, out=out)
             with process:
@@ -350,7 +350,7 @@ def work_of(program: str, task: str, refiner: str = "", refined: Sequence[int] =
 
 @contextmanager
 def working_folder(asked: Optional[str]) -> Iterator[str]:
-    """The folder that was asked for, which stays, or one that goes at the end. Raises `EngineFailed` where the former
+    """The folder that was asked for, which stays, or one that goes at the end. Raises `EngineFailed` if the former
     has files, since old results would be taken for new ones."""
     if asked is None:
         folder = tempfile.mkdtemp(prefix="jambulskeg-", dir=os.getcwd())
@@ -370,7 +370,7 @@ def started(
     out: Optional[IO[str]] = None,
 ) -> "subprocess.Popen[str]":
     """A process in a folder, that reads a file, and writes its answer and what it says of itself to files or to pipes.
-    Raises `EngineFailed` where there is no such program."""
+    Raises `EngineFailed` if there is no such program."""
     try:
         return subprocess.Popen(
             command, cwd=folder, stdin=text or subprocess.DEVNULL, stdout=out or subprocess.PIPE,
@@ -411,7 +411,7 @@ def results_of(folder: str, task: int, end: float) -> Results:
 
 
 def answer_of(found: Results, task: int, errors: str, stop: Optional[Event] = None) -> Answer:
-    """The solution of a task, or the exception of its status. Raises `EngineFailed` where it wrote nothing."""
+    """The solution of a task, or the exception of its status. Raises `EngineFailed` if it wrote nothing."""
     is_stopped = stop is not None and stop.is_set()
     if is_stopped and (task not in found or found[task][0] > 128):
         return Stopped()

@@ -128,7 +128,7 @@ class Refused(JambulskegError, ValueError):
 
 
 class NotMet(JambulskegError):
-    """Status 9: the solution breaks the rule `rule`; `vehicle` and `place` are -1 where they do not apply."""
+    """Status 9: the solution breaks the rule `rule`; `vehicle` and `place` are -1 if they do not apply."""
 
     def __init__(self, rule: str, vehicle: int, place: int, why: Optional[str] = None) -> None:
         self.rule, self.vehicle, self.place = rule, vehicle, place

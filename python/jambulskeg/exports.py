@@ -1,7 +1,7 @@
 """A day for other programs: a table for spreadsheets, a map for geographic programs, a calendar.
 
-All three are texts, made of a model, a solution that meets it, and the two spreadsheets that the day came from; or of a
-`view.Day`, by the names that end in `_of`. Nothing is read or written here.
+All three are texts, made of a model, a solution that meets it, and the two spreadsheets that the day came from. Those
+by the names that end in `_of` are made of a `view.Day`. Nothing is read or written here.
 
     tables = read_day("places.csv", "vans.csv")
     text = plan_csv(model, solution, tables)
@@ -175,8 +175,8 @@ def icalendar(
 
 
 def icalendar_of(day: Day, date: datetime.date, in_degrees: bool = False) -> str:
-    """The visits and breaks of a day as a calendar of a date (iCalendar, RFC 5545), in the local time of whoever reads
-    it; in degrees, each visit says where it is. Raises `CannotBeExported` if the day has no times of day."""
+    """The visits and breaks of a day as a calendar of a date (iCalendar, RFC 5545), in the local time of its reader. In
+    degrees, each visit says where it is. Raises `CannotBeExported` if the day has no times of day."""
     if not has_clock(day):
         raise CannotBeExported("a calendar (iCalendar) asks for times of day: say at which one the time 0 lies")
     lines = ["BEGIN:VCALENDAR", "VERSION:2.0", "PRODID:-//jambulskeg//plan of a day//EN", "CALSCALE:GREGORIAN"]

@@ -31,7 +31,7 @@ SENTENCES = {
     "first_cost": "'first_cost' is less than the cost",
     "limits": "'tries' or 'solutions' are not within the limits of the model's search",
 }
-"""What each rule says where it is broken, in the order in which they are looked at; routes without schedules may break
+"""What each rule says if it is broken, in the order in which they are looked at. Routes without schedules may break
 those from `required` to `schedule`."""
 PARTS = ("arcs", "fixed", "global", "penalty", "soft", "span")
 
@@ -40,7 +40,7 @@ PARTS = ("arcs", "fixed", "global", "penalty", "soft", "span")
 class Finding:
     """What `check` found: the cost of a solution that meets its model, else the first rule that it breaks, and where.
 
-    `vehicle` and `place` are -1 where they do not apply; docs/FORMAT.md says what they count for each rule.
+    `vehicle` and `place` are -1 if they do not apply; docs/FORMAT.md says what they count for each rule.
     """
 
     cost: Optional[int] = None

@@ -49,7 +49,7 @@ def is_list(value: Any) -> bool:
 
 
 def whole_fault(value: Any) -> int:
-    """0 where a value is a whole number of 64 bits, also one of another library; else the code of its fault."""
+    """0 if a value is a whole number of 64 bits, also one of another library; else the code of its fault."""
     if isinstance(value, bool) or not isinstance(value, float) and not hasattr(value, "__index__"):
         return 11
     return 12 if isinstance(value, float) or not -(2**63) <= operator.index(value) < 2**63 else 0
@@ -294,7 +294,7 @@ class Record:
 
     @classmethod
     def faults_of(cls, tree: Any, path: str = "") -> Iterator[Fault]:
-        """Each fault of a JSON object that should be such a record; none exactly where `of` takes it."""
+        """Each fault of a JSON object that should be such a record; none exactly if `of` takes it."""
         if not isinstance(tree, Mapping):
             yield Fault(11, path, f"the value is no object of the kind {cls.__name__}")
             return

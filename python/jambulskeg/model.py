@@ -60,8 +60,8 @@ def solve(
     """The solution of the whole search that the model asks for; the same model always gives the same one.
 
     `seconds` is the most that each run of the program may take; once the event `stop` is set, it is ended (`Stopped`).
-    Raises `Refused` where the model has a fault,
-    `NoFirstSolution` where the construction finds none (see `jambulskeg.rescue`), and what `Program.run` raises.
+    Raises `Refused` if the model has a fault,
+    `NoFirstSolution` if the construction finds none (see `jambulskeg.rescue`), and what `Program.run` raises.
     """
     return answered(model, "solve", program, checked, seconds, stop)
 
@@ -78,7 +78,7 @@ def answered(
     model: Model, word: str, program: ProgramLike, checked: bool, seconds: Optional[float],
     stop: Optional[EventOf] = None,
 ) -> Solution:
-    """The solution that a mode of the program writes, found to meet the model where that is asked for."""
+    """The solution that a mode of the program writes, found to meet the model if that is asked for."""
     found = program_of(program)
     solution = solution_of(found.ask([word], model.text(), seconds, stop))
     if checked:
@@ -100,7 +100,7 @@ def solve_with_log(
 
 
 def log_of(lines: Sequence[str]) -> SearchLog:
-    """The reports of a search. Raises `ProgramFailed` where they are none."""
+    """The reports of a search. Raises `ProgramFailed` if they are none."""
     try:
         moves, rounds, best = (int(word) for word in lines[0].split()[1::2])
         events = [line.split() for line in lines[1:]]
@@ -110,7 +110,7 @@ def log_of(lines: Sequence[str]) -> SearchLog:
 
 
 def solution_of(tree: object) -> Solution:
-    """The solution that the program wrote. Raises `ProgramFailed` where it has another form."""
+    """The solution that the program wrote. Raises `ProgramFailed` if it has another form."""
     try:
         return Solution.of(tree)
     except Refused as fault:
@@ -123,7 +123,7 @@ def check(
 ) -> Finding:
     """Whether a solution, from wherever it comes, keeps all rules of the model and costs what it says.
 
-    Raises `Refused` where the model has a fault, at a path that begins with `/model`.
+    Raises `Refused` if the model has a fault, at a path that begins with `/model`.
     """
     try:
         tree = program_of(program).ask(["check"], beside(model, solution), seconds)
@@ -143,7 +143,7 @@ def beside(model: Model, solution: Solution) -> str:
 def meets(
     model: Model, solution: Solution, program: ProgramLike = None, *, seconds: Optional[float] = None
 ) -> Solution:
-    """The solution itself. Raises `NotMet` where it breaks a rule of the model."""
+    """The solution itself. Raises `NotMet` if it breaks a rule of the model."""
     finding = check(model, solution, program, seconds=seconds)
     if finding.rule is not None:
         raise NotMet(finding.rule, finding.vehicle, finding.place, explain(finding, solution))
@@ -157,7 +157,7 @@ def spans(
     """How short each printed route could be, by vehicle and then dimension.
 
     A dimension in which some vehicle has breaks is left out, and so is a vehicle that is not used. What a schedule
-    costs is not looked at. Raises `NotMet` where the solution breaks a rule of the model, and else as `check` does.
+    costs is not looked at. Raises `NotMet` if the solution breaks a rule of the model, and else as `check` does.
     """
     try:
         tree = program_of(program).ask(["spans"], beside(model, solution), seconds)
@@ -183,8 +183,8 @@ def import_tsplib(
 ) -> Model:
     """The model of a TSPLIB file of type CVRP, given by its path or as its bytes, with 1 to 100 vehicles.
 
-    Raises `Refused` at the first faulty line, whose number is the path (`/8`; `/0` where the file ends too early or the
-    depot has a demand), and where there may not be this many vehicles; `OSError` where the file cannot be read.
+    Raises `Refused` at the first faulty line, whose number is the path (`/8`; `/0` if the file ends too early or the
+    depot has a demand), and if there may not be this many vehicles; `OSError` if the file cannot be read.
     """
     for fault in Whole(1, MOST_VEHICLES).faults(vehicles, "/vehicles"):
         raise Refused(fault, "the import")
@@ -214,7 +214,7 @@ def at_line(fault: Fault) -> Fault:
 
 @asks(path=A_PATH)
 def read_model(path: str) -> Model:
-    """The model of a file. Raises `OSError`, `Refused`, and `NotJson` where the file is no JSON."""
+    """The model of a file. Raises `OSError`, `Refused`, and `NotJson` if the file is no JSON."""
     return Model.of(json_of(path, json.loads))
 
 

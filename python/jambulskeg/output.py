@@ -25,7 +25,7 @@ __all__ = ["Output", "Outputs", "names_of_sheets"]
 class Output:
     """Where an answer goes: a file, or standard output if there is no path.
 
-    A regular file is written beside its place and then takes it, so a reader never sees a half, and an older file stays
+    A regular file is written beside its place and then takes it. So a reader never sees a half, and an older file stays
     as it is until then. Devices and pipes are written to as they are. Raises `OSError` with the path, at the beginning
     if nothing can be written there, at the end if the disk is full.
     """

@@ -56,7 +56,7 @@ class Rounding(Enum):
 @dataclass(frozen=True)
 class Place:
     """A place of the day. `window` is when a visit may begin, `service` how long it takes; `penalty` is what it costs
-    to leave the visit out, None where it must be made."""
+    to leave the visit out, None if it must be made."""
 
     name: str
     x: float
@@ -146,10 +146,10 @@ FINE = re.compile(r"-?\d{1,3}[.,]\d{3,}")
 class DayTables:
     """A day as two spreadsheets say it: node i is place i, vehicle k is van k.
 
-    `further` has for each place the cells of the columns that nobody asks for (a phone number, a note), by their
-    headings and in their order; `van_further` has those of the vehicles. `degrees` says that x is the longitude and y
-    the latitude. `doubts` are sentences about what may be said and looks wrong all the same. `delimiter` parts the
-    cells of the places.
+    `further` has for each place the cells of the columns that nobody asks for, such as a phone number or a note. They
+    come by their headings and in their order; `van_further` has those of the vehicles. `degrees` says that x is the
+    longitude and y the latitude. `doubts` are sentences about what may be said and looks wrong all the same.
+    `delimiter` parts the cells of the places.
     """
 
     places: Tuple[Place, ...]
@@ -164,10 +164,13 @@ class DayTables:
 def read_day(places: TableSource, vans: TableSource) -> DayTables:
     """The day of two CSV files, each a path, or a name and the bytes of an upload.
 
-    Places have the columns name, x and y (or lat and lon), and as far as they are there demand, open, close (when a
-    visit may begin), service, penalty (empty: the visit must be made). Vehicles have start and end (names of places;
-    an empty end is the start), name, capacity, fixed (the cost of using it), from, to (its shift). Raises `BadTable`
-    at the first cell that cannot be read, with its line and column; `OSError`.
+    Places have the columns name, x and y (or lat and lon). They may have demand, open and close (when a visit may
+    begin), service, and penalty. If the penalty is empty, the visit must be made.
+
+    Vehicles have start and end (names of places; an empty end is the start), name and capacity. The others are fixed
+    (the cost of using it), from and to (its shift).
+
+    Raises `BadTable` at the first cell that cannot be read, with its line and column; `OSError`.
     """
     table, degrees, found = table_of_places(places)
     stops = places_of(table, degrees)
@@ -325,8 +328,8 @@ def are_close(places: Sequence[Place]) -> bool:
 
 @dataclass(frozen=True)
 class Roads:
-    """How places are joined: the measure, the rounding, what a distance is multiplied by for costs (`scale`) and for
-    times (`pace`), and the greatest wait on an arc."""
+    """How places are joined: the measure, the rounding, and the greatest wait on an arc. A distance is multiplied by
+    `scale` for costs, and by `pace` for times."""
 
     measure: Measure = Measure.EUCLID
     rounding: Rounding = Rounding.NEAREST
@@ -366,8 +369,8 @@ def model_of(
 ) -> Model:
     """The model of places and vehicles: node i is place i. Matrix 0 has costs, matrix 1 times.
 
-    A dimension `time` is there where a place has a window or a service time, or a vehicle a shift; a dimension `load`
-    where a vehicle has a capacity. Raises `Refused` at what the model cannot take.
+    A dimension `time` is there if a place has a window or a service time, or a vehicle has a shift. A dimension `load`
+    is there if a vehicle has a capacity. Raises `Refused` at what the model cannot take.
     """
     nodes = {place.name: node for node, place in enumerate(places)}
     ends = {name for van in vans for name in (van.start, van.end)}

@@ -44,9 +44,12 @@ NUMBERED = re.compile(r"\b(node|vehicle) (\d+)\b")
 
 @dataclass(frozen=True)
 class Planned:
-    """A plan of a day. `solution` meets `model`; both are those of the spreadsheets, but that the visits `required`,
-    which must be made and found no place, may be left out for nothing. `reasons` say why visits are left out; `how`
-    says how the plan was found, if no construction found it, and `doubts` what looks wrong in the day."""
+    """A plan of a day.
+
+    `solution` meets `model`. Both are those of the spreadsheets, but that the visits `required` may be left out for
+    nothing. These must be made, and found no place. `reasons` say why visits are left out. `how` says how the plan was
+    found, if no construction found it. `doubts` say what looks wrong in the day.
+    """
 
     tables: DayTables
     model: Model

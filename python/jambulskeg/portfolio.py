@@ -1,9 +1,10 @@
 """Many searches of one model, the cheapest checked answer kept.
 
-A portfolio runs constructions times searches, guided ones with several lambdas, and ruin and recreate with several
-seeds if there is a vr_refine, each a process of its own, on an engine of `engines`. All are run to their ends, and
-among equal costs the one that comes first is kept: the same arguments give the same answer, whatever the order in
-which they end.
+A portfolio runs constructions times searches, guided ones with several lambdas. If there is a vr_refine, it runs ruin
+and recreate too, with several seeds. Each search is a process of its own, on an engine of `engines`.
+
+All are run to their ends, and among equal costs the one that comes first is kept. So the same arguments give the same
+answer, whatever the order in which they end.
 
     found = portfolio(model, OwnProcesses(4))
     print(found.solution.cost, found.outcomes[found.number].name)
@@ -118,8 +119,11 @@ class Portfolio:
 
 @dataclass(frozen=True)
 class Ended:
-    """A search that has ended, `ended` being how many of `searches` have: the seconds since the beginning, its cost and
-    the least cost so far, None without an answer, and the name of its model if there are several."""
+    """A search that has ended; `ended` is how many of `searches` have.
+
+    It has the seconds since the beginning, its cost and the least cost so far, None without an answer. If there are
+    several models, it has the name of its own.
+    """
 
     seconds: float
     cost: Optional[int]
@@ -180,9 +184,9 @@ def refinings(model: Model, tries: Optional[int] = None, seeds: Sequence[int] = 
 def variants(
     model: Model, tries: Optional[int] = None, lambdas: Sequence[Tuple[int, int]] = LAMBDAS
 ) -> List[Search]:
-    """The searches of a portfolio: the model's own first, then each construction with a descent, with a guided search
-    of each lambda, with path LNS and with tabu search. `tries` takes the place of the model's; path LNS, whose tries
-    are cuts, gets as many as take about as long as the others."""
+    """The searches of a portfolio: the model's own first, then those with each construction. These are a descent, a
+    guided search of each lambda, path LNS and tabu search. `tries` takes the place of the model's. Path LNS, whose
+    tries are cuts, gets as many as take about as long as the others."""
     own = model.search if tries is None else replace(model.search, tries=tries)
     moves = moves_of(own)
     out = [own]
@@ -215,13 +219,15 @@ def portfolio(
     lambdas: Sequence[Tuple[int, int]] = LAMBDAS, keep_going: bool = False, stop: Optional[Event] = None,
     progress: Optional[Watcher] = None,
 ) -> Portfolio:
-    """The cheapest checked answer of the searches of `variants`, and of `refinings` if the engine has a vr_refine, run
-    by an engine (one process, where none is named).
+    """The cheapest checked answer of the searches of `variants`, and of `refinings` if the engine has a vr_refine. They
+    are run by an engine: one process, if none is named.
 
     `program` is the one that checks. Once the event `stop` is set, running searches are ended and the best of the
-    others is the answer. `progress` is told of each search that has ended; where it is None, a terminal is. Raises
-    `NoFirstSolution` where no search has an answer, `Stopped` where none had one when it was stopped, `Refused` where
-    the model has a fault, `EngineFailed`, and `Incomplete` where a search ended by an accident, unless `keep_going`.
+    others is the answer. `progress` is told of each search that has ended; if it is None, a terminal is.
+
+    Raises `NoFirstSolution` if no search has an answer, `Stopped` if none had one when it was stopped, and `Refused` if
+    the model has a fault. Raises `EngineFailed`, and `Incomplete` if a search ended by an accident, unless
+    `keep_going`.
     """
     used = engine or OwnProcesses(1, program)
     searches = searches_of(model, used, tries, lambdas)

@@ -58,7 +58,7 @@ PLAIN: Dict[int, Tuple[Type[JambulskegError], str]] = {
 def find(path: Optional[str] = None) -> str:
     """The path of the program: `path`, else that of VR_CLI, else in the repository of this package, else on the path.
 
-    Raises `ProgramMissing` with the places that were looked at, also where `path` or VR_CLI names no program, and
+    Raises `ProgramMissing` with the places that were looked at, also if `path` or VR_CLI names no program, and
     `WrongArgument`.
     """
     return sought(NAME, VARIABLE, BESIDE, path)
@@ -108,8 +108,8 @@ class Program:
     ) -> str:
         """What the program writes when called with these words on this input.
 
-        `seconds` is how long it may take. Raises `ProgramSlow` after that, `Stopped` soon after `stop` is set,
-        `ProgramKilled` where a signal ended it, `ProgramFailed` where it could not be run, and else the exception of
+        `seconds` is how long it may take. Raises `ProgramSlow` after that, and `Stopped` soon after `stop` is set.
+        Raises `ProgramKilled` if a signal ended it, `ProgramFailed` if it could not be run, and else the exception of
         its status. The process is ended before anything is raised.
         """
         if not is_path(self.path):
@@ -187,7 +187,7 @@ def program_of(given: ProgramLike) -> Program:
 
 
 def tree_of(text: str) -> Any:
-    """The value of a JSON text of the program. Raises `ProgramFailed` where it is none."""
+    """The value of a JSON text of the program. Raises `ProgramFailed` if it is none."""
     try:
         return json.loads(text)
     except ValueError:

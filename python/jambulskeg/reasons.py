@@ -32,8 +32,8 @@ Namer = Callable[[int], str]
 
 @dataclass(frozen=True)
 class Site:
-    """A place for a visit: after the node `after` in the route of a vehicle, what it would cost there, and by how much
-    the penalties would sink."""
+    """A place for a visit: after the node `after` in the route of a vehicle. It says what the visit would cost there,
+    and by how much the penalties would sink."""
 
     vehicle: int
     after: int
@@ -140,8 +140,12 @@ def places_in(visits: int, nodes: int) -> int:
 def lists_with(
     model: Model, routes: Sequence[Route], nodes: Sequence[int]
 ) -> Iterator[Tuple[int, Union[str, List[int]], int]]:
-    """Of a vehicle that can make the nodes nowhere the rule, and how many places it has; then each other vehicle's list
-    with the nodes put into each of its places, and 1: the cheapest by arcs and fixed costs first."""
+    """The lists to be asked about, each with its vehicle and the places that it is for.
+
+    First, for each vehicle that can make the nodes nowhere, the rule and how many places it has. Then, for each other
+    vehicle, its list with the nodes put into each of its places, and 1. The cheapest by arcs and fixed costs come
+    first.
+    """
     found: List[Tuple[int, int, List[int]]] = []
     for route in routes:
         rule = forbidding(model, route, nodes)
@@ -156,8 +160,8 @@ def lists_with(
 
 
 def forbidding(model: Model, route: Route, nodes: Sequence[int]) -> Optional[str]:
-    """The rule that forbids the nodes at all places of a route: the vehicles that may go there, or a load whose values
-    are above the capacity in any order; None without any."""
+    """The rule that forbids the nodes at all places of a route, None without any. It is that of the vehicles that may
+    go there, or a load whose values are above the capacity in any order."""
     if any(route.vehicle not in model.vehicles_of(node) for node in nodes):
         return NOT_ALLOWED
     taken = [model.vehicles[route.vehicle].start, *route.visits, *nodes]

@@ -1,7 +1,9 @@
 """The model file as dataclasses: each field is checked where it is written, with the code that the program would tell.
 
-What one record can tell by itself (kinds, ranges, lengths) is found here, and by `whole` what takes the whole model
-(whether a node is a visit, whether a list has an entry for each vehicle); rules on values are left to the program.
+What one record can tell by itself (kinds, ranges, lengths) is found here. What takes the whole model is found by
+`whole`: whether a node is a visit, whether a list has an entry for each vehicle. Rules on values are left to the
+program.
+
 Numbers are whole; units are the planner's own. Field names are those of docs/FORMAT.md, but for `from_` and `lambda_`.
 """
 
@@ -110,8 +112,8 @@ class FirstVehicle(Record):
 
 @dataclass(frozen=True)
 class Vehicle(FirstVehicle):
-    """A vehicle: the nodes where it starts and ends, the number of its cost matrix, what it costs to use it at all, the
-    order of its deliveries, and the rule of its schedules."""
+    """A vehicle: the nodes where it starts and ends, the number of its cost matrix, and what it costs to use it at all.
+    Beside that, the order of its deliveries and the rule of its schedules."""
 
     schedule: Annotated[ScheduleRule, Word(ScheduleRule)] = ScheduleRule.EARLIEST
 
@@ -172,7 +174,7 @@ class Break(Record):
 
 @dataclass(frozen=True)
 class VehicleBreaks(Record):
-    """The breaks of a vehicle in their order; it takes all of them where it is used."""
+    """The breaks of a vehicle in their order; it takes all of them if it is used."""
 
     vehicle: Annotated[int, VEHICLE]
     breaks: Annotated[Sequence[Break], Row(Inner(Break), 1, 8)]
@@ -183,7 +185,7 @@ class Dimension(Record):
     """What adds up along a route: time, load, distance (OR-Tools: RoutingDimension).
 
     The cumul at the next stop is the cumul here plus the transit plus a slack of 0 to `slack_max`. The first arc has
-    slack too: under the rule `earliest` a vehicle leaves as early as that allows, so take the least `slack_max` with
+    slack too: under the rule `earliest` a vehicle leaves as early as that allows. So take the least `slack_max` with
     which everybody is served.
     """
 
@@ -278,12 +280,14 @@ class Allowed(Record):
 
 @dataclass(frozen=True)
 class Search(Record):
-    """How a solution is looked for: construction, search, the most moves tried, the most solutions, the weight
-    `lambda_` = (p, q), p/q, of penalties in guided local search, how many visits path LNS takes out of a route at most
-    (`cut`), and for how many rounds a visit that was changed stays so in tabu search (`tenure`).
+    """How a solution is looked for: construction, search, the most moves tried, the most solutions.
 
-    About 10^6 tries are a beginning, 10^7 give a plan to print; the default stops most searches of 100 visits early.
-    In path LNS a try is a cut, which takes about as long as `MOVES_OF_A_CUT` moves.
+    - `lambda_` = (p, q) is the weight p/q of penalties in guided local search.
+    - `cut` is how many visits path LNS takes out of a route at most.
+    - `tenure` is for how many rounds a visit that was changed stays so in tabu search.
+
+    About 10^6 tries are a beginning, 10^7 give a plan to print; the default stops most searches of 100 visits early. In
+    path LNS a try is a cut, which takes about as long as `MOVES_OF_A_CUT` moves.
     """
 
     first: Annotated[First, Word(First)] = First.PATH_CHEAPEST_ARC
@@ -306,9 +310,10 @@ class Search(Record):
 class Refine(Record):
     """A search by ruin and recreate from given routes, of the program vr_refine (SISR: Christiaens, Vanden Berghe).
 
-    A step takes about `removed` visits out of neighbouring routes, from one of them a string of at most `string`, and
-    puts them back at the cheapest places. `seed` is where its random numbers begin, `heat` how much dearer a step may
-    make the routes at first and still be kept; the search chooses it if it is None. Its steps are the model's `tries`.
+    A step takes about `removed` visits out of neighbouring routes, from one of them a string of at most `string`. It
+    puts them back at the cheapest places. `seed` is where its random numbers begin. `heat` is how much dearer a step
+    may make the routes at first and still be kept; if it is None, the search chooses it. Its steps are the model's
+    `tries`.
     """
 
     seed: Annotated[int, Whole(0, LARGEST)] = 0
@@ -336,8 +341,8 @@ def steps_for(moves: int) -> int:
 class Model(Record):
     """A model: nodes, matrices, vehicles, and what is asked of routes. `Model.of(tree)` reads one, `tree` writes it.
 
-    A node where some vehicle starts or ends is no visit; every other node is one, and must be made unless it is in
-    a group. Raises `Refused` at the first faulty field; negative costs and transits are left to the program. A vehicle
+    A node where some vehicle starts or ends is no visit. Every other node is one, and must be made unless it is in a
+    group. Raises `Refused` at the first faulty field; negative costs and transits are left to the program. A vehicle
     with a `schedule` of its own asks for `format=2`.
     """
 
@@ -362,7 +367,7 @@ class Model(Record):
 
     @classmethod
     def faults_of(cls, tree: Any, path: str = "") -> Iterator[Fault]:
-        """Each fault of a JSON object that should be a model; none exactly where `of` takes it."""
+        """Each fault of a JSON object that should be a model; none exactly if `of` takes it."""
         is_first = cls is Model and isinstance(tree, Mapping) and tree.get("format", 1) == 1
         yield from FirstModel.faults_of(tree, path) if is_first else super().faults_of(tree, path)
 

@@ -153,8 +153,8 @@ def price(
     """The solution of routes as they are, with the schedules that the model's rules choose: what they cost.
 
     `program` is vr_refine, here and below; `seconds` is the most that each run may take. Raises `NotMet` with the first
-    rule that the routes break and a sentence that says where, `Refused` if they are no routes of the model, with the
-    path (`/routes/1/0` is the first visit of vehicle 1), `ProgramMissing`, and what `Program.run` raises.
+    rule that the routes break and a sentence that says where. Raises `Refused` if they are no routes of the model, with
+    the path: `/routes/1/0` is the first visit of vehicle 1. Raises `ProgramMissing`, and what `Program.run` raises.
     """
     try:
         return Question(model, routes).answer("price", program, checked=checked, seconds=seconds)
@@ -194,7 +194,7 @@ def solve(
 ) -> Solution:
     """The best solution that a search finds from `routes`, or from the model's construction without them.
 
-    With `refine` it is ruin and recreate, of as many steps as the model has `tries`; it also begins with routes that
+    With `refine` it is ruin and recreate, of as many steps as the model has `tries`. That also begins with routes that
     lack visits, and with a construction that does. Without it, it is the model's own search, from what `begin` gives.
     `stop` is an event: once it is set, the search is ended (`Stopped`). Raises `NoFirstSolution` if nothing is found,
     and else as `price` does.

@@ -1,9 +1,12 @@
-"""An answer where the construction finds none.
+"""An answer when the construction finds none.
 
-All constructions may end without a first solution on models that have solutions. `rescue` tries the one that the model
-asks for, then the others, then ruin and recreate from what the construction leaves (with vr_refine), then the model
-with every required visit made optional at a penalty above what any day costs. It tells which way it went, and an answer
-that leaves out a required visit is never passed off as one of the model.
+All constructions may end without a first solution on models that have solutions. `rescue` tries, in this order:
+
+- the construction that the model asks for, then the others;
+- ruin and recreate from what the construction leaves (with vr_refine);
+- the model with every required visit made optional, at a penalty above what any day costs.
+
+It tells which way it went. An answer that leaves out a required visit is never passed off as one of the model.
 """
 
 from __future__ import annotations
@@ -29,9 +32,9 @@ __all__ = [
 ]
 
 RESCUE_TRIES = 1000000
-"""The tries of a search that is to bring in visits that were left out, where no more are asked for."""
+"""The tries of a search that is to bring in visits that were left out, if no more are asked for."""
 RESCUE_STEPS = 5000
-"""The steps of ruin and recreate that is to find a first solution, where no more are asked for."""
+"""The steps of ruin and recreate that is to find a first solution, if no more are asked for."""
 
 
 class Way(Enum):
@@ -48,9 +51,9 @@ class Way(Enum):
 class Rescue:
     """What was found, and how.
 
-    `solution` is one of the model, or None where the required visits `left_out` stay out; `model` is the model with the
-    search that was run, which the solution meets. `solved` is what the program found, with the model that it was
-    asked: by penalties, that is the relaxed one, in which leaving out costs `penalty` a visit.
+    `solution` is one of the model, or None if the required visits `left_out` stay out. `model` is the model with the
+    search that was run, which the solution meets. `solved` is what the program found, with the model that it was asked.
+    By penalties, that is the relaxed one, in which leaving out costs `penalty` a visit.
     """
 
     way: Way
@@ -76,7 +79,7 @@ class Rescue:
 
 
 Solver = Callable[[Model], Solved]
-"""How a model is solved; raises `NoFirstSolution` where the construction finds nothing."""
+"""How a model is solved; raises `NoFirstSolution` if the construction finds nothing."""
 
 
 @asks(model=A_MODEL, seconds=either(A_LIMIT), tries=number(0))
@@ -84,12 +87,11 @@ def rescue(
     model: Model, program: ProgramLike = None, *, checked: bool = True, seconds: Optional[float] = None,
     solver: Optional[Solver] = None, tries: int = RESCUE_TRIES,
 ) -> Rescue:
-    """An answer of the model, by other constructions, by ruin and recreate or by penalties where its own finds none.
+    """An answer of the model, by other constructions, by ruin and recreate or by penalties if its own finds none.
 
     `seconds` is the most that each run may take. `solver` solves a model in place of the program's `solve`, for
-    instance `timed_solver(10)`. `tries` is the least number of tries of guided local search over penalties; where
-    visits stay out, more may bring them in. Raises what `solve` raises; `NoFirstSolution` only where penalties do not
-    help.
+    instance `timed_solver(10)`. `tries` is the least number of tries of guided local search over penalties. If visits
+    stay out, more may bring them in. Raises what `solve` raises; `NoFirstSolution` only if penalties do not help.
     """
     found = program_of(program)
     once: Solver = lambda asked: Solved(asked, solve(asked, found, checked=checked, seconds=seconds))
@@ -143,8 +145,8 @@ class TimedSolver:
     begin: Optional[Routes] = None
 
     def __call__(self, model: Model) -> Solved:
-        """The cheapest solution of rounds; each model gets one round at least, also where no seconds are left. Raises
-        as `solve_for` does."""
+        """The cheapest solution of rounds; each model gets one round at least, even if no seconds are left. Raises as
+        `solve_for` does."""
         now = time.monotonic()
         self.began = now if self.began is None else self.began
         spent = now - self.began
@@ -163,7 +165,7 @@ def timed_solver(
 
         rescue(model, solver=timed_solver(10, progress=show, stop=pressed))
 
-    `progress` is told of each cheaper solution, by the seconds since the beginning and its cost; where it is None, a
+    `progress` is told of each cheaper solution, by the seconds since the beginning and its cost; if it is None, a
     terminal is. Penalties for visits that must be made are a part of that cost as long as `rescue` needs them. Once the
     event `stop` is set, by another thread or a signal, the best solution so far is the answer. With vr_refine the first
     round takes the routes `begin`, if they are given and can be filled up.
@@ -178,8 +180,8 @@ def words_for(solver: Solver, model: Model) -> Sequence[First]:
 
 
 def tried(solver: Solver, model: Model, is_asked: bool) -> Optional[Solved]:
-    """What a model gives, None where its construction finds none, or where it is not the one that was asked for and
-    asks for other vehicles (SAVINGS)."""
+    """What a model gives, None if its construction finds none. None as well if the construction is not the one that was
+    asked for and asks for other vehicles (SAVINGS)."""
     try:
         return solver(model)
     except NoFirstSolution:
@@ -212,8 +214,8 @@ def required_visits(model: Model) -> List[int]:
 
 @asks(model=A_MODEL)
 def relax(model: Model) -> Tuple[Model, int]:
-    """The model with a penalty in place of each duty, and that penalty: above what any day costs, as far as the file
-    can say it (2^40)."""
+    """The model with a penalty in place of each duty, and that penalty. It is above what any day costs, as far as the
+    file can say it (2^40)."""
     penalty = min(greatest_cost(model) + 1, GREATEST_ENTRY)
     groups = [replace(group, penalty=penalty) if group.penalty is None else group for group in model.groups]
     groups += [Group([node], penalty) for node in required_visits(model)]
@@ -221,7 +223,7 @@ def relax(model: Model) -> Tuple[Model, int]:
 
 
 def missing(model: Model, solution: Solution) -> List[int]:
-    """The required visits that a solution of the relaxed model leaves out; of a group that makes fewer than it must,
+    """The required visits that a solution of the relaxed model leaves out. Of a group that makes fewer than it must,
     those that it leaves out."""
     return missing_of(model, solution.dropped)
 
@@ -240,7 +242,7 @@ def missing_of(model: Model, left_out: Iterable[int]) -> List[int]:
 def by_penalties(model: Model, solver: Solver, tries: int) -> Rescue:
     """The best answer of the relaxed model: the first that leaves nobody out, else that with fewest, then the cheapest.
 
-    Raises `NoFirstSolution` where no construction finds one.
+    Raises `NoFirstSolution` if no construction finds one.
     """
     relaxed, penalty = relax(model)
     asked = model.search.tries if model.search.improve is Improve.GUIDED_LOCAL_SEARCH else 0
@@ -259,6 +261,6 @@ def by_penalties(model: Model, solver: Solver, tries: int) -> Rescue:
 
 
 def as_own(solution: Solution) -> Solution:
-    """A solution of the relaxed model that leaves no required visit out, as a plan of the model itself, which no search
-    of it has found: it costs the same."""
+    """A solution of the relaxed model that leaves no required visit out, as a plan of the model itself. No search of
+    the model has found it, but it costs the same."""
     return replace(solution, first_cost=solution.cost, solutions=1, stop=Stop.FIRST, tries=0)

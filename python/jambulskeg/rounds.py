@@ -3,10 +3,10 @@
 Each round is a run of a program, deterministic for its tries; the seconds only decide which rounds are run. The first
 rounds are short: one of each construction, which tell how fast it runs.
 
-- With vr_refine each later round goes on from the best routes so far: by ruin and recreate, with another seed each
-  time, or by the model's own search, whichever gained more for its seconds.
+- With vr_refine each later round goes on from the best routes so far. It is ruin and recreate, with another seed each
+  time, or the model's own search, whichever gained more for its seconds.
 - Without it each later round begins anew. Rounds turn through the constructions, and then through the numbers of the
-  search: the lambda of guided local search, the cut of path LNS, the tenure of tabu search.
+  search. These are the lambda of guided local search, the cut of path LNS, the tenure of tabu search.
 
 A round is shorter the less is left of the limit, so that little is lost when the limit ends the last one.
 """
@@ -146,9 +146,9 @@ def solve_for(
 ) -> Solved:
     """The cheapest solution of rounds within `time_limit` seconds; with 0 seconds, that of the first round.
 
-    If a vr_refine belongs to `program`, which is vr_cli, later rounds go on from the best so far, unless the model asks
-    for no search (`NONE`), or limits its solutions. Then `begin` are routes that the first round takes as they are, or
-    filled up by insertion; if that cannot be, rounds begin with the constructions.
+    If a vr_refine belongs to `program`, which is vr_cli, later rounds go on from the best so far. They do not if the
+    model asks for no search (`NONE`), or limits its solutions. If they do, `begin` are routes that the first round
+    takes as they are, or filled up by insertion. If that cannot be, rounds begin with the constructions.
 
     No round is ended before there is a solution. Ends early if no search has anything left to do, or if `stop` is set:
     then the best so far is handed out. `progress` is told of each cheaper solution; if it is None, a terminal is.
@@ -255,8 +255,11 @@ class Rounds:
             raise problem
 
     def anew(self, search: Search) -> Solution:
-        """The solution of a round that begins anew. Raises `ProgramSlow` at the limit, or if the first round of another
-        construction takes a twentieth of it, and twice as long as the first one of all."""
+        """The solution of a round that begins anew. Raises `ProgramSlow` at the limit.
+
+        The first round of another construction has less: a twentieth of the limit, or twice the very first round's time
+        if that is more.
+        """
         seconds = None if self.best is None else self.left()
         if seconds is not None and search.first not in self.pace:
             seconds = min(seconds, max(self.limit / 20, 2 * self.rounds[0].seconds, 0.1))
@@ -297,8 +300,8 @@ class Rounds:
                 return
 
     def next_kind(self) -> On:
-        """How the next round goes on: a way whose rounds are still short, in turn; else the one that gained more a
-        second in its last round, and if none gained anything, the other one than before."""
+        """How the next round goes on: a way whose rounds are still short, in turn. Else the one that gained more a
+        second in its last round. If none gained anything, it is the other one than before."""
         short = [on for on in WAYS if on not in self.gains]
         if short:
             return short[0]

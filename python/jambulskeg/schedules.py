@@ -1,9 +1,13 @@
 """The schedules of one list of visits in one dimension: whether there are any, the earliest, and the latest start.
 
-A line is walked from both ends. Forward, `reached[k][b]` are the cumuls of stop k with which some cumuls before it and
-the first b breaks keep all rules; backward, `leads[k][b]` are those from which the rest and the breaks from number b
-on can be kept. Both are exact sets of whole numbers, and a schedule takes its cumuls from what is in both. The rules
-are those of docs/FORMAT.md; what is built here is always put to the proved check by whoever calls.
+A line is walked from both ends.
+
+- Forward, `reached[k][b]` are the cumuls of stop k with which some cumuls before it and the first b breaks keep all
+  rules.
+- Backward, `leads[k][b]` are those from which the rest and the breaks from number b on can be kept.
+
+Both are exact sets of whole numbers, and a schedule takes its cumuls from what is in both. The rules are those of
+docs/FORMAT.md; what is built here is always put to the proved check by whoever calls.
 """
 
 from __future__ import annotations
@@ -27,8 +31,9 @@ EARLY, LATE = -(2**62), 2**62
 class Line:
     """A list of visits of a vehicle in a dimension.
 
-    `allowed[k]` are the cumuls that stop k allows, `transits[k]` and `visits[k]` the transit of the arc after it and
-    the time that the visit takes there, `slack_max` the greatest slack, `breaks` the vehicle's breaks.
+    - `allowed[k]` are the cumuls that stop k allows.
+    - `transits[k]` is the transit of the arc after stop k, `visits[k]` the time that the visit takes there.
+    - `slack_max` is the greatest slack, `breaks` are the vehicle's breaks.
     """
 
     name: str
@@ -73,8 +78,8 @@ def line_of(model: Model, number: int, vehicle: int, nodes: Sequence[int]) -> Li
 
 @dataclass(frozen=True)
 class Chain:
-    """Breaks that follow one another at once: they can begin at `latest` at the latest, last `length` together, and
-    end `length` after their begin, or at `end` where they have to wait for their ranges."""
+    """Breaks that follow one another at once. They can begin at `latest` at the latest, and last `length` together.
+    They end `length` after their begin, or at `end` if they have to wait for their ranges."""
 
     latest: int
     length: int
@@ -82,7 +87,7 @@ class Chain:
 
 
 def chain_of(breaks: Sequence[Break]) -> Optional[Chain]:
-    """The chain of some breaks in order; None where they cannot follow one another."""
+    """The chain of some breaks in order; None if they cannot follow one another."""
     latest, length, end = LATE, 0, EARLY
     for entry in breaks:
         latest = min(latest, entry.to - length)
@@ -95,8 +100,8 @@ def chain_of(breaks: Sequence[Break]) -> Optional[Chain]:
 
 @dataclass(frozen=True)
 class Crossing:
-    """An arc with some breaks inside: from the cumul c, which is at most `latest`, it leads to the cumuls from
-    max(c + `least`, `end`) to c + `most`; `end` is the earliest end of the breaks."""
+    """An arc with some breaks inside. From the cumul c, which is at most `latest`, it leads to the cumuls from max(c +
+    `least`, `end`) to c + `most`. `end` is the earliest end of the breaks."""
 
     latest: int
     least: int
@@ -127,7 +132,7 @@ class Crossing:
 
 
 def crossing(line: Line, arc: int, breaks: Sequence[Break]) -> Optional[Crossing]:
-    """The arc with these breaks inside; None where they do not fit."""
+    """The arc with these breaks inside; None if they do not fit."""
     transit, visit = line.transits[arc], line.visits[arc]
     if not breaks:
         return Crossing(LATE, transit, transit + line.slack_max, EARLY)
@@ -228,8 +233,8 @@ def next_least(reach: Reach, arc: int, cumul: int, levels: Set[int]) -> Tuple[in
 
 
 def break_starts(line: Line, cumuls: Sequence[int], slacks: Sequence[int]) -> List[int]:
-    """The earliest starts of the breaks at these cumuls, which have room for them: each in the first place where it
-    fits, since one that is taken earlier leaves no less room for those after it."""
+    """The earliest starts of the breaks at these cumuls, which have room for them. Each is in the first place where it
+    fits: one that is taken earlier leaves no less room for those after it."""
     starts: List[int] = []
     place, room, done = -1, LATE, EARLY
     for entry in line.breaks:

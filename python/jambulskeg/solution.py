@@ -41,7 +41,7 @@ class Plan(Record):
 
 @dataclass(frozen=True)
 class Route(Record):
-    """The nodes of a vehicle from its start to its end, and its schedules; both empty where it is not used."""
+    """The nodes of a vehicle from its start to its end, and its schedules; both empty if it is not used."""
 
     vehicle: Annotated[int, NUMBER]
     nodes: Annotated[Sequence[int], NUMBERS]
@@ -55,8 +55,9 @@ class Route(Record):
 
 @dataclass(frozen=True)
 class LeastSpan(Record):
-    """How short a printed route could be in a dimension: its `least` span from the first cumul to the last, that of the
-    `printed` cumuls, and the schedule of the least span whose cumuls are least."""
+    """How short a printed route could be in a dimension. `least` is its least span from the first cumul to the last,
+    `printed` that of the printed cumuls. `cumuls` and `slacks` are the schedule of the least span whose cumuls are
+    least."""
 
     cumuls: Annotated[Sequence[int], NUMBERS]
     dimension: Annotated[str, Text(0, 64)]

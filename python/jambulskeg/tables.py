@@ -57,7 +57,7 @@ class BadTable(JambulskegError, ValueError):
 
 
 def whole(text: str) -> int:
-    """A whole number, also as a time of day: 8:30, 08:30:00 and 8:30 AM are 510 minutes, 26:00 is two at night.
+    """A whole number, also as a time of day. So 8:30, 08:30:00 and 8:30 AM are 510 minutes, and 26:00 is two at night.
 
     Raises `ValueError` if it is none.
     """

@@ -1,7 +1,7 @@
 """What only the whole model tells of its fields: lengths, and numbers of nodes, vehicles and matrices that are there.
 
-With it a `Model` that was made can be looked into without a fault. What remains for the program are the rules on values
-(codes 20 to 23): negative arc costs and transits, and vehicles that SAVINGS asks to be alike.
+With it a `Model` that was made can be looked into without a fault. The rules on values (codes 20 to 23) are left to the
+program. They are about negative arc costs and transits, and about vehicles that SAVINGS asks to be alike.
 """
 
 from __future__ import annotations
@@ -41,13 +41,13 @@ def model_faults(model: "Model") -> Iterator[Fault]:
 
 
 def sized(values: Any, length: int, path: str, of_what: str) -> Iterator[Fault]:
-    """A fault where a list has not an entry for each node, or vehicle; one value and None are for all."""
+    """A fault if a list has not an entry for each node, or vehicle; one value and None are for all."""
     if is_list(values) and len(values) != length:
         yield Fault(15, path, f"there are {len(values)} entries for {length} {of_what}")
 
 
 def known(number: Optional[int], length: int, path: str, what: str) -> Iterator[Fault]:
-    """A fault where a number is none of those that there are."""
+    """A fault if a number is none of those that there are."""
     if number is not None and number >= length:
         yield Fault(14, path, f"there is no {what} {number}")
 
@@ -59,7 +59,7 @@ class Visits:
         self._nodes, self._visits = model.nodes, set(model.visits())
 
     def faults(self, node: int, path: str) -> Iterator[Fault]:
-        """A fault where a node is not there, or is a start or an end."""
+        """A fault if a node is not there, or is a start or an end."""
         yield from known(node, self._nodes, path, "node")
         if node < self._nodes and node not in self._visits:
             yield Fault(18, path, f"node {node} is a start or an end, and no visit")
@@ -73,7 +73,7 @@ class Unlike:
         self._earlier: Set[object] = set()
 
     def faults(self, entry: object, path: str) -> Iterator[Fault]:
-        """A fault where an entry is in an earlier place; notes it."""
+        """A fault if an entry is in an earlier place; notes it."""
         if entry in self._earlier:
             yield Fault(16, path, f"{entry!r} is in an earlier {self._what}")
         self._earlier.add(entry)

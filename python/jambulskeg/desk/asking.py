@@ -1,6 +1,6 @@
 """What lists of visits cost, asked of the program: `Asker.judged` is the one place that a changed day goes through.
 
-vr_refine prices the lists. Where it is not at hand, the schedules of routes are completed here, and vr_cli checks the
+vr_refine prices the lists. If it is not at hand, the schedules of routes are completed here, and vr_cli checks the
 whole day. Schedules are kept, whoever found them, so a change completes the routes that it changes alone.
 """
 
@@ -39,8 +39,8 @@ Routes = Dict[Tuple[int, Tuple[int, ...]], Route]
 class Verdict:
     """What the program found of a day: its schedules and costs, and the visits that must be made and are not.
 
-    Where `missing` is empty, the solution meets the model. Else it meets the model in which these may be left out for
-    nothing, so that the day can be told apart from one that breaks another rule; it is unfinished.
+    If `missing` is empty, the solution meets the model. Else the day is unfinished: the solution meets the model in
+    which these may be left out for nothing. So it can be told apart from a day that breaks another rule.
     """
 
     solution: Solution
@@ -97,7 +97,7 @@ class Texts:
 
 
 class Held:
-    """A model in a file without a name, which the program reads together with what it is asked about; so what never
+    """A model in a file without a name, which the program reads together with what it is asked about. So what never
     changes is handed over once."""
 
     def __init__(self, text: str) -> None:
@@ -108,7 +108,7 @@ class Held:
         self._lock = threading.Lock()
 
     def _written(self, text: str, place: int) -> int:
-        """Writes from a place on, where the file then ends; that end."""
+        """Writes from a place on, and tells the place at which the file then ends."""
         data = memoryview(text.encode("utf-8", "surrogatepass"))
         os.ftruncate(self._file, place)
         while data:
@@ -156,7 +156,7 @@ class Asker:
         self._held: Dict[bool, Held] = {}
 
     def of_model(self, model: Model, changed: AbstractSet[int]) -> "Asker":
-        """An asker about another model, mostly of the same matrices, in which some visits ask for something else; the
+        """An asker about another model, mostly of the same matrices, in which some visits ask for something else. The
         schedules of routes without these are kept."""
         kept = {key: route for key, route in self._routes.items() if changed.isdisjoint(key[1])}
         return Asker(model, self.program, self._texts, kept)
@@ -168,7 +168,7 @@ class Asker:
     def judged(self, lists: Lists) -> Verdict:
         """What the program finds of these lists, with the schedules that it would choose.
 
-        Raises `CannotBeDriven` where a list has no schedule, `NotMet` with the rule that is broken otherwise, and what
+        Raises `CannotBeDriven` if a list has no schedule, `NotMet` with the rule that is broken otherwise, and what
         `Program.run` raises.
         """
         if self.refining is not None:
@@ -184,7 +184,7 @@ class Asker:
         try:
             solution = self._held_for(bool(left)).price(refining, lists)
         except NotMet:
-            self.reckoned(lists)  # where a route cannot be driven, this raises at the stop
+            self.reckoned(lists)  # if a route cannot be driven, this raises at the stop
             raise
         for vehicle, visits in enumerate(lists):
             self._keep((vehicle, visits), solution.routes[vehicle])

@@ -21,7 +21,7 @@ ASSETS: Mapping[str, Tuple[str, str]] = {
     "view.js": ("text/javascript; charset=utf-8", ""),
     **{name: ("text/javascript; charset=utf-8", name) for name in SCRIPTS},
 }
-"""For each path the kind of its file and the file, none for the script of `view`; nothing else of this machine is ever
+"""For each path the kind of its file and the file, none for the script of `view`. Nothing else of this machine is ever
 served as a file."""
 
 

@@ -48,7 +48,7 @@ class Change:
     """A change of a day."""
 
     def applied(self, state: State, within: Within) -> State:
-        """The state after the change. Raises `BadChange` where it is not to be made."""
+        """The state after the change. Raises `BadChange` if it is not to be made."""
         raise NotImplementedError
 
     def words(self, within: Within) -> str:
@@ -57,15 +57,15 @@ class Change:
 
 
 def unpinned(state: State, vehicle: Optional[int], within: Within) -> None:
-    """Raises `BadChange` where a vehicle is pinned, so that its route stays as it is."""
+    """Raises `BadChange` if a vehicle is pinned, so that its route stays as it is."""
     if vehicle is not None and vehicle in state.pinned:
         raise BadChange(f"{within.names.vehicle(vehicle)} is pinned, so its route stays as it is; unpin it first")
 
 
 @dataclass(frozen=True)
 class Move(Change):
-    """Visits, in this order, go into the route of a vehicle in front of a visit (None: at its end), or, where the
-    vehicle is None, out of all routes.
+    """Visits go, in this order, into the route of a vehicle in front of a visit (None: at its end). If the vehicle is
+    None, they go out of all routes.
 
     The other visit of a pair goes along when the pair would else be parted: the pickup right in front of the delivery.
     """
@@ -270,7 +270,7 @@ class Reader:
 
 
 def change_of(tree: Any, within: Within) -> Change:
-    """The change that the page sent. Raises `BadChange` where it is none."""
+    """The change that the page sent. Raises `BadChange` if it is none."""
     kind = tree.get("kind") if isinstance(tree, Mapping) else None
     if kind not in KINDS:
         raise BadChange(f"a change is one of {', '.join(KINDS)}")

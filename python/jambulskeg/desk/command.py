@@ -27,7 +27,7 @@ OPENER = ".open-the-desk.html"
 def add_desk(command: argparse.ArgumentParser) -> None:
     """Adds the words of `desk` to a command."""
     command.add_argument("folder", metavar="FOLDER", nargs="?", default="days",
-                         help="the folder of days, made where it is missing; 'days' without one")
+                         help="the folder of days, made if it is missing; 'days' without one")
     command.add_argument("--port", type=port, default=0, metavar="P", help="the port of 127.0.0.1; else a free one")
     command.add_argument("--no-browser", action="store_true", help="only write the address of the page")
     command.add_argument("--jobs", type=jobs, default=1, metavar="N", help="searches at a time")

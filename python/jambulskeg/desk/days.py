@@ -38,8 +38,11 @@ MOST_NAME = 80
 
 @dataclass(frozen=True)
 class Step:
-    """A step of a day: its number, the step that it was made from, what was done, the state after it, what it costs,
-    and whether the program found that it keeps all rules, None where it was not asked about the whole day yet."""
+    """A step of a day: its number, the step that it was made from, what was done, the state after it, and its cost.
+
+    `is_fine` says whether the program found that it keeps all rules. It is None if the program was not asked about the
+    whole day yet.
+    """
 
     number: int
     parent: int
@@ -53,7 +56,7 @@ class Step:
 class Answer:
     """What came of a change: whether it was made, and the step that the day is at.
 
-    A change that was not made has a `sentence`, and, as far as a rule was broken, the `rule`, the `vehicle`, the
+    A change that was not made has a `sentence`. As far as a rule was broken, it also has the `rule`, the `vehicle`, the
     `place` in its route, and the `dimension`.
     """
 
@@ -140,7 +143,7 @@ class OpenDay:
         return Within(self.asker(state.edits).model, self.names)
 
     def asker(self, edits: Edits) -> Asker:
-        """Who asks about days with some edits. Raises `BadChange` where these cannot be said in the model."""
+        """Who asks about days with some edits. Raises `BadChange` if these cannot be said in the model."""
         if not edits:
             return self._first
         key = repr(edits.tree())
@@ -174,8 +177,8 @@ class OpenDay:
             return self._verdicts[key]
 
     def known(self, number: Optional[int] = None) -> Verdict:
-        """The same, where the program was perhaps asked about the vans alone that the step touches. Of a large day that
-        was opened again, a step that the program was asked about before is reckoned first, and asked about soon."""
+        """The same, though perhaps only the vans that the step touches were put to the program. Of a large day that was
+        opened again, a step that the program was asked about before is reckoned first, and asked about soon."""
         with self.lock:
             key = self.at if number is None else number
             is_new = key not in self._verdicts and key not in self._drafts
@@ -215,8 +218,8 @@ class OpenDay:
             )
 
     def change(self, change: Change, at: Optional[int] = None) -> Answer:
-        """Makes a change where the program finds that the day then keeps its rules, but for visits that must be made
-        and that nobody makes. `at` is the step that the planner saw; at another one nothing is made."""
+        """Makes a change if the program finds that the day then keeps its rules. Visits that must be made and that
+        nobody makes do not count. `at` is the step that the planner saw; at another one nothing is made."""
         with self.lock:
             if at is not None and at != self.at:
                 return Answer(False, self.at, "The day was changed meanwhile; look at it as it is now.")
@@ -228,7 +231,7 @@ class OpenDay:
                 return Answer(False, self.at, capital(str(problem)))
 
     def made(self, after: State, words: str) -> Answer:
-        """Makes a step of a state, where the program finds nothing against it."""
+        """Makes a step of a state, if the program finds nothing against it."""
         if after == self.step.state:
             return Answer(True, self.at, "Nothing changes.")
         try:
@@ -306,14 +309,14 @@ class OpenDay:
             self.go(self.step.parent)
 
     def parts(self) -> Optional[Parts]:
-        """The parts of the cost of the present step; None where the program has something against it."""
+        """The parts of the cost of the present step; None if the program has something against it."""
         try:
             return self.known().solution.parts
         except JambulskegError:
             return None
 
     def refused(self, problem: JambulskegError, after: State) -> Answer:
-        """The answer where a rule would be broken."""
+        """The answer if a rule would be broken."""
         try:
             listed_rules(self.within_of(after).model, after.lists)
         except NotMet as broken:  # the schedule is broken too, but this is what to mend
@@ -360,7 +363,7 @@ class OpenDay:
             self.journal.close()
 
     def rename(self, name: str) -> None:
-        """Gives the day another name. Raises `BadChange` where it is none."""
+        """Gives the day another name. Raises `BadChange` if it is none."""
         name = " ".join(name.split())
         if not 1 <= len(name) <= MOST_NAME:
             raise BadChange(f"a name has 1 to {MOST_NAME} letters")

@@ -89,8 +89,8 @@ policy they do not have."""
 
 
 def exported(opened: OpenDay, word: str) -> Optional[Tuple[str, str, bytes]]:
-    """The present step of a day as a file: its type, the ending of its name, its bytes; None where there is no such
-    kind. Raises `CannotBeExported` where the day lacks what the file is made of."""
+    """The present step of a day as a file: its type, the ending of its name, its bytes; None if there is no such
+    kind. Raises `CannotBeExported` if the day lacks what the file is made of."""
     calendar = CALENDAR.fullmatch(word)
     if word not in KINDS and calendar is None:
         return None

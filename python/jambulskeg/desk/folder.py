@@ -27,7 +27,7 @@ from .journal import Journal, line_of, lines_read, synced_folder, write_whole
 
 try:
     import fcntl
-except ImportError:  # where there is none, two desks of one folder are not kept apart
+except ImportError:  # if there is none, two desks of one folder are not kept apart
     fcntl = None  # type: ignore[assignment]
 
 __all__ = ["Basis", "Folder", "FolderInUse", "NoSuchDay"]
@@ -51,8 +51,8 @@ class NoSuchDay(JambulskegError):
 
 @dataclass(frozen=True)
 class Basis:
-    """What a day was opened with: the model, the two tables where it was made of them, the minute at which the time 0
-    lies, what looked odd, and what it was read from."""
+    """What a day was opened with: its model, and the two tables if it was made of them. Beside these the minute at
+    which the time 0 lies, what looked odd, and what it was read from."""
 
     model: Model
     tables: Optional[DayTables] = None
@@ -124,7 +124,7 @@ class Folder:
     """A folder of days that this process alone writes."""
 
     def __init__(self, path: str) -> None:
-        """Takes the folder, which is made where it is missing. Raises `FolderInUse`, `OSError`."""
+        """Takes the folder, which is made if it is missing. Raises `FolderInUse`, `OSError`."""
         os.makedirs(path, exist_ok=True)
         self.path = os.path.realpath(path)
         self._lock = locked(os.path.join(self.path, LOCK))
@@ -213,7 +213,7 @@ def without_part(path: str) -> None:
 
 
 def locked(path: str) -> IO[str]:
-    """The open lock of a folder. Raises `FolderInUse` where another process has it."""
+    """The open lock of a folder. Raises `FolderInUse` if another process has it."""
     handle = open(path, "w", encoding="ascii")
     try:
         if fcntl is not None:

@@ -61,7 +61,7 @@ class Guard:
         return f"http://127.0.0.1:{self.port}/{self.token}/"
 
     def parts(self, method: str, target: str, hosts: List[str], headers: Mapping[str, str]) -> List[str]:
-        """The parts of the path after the token. Raises `Turned` where the request is not from the desk's own page.
+        """The parts of the path after the token. Raises `Turned` if the request is not from the desk's own page.
 
         `hosts` are the values of all `Host` lines, `headers` those of other lines.
         """
@@ -81,7 +81,7 @@ class Guard:
         return path.split("/") if path else []
 
     def after_token(self, target: str) -> str:
-        """The path after the token. Raises `Turned` where the token is another one."""
+        """The path after the token. Raises `Turned` if the token is another one."""
         path = target.split("?", 1)[0]
         token, slash, rest = path[1:].partition("/")
         is_own = hmac.compare_digest(token.encode("utf-8", "replace"), self.token.encode())
@@ -97,7 +97,7 @@ def is_opened(method: str, path: str, headers: Mapping[str, str]) -> bool:
 
 
 def length_of(headers: Mapping[str, str]) -> int:
-    """How many bytes a request brings. Raises `Turned` where it does not say, or brings too many."""
+    """How many bytes a request brings. Raises `Turned` if it does not say, or brings too many."""
     text: Optional[str] = headers.get("Content-Length")
     if headers.get("Transfer-Encoding") is not None or text is None:
         raise Turned(411, "a request says how many bytes it brings")

@@ -1,9 +1,11 @@
 """Better routes for a day, by rounds of the program, until the time is over or somebody stops them.
 
 The rounds are those of `rounds`. With vr_refine they go on from the routes as they are. Without it each of them plans
-the whole day anew, and after each of them a few neighbouring vans at a time are planned anew, while the others keep
-their routes. What is found is put to the program as a whole day, and is kept if it leaves fewer required visits unmade,
-or as many and costs less.
+the whole day anew. After each of these a few neighbouring vans at a time are planned anew, while the others keep their
+routes.
+
+What is found is put to the program as a whole day. It is kept if it leaves fewer required visits unmade, or as many and
+costs less.
 
 If nothing is planned yet, the first round is run to its end, however long that takes.
 """
@@ -63,7 +65,7 @@ class Improver:
     """Looks for better routes from those of a state on."""
 
     def __init__(self, asker: Asker, state: State, seconds: float) -> None:
-        """Raises `BadChange` where the state has no van that may be changed."""
+        """Raises `BadChange` if the state has no van that may be changed."""
         self.seconds, self.stopped = seconds, threading.Event()
         self.points: List[Point] = []
         self.rounds = 0
@@ -78,7 +80,7 @@ class Improver:
         return self.seconds - (time.monotonic() - self.began)
 
     def search(self) -> None:
-        """Runs rounds until the time is over; where no construction finds a day, of the relaxed model. Raises
+        """Runs rounds until the time is over; of the relaxed model if no construction finds a day. Raises
         `NoFirstSolution`."""
         self.consider(self._state.lists)
         try:
@@ -110,7 +112,7 @@ class Improver:
         self._since = time.monotonic()
 
     def has_planned_part(self) -> bool:
-        """Plans a few vans anew, and keeps what is found where that is better; whether there were any, and the time
+        """Plans a few vans anew, and keeps what is found if that is better. Whether there were any vans, and the time
         was enough. Raises `Stopped`."""
         if self.best is None:
             return False
@@ -140,7 +142,7 @@ class Improver:
         return solution_of(self._asker.program.ask(["solve"], asked.text(), self.left(), self.stopped))
 
     def consider(self, lists: Lists) -> None:
-        """Keeps a day where the program finds that it keeps its rules and is better than the best so far."""
+        """Keeps a day if the program finds that it keeps its rules and is better than the best so far."""
         try:
             verdict = self._asker.judged(lists)
         except (CannotBeDriven, NotMet):

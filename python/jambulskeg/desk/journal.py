@@ -1,7 +1,7 @@
 """The journal of a day: a file of lines, each a JSON object after its checksum. Lines are only ever appended.
 
 A line is on the disk before `append` returns. When the power fails while a line is written, the file ends in a part of
-it, which `opened` cuts off; so a day opens with its last whole step. What is cut off is kept beside the file.
+it. `opened` cuts that off, so a day opens with its last whole step. What is cut off is kept beside the file.
 
     00c0ffee {"do":"step","number":3, ..}
 """
@@ -31,7 +31,7 @@ def line_of(entry: Mapping[str, Any]) -> bytes:
 
 
 def entry_of(line: bytes) -> Optional[Entry]:
-    """The entry of a line without its line feed; None where it is not as it was written."""
+    """The entry of a line without its line feed; None if it is not as it was written."""
     mark, _, text = line.partition(b" ")
     if mark != b"%08x" % zlib.crc32(text):
         return None
@@ -95,7 +95,7 @@ class Journal:
     def opened(cls, path: str) -> "Journal":
         """The journal of a file, with all of its whole lines; a broken end is cut off and kept beside it.
 
-        Raises `JournalFaulty` where not even the first line is whole, and `OSError`.
+        Raises `JournalFaulty` if not even the first line is whole, and `OSError`.
         """
         with open(path, "rb") as file:
             data = file.read()
@@ -112,7 +112,7 @@ class Journal:
     def append(self, entry: Mapping[str, Any]) -> None:
         """Adds a line, which is on the disk when this returns.
 
-        Raises `OSError` where it cannot be written; the file is then as it was before, as far as that can be had.
+        Raises `OSError` if it cannot be written; the file is then as it was before, as far as that can be had.
         """
         line = line_of(entry)
         try:

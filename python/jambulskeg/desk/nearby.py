@@ -1,6 +1,6 @@
 """Which vans a search plans anew together, the others keeping their routes: one, and those whose visits are near its.
 
-So a search goes on from the routes as they are, and is quick also where the whole day is large.
+So a search goes on from the routes as they are, and is quick even if the whole day is large.
 """
 
 from __future__ import annotations
@@ -25,7 +25,7 @@ class Nearby:
         self._model, self._random, self._turn = model, random.Random(1), 0
 
     def vans(self, state: State) -> FrozenSet[int]:
-        """Some vans to be planned anew together; none where so few have visits that they are the whole day."""
+        """Some vans to be planned anew together; none if so few have visits that they are the whole day."""
         used = [vehicle for vehicle, visits in enumerate(state.lists) if visits and vehicle not in state.pinned]
         if len(used) <= LEAST_VANS:
             return frozenset()
@@ -46,7 +46,7 @@ class Nearby:
         return sorted(away, key=lambda vehicle: away[vehicle])
 
     def spare(self, state: State) -> FrozenSet[int]:
-        """A van that has no visits, for those that are left out; none where there is none."""
+        """A van that has no visits, for those that are left out; none if there is none."""
         idle = [vehicle for vehicle, visits in enumerate(state.lists)
                 if not visits and vehicle not in state.off | state.pinned]
         return frozenset([self._random.choice(idle)] if idle and self._random.random() < 0.5 else [])

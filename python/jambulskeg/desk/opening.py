@@ -33,8 +33,9 @@ Upload = Tuple[str, bytes]
 
 @dataclass(frozen=True)
 class Ways:
-    """How places are joined: by straight lines or along the sides of blocks, how many kilometres a unit of x and y is,
-    how many of them a van drives in an hour, what one costs, and how long a van may wait on a drive."""
+    """How places are joined: by straight lines or along the sides of blocks, and how many kilometres a unit of x and y
+    is. Beside that, how many kilometres a van drives in an hour, what one costs, and how long a van may wait on a
+    drive."""
 
     measure: Measure = Measure.EUCLID
     unit: float = 1.0
@@ -92,7 +93,7 @@ def basis_of_model(upload: Upload, program: Program) -> Basis:
 
 
 def accepted(model: Model, program: Program) -> None:
-    """Lets the program read a model. Raises `Refused` where it does not take it."""
+    """Lets the program read a model. Raises `Refused` if it does not take it."""
     try:
         first(model, program, checked=False)
     except NoFirstSolution:
@@ -107,7 +108,7 @@ def examples() -> List[str]:
 
 
 def example_basis(name: str, program: Program) -> Basis:
-    """The day of an example. Raises `BadChange` where there is none of this name."""
+    """The day of an example. Raises `BadChange` if there is none of this name."""
     if name not in examples():
         raise BadChange("there is no such example")
     if name == OF_SHEETS:

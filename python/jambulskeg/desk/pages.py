@@ -60,8 +60,8 @@ def told(day: OpenDay) -> Dict[str, Any]:
 
 
 def status_of(day: OpenDay, is_fine: bool) -> str:
-    """What a day is: `empty`, `checking` where the program was not asked about all of it yet, `fine` where the program
-    found that it keeps all rules, else `unfinished`."""
+    """What a day is: `empty`, `checking` if the program was not asked about all of it yet, `fine` if the program found
+    that it keeps all rules, else `unfinished`."""
     if not any(day.step.state.lists):
         return "empty"
     return "checking" if day.is_draft else "fine" if is_fine else "unfinished"
@@ -126,8 +126,8 @@ def load_of(day: Day, route: Route) -> str:
 
 
 def nodes_of(day: Day) -> List[List[Any]]:
-    """Each node: its name, its window, its demand, its penalty (None: it must be made), what it belongs to ('visit',
-    'end' for a start or end, 'choice' for one of several), and the other visit of its pair."""
+    """Each node: its name, window, demand and penalty (None: it must be made), what it belongs to, and the other visit
+    of its pair. It belongs to 'visit', to 'end' if it is a start or end, to 'choice' if it is one of several."""
     model = day.model
     windows = {} if day.time is None else {row.node: row.window for row in model.dimensions[day.time].nodes}
     load = load_dimension(model)
@@ -181,7 +181,7 @@ def drawn_parts(day: OpenDay) -> Dict[str, str]:
 
 
 def with_reasons(day: Day, missing: Sequence[int], closed: FrozenSet[int]) -> Day:
-    """The day with the reasons why visits are left out, of which `missing` must be made; vans that are `closed` (off or
+    """The day with the reasons why visits are left out, of which `missing` must be made. Vans that are `closed` (off or
     pinned) have no place for them."""
     grouped = {node for group in day.model.groups for node in group.nodes}
     alone = [Group([node], 0) for node in missing if node not in grouped]

@@ -1,7 +1,7 @@
 """The part of a day that a search may change: no vans that are off or pinned, and no visits that these keep.
 
 A search of the part gives lists of the whole day. What the vans that stay out cost together with the others (global
-spans) is not seen by such a search; the whole day is judged afterwards, and kept if it is cheaper.
+spans) is not seen by such a search. So the whole day is judged afterwards, and kept if it is cheaper.
 """
 
 from __future__ import annotations
@@ -39,7 +39,7 @@ class Part:
 
 
 def part_of(model: Model, state: State) -> Part:
-    """The part of a day that a search may change. Raises `BadChange` where nothing may be changed."""
+    """The part of a day that a search may change. Raises `BadChange` if nothing may be changed."""
     vehicles = [vehicle for vehicle in range(len(model.vehicles)) if vehicle not in state.off | state.pinned]
     if not vehicles:
         raise BadChange("every van is pinned or switched off, so no search has anything to do")

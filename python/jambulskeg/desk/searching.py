@@ -26,7 +26,7 @@ class Search(threading.Thread):
     """A search of better routes for a day as it is at its present step."""
 
     def __init__(self, day: OpenDay, seconds: float, turn: threading.Semaphore) -> None:
-        """Raises `BadChange` where nothing may be changed, or the seconds are none that may be given."""
+        """Raises `BadChange` if nothing may be changed, or the seconds are none that may be given."""
         if not LEAST_SECONDS <= seconds <= MOST_SECONDS:
             raise BadChange(f"a search takes {LEAST_SECONDS} to {MOST_SECONDS} seconds")
         super().__init__(daemon=True)
@@ -99,7 +99,7 @@ class Searches:
         self._latest: Dict[str, Search] = {}
 
     def begin(self, day: OpenDay, seconds: float) -> Search:
-        """Begins a search. Raises `BadChange` where one is at work on the day, and as `Search` does."""
+        """Begins a search. Raises `BadChange` if one is at work on the day, and as `Search` does."""
         with self._lock:
             if self.is_busy(day.identity):
                 raise BadChange("a search is at work on this day")

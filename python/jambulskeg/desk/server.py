@@ -114,7 +114,7 @@ class Handler(BaseHTTPRequestHandler):
         self.write(reply)
 
     def body(self) -> Any:
-        """The JSON value that the request brings. Raises `Turned` where it brings none."""
+        """The JSON value that the request brings. Raises `Turned` if it brings none."""
         if self.headers.get_content_type() != "application/json":
             raise Turned(415, "a request brings JSON")
         length = length_of(dict(self.headers.items()))

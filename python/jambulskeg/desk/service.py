@@ -40,7 +40,7 @@ UNITS = {"km": 1.0, "m": 0.001}
 
 @dataclass(frozen=True)
 class Reply:
-    """An answer: its status, its kind, its bytes, and the name of the file that it is saved as, where it is one."""
+    """An answer: its status, its kind, its bytes, and the name of the file that it is saved as, if there is one."""
 
     status: int
     kind: str
@@ -76,7 +76,7 @@ class Service:
         self.folder.close()
 
     def get(self, parts: Sequence[str]) -> Reply:
-        """The answer to what is asked for. Raises `Turned` where there is nothing."""
+        """The answer to what is asked for. Raises `Turned` if there is nothing."""
         name = "/".join(parts) or "page"
         if name in ASSETS:
             kind, data = asset(name)
@@ -86,7 +86,7 @@ class Service:
         raise Turned(404, "there is nothing here")
 
     def post(self, parts: Sequence[str], tree: Any) -> Reply:
-        """The answer to what is to be changed. Raises `Turned` where there is nothing of the kind."""
+        """The answer to what is to be changed. Raises `Turned` if there is nothing of the kind."""
         if parts[:1] != ["api"] or not isinstance(tree, dict):
             raise Turned(404 if isinstance(tree, dict) else 400, "there is nothing here")
         return self.minded(lambda: self.posted(list(parts[1:]), tree))
@@ -128,7 +128,7 @@ class Service:
         return Reply.of(plain[tuple(rest)]())
 
     def day(self, identity: str) -> OpenDay:
-        """A day, opened where it was not. Raises `NoSuchDay`, and as `Folder.opened` does."""
+        """A day, opened if it was not yet. Raises `NoSuchDay`, and as `Folder.opened` does."""
         with self.lock:
             if identity not in self.days:
                 self.days[identity] = OpenDay(identity, *self.folder.opened(identity), self.program)

@@ -26,8 +26,7 @@ class BadChange(JambulskegError, ValueError):
 
 @dataclass(frozen=True)
 class Edits:
-    """What was edited, by node: when a visit may begin, how much it loads, what it costs to leave it out (None: it
-    must be made)."""
+    """What was edited, by node: when a visit may begin, how much it loads, its penalty (None: it must be made)."""
 
     windows: Mapping[int, Window] = field(default_factory=dict)
     demands: Mapping[int, int] = field(default_factory=dict)
@@ -74,7 +73,7 @@ class State:
     pinned: FrozenSet[int] = frozenset()
 
     def vehicle_of(self, node: int) -> Optional[int]:
-        """The vehicle that makes a visit, None where nobody does."""
+        """The vehicle that makes a visit, None if nobody does."""
         return next((vehicle for vehicle, visits in enumerate(self.lists) if node in visits), None)
 
     def delta(self, earlier: "State") -> Dict[str, Any]:
@@ -104,7 +103,7 @@ def with_delta(state: State, delta: Mapping[str, Any]) -> State:
 
 
 def edited(model: Model, edits: Edits) -> Model:
-    """The model with its edits. Raises `BadChange` where one cannot be said in it."""
+    """The model with its edits. Raises `BadChange` if one cannot be said in it."""
     if not edits:
         return model
     dimensions = list(model.dimensions)
@@ -130,7 +129,7 @@ def with_windows(dimension: Dimension, windows: Mapping[int, Window]) -> Dimensi
 
 def load_dimension(model: Model) -> Optional[int]:
     """The number of the first dimension that counts what visits load: its vehicles have one evaluator, without a
-    matrix. None where there is none."""
+    matrix. None if there is none."""
     for number, dimension in enumerate(model.dimensions):
         if len(dimension.evaluators) == 1 and dimension.evaluators[0].matrix is None:
             return number

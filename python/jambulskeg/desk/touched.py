@@ -1,4 +1,4 @@
-"""The vans that a change touches, as a day of their own: what the program is asked first where the day is large.
+"""The vans that a change touches, as a day of their own: what the program is asked first if the day is large.
 
 A model of a thousand places takes the program a while to read, and a change touches two vans of them. Asked about these
 two alone, it answers at once. The whole day is asked about soon after, and is not called fine before.

@@ -79,7 +79,7 @@ class Entry:
         return self
 
     def at(self, key: Any) -> "Entry":
-        """The value of a key, None where it is absent."""
+        """The value of a key, None if it is absent."""
         is_there = isinstance(self.value, Mapping) and key in self.value or is_list(self.value)
         return Entry(self.file, f"{self.path}/{key}", self.value[key] if is_there else None)
 
@@ -88,7 +88,7 @@ class Entry:
         return key in self.value
 
     def each(self) -> List["Entry"]:
-        """The values of a list; none where it is absent."""
+        """The values of a list; none if it is absent."""
         if self.value is None:
             return []
         if not is_list(self.value):
@@ -96,7 +96,7 @@ class Entry:
         return [Entry(self.file, f"{self.path}/{place}", entry) for place, entry in enumerate(self.value)]
 
     def whole(self, default: int = 0, low: int = 0, high: int = HORIZON) -> int:
-        """A whole number; the default where it is absent."""
+        """A whole number; the default if it is absent."""
         if self.value is None:
             return default
         if isinstance(self.value, bool) or not isinstance(self.value, int) or not low <= self.value <= high:
@@ -131,7 +131,7 @@ class Problem:
             self._add_shipment(entry)
 
     def _sign(self) -> str:
-        """Which amounts jobs have: all are brought, or all are fetched. Raises `BadFile` where both come together."""
+        """Which amounts jobs have: all are brought, or all are fetched. Raises `BadFile` if both come together."""
         signs = {sign for entry in self.jobs for sign in ("pickup", "delivery") if any(entry.at(sign).value or ())}
         if len(signs) > 1:
             raise self.top.at("jobs").fault("a model has one load that only grows: no 'pickup' beside a 'delivery'")
@@ -224,15 +224,15 @@ class Problem:
         ]
 
     def _costs(self) -> List[List[List[int]]]:
-        """The cost matrix of each profile, where it is not that of the durations."""
+        """The cost matrix of each profile, if it is not that of the durations."""
         return self._matrices("costs") if self._has("costs") else []
 
     def _distances(self) -> List[List[List[int]]]:
-        """The distances of each profile, where a vehicle has a limit on them."""
+        """The distances of each profile, if a vehicle has a limit on them."""
         return self._matrices("distances") if self._limited("max_distance") else []
 
     def _has(self, kind: str) -> bool:
-        """Whether the profiles have matrices of a kind. Raises `BadFile` where some have and others have not."""
+        """Whether the profiles have matrices of a kind. Raises `BadFile` if some have and others have not."""
         found = {self.top.at("matrices").at(profile).at(kind).value is not None for profile in self.profiles}
         if len(found) > 1:
             raise self.top.at("matrices").fault(f"some profiles have {kind}, and others have not")
@@ -303,7 +303,7 @@ class Problem:
         return Dimension(f"amount {component}", [Evaluator(values=values)], 0, capacity, fix_start=True)
 
     def _capacity(self, entry: Entry, component: int) -> int:
-        """How much a vehicle takes of one component. Raises `BadFile` where it does not say."""
+        """How much a vehicle takes of one component. Raises `BadFile` if it does not say."""
         found = entry.at("capacity").each()
         if component >= len(found):
             raise entry.at("capacity").fault(f"it has no entry {component}, and the amounts of tasks have")
@@ -326,7 +326,7 @@ class Problem:
         return Dimension(name=name, slack_max=0, capacity=limits, fix_start=True, **evaluators)
 
     def _allowed(self) -> Iterator[Allowed]:
-        """The vehicles that have all skills of a task. Raises `BadFile` where none has."""
+        """The vehicles that have all skills of a task. Raises `BadFile` if none has."""
         skills = [{skill.whole() for skill in entry.at("skills").each()} for entry in self.vehicles]
         for node, task in enumerate(self.tasks):
             able = [vehicle for vehicle, of in enumerate(skills) if task.skills <= of]

@@ -33,7 +33,8 @@ def read_vrplib(
     """The model of a file. Distances, weights, windows and service times are multiplied by `factor` and rounded.
 
     `vehicles` is how many there are, in place of the file's VEHICLES. Raises `BadFile` at a line that is none of the
-    form, at a keyword or section that a model cannot say, and if something is missing; `OSError`, `Refused`.
+    form, and at a keyword or section that a model cannot say. It raises that too if something is missing. `OSError` and
+    `Refused` may come as well.
     """
     found = File(path)
     count = vehicles if vehicles is not None else found.whole("VEHICLES", 1, HORIZON)
@@ -174,7 +175,7 @@ class File:
         return [(scale.whole(line.number_at(1)), scale.whole(line.number_at(2))) for line in rows]
 
     def _service(self, size: int, depot: int, scale: Scale) -> List[int]:
-        """How long each visit takes; at the depot nothing where one number is said of all."""
+        """How long each visit takes; at the depot nothing if one number is said of all."""
         if "SERVICE_TIME_SECTION" in self.sections:
             return [scale.whole(line.number_at(1)) for line in self.section("SERVICE_TIME_SECTION", size)]
         one = scale.whole(self.words["SERVICE_TIME"].number_at(0)) if "SERVICE_TIME" in self.words else 0

@@ -26,9 +26,11 @@ given routes begins with `rest.lists`, or with the lists of `continued(rest)`.""
 
 @dataclass(frozen=True)
 class Replanned:
-    """The day replanned: `whole` is the solution of the whole day, `rest` that of its rest; `kept` is the cost of the
-    whole day if the plan of the morning goes on, with new orders where they cost least, None if that cannot be;
-    `is_kept` says whether that plan is the answer; `moved` is what changes."""
+    """The day replanned: `whole` is the solution of the whole day, `rest` that of its rest.
+
+    `kept` is the cost of the whole day if the plan of the morning goes on, with new orders where they cost least. It is
+    None if that cannot be. `is_kept` says whether that plan is the answer; `moved` is what changes.
+    """
 
     whole: Solution
     rest: Solution

@@ -37,8 +37,8 @@ def can_go_on(day: Model, van: Van, clock: Clock) -> bool:
 
 
 def held_start(day: Model, van: Van, clock: Clock) -> Optional[int]:
-    """The cumul at which a vehicle at home starts that leaves now, though all its starts are earlier: it may wait on
-    its first arc for as long as it likes. None for other vehicles."""
+    """The cumul at which a vehicle at home starts that leaves now, though all its starts are earlier. It may leave now,
+    since it may wait on its first arc for as long as it likes. None for other vehicles."""
     if van.where is not Where.HOME or clock.time is None:
         return None
     dimension = day.dimensions[clock.time]
@@ -55,8 +55,8 @@ def starts_of(dimension: Dimension, vehicle: int) -> Numbers:
 
 @dataclass(frozen=True)
 class Building:
-    """What the model of the rest is made of: the day, the moment, its nodes, where vehicles are, which visits are made
-    or begun, and which vehicles go on."""
+    """What the model of the rest is made of: the day, the moment, its nodes, and where vehicles are. Beside that, which
+    visits are made or begun, and which vehicles go on."""
 
     day: Model
     clock: Clock

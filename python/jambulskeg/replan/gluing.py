@@ -26,8 +26,9 @@ def glue(
     """The solution of the whole day: what was made until the moment, and then what a solution of the rest makes.
 
     `model` is the model of the day, with the new orders if there are any: `rest.day`. How the solution was found is not
-    looked at: it may have more tries than `rest.model` asks for. Raises `CannotBeReplanned` if it is another one,
-    `NotMet` if the solution is none of the rest, or if the model with the new orders does not allow what was made.
+    looked at: it may have more tries than `rest.model` asks for. Raises `CannotBeReplanned` if `model` is another one.
+    Raises `NotMet` if the solution is none of the rest, or if the model with the new orders does not allow what was
+    made.
     """
     if model != rest.day:
         raise CannotBeReplanned("the rest is not one of this model: glue takes `rest.day`, which has the new orders")
@@ -76,8 +77,12 @@ def slacks_of(model: Model, at: int, vehicle: int, nodes: Sequence[int], cumuls:
 
 @dataclass(frozen=True)
 class Moved:
-    """What another plan changes of a plan: visits that another vehicle makes, with the vehicle before and now; visits
-    that were left out and are made; visits that were made and are left out."""
+    """What another plan changes of a plan.
+
+    - `moved`: visits that another vehicle makes, with the vehicle before and now.
+    - `brought_in`: visits that were left out and are made.
+    - `left_out`: visits that were made and are left out.
+    """
 
     moved: Sequence[Tuple[int, int, int]]
     brought_in: Sequence[int]

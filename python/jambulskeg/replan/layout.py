@@ -1,11 +1,11 @@
 """The nodes of the model of the rest: what is still to be made, and where each vehicle begins.
 
 A vehicle on the road begins at a node of its own, a copy of the place where it is. From there it goes through its
-chain, at no cost and in no time: the pickups of what it has on board, and then the visit where it is. The chain is
-required and for that vehicle alone. So no vehicle is forgotten on the road, and the order of deliveries is kept.
+chain, at no cost and in no time. The chain is the pickups of what it has on board, and then the visit where it is. It
+is required and for that vehicle alone. So no vehicle is forgotten on the road, and the order of deliveries is kept.
 `Layout.barred_arcs` are those that no route may have, so that nothing comes before the chain or into it.
 
-Van 3 has picked up 5, and is at visit 9: its route begins with its start, 5, 9, all three at the place of 9, and then
+Van 3 has picked up 5, and is at visit 9. Its route begins with its start, 5 and 9, all three at the place of 9. Then
 come the visits that are left.
 """
 

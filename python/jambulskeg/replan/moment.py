@@ -48,11 +48,12 @@ class Where(Enum):
 
 @dataclass(frozen=True)
 class Van:
-    """A vehicle at the moment.
+    """A vehicle at the moment. On the road:
 
-    On the road, `stop` is the place in its nodes where its rest begins, `cumuls` are those there, a number for each
-    dimension, `taken` is how many breaks of each dimension lie before it, and `on_board` are the pickups made before it
-    whose deliveries are still to be made, in their order.
+    - `stop` is the place in its nodes where its rest begins.
+    - `cumuls` are those there, a number for each dimension.
+    - `taken` is how many breaks of each dimension lie before it.
+    - `on_board` are the pickups made before it whose deliveries are still to be made, in their order.
     """
 
     vehicle: int
@@ -139,7 +140,7 @@ def ways_from(model: Model, matrix: Optional[int], tail: int) -> Sequence[int]:
 def vans_of(
     model: Model, solution: Solution, clock: Clock, done: Optional[Sequence[int]], lost: FrozenSet[int]
 ) -> List[Van]:
-    """Where each vehicle is. `done` are the visits that have been begun, if they are not those of the plan; the
+    """Where each vehicle is. `done` are the visits that have been begun, if they are not those of the plan. The
     vehicles `lost` make nothing that they have not begun. Raises `CannotBeReplanned`."""
     planned = {node for route in solution.routes for node in route.visits}
     for node in done or ():

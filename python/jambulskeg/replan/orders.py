@@ -15,7 +15,7 @@ __all__ = ["with_places"]
 def with_places(model: Model, places: Sequence[Place], roads: Roads = Roads(), time: Optional[str] = None) -> Model:
     """The day of a model with further places, which are the last of `places`; the first are those of its nodes.
 
-    The day was made of places, as `model_of` does it, with these roads: each matrix is one of costs or of times, a
+    The day was made of places, as `model_of` does it, with these roads. Each matrix is one of costs or of times. A
     dimension without drives has the demands, the others the service times. Raises `CannotBeReplanned` if it was not.
     """
     if len(places) < model.nodes:

@@ -56,15 +56,15 @@ def replan(
 ) -> Rest:
     """The rest of the day from the moment `now` on, in the unit of the dimension of times.
 
-    Each vehicle on the road begins at the visit where it is, or to which it drives, with its cumuls and the breaks that
-    are left; one that has not left begins at `now` or later. No visit that is left begins before `now`. `done` are the
-    visits that have been begun, if they are not those of the plan. `new` is the model of the day with the new orders:
-    its first nodes and vehicles are those of `model`. `time` names the dimension of times; without one it is that which
-    looks most like it, and if none has drives, `now` is in arc costs so far. How the plan was found is not looked
-    at: it may have more tries than `model` asks for.
+    Each vehicle on the road begins at the visit where it is, or to which it drives, with its cumuls and the breaks
+    left. One that has not left begins at `now` or later. No visit that is left begins before `now`.
 
-    Raises `CannotBeReplanned` if the rest cannot be said as a model, `NotMet` if the solution does not meet
-    `model`.
+    `done` are the visits that have been begun, if they are not those of the plan. `new` is the model of the day with
+    the new orders: its first nodes and vehicles are those of `model`. `time` names the dimension of times. Without one
+    it is that which looks most like it; if none has drives, `now` is in arc costs so far. How the plan was found is not
+    looked at: it may have more tries than `model` asks for.
+
+    Raises `CannotBeReplanned` if the rest cannot be said as a model, `NotMet` if the solution does not meet `model`.
     """
     solution = as_own(solution)
     if checked:

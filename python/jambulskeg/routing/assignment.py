@@ -24,11 +24,11 @@ class IntervalVarElement(Named):
         return self._variable
 
     def PerformedValue(self) -> int:
-        """1 where the break is taken, 0 where its vehicle is not used."""
+        """1 if the break is taken, 0 if its vehicle is not used."""
         return int(self._start is not None)
 
     def StartValue(self) -> int:
-        """When it starts; the least start of its range where it is not taken."""
+        """When it starts; the least start of its range if it is not taken."""
         return self._variable.start_min if self._start is None else self._start
 
     def DurationValue(self) -> int:
@@ -59,9 +59,9 @@ class Assignment(Named):
     """A solution as a script asks for it.
 
     `solution` is the solution itself, and `model` the model that it was found to meet. `Value` tells its schedule, by
-    the rule of `RoutingModel.schedule`. `Min` and `Max` of a cumul tell how early and how late the stop may come where
-    its vehicle starts and ends when it does. What is left out, and a vehicle that is not used, has the least cumul that
-    it may have.
+    the rule of `RoutingModel.schedule`. `Min` and `Max` of a cumul tell how early and how late the stop may come if its
+    vehicle starts and ends when it does. What is left out, and a vehicle that is not used, has the least cumul that it
+    may have.
     """
 
     def __init__(
@@ -98,7 +98,7 @@ class Assignment(Named):
         return self.solution.cost
 
     def Value(self, variable: IntVar) -> int:
-        """The value of a variable: of a NextVar the index itself where it is left out, of a VehicleVar -1 there."""
+        """The value of a variable: of a NextVar the index itself if it is left out, of a VehicleVar -1 there."""
         if not isinstance(variable, IntVar):
             raise refuse(f"Assignment.Value({variable!r})", "it is no variable of the model")
         index = variable.index
@@ -158,7 +158,7 @@ class Assignment(Named):
 
 
 def as_assignment(value: Any, name: str) -> Assignment:
-    """An assignment that was handed in. Raises `Unsupported` where it is none."""
+    """An assignment that was handed in. Raises `Unsupported` if it is none."""
     if not isinstance(value, Assignment):
         raise refuse(name, "an assignment of ReadAssignmentFromRoutes or of a search is asked for")
     return value

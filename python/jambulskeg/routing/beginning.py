@@ -18,7 +18,7 @@ __all__ = ["go_on", "priced"]
 
 def priced(model: Model, lists: Sequence[Sequence[int]], program: ProgramLike) -> Solution:
     """The solution of lists of visits as they are. Raises `NotMet` with the first rule that they break, and
-    `CannotBeDriven` where there is no vr_refine to name it. A visit that is made twice is none of its rules."""
+    `CannotBeDriven` if there is no vr_refine to name it. A visit that is made twice is none of its rules."""
     refiner, nodes = belonging(program), [node for visits in lists for node in visits]
     if refiner is None or len(set(nodes)) < len(nodes):
         return complete(model, lists, program)

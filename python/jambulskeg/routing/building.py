@@ -40,7 +40,7 @@ class Said:
         return self.visits.setdefault(node, VisitRules(self.manager.GetNumberOfVehicles()))
 
     def schedule(self) -> ScheduleRule:
-        """The rule of schedules nearest to OR-Tools: tight where waiting is paid, or a late start was asked for."""
+        """The rule of schedules nearest to OR-Tools: tight if waiting is paid, or a late start was asked for."""
         late = self.begins_late or any(dimension.pays_for_waiting() for dimension in self.dimensions.values())
         return ScheduleRule.TIGHT if late else ScheduleRule.EARLIEST
 
@@ -100,7 +100,7 @@ class Said:
                 )
 
     def _check_apart(self) -> None:
-        """Raises `Unsupported` where two visits are to be on different vehicles and no allowed vehicles say so."""
+        """Raises `Unsupported` if two visits are to be on different vehicles and no allowed vehicles say so."""
         for relation, indices in self.solver.apart:
             vehicles = [set(self.rules(index).vehicles()) for index in indices]
             if vehicles[0] & vehicles[1] or all(map(self._may_be_left_out, indices)):

@@ -19,7 +19,7 @@ class MatrixPool:
         self._numbers: Dict[Table, int] = {}
 
     def number(self, table: Table) -> int:
-        """The number of a matrix, which is added where it is new."""
+        """The number of a matrix, which is added if it is new."""
         if table not in self._numbers:
             self._numbers[table] = len(self.matrices)
             self.matrices.append(table)
@@ -47,7 +47,7 @@ class RoutingDimension(Named):
         return self._name
 
     def stop(self, index: int) -> StopRules:
-        """What is asked of an index. Raises `IndexError` where there is none."""
+        """What is asked of an index. Raises `IndexError` if there is none."""
         self._manager.IndexToNode(index)
         return self._stops.setdefault(index, StopRules())
 
@@ -56,7 +56,7 @@ class RoutingDimension(Named):
         return CumulVar(index, self._name, self.stop(index))
 
     def SlackVar(self, index: int) -> SlackVar:
-        """The slack after an index, which a solution tells, and which can be set to 0 where none is asked for."""
+        """The slack after an index, which a solution tells, and which can be set to 0 if none is asked for."""
         return SlackVar(index, self._name, self.stop(index))
 
     def SetCumulVarSoftUpperBound(self, index: int, bound: int, coefficient: int) -> None:
@@ -72,7 +72,7 @@ class RoutingDimension(Named):
         self._span_costs = [coefficient] * len(self._span_costs)
 
     def SetSpanCostCoefficientForVehicle(self, coefficient: int, vehicle: int) -> None:
-        """The same for one vehicle. Raises `IndexError` where there is no such vehicle."""
+        """The same for one vehicle. Raises `IndexError` if there is no such vehicle."""
         self._span_costs[self._manager.known_vehicle(vehicle)] = coefficient
 
     def span_cost(self, vehicle: int) -> int:
@@ -84,7 +84,8 @@ class RoutingDimension(Named):
         self._global_span_cost = coefficient
 
     def SetSpanUpperBoundForVehicle(self, bound: int, vehicle: int) -> None:
-        """The greatest span of a vehicle; had only where the start is fixed to 0, so that the end is the span."""
+        """The greatest span of a vehicle. It can be had only if the start is fixed to 0, so that the end is the
+        span."""
         if not self._fix_start:
             raise refuse(
                 "RoutingDimension.SetSpanUpperBoundForVehicle",
@@ -98,7 +99,7 @@ class RoutingDimension(Named):
         """The breaks of a vehicle, which takes all of them in this order; none begins before the visit is over.
 
         `node_visit_transits` has by index how long the visit takes, the same for every vehicle of the dimension.
-        Raises `IndexError` where there is no such vehicle.
+        Raises `IndexError` if there is no such vehicle.
         """
         name = "RoutingDimension.SetBreakIntervalsOfVehicle"
         if delays or not hasattr(node_visit_transits, "__len__"):
@@ -112,7 +113,7 @@ class RoutingDimension(Named):
         self.breaks[self._manager.known_vehicle(vehicle)] = list(breaks)
 
     def _visit_times(self, by_index: Sequence[int], name: str) -> Tuple[int, ...]:
-        """Visit times by node. Raises `Unsupported` where two indices of one node have other times."""
+        """Visit times by node. Raises `Unsupported` if two indices of one node have other times."""
         found: Dict[int, int] = {}
         for index, value in enumerate(by_index):
             node, time = self._manager.IndexToNode(index), as_whole(value, name)
@@ -125,10 +126,10 @@ class RoutingDimension(Named):
         return self._slack_max > 0 and (any(self._span_costs) or self._global_span_cost > 0)
 
     def check_slacks(self, transits: Transits) -> None:
-        """Raises `Unsupported` at a stop that was said to be without slack, where that would change what can be driven.
+        """Raises `Unsupported` at a stop that was said to be without slack, if that would change what can be driven.
 
-        It changes nothing where there is no slack at all. It changes nothing either in a dimension whose cumuls start
-        at 0 and have upper bounds alone: there less slack is never worse, and the schedule has the least cumuls. So the
+        It changes nothing if there is no slack at all. It changes nothing either in a dimension whose cumuls start at 0
+        and have upper bounds alone. There less slack is never worse, and the schedule has the least cumuls. So the
         sample of several trips keeps its meaning, in which only the stops that reload use slack.
         """
         is_free = self._slack_max == 0 or (

@@ -14,7 +14,7 @@ UNASSIGNED = -1
 
 
 def node_of(value: Any, nodes: int, path: str) -> int:
-    """A node that was handed in. Raises `Refused` where there is no such node."""
+    """A node that was handed in. Raises `Refused` if there is no such node."""
     found = operator.index(value)
     if not 0 <= found < nodes:
         raise Refused(Fault(14, path, f"there is no node {found}"), "RoutingIndexManager")
@@ -24,8 +24,8 @@ def node_of(value: Any, nodes: int, path: str) -> int:
 class RoutingIndexManager(Named):
     """Nodes and vehicles: `RoutingIndexManager(nodes, vehicles, depot)` or `(nodes, vehicles, starts, ends)`.
 
-    A node that is the start of the first vehicle that starts there, or a visit, keeps its place in the numbering; the
-    starts of further vehicles follow, and then the ends. Raises `Refused` at nodes that are not there.
+    A visit keeps its place in the numbering, and so does the start of the first vehicle that starts there. The starts
+    of further vehicles follow, and then the ends. Raises `Refused` at nodes that are not there.
     """
 
     def __init__(self, num_nodes: int, num_vehicles: int, depot: Any, ends: Optional[Sequence[int]] = None) -> None:
@@ -77,27 +77,27 @@ class RoutingIndexManager(Named):
         return len(self._index_to_node)
 
     def known_vehicle(self, vehicle: int) -> int:
-        """The number of a vehicle, from 0. Raises `IndexError` where there is no such vehicle."""
+        """The number of a vehicle, from 0. Raises `IndexError` if there is no such vehicle."""
         if not 0 <= vehicle < len(self._starts):
             raise IndexError(f"there is no vehicle {vehicle}")
         return vehicle
 
     def GetStartIndex(self, vehicle: int) -> int:
-        """The index of the start of a vehicle. Raises `IndexError` where there is no such vehicle."""
+        """The index of the start of a vehicle. Raises `IndexError` if there is no such vehicle."""
         return self._start_indices[self.known_vehicle(vehicle)]
 
     def GetEndIndex(self, vehicle: int) -> int:
-        """The index of the end of a vehicle. Raises `IndexError` where there is no such vehicle."""
+        """The index of the end of a vehicle. Raises `IndexError` if there is no such vehicle."""
         return self._end_indices[self.known_vehicle(vehicle)]
 
     def IndexToNode(self, index: int) -> int:
-        """The node of an index. Raises `IndexError` where there is no such index."""
+        """The node of an index. Raises `IndexError` if there is no such index."""
         if index < 0:
             raise IndexError(f"there is no index {index}")
         return self._index_to_node[index]
 
     def NodeToIndex(self, node: int) -> int:
-        """The index of a node, -1 of one where vehicles only end. Raises `IndexError` where there is no such node."""
+        """The index of a node, -1 of one where vehicles only end. Raises `IndexError` if there is no such node."""
         if not 0 <= node < self._nodes:
             raise IndexError(f"there is no node {node}")
         return self._node_to_index.get(node, UNASSIGNED)

@@ -11,7 +11,7 @@ from .routing_enums_pb2 import FirstSolutionStrategy, LocalSearchMetaheuristic
 from .transits import as_whole
 
 GUIDED_TRIES = 1000000
-"""The tries of guided local search and tabu search where neither a time limit nor `tries` is set."""
+"""The tries of guided local search and tabu search if neither a time limit nor `tries` is set."""
 
 FIRST = {
     FirstSolutionStrategy.UNSET: First.PATH_CHEAPEST_ARC,
@@ -68,7 +68,7 @@ class Duration(Named):
         self.seconds, self.nanos = milliseconds // 1000, milliseconds % 1000 * 1000000
 
     def total(self) -> Optional[float]:
-        """The length in seconds; None where it is 0, which means no limit."""
+        """The length in seconds; None if it is 0, which means no limit."""
         return self.seconds + self.nanos / 1e9 or None
 
 
@@ -111,7 +111,7 @@ class RoutingSearchParameters(Named):
         self.__dict__.update({name: other.__dict__[name] for name in PLAIN})
 
     def search(self) -> Search:
-        """The search that the parameters ask for. Raises `Unsupported` where both `tries` and a time limit are set."""
+        """The search that the parameters ask for. Raises `Unsupported` if both `tries` and a time limit are set."""
         if self.tries is not None and self.time_limit.total() is not None:
             raise refuse("RoutingSearchParameters.tries beside time_limit", "each says how long a search goes on")
         weight = Fraction(self.guided_local_search_lambda_coefficient).limit_denominator(1000)
@@ -126,7 +126,7 @@ class RoutingSearchParameters(Named):
 
 
 def checked(name: str, title: str, value: Any) -> Any:
-    """The value of a parameter. Raises `Unsupported` where it cannot be had."""
+    """The value of a parameter. Raises `Unsupported` if it cannot be had."""
     if name == "first_solution_strategy":
         return known(FirstSolutionStrategy, FIRST, title, value)
     if name == "local_search_metaheuristic":
@@ -147,7 +147,7 @@ def checked(name: str, title: str, value: Any) -> Any:
 
 
 def known(words: Any, table: Any, title: str, value: Any) -> Any:
-    """The member of an enumeration, where the program has it."""
+    """The member of an enumeration, if the program has it."""
     try:
         word = words(value)
     except ValueError:

@@ -108,7 +108,7 @@ class UnknownName(Unsupported, AttributeError):
 
 
 def refuse(name: str, why: str = "") -> Unsupported:
-    """The exception that refuses a name, with the reason where none is given."""
+    """The exception that refuses a name. Without a reason given, it has the one that is known of the name."""
     return Unsupported(name, why or WHY.get(name, ELSE))
 
 
@@ -137,7 +137,7 @@ class Named(metaclass=NamedType):
     """A class with OR-Tools' name: a name that it does not have is refused by name."""
 
     TITLE = ""
-    """What the class is called in OR-Tools, where that is not its name here."""
+    """What the class is called in OR-Tools, if that is not its name here."""
 
     def __getattr__(self, name: str) -> Any:
         raise unknown(self.TITLE or type(self).__name__, name)

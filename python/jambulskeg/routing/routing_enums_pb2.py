@@ -11,12 +11,12 @@ class Enumeration(IntEnum):
 
     @classmethod
     def Value(cls, name: str) -> int:
-        """The member of a name. Raises `KeyError` where there is none."""
+        """The member of a name. Raises `KeyError` if there is none."""
         return cls[name]
 
     @classmethod
     def Name(cls, number: int) -> str:
-        """The name of a member. Raises `ValueError` where there is none."""
+        """The name of a member. Raises `ValueError` if there is none."""
         return cls(number).name
 
     @classmethod

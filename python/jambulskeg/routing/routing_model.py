@@ -35,7 +35,7 @@ class RoutingModel(Named):
     What the program cannot do is refused by name (`jambulskeg.errors.Unsupported`), what it refuses raises `Refused`.
     `program` is the program or its path, None to have it found; `checked` says whether each answer is put to the
     proved check; `schedule` is the rule by which all vehicles choose their schedules, None for the one that is nearest
-    to OR-Tools: `TIGHT` where slack is there and spans are paid, or a late start was asked for, else `EARLIEST`;
+    to OR-Tools: `TIGHT` if slack is there and spans are paid, or a late start was asked for, else `EARLIEST`;
     `rescued` tells after a search which way it went, and `broken` what routes break that were handed in.
     """
 
@@ -126,7 +126,7 @@ class RoutingModel(Named):
         self._said.costs = [number] * len(self._said.costs)
 
     def SetArcCostEvaluatorOfVehicle(self, evaluator: int, vehicle: int) -> None:
-        """The same for one vehicle. Raises `IndexError` where there is no such vehicle."""
+        """The same for one vehicle. Raises `IndexError` if there is no such vehicle."""
         number = self._said.transits.known(evaluator, "RoutingModel.SetArcCostEvaluatorOfVehicle")
         self._said.costs[self._manager.known_vehicle(vehicle)] = number
 
@@ -135,16 +135,16 @@ class RoutingModel(Named):
         self._said.fixed = [cost] * len(self._said.fixed)
 
     def SetFixedCostOfVehicle(self, cost: int, vehicle: int) -> None:
-        """The same for one vehicle. Raises `IndexError` where there is no such vehicle."""
+        """The same for one vehicle. Raises `IndexError` if there is no such vehicle."""
         self._said.fixed[self._manager.known_vehicle(vehicle)] = cost
 
     def GetFixedCostOfVehicle(self, vehicle: int) -> int:
-        """The fixed cost of a vehicle. Raises `IndexError` where there is no such vehicle."""
+        """The fixed cost of a vehicle. Raises `IndexError` if there is no such vehicle."""
         return self._said.fixed[self._manager.known_vehicle(vehicle)]
 
     def GetArcCostForVehicle(self, from_index: int, to_index: int, vehicle: int) -> int:
-        """What the arc between two indices costs: by the callback, with the fixed cost on the arc from the start, and
-        the span cost of its transits. 0 from a start to an end, and from an index to itself."""
+        """What the arc between two indices costs: by the callback, and the span cost of its transits. The arc from the
+        start has the fixed cost too. It is 0 from a start to an end, and from an index to itself."""
         if from_index == to_index or (self.IsStart(from_index) and self.IsEnd(to_index)):
             return 0
         number = self._said.costs[self._manager.known_vehicle(vehicle)]
@@ -166,7 +166,7 @@ class RoutingModel(Named):
     def AddDimension(
         self, evaluator: int, slack_max: int, capacity: int, fix_start_cumul_to_zero: bool, name: str
     ) -> bool:
-        """A dimension of one callback and one capacity; False where there is one of this name already."""
+        """A dimension of one callback and one capacity; False if there is one of this name already."""
         return self._add("AddDimension", [evaluator], slack_max, [capacity], fix_start_cumul_to_zero, name)
 
     def AddDimensionWithVehicleCapacity(
@@ -245,12 +245,12 @@ class RoutingModel(Named):
         return True
 
     def SetPrimaryConstrainedDimension(self, name: str) -> None:
-        """A hint for OR-Tools' search, which is taken and changes nothing. Raises `KeyError` where there is none."""
+        """A hint for OR-Tools' search, which is taken and changes nothing. Raises `KeyError` if there is none."""
         self.GetDimensionOrDie(name)
         hint("RoutingModel.SetPrimaryConstrainedDimension", "every dimension is asked in each step")
 
     def GetDimensionOrDie(self, name: str) -> RoutingDimension:
-        """The dimension of a name. Raises `KeyError` where there is none."""
+        """The dimension of a name. Raises `KeyError` if there is none."""
         return self._said.dimensions[name]
 
     def GetMutableDimension(self, name: str) -> RoutingDimension:
@@ -281,15 +281,15 @@ class RoutingModel(Named):
         return len(self._said.groups)
 
     def GetDisjunctionPenalty(self, disjunction: int) -> int:
-        """The penalty of a disjunction, -1 without one. Raises `IndexError` where there is no such disjunction."""
+        """The penalty of a disjunction, -1 without one. Raises `IndexError` if there is no such disjunction."""
         return self._said.group(disjunction)[1]
 
     def GetDisjunctionMaxCardinality(self, disjunction: int) -> int:
-        """How many of its visits are made at most. Raises `IndexError` where there is no such disjunction."""
+        """How many of its visits are made at most. Raises `IndexError` if there is no such disjunction."""
         return self._said.group(disjunction)[2]
 
     def GetDisjunctionNodeIndices(self, disjunction: int) -> List[int]:
-        """The indices of its visits. Raises `IndexError` where there is no such disjunction."""
+        """The indices of its visits. Raises `IndexError` if there is no such disjunction."""
         return self._manager.NodesToIndices(self._said.group(disjunction)[0])
 
     def AddPickupAndDelivery(self, pickup: int, delivery: int) -> None:
@@ -309,7 +309,7 @@ class RoutingModel(Named):
         self._said.policies[self._manager.known_vehicle(vehicle)] = self.POLICIES[policy]
 
     def SetAllowedVehiclesForIndex(self, vehicles: Sequence[int], index: int) -> None:
-        """The vehicles that may make a visit, where it is made; an empty list allows all, and -1 changes nothing."""
+        """The vehicles that may make a visit, if it is made; an empty list allows all, and -1 changes nothing."""
         title, everyone = "RoutingModel.SetAllowedVehiclesForIndex", range(self.vehicles())
         self._visit(index, title)
         for vehicle in vehicles:
@@ -326,7 +326,7 @@ class RoutingModel(Named):
     # Variables
 
     def NextVar(self, index: int) -> IntVar:
-        """Where a solution goes from an index; the index itself where it is left out."""
+        """Where a solution goes from an index; the index itself if it is left out."""
         return IntVar(VarKind.NEXT, self._known(index))
 
     def VehicleVar(self, index: int) -> VehicleVar:
@@ -390,17 +390,17 @@ class RoutingModel(Named):
         return self._status
 
     def Solve(self, assignment: Optional[Assignment] = None) -> Optional[Assignment]:
-        """The answer with default parameters, beginning from an assignment where there is one."""
+        """The answer with default parameters, beginning from an assignment if there is one."""
         parameters = DefaultRoutingSearchParameters()
         if assignment is None:
             return self.SolveWithParameters(parameters)
         return self.SolveFromAssignmentWithParameters(assignment, parameters)
 
     def SolveWithParameters(self, parameters: RoutingSearchParameters) -> Optional[Assignment]:
-        """The answer, or None where no solution was found; `rescued` tells which way it went.
+        """The answer, or None if no solution was found; `rescued` tells which way it went.
 
-        Where the construction finds none, the others are tried, and then penalties for required visits. An answer that
-        leaves out a required visit is not handed out. Raises `Refused` where the program refuses the model.
+        If the construction finds none, the others are tried, and then penalties for required visits. An answer that
+        leaves out a required visit is not handed out. Raises `Refused` if the program refuses the model.
         """
         model = self.to_model(parameters)
         try:
@@ -459,7 +459,7 @@ class RoutingModel(Named):
     def ReadAssignmentFromRoutes(
         self, routes: Sequence[Sequence[int]], ignore_inactive_indices: bool
     ) -> Optional[Assignment]:
-        """The assignment of routes, which are lists of indices without starts and ends; None where they cannot be
+        """The assignment of routes, which are lists of indices without starts and ends; None if they cannot be
         driven or break a rule, which `broken` tells. No index of a visit is inactive, so the last argument changes
         nothing."""
         title = "RoutingModel.ReadAssignmentFromRoutes"
@@ -470,7 +470,7 @@ class RoutingModel(Named):
         return None if found is None else Assignment(self._manager, model, found, self._said.breaks())
 
     def _priced(self, title: str, lists: Sequence[Sequence[int]], model: Model) -> Optional[Solution]:
-        """The solution of lists of visits; None where they break a rule, which is told on standard error."""
+        """The solution of lists of visits; None if they break a rule, which is told on standard error."""
         self.broken = None
         try:
             return priced(model, lists, self.program)

@@ -1,7 +1,7 @@
 """`RoutingModel.solver()`: the constraints that a model says all the same, and the breaks.
 
 `Add` takes what a pickup and its delivery say already (one vehicle, the pickup no later), and a variable beside a
-number; every other constraint is refused by name. Whether there is such a pair is asked when the model is closed, so
+number. Every other constraint is refused by name. Whether there is such a pair is asked when the model is closed, so
 the pair may come before or after.
 """
 
@@ -29,12 +29,14 @@ class Solver(Named):
         self._began = time.monotonic()
 
     def Add(self, relation: Any) -> None:
-        """Adds a constraint. Raises `Unsupported` where a model cannot say it.
+        """Adds a constraint. Raises `Unsupported` if a model cannot say it. Known are:
 
-        Known are `VehicleVar(a) == VehicleVar(b)`, `ActiveVar(a) == ActiveVar(b)` and `CumulVar(a) <= CumulVar(b)` of a
-        pickup a and its delivery b; two vehicles that are the same, or not, by the vehicles that are allowed; a cumul
-        beside a number; `VehicleVar(a)` beside a number by `==` and `!=`, or among some; `ActiveVar(a) == 1`;
-        `SlackVar(a) == 0`.
+        - `VehicleVar(a) == VehicleVar(b)`, `ActiveVar(a) == ActiveVar(b)` and `CumulVar(a) <= CumulVar(b)` of a pickup
+          a and its delivery b;
+        - two vehicles that are the same, or not, by the vehicles that are allowed;
+        - a cumul beside a number;
+        - `VehicleVar(a)` beside a number by `==` and `!=`, or among some;
+        - `ActiveVar(a) == 1` and `SlackVar(a) == 0`.
         """
         if not isinstance(relation, Relation):
             raise refuse("Solver.Add", f"{relation!r} is no relation of two variables or of one and a number")

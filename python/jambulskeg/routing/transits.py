@@ -1,6 +1,6 @@
 """Callbacks as tables: each is asked once for each pair of indices that an arc can join, and becomes a matrix of nodes.
 
-A vehicle without visits drives nowhere, so no arc leads from a start to an end, and none from a node to itself; such
+A vehicle without visits drives nowhere. So no arc leads from a start to an end, and none from a node to itself; such
 entries are 0. A callback of one index becomes a list of values.
 """
 
@@ -41,7 +41,7 @@ class Transits:
         return len(self._makers) - 1
 
     def known(self, number: Any, name: str) -> int:
-        """A number that was handed to a call. Raises `Unsupported` where nothing is registered by it."""
+        """A number that was handed to a call. Raises `Unsupported` if nothing is registered by it."""
         found = as_whole(number, name)
         if not 0 <= found < len(self._makers):
             raise refuse(name, f"no callback has the number {found}")
@@ -74,7 +74,7 @@ class Transits:
 def table_of(manager: RoutingIndexManager, callback: Callable[[int, int], Any]) -> Table:
     """The matrix by nodes of a callback of two indices.
 
-    Raises `Unsupported` at a fractional value, and where two indices of one node have different transits.
+    Raises `Unsupported` at a fractional value, and if two indices of one node have different transits.
     """
     name = "RoutingModel.RegisterTransitCallback"
     nodes = manager.GetNumberOfNodes()
@@ -109,7 +109,7 @@ def values_of(manager: RoutingIndexManager, callback: Callable[[int], Any]) -> V
 
 
 def checked_table(manager: RoutingIndexManager, matrix: Any) -> Table:
-    """A matrix by nodes that was handed in, with 0 from a node to itself. Raises `Unsupported` where it is none."""
+    """A matrix by nodes that was handed in, with 0 from a node to itself. Raises `Unsupported` if it is none."""
     name, nodes = "RoutingModel.RegisterTransitMatrix", manager.GetNumberOfNodes()
     if not is_list(matrix) or len(matrix) != nodes or any(len(row) != nodes for row in matrix):
         raise refuse(name, f"a matrix of {nodes} rows of {nodes} numbers is asked for")
@@ -120,7 +120,7 @@ def checked_table(manager: RoutingIndexManager, matrix: Any) -> Table:
 
 
 def checked_values(manager: RoutingIndexManager, values: Sequence[Any]) -> Values:
-    """Values by node that were handed in. Raises `Unsupported` where they are none."""
+    """Values by node that were handed in. Raises `Unsupported` if they are none."""
     name, nodes = "RoutingModel.RegisterUnaryTransitVector", manager.GetNumberOfNodes()
     if not is_list(values) or len(values) != nodes:
         raise refuse(name, f"a list of {nodes} numbers is asked for")

@@ -109,11 +109,11 @@ class StopRules:
         self.is_without_slack = False
 
     def window(self) -> Optional[Tuple[int, int]]:
-        """The window, None where every cumul lies in it."""
+        """The window, None if every cumul lies in it."""
         return None if (self.low, self.high) == (0, HORIZON) else (self.low, self.high)
 
     def narrow(self, low: int, high: int, name: str) -> None:
-        """Takes the numbers outside the interval out. Raises `Refused` where none is left."""
+        """Takes the numbers outside the interval out. Raises `Refused` if none is left."""
         low, high = max(self.low, low), min(self.high, high)
         if low > high:
             raise Refused(Fault(19, "", f"no cumul from {low} to {high} is left"), name)
@@ -132,7 +132,7 @@ class CumulVar(IntVar):
         self._rules = rules
 
     def SetRange(self, low: int, high: int) -> None:
-        """The cumul lies in `low` to `high`. Raises `Refused` where no number is left."""
+        """The cumul lies in `low` to `high`. Raises `Refused` if no number is left."""
         self._rules.narrow(as_whole(low, "CumulVar.SetRange"), as_whole(high, "CumulVar.SetRange"), self.in_words())
 
     def SetMin(self, low: int) -> None:
@@ -161,8 +161,8 @@ class CumulVar(IntVar):
 
 
 class VisitRules:
-    """Which vehicles may make a visit: those that its variable leaves, among those that the model allows; and whether
-    it was said that it must be made."""
+    """Which vehicles may make a visit: those that its variable leaves, among those that the model allows. Beside that,
+    whether it was said that it must be made."""
 
     def __init__(self, vehicles: int) -> None:
         self.left: Set[int] = set(range(vehicles))
@@ -170,7 +170,7 @@ class VisitRules:
         self.must_be_made = False
 
     def keep(self, vehicles: Iterable[int], name: str) -> None:
-        """Takes the other vehicles out. Raises `Refused` where none is left."""
+        """Takes the other vehicles out. Raises `Refused` if none is left."""
         self.left.intersection_update(vehicles)
         if not self.left:
             raise Refused(Fault(15, "", "no vehicle is left that may make the visit"), name)
@@ -181,7 +181,7 @@ class VisitRules:
 
 
 class VehicleVar(IntVar):
-    """The vehicle of an index, -1 where it is left out, as far as it says which vehicles may make a visit."""
+    """The vehicle of an index, -1 if it is left out, as far as it says which vehicles may make a visit."""
 
     def __init__(self, index: int, rules: Optional[VisitRules]) -> None:
         super().__init__(VarKind.VEHICLE, index)
@@ -194,7 +194,7 @@ class VehicleVar(IntVar):
         return self._of_visit
 
     def SetValues(self, values: Iterable[int]) -> None:
-        """The vehicle is among these; where -1 is not, the visit must be made."""
+        """The vehicle is among these; if -1 is not, the visit must be made."""
         found = {as_whole(value, "VehicleVar.SetValues") for value in values}
         self._rules.must_be_made |= -1 not in found
         self._rules.keep(found, self.in_words())
@@ -204,7 +204,7 @@ class VehicleVar(IntVar):
         self.SetValues([value])
 
     def SetRange(self, low: int, high: int) -> None:
-        """The vehicle is among `low` to `high`; where that leaves -1 out, the visit must be made."""
+        """The vehicle is among `low` to `high`; if that leaves -1 out, the visit must be made."""
         self.SetValues(range(max(-1, as_whole(low, "VehicleVar.SetRange")), as_whole(high, "VehicleVar.SetRange") + 1))
 
     def RemoveValue(self, value: int) -> None:
@@ -246,7 +246,7 @@ class SlackVar(IntVar):
         self._rules = rules
 
     def SetValue(self, value: int) -> None:
-        """There is no slack after the stop, which 0 says. That is had where the stop asks for none anyway; whether it
+        """There is no slack after the stop, which 0 says. That is had if the stop asks for none anyway; whether it
         does is asked when the model is closed."""
         if as_whole(value, "SlackVar.SetValue") != 0:
             raise refuse(f"SlackVar({self.index}).SetValue({value})", WHY_SLACK)

@@ -37,8 +37,8 @@ def day_of(
     `places` has a place for each node, `further` more cells of each; `vehicles` has a name for each vehicle, and
     `van_further` more cells. `time` names
     the dimension that the day is drawn along; without it the one that looks most like times is taken. `clock` is the
-    minute of the day at which the time 0 lies, where times are minutes. `reasons` say why visits are left out; without
-    them they are measured, for two seconds at most. Raises `CannotBeDrawn` where these do not belong to the model.
+    minute of the day at which the time 0 lies, if times are minutes. `reasons` say why visits are left out; without
+    them they are measured, for two seconds at most. Raises `CannotBeDrawn` if these do not belong to the model.
     """
     for what, entries, count, of in (
         ("places", places, model.nodes, "nodes"), ("rows of further cells", further, model.nodes, "nodes"),

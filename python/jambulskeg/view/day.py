@@ -1,7 +1,7 @@
 """A day to be drawn: a solution of a model with the names of its places, and what each vehicle does when.
 
 A day is drawn along one dimension, mostly of times. A model whose dimensions have no drives (only loads) is drawn along
-the arc costs so far, or, where no arc costs anything, along the numbers of the stops.
+the arc costs so far. If no arc costs anything, it is drawn along the numbers of the stops.
 """
 
 from __future__ import annotations
@@ -23,7 +23,7 @@ __all__ = ["Day", "Names", "Penalty", "Piece", "time_dimension"]
 class Names:
     """How nodes, vehicles and times are called.
 
-    `clock` is the minute of the day at which the time 0 lies; where it is None, times are written as numbers.
+    `clock` is the minute of the day at which the time 0 lies; if it is None, times are written as numbers.
     """
 
     places: Sequence[str] = ()
@@ -50,7 +50,7 @@ class Names:
         return f"{minute // 60}:{minute % 60:02}" + (f" (day {days + 1})" if days else "")
 
     def range(self, window: Sequence[int]) -> str:
-        """An interval of times as it is written where there is little room."""
+        """An interval of times as it is written if there is little room."""
         return f"{self.time(window[0])}\u2013{self.time(window[1])}"
 
 
@@ -82,9 +82,9 @@ class Penalty:
 
 @dataclass(frozen=True)
 class Day:
-    """A solution of a model, to be drawn. `time` is the number of the dimension along which it is, None where none is
-    one of drives; `places` are where the nodes lie, as far as that is known. `further` has more cells of each node by
-    their headings (a phone number, a note), `van_further` those of each vehicle, `reasons` why visits are left out."""
+    """A solution of a model, to be drawn. `time` is the number of the dimension along which it is, None if none is one
+    of drives. `places` are where the nodes lie, as far as that is known. `further` has more cells of each node by their
+    headings (a phone number, a note), `van_further` those of each vehicle. `reasons` has why visits are left out."""
 
     model: Model
     solution: Solution
@@ -124,7 +124,7 @@ class Day:
         return self.van_further[vehicle] if vehicle < len(self.van_further) else {}
 
     def why_left(self, node: int) -> str:
-        """Why a visit is left out, in words; nothing where that was not measured."""
+        """Why a visit is left out, in words; nothing if that was not measured."""
         reason = self.reasons.get(node)
         return reason.sentence(self.names.node, self.names.vehicle) if reason is not None else ""
 
@@ -225,8 +225,8 @@ class Day:
 def between(
     low: int, high: int, work: Sequence[Tuple[str, int]], breaks: Sequence[Piece], stop: int
 ) -> List[Piece]:
-    """What lies from the beginning of a stop to that of the next: the work, each kind for so long and interrupted by
-    the breaks, then waiting."""
+    """What lies from the beginning of a stop to that of the next. First comes the work, each kind for its length and
+    interrupted by the breaks, then waiting."""
     out: List[Piece] = []
     for piece in (*breaks, Piece("end", high, high, stop)):
         left = []
@@ -241,9 +241,9 @@ def between(
 
 
 def time_dimension(model: Model, name: Optional[str] = None) -> Optional[int]:
-    """The number of the dimension of a name, or, without one, of the dimension that looks most like times: breaks,
-    then visits that take time, then waiting, then windows; None where none has drives. Raises `ValueError` where no
-    dimension has the name."""
+    """The number of the dimension of a name. Without one, of the dimension that looks most like times: breaks, then
+    visits that take time, then waiting, then windows. None if none has drives. Raises `ValueError` if no dimension has
+    the name."""
     if name is not None:
         names = [dimension.name for dimension in model.dimensions]
         if name not in names:

@@ -1,4 +1,4 @@
-"""A day, or two side by side, as one SVG file: the charts, the map where places are known, and the cost in a line."""
+"""A day, or two side by side, as one SVG file: the charts, the map if places are known, and the cost in a line."""
 
 from __future__ import annotations
 

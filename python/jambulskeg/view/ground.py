@@ -27,8 +27,8 @@ DEGREE = math.radians(1) * EARTH / 1000
 
 @dataclass(frozen=True)
 class Ground:
-    """The points of places, the height of the map, and the points for each unit of distance: a kilometre if places
-    are in degrees, else one of x and y. `far` has the distance from the middle of each place at the edge."""
+    """The points of places, the height of the map, and the points for each unit of distance. The unit is a kilometre if
+    places are in degrees, else one of x and y. `far` has the distance from the middle of each place at the edge."""
 
     points: List[Point]
     height: float

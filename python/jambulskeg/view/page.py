@@ -118,7 +118,7 @@ def legend(picture: Picture) -> str:
 
 
 def charts(day: Day, axis: Axis, in_degrees: bool) -> str:
-    """The charts of a day, and its map where its places are known."""
+    """The charts of a day, and its map if its places are known."""
     picture = timeline(day, axis)
     parts: List[str] = [f"<p>Along the rows: {escaped(day.unit)}.</p>{legend(picture)}{chart(picture)}"]
     for number in day.loads():

@@ -108,7 +108,7 @@ def zoomed(at: Point, marks: str) -> str:
 
 
 def names_of(day: Day, ground: Ground) -> List[str]:
-    """The names of places, beside their marks where there is room, and how far away those at the edge are."""
+    """The names of places, beside their marks if there is room, and how far away those at the edge are."""
     taken = [(x - 14, y - 8, x + 14, y + 8) for x, y in ground.points]
     out = []
     for node, point in enumerate(ground.points):

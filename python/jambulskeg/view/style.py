@@ -43,7 +43,7 @@ def colour_rules(shade: int) -> str:
 
 
 def picture_style() -> str:
-    """The style of drawings, light, and dark where a screen asks for it."""
+    """The style of drawings, light, and dark if a screen asks for it."""
     dark = read("picture-dark.css") + colour_rules(1)
     return f"{read('picture.css')}{colour_rules(0)}@media screen and (prefers-color-scheme:dark){{{dark}}}"
 

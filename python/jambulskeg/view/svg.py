@@ -59,7 +59,7 @@ def path(kind: str, points: Sequence[Point], title: str = "") -> str:
 
 
 def segments(kind: str, ends: Iterable[Tuple[Point, Point]]) -> str:
-    """Some lines of a class as one element; a line of no length is a dot where its ends are round."""
+    """Some lines of a class as one element; a line of no length is a dot if its ends are round."""
     way = "".join(f"M{number(x1)} {number(y1)}L{number(x2)} {number(y2)}" for (x1, y1), (x2, y2) in ends)
     return f'<path class="{kind}" d="{way}"/>' if way else ""
 

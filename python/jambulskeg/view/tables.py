@@ -179,12 +179,12 @@ def time_cells(day: Day, asked: Optional[NodeRow], begins: Optional[int]) -> Lis
 
 
 def clock_cell(day: Day, value: int) -> Any:
-    """A time in a cell: a number where it is written as one."""
+    """A time in a cell: a number if it is written as one."""
     return value if day.names.clock is None else day.names.time(value)
 
 
 def clock_head(day: Day, words: str) -> str:
-    """The head of a column of times, which are numbers where the day has no clock."""
+    """The head of a column of times, which are numbers if the day has no clock."""
     return words if day.names.clock is not None else f"#{words}"
 
 

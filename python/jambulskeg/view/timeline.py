@@ -1,7 +1,8 @@
 """The chart of a day: a row for each vehicle, time along it.
 
-A row has the names of its visits, a bar of what the vehicle does (visits, drives, waiting, breaks), and below it a lane
-for each visit with a window: the window as a line, its forbidden intervals as gaps, and a mark where the visit begins.
+A row has the names of its visits, and a bar of what the vehicle does: visits, drives, waiting, breaks. Below it is a
+lane for each visit with a window. A lane has the window as a line, its forbidden intervals as gaps, and a mark where
+the visit begins.
 """
 
 from __future__ import annotations
@@ -35,9 +36,9 @@ EVERY = 12
 LETTER = 6.4
 """The width of a letter of a visit's name, rather too much."""
 SPARE = 3
-"""By how much words may seem to stand out at either end of a row."""
+"""By how much words may seem to stick out at either end of a row."""
 ROOMS = (("wl", 960), ("wm", 560), ("ws", 220))
-"""The classes of words, and how wide a chart is at least where words of that class are shown."""
+"""The classes of words, and how wide a chart is at least when words of that class are shown."""
 THICK = {"visit": BAR, "wait": 8, "break": 12}
 WORDS = {"travel": "drives", "wait": "waits", "break": "break of"}
 
