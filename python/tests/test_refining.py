@@ -26,7 +26,7 @@ from jambulskeg.replan import from_morning, replan, solve_rest
 from jambulskeg.rescue import RESCUE_STEPS, Rescue, Solved, Way, rescue, timed_solver, with_search
 from jambulskeg.rounds import FIRST_STEPS, FIRST_TRIES, On, solve_for
 
-from .support import AS_REAL, EXAMPLES, Fake, environment, example, tree_with
+from .support import AS_REAL, EXAMPLES, Fake, environment, example, solved, tree_with
 from .test_portfolio import PARALLEL, SBATCH, engine_on_path
 
 DAY = read_model(os.path.join(EXAMPLES, "service-day.json"))
@@ -219,7 +219,7 @@ class PortfolioTests(unittest.TestCase):
         self.assertFalse(GnuParallel(1, "vr").has_refiner())
 
     def test_a_rest_goes_on_from_the_morning(self) -> None:
-        rest = replan(DAY, solve_anew(DAY), 100)
+        rest = replan(DAY, solved("service-day"), 100)
         for seconds in (0, 0.2):
             found = solve_rest(rest, from_morning(seconds))
             self.assertLessEqual(found.whole.cost, 1338)

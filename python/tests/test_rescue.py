@@ -25,7 +25,7 @@ from jambulskeg.rescue import (
 )
 from jambulskeg.rounds import ALIKE, constructions, numbers_of, teller, to_terminal
 
-from .support import AS_REAL, EXAMPLES, THREE, Fake, example, need_searches
+from .support import AS_REAL, EXAMPLES, THREE, Fake, example, need_searches, solved
 
 DAY = read_model(os.path.join(EXAMPLES, "service-day.json"))
 
@@ -50,7 +50,7 @@ class RescueTests(WithoutRefining):
     def test_as_asked(self) -> None:
         found = rescue(DAY)
         self.assertEqual((found.way, found.construction), (Way.AS_ASKED, First.PARALLEL_CHEAPEST_INSERTION))
-        self.assertEqual(found.solution, solve(DAY))
+        self.assertEqual(found.solution, solved("service-day"))
         self.assertEqual(found.solved.model, DAY)
         self.assertEqual(found.sentence, "by the construction that the model asks for (PARALLEL_CHEAPEST_INSERTION)")
 
@@ -145,10 +145,10 @@ class RescueTests(WithoutRefining):
         relaxed, penalty = relax(model)
         self.assertEqual(required_visits(model), list(range(4, 17)))
         self.assertEqual([group.penalty for group in relaxed.groups], [penalty, 7] + [penalty] * 13)
-        self.assertGreater(penalty, solve(DAY).cost)
+        self.assertGreater(penalty, solved("service-day").cost)
         dear = replace(DAY, vehicles=[replace(vehicle, fixed=GREATEST_ENTRY) for vehicle in DAY.vehicles])
         self.assertEqual(relax(dear)[1], GREATEST_ENTRY)
-        solution = solve(DAY)
+        solution = solved("service-day")
         self.assertEqual(missing(model, replace(solution, dropped=[1, 2, 3, 4])), [1, 2, 4])
         self.assertEqual(missing(model, replace(solution, dropped=[1, 3])), [])
         self.assertEqual(constructions(with_search(DAY, first=First.SAVINGS).search)[0], First.SAVINGS)

@@ -56,7 +56,7 @@ class StoppedCommandTests(CommandCase):
             )
             end = time.monotonic() + 30
             while len(os.listdir(pids)) < seen and time.monotonic() < end:
-                time.sleep(0.05)
+                time.sleep(0.02)
             process.send_signal(number)
             begin = time.monotonic()
             out, told = process.communicate(timeout=30)
