@@ -10,8 +10,11 @@ Numbers = List[Interval]
 
 def united(intervals: Iterable[Interval]) -> Numbers:
     """The numbers of some intervals, which may overlap or be empty."""
+    pieces = [(low, high) for low, high in intervals if low <= high]
+    if len(pieces) < 2:
+        return pieces
     out: Numbers = []
-    for low, high in sorted(entry for entry in intervals if entry[0] <= entry[1]):
+    for low, high in sorted(pieces):
         if out and low <= out[-1][1] + 1:
             out[-1] = (out[-1][0], max(out[-1][1], high))
         else:

@@ -11,6 +11,7 @@ from __future__ import annotations
 import dataclasses
 import operator
 from enum import Enum
+from functools import lru_cache
 from typing import Any, Dict, Iterator, Mapping, Sequence, Tuple, Type, TypeVar, get_type_hints
 
 from .errors import Fault, Refused
@@ -24,6 +25,10 @@ class Kind:
     def faults(self, value: Any, path: str) -> Iterator[Fault]:
         """Each fault of the value, in the order of its parts; what comes first is what the program would tell."""
         raise NotImplementedError
+
+    def is_plain(self, value: Any) -> bool:
+        """Whether a value has no fault, seen at a glance. If not, `faults` looks closer."""
+        return False
 
     def taken(self, value: Any) -> Any:
         """The value as the record keeps it; it has no fault."""
@@ -41,6 +46,8 @@ def between(least: int, most: int) -> str:
 
 def is_list(value: Any) -> bool:
     """Whether a value is a sequence and not a text. An array of another library, as numpy's, is one too."""
+    if isinstance(value, (list, tuple)):
+        return True
     if isinstance(value, (str, bytes)):
         return False
     return isinstance(value, Sequence) or (
@@ -61,6 +68,9 @@ class Whole(Kind):
 
     low: int
     high: int
+
+    def is_plain(self, value: Any) -> bool:
+        return type(value) is int and self.low <= value <= self.high
 
     def faults(self, value: Any, path: str) -> Iterator[Fault]:
         code = whole_fault(value)
@@ -124,6 +134,11 @@ class Row(Kind):
     least: int
     most: int
 
+    def is_plain(self, value: Any) -> bool:
+        return type(value) in (list, tuple) and self.least <= len(value) <= self.most and all(
+            map(self.kind.is_plain, value)
+        )
+
     def faults(self, value: Any, path: str) -> Iterator[Fault]:
         if not is_list(value):
             yield Fault(11, path, "the value is no list")
@@ -169,10 +184,10 @@ class Square(Kind):
             return
         row_kind = Row(Whole(self.low, self.high), size, size)
         for place, row in enumerate(value):
-            if not (is_list(row) and len(row) == size and self.is_plain(row)):
+            if not (is_list(row) and len(row) == size and self.is_plain_row(row)):
                 yield from row_kind.faults(row, f"{path}/{place}")
 
-    def is_plain(self, row: Sequence[Any]) -> bool:
+    def is_plain_row(self, row: Sequence[Any]) -> bool:
         """Whether all entries are numbers of Python in the range, found without a look at each by name."""
         return set(map(type, row)) == {int} and min(row) >= self.low and max(row) <= self.high
 
@@ -213,6 +228,9 @@ class Either(Kind):
     def kind_of(self, value: Any) -> Kind:
         return self.each if is_list(value) else self.one
 
+    def is_plain(self, value: Any) -> bool:
+        return self.kind_of(value).is_plain(value)
+
     def faults(self, value: Any, path: str) -> Iterator[Fault]:
         yield from self.kind_of(value).faults(value, path)
 
@@ -228,6 +246,9 @@ class Maybe(Kind):
     """A value of a kind, or None, which means an absent field."""
 
     kind: Kind
+
+    def is_plain(self, value: Any) -> bool:
+        return value is None or self.kind.is_plain(value)
 
     def faults(self, value: Any, path: str) -> Iterator[Fault]:
         if value is not None:
@@ -246,6 +267,9 @@ class Inner(Kind):
 
     record: "Type[Record]"
 
+    def is_plain(self, value: Any) -> bool:
+        return isinstance(value, self.record)
+
     def faults(self, value: Any, path: str) -> Iterator[Fault]:
         if not isinstance(value, self.record):
             yield from self.record.faults_of(value, path)
@@ -263,6 +287,8 @@ def key_of(name: str) -> str:
 
 
 KNOWN_KINDS: "Dict[type, Mapping[str, Kind]]" = {}
+fields_of = lru_cache(maxsize=None)(dataclasses.fields)
+"""The fields of a record; looked up once a record."""
 
 
 def kinds_of(record: "Type[Record]") -> Mapping[str, Kind]:
@@ -282,7 +308,7 @@ class Record:
     def __post_init__(self) -> None:
         for name, kind in kinds_of(type(self)).items():
             value = getattr(self, name)
-            for fault in kind.faults(value, "/" + key_of(name)):
+            for fault in () if kind.is_plain(value) else kind.faults(value, "/" + key_of(name)):
                 raise Refused(fault, type(self).__name__)
             object.__setattr__(self, name, kind.taken(value))
         for fault in self.own_faults():
@@ -299,7 +325,7 @@ class Record:
             yield Fault(11, path, f"the value is no object of the kind {cls.__name__}")
             return
         is_well, known = True, set()
-        for field in dataclasses.fields(cls):
+        for field in fields_of(cls):
             key = key_of(field.name)
             known.add(key)
             for fault in field_faults(cls, field, tree, f"{path}/{key}"):
@@ -323,7 +349,7 @@ class Record:
     def made_of(cls: Type[R], tree: Mapping[str, Any]) -> R:
         """The record of an object whose fields have no fault."""
         made = object.__new__(cls)
-        for field in dataclasses.fields(cls):
+        for field in fields_of(cls):
             key = key_of(field.name)
             value = kinds_of(cls)[field.name].taken(tree[key]) if key in tree else field.default
             object.__setattr__(made, field.name, value)
@@ -332,7 +358,7 @@ class Record:
     def tree(self) -> Dict[str, Any]:
         """The record as a JSON object; fields that have their default are left out."""
         kinds, out = kinds_of(type(self)), {}
-        for field in dataclasses.fields(self):
+        for field in fields_of(type(self)):
             value = getattr(self, field.name)
             if field.default is dataclasses.MISSING or value != field.default:
                 out[key_of(field.name)] = kinds[field.name].tree(value)
@@ -347,5 +373,5 @@ def field_faults(cls: "Type[Record]", field: Any, tree: Mapping[str, Any], path:
             yield Fault(10, path)
     elif tree[key] is None:
         yield Fault(11, path, "null means nothing here; leave the field out")
-    else:
+    elif not kinds_of(cls)[field.name].is_plain(tree[key]):
         yield from kinds_of(cls)[field.name].faults(tree[key], path)

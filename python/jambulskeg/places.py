@@ -120,15 +120,29 @@ def from_places(
 
 def distances(places: Sequence[Place], measure: Measure) -> List[List[float]]:
     """How far each place is from those before it and from itself; the way back is as long."""
+    return [ways_to(one, places[:at + 1], measure) for at, one in enumerate(places)]
+
+
+def ways_to(one: Place, others: Sequence[Place], measure: Measure) -> List[float]:
+    """How far a place is from others."""
+    if measure is Measure.EUCLID:  # The same without a call of Python for each.
+        return [math.hypot(one.x - other.x, one.y - other.y) for other in others]
     apart = APART[measure]
-    return [[apart(one, other) for other in places[:at + 1]] for at, one in enumerate(places)]
+    return [apart(one, other) for other in others]
 
 
 def scaled(ways: Sequence[Sequence[float]], rounding: Rounding, scale: float) -> List[List[int]]:
     """The whole matrix of `distances`, each times `scale`, rounded once."""
-    whole_of = ROUND[rounding]
-    lower = [[whole_of(way * scale) for way in row] for row in ways]
+    lower = [whole_ways(row, rounding, scale) for row in ways]
     return [row + [lower[head][tail] for head in range(tail + 1, len(lower))] for tail, row in enumerate(lower)]
+
+
+def whole_ways(ways: Sequence[float], rounding: Rounding, scale: float) -> List[int]:
+    """Some ways, each times `scale`, rounded once."""
+    if rounding is Rounding.NEAREST:  # The same without a call of Python for each.
+        return [math.floor(way * scale + 0.5) for way in ways]
+    whole_of = ROUND[rounding]
+    return [whole_of(way * scale) for way in ways]
 
 
 PLACE_COLUMNS = ("name", "x", "y", "lat", "lon", "demand", "open", "close", "service", "penalty")

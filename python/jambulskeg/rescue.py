@@ -195,7 +195,7 @@ def tried(solver: Solver, model: Model, is_asked: bool) -> Optional[Solved]:
 def greatest_cost(model: Model) -> int:
     """A bound of what any day of the model costs: every stop at its dearest arc, and all spans over all cumuls."""
     vehicles = range(len(model.vehicles))
-    dearest = max(entry for matrix in model.matrices for row in matrix for entry in row)
+    dearest = max(max(map(max, matrix)) for matrix in model.matrices)
     cost = (model.nodes + len(vehicles)) * max(0, dearest) + sum(vehicle.fixed for vehicle in model.vehicles)
     cost += sum(group.max * (group.penalty or 0) for group in model.groups)
     for dimension in model.dimensions:

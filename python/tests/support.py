@@ -15,12 +15,18 @@ import unittest
 from types import ModuleType
 from typing import Any, Dict, Iterator, List, Optional, Tuple
 
+from jambulskeg.model import Solution, read_solution
 from jambulskeg.program import find
 
 EXAMPLES = os.path.join(os.path.dirname(os.path.dirname(os.path.dirname(os.path.abspath(__file__)))), "examples")
 THREE: Dict[str, Any] = {
     "nodes": 3, "matrices": [[[0, 5, 9], [5, 0, 4], [9, 4, 0]]], "vehicles": [{"start": 0, "end": 0}]
 }
+
+
+def solved(name: str) -> Solution:
+    """What the program answers to an example, as its file has it."""
+    return read_solution(os.path.join(EXAMPLES, f"{name}.solved.json"))
 
 
 def ask(word: str, text: str) -> Tuple[int, str]:

@@ -17,9 +17,11 @@ from unittest import mock
 from jambulskeg.__main__ import main
 from jambulskeg.model import Model, check, read_model, read_solution
 
-from .support import EXAMPLES, THREE, Fake, environment
+from .support import EXAMPLES, THREE, Fake, environment, tree_with
 
 TOP = os.path.dirname(os.path.dirname(os.path.abspath(__file__)))
+QUICK = Model.of(tree_with(search={"tries": 300}))
+"""A day whose searches are over at once."""
 
 
 def called(*words: str) -> Tuple[int, str, str]:
@@ -59,7 +61,7 @@ class CommandCase(unittest.TestCase):
 
 class CommandTests(CommandCase):
     def test_portfolio_then_view(self) -> None:
-        model = self.write("three.json", Model.of(THREE).text())
+        model = self.write("three.json", QUICK.text())
         status, out, told = called("portfolio", model, "--jobs", "2", "--tries", "50", "--lambda", "1/4")
         self.assertEqual((status, json.loads(out)["cost"]), (0, 18))
         self.assertEqual(told.count("*"), 1)
@@ -70,13 +72,13 @@ class CommandTests(CommandCase):
         self.assertIn("The proved check found", self.read("a.html"))
 
     def test_the_answer_is_written_before_it_is_told(self) -> None:
-        model = self.write("three.json", Model.of(THREE).text())
+        model = self.write("three.json", QUICK.text())
         with mock.patch("jambulskeg.__main__.outcome_line", side_effect=BrokenPipeError(32, "Broken pipe")):
             self.assertEqual(called("portfolio", model, "-o", self.at("a.json"))[0], 1)
         self.assertEqual(read_solution(self.at("a.json")).cost, 18)
 
     def test_view_with_places_and_names(self) -> None:
-        model = self.write("three.json", Model.of(THREE).text())
+        model = self.write("three.json", QUICK.text())
         self.assertEqual(called("portfolio", model, "-o", self.at("a.json"))[0], 0)
         places = self.write("places.csv", "name,x,y\nyard,0,0\nA<da,1,2\nBen,3,1\n")
         vans = self.write("vans.csv", "name,start\nred <,yard\n")
@@ -110,7 +112,7 @@ class CommandTests(CommandCase):
         self.assertIn("Both days are equal", self.read("a.svg"))
 
     def test_exports(self) -> None:
-        model = self.write("three.json", Model.of(THREE).text())
+        model = self.write("three.json", QUICK.text())
         self.assertEqual(called("portfolio", model, "-o", self.at("a.json"))[0], 0)
         places = self.write("places.csv", "name,lat,lon,Phone\nyard,0,0,\nAda,1,2,01\nBen,3,1,02\n")
         words = ["view", model, self.at("a.json"), "--places", places]
@@ -162,7 +164,7 @@ class CommandTests(CommandCase):
         self.assertEqual(called("batch", self.at("out"))[0], 1)
 
     def test_what_is_wrong_is_said(self) -> None:
-        model = self.write("three.json", Model.of(THREE).text())
+        model = self.write("three.json", QUICK.text())
         solution = self.write("wrong.json", "{}")
         self.assertEqual(called("portfolio", model, "-o", self.at("a.json"))[0], 0)
         tree = json.loads(self.read("a.json"))

@@ -35,7 +35,7 @@ from jambulskeg.rounds import with_search
 from jambulskeg.view.day import Names
 
 from .desk_support import THREE_VANS
-from .support import EXAMPLES
+from .support import EXAMPLES, solved
 
 PROGRAM = Program.found()
 
@@ -493,7 +493,7 @@ class PartTests(unittest.TestCase):
     def test_pinned_vans_stay_as_they_are(self) -> None:
         for name in ("service-day", "shifts-tight", "windows-day", "savings"):
             model = model_named(name)
-            found = solve(model)
+            found = solved(name)
             pinned = min(found.used(), key=lambda vehicle: len(found.routes[vehicle].visits))
             state = State(tupled(found.lists()), pinned=frozenset([pinned]))
             part = part_of(model, state)
@@ -517,7 +517,7 @@ class PartTests(unittest.TestCase):
 
     def test_vans_that_are_planned_anew_together(self) -> None:
         model = model_named("hundred-customers")
-        lists = tupled(solve(model).lists())
+        lists = tupled(solved("hundred-customers").lists())
         state = State(lists, off=frozenset(v for v, visits in enumerate(lists) if not visits), pinned=frozenset([0]))
         nearby = Nearby(model)
         seen: Set[int] = set()
@@ -550,7 +550,7 @@ class ImproverTests(unittest.TestCase):
     def test_it_goes_on_from_the_routes(self) -> None:
         model = model_named("hundred-customers")
         lists = tupled(first(model).lists())
-        found = self.improved(model, State(lists, pinned=frozenset([0])), 1)
+        found = self.improved(model, State(lists, pinned=frozenset([0])), 0.4)
         assert found.best is not None
         self.assertEqual((found.points[0].cost, found.best[0][0]), (Asker(model, PROGRAM).judged(lists).solution.cost,
                                                                     lists[0]))
@@ -561,13 +561,13 @@ class ImproverTests(unittest.TestCase):
     def test_it_is_stopped_at_once(self) -> None:
         model = with_search(model_named("hundred-customers"), tries=10**9)
         began = time.monotonic()
-        found = self.improved(model, State(tupled(first(model).lists())), 600, 0.3)
+        found = self.improved(model, State(tupled(first(model).lists())), 600, 0.1)
         self.assertLess(time.monotonic() - began, 5)
         self.assertIsNotNone(found.best)
 
     def test_a_day_that_no_construction_finds(self) -> None:
         model = example_basis(THREE_VANS, PROGRAM).model
-        found = self.improved(model, State(((), (), ()), off=frozenset([0, 1])), 1)
+        found = self.improved(model, State(((), (), ()), off=frozenset([0, 1])), 0.3)
         assert found.best is not None
         self.assertTrue(found.best[1].missing and found.best[0][2])
 

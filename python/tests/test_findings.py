@@ -10,9 +10,9 @@ from typing import Any, List
 from jambulskeg.complete import complete
 from jambulskeg.errors import NotMet
 from jambulskeg.findings import SENTENCES
-from jambulskeg.model import Allowed, Finding, Group, Model, Pair, Solution, check, explain, meets, read_model, solve
+from jambulskeg.model import Allowed, Finding, Group, Model, Pair, Solution, check, explain, meets, read_model
 
-from .support import EXAMPLES
+from .support import EXAMPLES, solved
 
 DAY = read_model(os.path.join(EXAMPLES, "service-day.json"))
 LISTS: List[List[int]] = [[], [4, 9, 1, 14, 12, 15], [6, 11, 3, 8, 16], [7, 2, 10, 5, 13]]
@@ -75,7 +75,7 @@ class FindingTests(unittest.TestCase):
         self.broken("shape", "complete.shape_faults", DAY, replace(solution, routes=[]))
 
     def test_every_rule_has_a_sentence(self) -> None:
-        solution = solve(DAY)
+        solution = solved("service-day")
         self.assertIn("costs 1338", explain(check(DAY, solution), solution))
         self.assertEqual(len(SENTENCES), 17)
         for rule in SENTENCES:

@@ -43,10 +43,11 @@ class InstallTests(unittest.TestCase):
     @unittest.skipIf(importlib.util.find_spec("pip") is None, "pip is not at hand")
     def test_it_is_installed(self) -> None:
         target = os.path.join(self.folder, "site")
+        compiled = {"PYTHONPYCACHEPREFIX": None, "PYTHONDONTWRITEBYTECODE": "1"}  # pip's own bytecode is taken as it is
         subprocess.run(
             [sys.executable, "-m", "pip", "install", "--no-index", "--no-compile", "--quiet", "--target", target,
              FOLDER],
-            check=True, env=environment(PIP_DISABLE_PIP_VERSION_CHECK="1", PYTHONPATH=None),
+            check=True, env=environment(PIP_DISABLE_PIP_VERSION_CHECK="1", PYTHONPATH=None, **compiled),
             stdout=subprocess.PIPE, stderr=subprocess.PIPE,
         )
         script = "from jambulskeg import model; print(model.__file__, model.solve(model.generate(1)).cost)"

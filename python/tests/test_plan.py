@@ -140,7 +140,7 @@ class PlanTests(PlanCase):
         self.assertRegex(told, r"visits are made(, by penalties for required visits)?")
 
     def test_many_searches(self) -> None:
-        planned: Planned = plan_day(read_day(PLACES, VANS), Roads(pace=2), seconds=0.5, jobs=3)
+        planned: Planned = plan_day(read_day(PLACES, VANS), Roads(pace=2), seconds=0.2, jobs=3)
         self.assertIn("vehicles leave, 1", planned.summary())
         self.assertEqual((planned.required, planned.van(0), planned.place(1)), ((), "red", "Ada"))
         self.assertEqual(planned.left_out()[0][:14], "left out: Lea:")

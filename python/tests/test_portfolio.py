@@ -208,7 +208,9 @@ class PortfolioTests(unittest.TestCase):
 
     def test_vehicles_that_differ_leave_savings_out(self) -> None:
         need_searches()
-        model = Model.of({**THREE, "vehicles": [{"start": 0, "end": 0}, {"start": 0, "end": 0, "fixed": 3}]})
+        model = Model.of(
+            {**THREE, "vehicles": [{"start": 0, "end": 0}, {"start": 0, "end": 0, "fixed": 3}], "search": {"tries": 300}}
+        )
         found = portfolio(model)
         codes = {outcome.problem.code for outcome in found.outcomes if isinstance(outcome.problem, Refused)}
         self.assertEqual(codes, {23})

@@ -91,7 +91,7 @@ class PublicTests(unittest.TestCase):
         self.assertEqual(wide, [])
 
 
-INHERITED = ("faults", "taken", "tree", "own_faults", "kind_of", "applied", "words")
+INHERITED = ("faults", "is_plain", "taken", "tree", "own_faults", "kind_of", "applied", "words")
 """What a kind, a record and a change of a day say once, where they are defined first."""
 MODULES = (
     batch, complete, desk, doubts, engines, errors, exports, formats, model, output, places, plan, portfolio, program,

@@ -123,7 +123,7 @@ class RandomTests(unittest.TestCase):
     def rescued(self, model: Model) -> None:
         """What is found in place of nothing is a solution of the model, or leaves somebody out and says so."""
         try:
-            found = rescue(model)
+            found = rescue(model, tries=20_000)
         except NoFirstSolution:
             return
         self.assertIsNot(found.way, Way.AS_ASKED)

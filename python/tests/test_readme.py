@@ -44,6 +44,12 @@ def raised() -> List[str]:
     return sorted(name for name, value in named if inspect.isclass(value) and issubclass(value, JambulskegError))
 
 
+def shortened(piece: str) -> str:
+    """A piece whose searches take less: fewer seconds, and fewer steps of ruin and recreate."""
+    piece = re.sub(r"(timed_solver|from_morning)\(10", r"\1(0", piece)
+    return piece.replace("seconds=1)", "seconds=0.2)").replace("Search(tries=5000)", "Search(tries=500)")
+
+
 class ReadmeTests(unittest.TestCase):
     def setUp(self) -> None:
         folder = tempfile.TemporaryDirectory()
@@ -74,7 +80,7 @@ class ReadmeTests(unittest.TestCase):
         names: Dict[str, Any] = {"places": ()}
         with contextlib.redirect_stdout(io.StringIO()) as out:
             for piece in pieces:
-                exec(re.sub(r"(timed_solver|from_morning)\(10", r"\1(0", piece), names)
+                exec(shortened(piece), names)
                 names.update(lists=solution.lists(), tree=solution.tree())
         said = out.getvalue()
         self.assertIn("by the construction that the model asks for (PATH_CHEAPEST_ARC)", said)

@@ -33,7 +33,7 @@ class RefineTests(CommandCase):
         plan, out = self.write("plan.json", begun.text()), self.at("out.json")
         for improve in (Improve.GUIDED_LOCAL_SEARCH, Improve.NONE):
             model = self.write("day.json", with_search(DAY, improve=improve, tries=100).text())
-            for limit in ("0.3", "1", "5", "15"):  # On a busy machine few rounds are over sooner.
+            for limit in ("0.1", "0.3", "1", "5", "15"):  # On a busy machine few rounds are over sooner.
                 status, said, told = called("refine", model, plan, "--seconds", limit, "-o", out)
                 self.assertEqual((status, said), (0, ""))
                 self.assertRegex(told, rf"^cost \d+, {begun.cost} before; \d+ of 16 visits changed vehicle\n$")
@@ -73,7 +73,7 @@ class RefineTests(CommandCase):
         ) as process:
             assert process.stderr is not None
             process.stderr.readline()
-            time.sleep(0.2)
+            time.sleep(0.05)
             process.send_signal(signal.SIGTERM)
             self.assertIn(b"before;", process.stderr.read())
         self.assertEqual(process.returncode, 143)

@@ -39,7 +39,7 @@ from jambulskeg.solution import Solution
 from .region_support import ROAD_WORDS, made_region, write_tables
 from .test_portfolio import PARALLEL, engine_on_path
 
-SMALL = Asked(tries=600_000, most=60, shape=Shape(3, 60))
+SMALL = Asked(tries=300_000, most=60, shape=Shape(3, 60))
 """What is asked where the plan itself does not matter."""
 
 
@@ -331,7 +331,7 @@ class ResumeTests(unittest.TestCase):
 
     def test_a_full_disk_loses_nothing(self) -> None:
         rng = random.Random(7)
-        for last in rng.sample(range(2, 25), 3):
+        for last in rng.sample(range(2, 18), 3):
             with kept() as store:
                 counts = iter(range(1, 10**6))
 

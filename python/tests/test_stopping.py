@@ -16,14 +16,14 @@ from unittest import mock
 from jambulskeg.batch import batch
 from jambulskeg.engines import Answer, Engine, GnuParallel, OwnProcesses, Slurm
 from jambulskeg.errors import ProgramSlow, Stopped
-from jambulskeg.model import Model, check, read_model, read_solution, solve
+from jambulskeg.model import check, read_model, read_solution, solve
 from jambulskeg.output import Output
 from jambulskeg.portfolio import Portfolio, collected, portfolio, variants
 from jambulskeg.program import Program, find, outputs_of
 from jambulskeg.stopping import Stop, stopping
 
-from .support import AS_REAL, EXAMPLES, THREE, Fake, environment
-from .test_command import TOP, CommandCase, called
+from .support import AS_REAL, EXAMPLES, Fake, environment
+from .test_command import QUICK, TOP, CommandCase, called
 from .test_portfolio import engine_on_path, small
 
 ENDLESS = (
@@ -56,7 +56,7 @@ class StoppedCommandTests(CommandCase):
             )
             end = time.monotonic() + 30
             while len(os.listdir(pids)) < seen and time.monotonic() < end:
-                time.sleep(0.05)
+                time.sleep(0.02)
             process.send_signal(number)
             begin = time.monotonic()
             out, told = process.communicate(timeout=30)
@@ -103,7 +103,7 @@ class StoppedCommandTests(CommandCase):
         self.assertEqual(read_solution(self.at("whole.json")).cost, 1338)
 
     def test_a_full_disk(self) -> None:
-        model = self.write("day.json", Model.of(THREE).text())
+        model = self.write("day.json", QUICK.text())
         with open("/dev/full", "w", encoding="utf-8") as full:
             ran = subprocess.run(
                 [sys.executable, "-W", "error", "-m", "jambulskeg", "portfolio", model], cwd=TOP, stdout=full,

@@ -29,7 +29,7 @@ from jambulskeg.view.svg import escaped, script_json
 from jambulskeg.view.tables import left_table, stops_table, visits_table
 from jambulskeg.view.timeline import axis_of, rooms, timeline
 
-from .support import EXAMPLES, THREE, random_tree
+from .support import EXAMPLES, THREE, random_tree, solved
 
 NASTY = "<script>alert(1)</script> & \"quoted\" 'too' \x00\x1b \ud800 ]]>"
 EMPTY = {"meta", "rect", "line", "path", "circle", "input", "br"}
@@ -71,7 +71,7 @@ def read(text: str) -> Reader:
 def day(name: str, **fields: Any) -> Day:
     """A day of an example."""
     model = read_model(os.path.join(EXAMPLES, f"{name}.json"))
-    return day_of(model, solve(model), **fields)
+    return day_of(model, solved(name), **fields)
 
 
 def random_days(count: int) -> List[Day]:
