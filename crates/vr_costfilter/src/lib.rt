@@ -25,9 +25,10 @@
 //! and stages: how far it has come, and what it has paid. `with_guide` finds floors back along the visits that a
 //! vehicle gets. `steps` keeps the steps and the stages of a list, and tells what a change makes of them. `tight` has
 //! the way of a vehicle that waits so, and the two ends that a whole way tells, `rests` what is left of a line, and
-//! `kept_ways` keeps ways and rests of a list. `asked` has a list that comes in the place of another: the two ends of
+//! `kept_ways` keeps ways and rests of a list. `changed_list` has a list that comes in the place of another:
+//! the two ends of
 //! its tight schedule, and the walk along all of it. All that is kept in one dimension is in `kept`, in all dimensions
-//! in `dimensions`. What the schedules cost is told by `schedule_costs` for `plan_cost`, and by `reaches` for
+//! in `all_cumuls`. What the schedules cost is told by `schedule_costs` for `plan_cost`, and by `reaches` for
 //! `global_span`, with the sorted ends of `orders` (over `order`). What a change costs at least is told from how early
 //! its lists can end and how short their spans can be (`early_change`), for global spans by `spreads`. `tours` has the
 //! list of a vehicle, `parts_after` the list that a change gives it, and `scratch` the room that calls are lent.
@@ -35,8 +36,8 @@
 //! What is kept is always of the committed lists (`AreAllKept`): who changes them commits the change here first.
 #![tactic(auto)]
 
-mod asked;
-mod dimensions;
+mod all_cumuls;
+mod changed_list;
 mod early_change;
 mod global_span;
 mod guides;
@@ -58,7 +59,7 @@ mod trails;
 mod with_guide;
 
 // `vr_judge` takes `PlanCost` and `GlobalSpan`, and the other parts from their own crates; all else is for tests alone.
-pub use dimensions::{AllCumuls, Paid};
+pub use all_cumuls::{AllCumuls, Paid};
 pub use global_span::GlobalSpan;
 pub use parts_after::PartAfter;
 pub use plan_cost::PlanCost;

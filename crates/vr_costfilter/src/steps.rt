@@ -20,7 +20,7 @@ ghost use Rattle.vr_costfilter.specs.Steps.{first_led, reached, HasLed, HasPaced
 ghost use Rattle.vr_costfilter.specs.Stages.{along, paid_more, setting_out, stage_at_start, along_to_end, IsAtStart};
 ghost use Rattle.vr_costfilter.specs.Stages.{IsStageOf};
 
-use crate::asked::Asked;
+use crate::changed_list::Asked;
 use crate::guides::{Guide, Stage};
 use crate::tight::only;
 use crate::trails::{Step, Trail};

@@ -4,7 +4,7 @@ use Rattle.vr_costfilter.specs.Kept.{AreKept, IsPaid}
 use Rattle.vr_model.specs.tables.Tables.{dimension_at}
 use Rattle.vr_plan.specs.declared.tables.Table.{Table}
 use Rattle.vr_costfilter.specs.declared.kept.KeptList.{KeptList}
-use Rattle.vr_costfilter.proofs.dimensions.AllCumuls.open.Given as goal
+use Rattle.vr_costfilter.proofs.all_cumuls.AllCumuls.open.Given as goal
 
 abbrev pub invariant-loop-d : goal.invariant-loop-d
 invariant-loop-d l = record {

@@ -9,7 +9,7 @@ use Rattle.vr_costfilter.specs.Kept.{AreAllKept, AreAsMany}
 use Rattle.vr_costfilter.proofs.KeptCumulLemmas.{as-many-same, as-many-then}
 use Rattle.vr_costfilter.proofs.PartLemmas.{list-after}
 use Rattle.vr_costfilter.proofs.KnownLemmas.{tour-of}
-use Rattle.vr_costfilter.proofs.dimensions.AllCumuls.commit.Goals as goal
+use Rattle.vr_costfilter.proofs.all_cumuls.AllCumuls.commit.Goals as goal
 
 pub join_into-requires-clause-room : goal.join_into-requires-clause-room
 join_into-requires-clause-room c =

@@ -7,7 +7,7 @@ use Rattle.vr_costfilter.proofs.KnownLemmas.{known-at}
 use Rattle.vr_parts.proofs.RowLemmas.{each-push}
 use Rattle.vr_costfilter.specs.declared.kept.KeptList.{KeptList}
 use Rattle.vr_costfilter.specs.Kept.{AreKept, IsPaid}
-use Rattle.vr_costfilter.proofs.dimensions.AllCumuls.open.Goals as goal
+use Rattle.vr_costfilter.proofs.all_cumuls.AllCumuls.open.Goals as goal
 
 pub kept_in-requires-clause-known : goal.kept_in-requires-clause-known
 kept_in-requires-clause-known c = known-at c.args.closed.model.now c.args.tables.now c.requires.tables c.loop-d.d c.index-tables-d.result c.index-tables-d.is c.loop-d-test.true

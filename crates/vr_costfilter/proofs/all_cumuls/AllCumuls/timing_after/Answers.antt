@@ -11,7 +11,7 @@ use Rattle.vr_costfilter.specs.Kept.{IsKnown}
 use Rattle.vr_costfilter.specs.declared.kept.KeptList.{KeptList}
 use Rattle.vr_parts.proofs.PartLemmas.{small}
 use Rattle.vr_costfilter.proofs.PartLemmas.{feasible-after, list-of, list-of-part, used-after}
-use Rattle.vr_costfilter.proofs.dimensions.AllCumuls.timing_after.Goals as goal
+use Rattle.vr_costfilter.proofs.all_cumuls.AllCumuls.timing_after.Goals as goal
 
 pub timing_after-requires-clause-joined : goal.timing_after-requires-clause-joined
 timing_after-requires-clause-joined c =

@@ -1,6 +1,6 @@
 use Rattle.vr_costfilter.specs.Kept.{AreAllKept, AreAsMany}
 use Rattle.vr_parts.proofs.SumLemmas.{upto}
-use Rattle.vr_costfilter.proofs.dimensions.AllCumuls.commit.Given as goal
+use Rattle.vr_costfilter.proofs.all_cumuls.AllCumuls.commit.Given as goal
 
 abbrev pub invariant-loop-k : goal.invariant-loop-k
 invariant-loop-k l = record {

@@ -4,7 +4,7 @@ use Rattle.vr_model.specs.moves.Moves.{with_route}
 use Rattle.vr_earliest.proofs.WritingLemmas.{AreWrittenTo}
 use Rattle.vr_costfilter.specs.Kept.{AreAllKept, AreKept}
 use Rattle.vr_costfilter.specs.declared.kept.KeptList.{KeptList}
-use Rattle.vr_costfilter.proofs.dimensions.write_list.Given as goal
+use Rattle.vr_costfilter.proofs.all_cumuls.write_list.Given as goal
 
 abbrev pub invariant-loop-d : goal.invariant-loop-d
 invariant-loop-d l = record {

@@ -18,7 +18,7 @@ use Rattle.vr_costfilter.proofs.FeasibleLemmas.{begin-unfeasible}
 use Rattle.vr_costfilter.proofs.KeptCumulLemmas.{all-visits}
 use Rattle.vr_costfilter.proofs.StageLemmas.{stage-more}
 use Rattle.vr_costfilter.proofs.StuckLemmas.{untold}
-use Rattle.vr_costfilter.proofs.asked.Asked.timing_along.Goals as goal
+use Rattle.vr_costfilter.proofs.changed_list.Asked.timing_along.Goals as goal
 
 pub invariant_of-on : goal.invariant_of-on
 invariant_of-on c =

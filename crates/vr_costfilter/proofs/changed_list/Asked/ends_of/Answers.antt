@@ -6,12 +6,12 @@ use Rattle.vr_model.specs.schedules.Tight.{IsLatestStart, IsLeastEnd}
 use Rattle.vr_routes.specs.Pieces.{joined}
 use Rattle.vr_costfilter.specs.Asked.{new_list, old_list}
 use Rattle.vr_costfilter.specs.GuideRuns.{runs_of}
-use Rattle.vr_costfilter.specs.declared.asked.Asked.{Asked}
+use Rattle.vr_costfilter.specs.declared.changed_list.Asked.{Asked}
 use Rattle.vr_costfilter.specs.KeptWays.{KeptTightWays}
 use Rattle.vr_costfilter.proofs.EndsLemmas.{middle-few, middle-visits, rest-small, way-small, whole-known, whole-small, IsKeptAt}
 use Rattle.vr_costfilter.proofs.RunLemmas.{line-allows}
 use Rattle.vr_costfilter.proofs.WayLemmas.{latest-start, least-end}
-use Rattle.vr_costfilter.proofs.asked.Asked.ends_of.Goals as goal
+use Rattle.vr_costfilter.proofs.changed_list.Asked.ends_of.Goals as goal
 
 pub way-front-requires : goal.way-front-requires
 way-front-requires c = omega (arith, c.requires.kept.has.keeps.ways.many, c.args.self.now.sound.spliced.order, c.args.self.now.sound.spliced.high)

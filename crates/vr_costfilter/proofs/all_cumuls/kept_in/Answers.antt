@@ -3,7 +3,7 @@ use Rattle.std.proofs.lemmas.Result.{IfOk-weaker}
 use Rattle.vr_model.specs.tables.Tables.{dimension_at}
 use Rattle.vr_costfilter.specs.Kept.{IsPaid}
 use Rattle.vr_costfilter.specs.declared.kept.KeptList.{KeptList}
-use Rattle.vr_costfilter.proofs.dimensions.kept_in.Goals as goal
+use Rattle.vr_costfilter.proofs.all_cumuls.kept_in.Goals as goal
 
 pub returns-clause-each : goal.returns-clause-each
 returns-clause-each c =

@@ -7,7 +7,7 @@ use Rattle.vr_costfilter.proofs.KnownLemmas.{known-at}
 use Rattle.vr_model.specs.moves.Moves.{with_route}
 use Rattle.vr_costfilter.specs.declared.kept.KeptList.{KeptList}
 use Rattle.vr_costfilter.specs.Kept.{AreKept}
-use Rattle.vr_costfilter.proofs.dimensions.write_list.Goals as goal
+use Rattle.vr_costfilter.proofs.all_cumuls.write_list.Goals as goal
 
 pub write-requires : goal.write-requires
 write-requires c =

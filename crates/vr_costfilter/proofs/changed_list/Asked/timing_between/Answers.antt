@@ -3,7 +3,7 @@ use Rattle.vr_costfilter.specs.Asked.{new_list, IsTimingFound}
 use Rattle.vr_costfilter.specs.Joined.{AreJoined}
 use Rattle.vr_costfilter.specs.Runs.{AllowsRuns}
 use Rattle.vr_costfilter.proofs.GuideLemmas.{by-guide, of-guide}
-use Rattle.vr_costfilter.proofs.asked.Asked.timing_between.Goals as goal
+use Rattle.vr_costfilter.proofs.changed_list.Asked.timing_between.Goals as goal
 
 pub invariant_of-asked : goal.invariant_of-asked
 invariant_of-asked c =
