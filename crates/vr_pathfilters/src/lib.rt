@@ -6,7 +6,8 @@
 //! the commit; nothing that is kept of committed lists is written where a filter is asked. The commit takes no memory.
 //!
 //! `dimensions` has the filter of the lines of one dimension: of a load it keeps what vehicles take along their lists
-//! (`loads`), of any other dimension the rows of the lists (`rows`). `vehicles` and `pairs` have rules that each list
+//! (`loads`), of any other dimension the rows of the lists (`list_rows`).
+//! `vehicles` and `pairs` have rules that each list
 //! keeps by itself, which `lists` makes filters of. Pairs are asked of the list after a change (`new_lists`), which is
 //! not joined for that, and whether they keep the policy of a vehicle is told by counts (`policies`). What a change
 //! puts between the ends that it keeps of a list is written out by `parts`. `groups` asks the groups of the nodes of
@@ -23,7 +24,7 @@ mod new_lists;
 mod pairs;
 mod parts;
 pub mod policies;
-mod rows;
+mod list_rows;
 mod vehicles;
 
 pub use dimensions::DimensionFilter;

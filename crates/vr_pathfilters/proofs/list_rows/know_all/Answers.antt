@@ -3,7 +3,7 @@ use Rattle.vr_reach.specs.KnownRows.{AreRowsIfUsed}
 use Rattle.vr_reach.specs.Lists.{IsTour}
 use Rattle.vr_pathfilters.proofs.Knowing.{known_more}
 use Rattle.vr_pathfilters.proofs.PartTours.{tour_of}
-use Rattle.vr_pathfilters.proofs.rows.know_all.Goals as goal
+use Rattle.vr_pathfilters.proofs.list_rows.know_all.Goals as goal
 
 pub write_list-requires-clause-tour : goal.write_list-requires-clause-tour
 write_list-requires-clause-tour g c =

@@ -1,7 +1,7 @@
 use Rattle.std.proofs.Common.{sym, subst, ◌∙◌, arith}
 use Rattle.vr_reach.specs.Lists.{IsTour}
 use Rattle.vr_pathfilters.proofs.PartTours.{tour_of_part}
-use Rattle.vr_pathfilters.proofs.rows.write_part.Goals as goal
+use Rattle.vr_pathfilters.proofs.list_rows.write_part.Goals as goal
 
 pub write_list-requires-clause-tour : goal.write_list-requires-clause-tour
 write_list-requires-clause-tour g c =
