@@ -6,7 +6,8 @@
 //!
 //! `conditions` says whether the numbers of a move are those of one, and `pairs` how the nodes of a pair stand.
 //! `changes` writes the change of each kind of move, its lists by `kinds` over `pieces`; `filling` writes out the nodes
-//! of pieces, into a list in place (`rows`). `routes` makes a change, over `seats`, which has such lists with the place
+//! of pieces, into a list in place (`node_row`). `routes` makes a change, over `seats`,
+//! which has such lists with the place
 //! of each node beside them. `judging` has the trait of judges (`Judge`) and what they answer (`Verdict`), and `runs`
 //! gives a move another last number, as in the runs that a judge is asked about. `indices` has numbers for visits,
 //! starts and ends, for users of the library.
@@ -28,10 +29,10 @@ mod filling;
 mod indices;
 mod judging;
 mod kinds;
+mod node_row;
 mod pairs;
 mod pieces;
 mod routes;
-mod rows;
 mod runs;
 mod seats;
 
@@ -42,8 +43,8 @@ pub use judging::{Judge, Verdict};
 pub use pairs::{
     PairPlaces, is_elsewhere, is_pair_inactive, is_pair_together, pair_places, rest_len,
 };
+pub use node_row::Row;
 pub use pieces::{Piece, Splice};
 pub use routes::Routes;
-pub use rows::Row;
 pub use runs::with_last;
 pub use seats::Seat;
