@@ -6,7 +6,8 @@
 //! rule is broken first; no answer is kept for a later pass, and the first broken rule is the one given. Printed
 //! cumuls, slacks, starts of breaks and costs may be any `i64`, so sums and differences of them are taken in 128 bits.
 //!
-//! `checking` has the order of the rules, `finding` their names and what is answered, `printed` and `asked` what they
+//! `checking` has the order of the rules, `finding` their names and what is answered,
+//! `printed` and `asked_line` what they
 //! are asked of: routes and plans beside the model, and the line of a plan. First comes the shape, which `vr_printed`
 //! asks as it reads; then the rules on `lists`, the nodes of routes, and on `visits`, which of them are active (`held`
 //! finds nodes in lists); then those on `pairs`, policies and allowed vehicles, on `plans` with their `breaks`, and on
@@ -18,7 +19,7 @@
 //! `vr_given` asks the rules on active visits, pairs and vehicles of lists that were given, with no solution printed.
 #![tactic(auto)]
 
-mod asked;
+mod asked_line;
 mod breaks;
 mod checking;
 mod costs;

@@ -3,7 +3,7 @@ use Rattle.std.proofs.lemmas.Int.{ints}
 use Rattle.vr_model.specs.tables.Tables.{transit}
 use Rattle.vr_check.specs.Asked.{stop_node}
 use Rattle.vr_check.proofs.Lines.{arc_is}
-use Rattle.vr_check.proofs.asked.AskedLine.transit.Goals as goal
+use Rattle.vr_check.proofs.asked_line.AskedLine.transit.Goals as goal
 
 pub returns-clause-value : goal.returns-clause-value
 returns-clause-value c =

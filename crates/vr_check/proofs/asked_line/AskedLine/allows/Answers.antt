@@ -2,7 +2,7 @@ use Rattle.std.proofs.Common.{◌≡◌, ◌∙◌, ◌&&◌, sym, ap}
 use Rattle.vr_check.specs.Asked.{is_let, keeps_fixed_start}
 use Rattle.vr_check.proofs.Lines.{asked_allows}
 use Rattle.vr_check.proofs.Widths.{narrow, read64}
-use Rattle.vr_check.proofs.asked.AskedLine.allows.Goals as goal
+use Rattle.vr_check.proofs.asked_line.AskedLine.allows.Goals as goal
 
 pub returns-then-is_let : goal.returns-then-is_let
 returns-then-is_let c =

@@ -2,7 +2,7 @@ use Rattle.std.proofs.Common.{◌∙◌, ap₂, sym, ap, arith}
 use Rattle.vr_model.specs.tables.Numbers.{number_at}
 use Rattle.vr_check.proofs.Lines.{arc_is}
 use Rattle.vr_check.proofs.Widths.{narrow}
-use Rattle.vr_check.proofs.asked.AskedLine.visit.Goals as goal
+use Rattle.vr_check.proofs.asked_line.AskedLine.visit.Goals as goal
 
 pub returns : goal.returns
 returns c =

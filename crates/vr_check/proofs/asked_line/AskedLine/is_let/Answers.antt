@@ -4,7 +4,7 @@ use Rattle.vr_model.specs.schedules.Lines.{stop_allows}
 use Rattle.vr_model.specs.declared.records.StopRow.{StopRow}
 use Rattle.vr_check.specs.Asked.{row_at_stop}
 use Rattle.vr_check.proofs.Widths.{narrow, read64}
-use Rattle.vr_check.proofs.asked.AskedLine.is_let.Goals as goal
+use Rattle.vr_check.proofs.asked_line.AskedLine.is_let.Goals as goal
 
 pub returns : goal.returns
 returns c =
