@@ -1,5 +1,5 @@
 //! Keywords with their values, and the head, in which all is kept that lines say beside the rows of sections;
-//! `sections` and `rows` have the rest of its steps.
+//! `sections` and `section_rows` have the rest of its steps.
 
 ghost use Rattle.std.specs.Prelude.{◌≡◌, ◌≤◌, IfOk};
 ghost use Rattle.vr_tsplib.specs.Heads as heads;

@@ -6,7 +6,8 @@
 //! becomes the tree of a model of format 1. `vr_app` calls `import`.
 //!
 //! `files` goes over the lines. Those outside sections are read by `sections`, by the keywords of `heads`; those inside
-//! by `rows` and `weights`; what stands in a line by `texts`, `words` and `numbers`. `flaws` has what is refused.
+//! by `section_rows` and `weights`; what stands in a line by `texts`, `words` and `numbers`.
+//! `flaws` has what is refused.
 //! `summaries` says what a whole file says, and `trees` makes the tree, with the distances of nodes in the plane, which
 //! are rounded square roots (`roots`); `imports` is all of that.
 #![tactic(auto)]
@@ -17,7 +18,7 @@ mod heads;
 mod imports;
 mod numbers;
 mod roots;
-mod rows;
+mod section_rows;
 mod sections;
 mod summaries;
 mod texts;
@@ -30,5 +31,5 @@ pub use flaws::Flaw;
 pub use heads::{Head, Heading, Keyword, LinePlace, WeightFormat, WeightType};
 pub use imports::import;
 pub use roots::nearest_root;
-pub use rows::{DemandRow, SiteRow};
+pub use section_rows::{DemandRow, SiteRow};
 pub use summaries::{Distances, Problem};
