@@ -1,4 +1,4 @@
-//! What no place of a list can do better than. `known` asks the least of a visit or a pair before it has a list
+//! What no place of a list can do better than. `known_best` asks the least of a visit or a pair before it has a list
 //! searched; `one_list` asks the others while it goes through places.
 
 ghost use Rattle.std.specs.Prelude.{◌≡◌, ℕ, ◌<◌, ◌≤◌, ◌^◌, OnOk, cond, int_lt, length, neg_ℤ, pos, ◌+ℤ◌, ◌≤ℤ◌};

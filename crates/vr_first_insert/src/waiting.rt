@@ -10,7 +10,7 @@ ghost use Rattle.vr_first_insert.specs.Waiting.{comes_later as comes_later_of, i
 ghost use Rattle.vr_first_insert.specs.Waiting.{least_told as least_told_of, waiting_candidates, with_waiting};
 ghost use Rattle.vr_first_insert.specs.Waiting.{AreBegun, IsLeastAnywhere, IsWaiting};
 
-use crate::asked::{AskedLists, Items, adds_at_least};
+use crate::best_in_lists::{AskedLists, Items, adds_at_least};
 use crate::choice::{InsertionChoice, may_improve};
 use crate::list_rows::ListRows;
 use std::alloc::Global;

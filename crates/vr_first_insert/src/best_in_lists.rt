@@ -7,7 +7,7 @@ ghost use Rattle.vr_first_insert.specs.Asking.{best_asked, best_asked_of_each, i
 ghost use Rattle.vr_first_insert.specs.Asking.{AreKnownInEach, MayAsk, MayAskEach, MayBeHeld};
 
 use crate::choice::InsertionChoice;
-use crate::known::{better_of, find_out, is_settled, least_in};
+use crate::known_best::{better_of, find_out, is_settled, least_in};
 use crate::known_items::KnownItems;
 use crate::list_rows::ListRows;
 use crate::scratch::InsertScratch;

@@ -6,7 +6,7 @@ ghost use Rattle.vr_first_insert.specs.Kept.{is_settled as is_settled_of, known_
 ghost use Rattle.vr_first_insert.specs.Kept.{AddsAtLeast, BestAddsAtLeast, IsForgotten};
 ghost use Rattle.vr_first_insert.specs.VehicleLists.{best_of_candidate, sought_in, tried_in, IsKnownOf, IsReadyList};
 ghost use Rattle.vr_first_insert.specs.KeptRows.{list_model};
-ghost use Rattle.vr_first_insert.specs.declared.known.KnownItem.TheVariants.{Nothing};
+ghost use Rattle.vr_first_insert.specs.declared.known_best.KnownItem.TheVariants.{Nothing};
 
 use crate::bound::{least_pair, least_visit};
 use crate::choice::{InsertionChoice, improves, may_improve};

@@ -6,7 +6,7 @@ use Rattle.vr_first_insert.specs.Kept.{candidate_at, BestAddsAtLeast}
 use Rattle.vr_first_insert.specs.Placings.{MayHold}
 use Rattle.vr_first_insert.proofs.RowLemmas.{list_at}
 use Rattle.vr_first_insert.proofs.ToldLemmas.{best-adds}
-use Rattle.vr_first_insert.proofs.asked.adds_at_least.Goals as goal
+use Rattle.vr_first_insert.proofs.best_in_lists.adds_at_least.Goals as goal
 
 pub invariant_of-list : goal.invariant_of-list
 invariant_of-list c =

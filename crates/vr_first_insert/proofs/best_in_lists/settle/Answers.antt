@@ -2,7 +2,7 @@ use Rattle.std.proofs.Common.{◌∙◌, ℕ, sym, subst}
 use Rattle.vr_model.specs.routes.Routes.{route}
 use Rattle.vr_first_insert.specs.Kept.{candidate_at, IsCandidateKnown}
 use Rattle.vr_first_insert.proofs.KeptLemmas.{settled-is}
-use Rattle.vr_first_insert.proofs.asked.settle.Goals as goal
+use Rattle.vr_first_insert.proofs.best_in_lists.settle.Goals as goal
 
 pub returns-then-is_settled-clause-best : goal.returns-then-is_settled-clause-best
 returns-then-is_settled-clause-best c =

@@ -5,7 +5,7 @@ use Rattle.vr_first_insert.specs.Placings.{best_in, MayHold}
 use Rattle.vr_first_insert.proofs.RowLemmas.{list_at}
 use Rattle.vr_first_insert.proofs.KeptLemmas.{known-written}
 use Rattle.vr_first_insert.specs.Ready.{IsListReady}
-use Rattle.vr_first_insert.proofs.asked.ask.Goals as goal
+use Rattle.vr_first_insert.proofs.best_in_lists.ask.Goals as goal
 
 pub invariant_of-of : goal.invariant_of-of
 invariant_of-of c =

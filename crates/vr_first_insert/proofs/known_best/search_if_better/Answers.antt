@@ -1,11 +1,11 @@
 use Rattle.std.proofs.Common.{◌≡◌, ◌∙◌, ap, cond, rules, sym, subst, to_z, of_z, w64}
 use Rattle.std.proofs.lemmas.Result.{IfOk-weaker}
-use Rattle.vr_first_insert.specs.declared.known.KnownItem.TheVariants.{AtLeast}
+use Rattle.vr_first_insert.specs.declared.known_best.KnownItem.TheVariants.{AtLeast}
 use Rattle.vr_first_insert.specs.Kept.{begun_with, best_of, IsCandidateKnown}
 use Rattle.vr_first_insert.specs.Placings.{may_improve}
 use Rattle.vr_first_insert.specs.VehicleLists.{best_of_candidate, sought_in, tried_in}
 use Rattle.vr_first_insert.proofs.ToldLemmas.{begun-better, begun-known, bound-passed_over}
-use Rattle.vr_first_insert.proofs.known.search_if_better.Goals as goal
+use Rattle.vr_first_insert.proofs.known_best.search_if_better.Goals as goal
 
 pub returns-then-not-may_improve-clause-better : goal.returns-then-not-may_improve-clause-better
 returns-then-not-may_improve-clause-better c =

@@ -1,7 +1,7 @@
 use Rattle.std.proofs.Common.{◌≡◌, ◌∙◌, ap, of_z, rules, subst, sym, to_z, w64}
 use Rattle.vr_first_insert.specs.Kept.{best_of, BestAddsAtLeast, IsCandidateKnown}
 use Rattle.vr_first_insert.proofs.ToldLemmas.{best-adds, best-merged}
-use Rattle.vr_first_insert.proofs.known.find_out.Goals as goal
+use Rattle.vr_first_insert.proofs.known_best.find_out.Goals as goal
 
 pub returns-in-Best-clause-better : goal.returns-in-Best-clause-better
 returns-in-Best-clause-better c =

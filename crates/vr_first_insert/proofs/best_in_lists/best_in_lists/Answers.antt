@@ -5,7 +5,7 @@ use Rattle.vr_first_insert.specs.Kept.{candidate_at, AreCandidatesKnown}
 use Rattle.vr_first_insert.specs.Placings.{best_in}
 use Rattle.vr_first_insert.proofs.InsertLemmas.{best_in_lists-more}
 use Rattle.vr_first_insert.proofs.KeptLemmas.{row-written}
-use Rattle.vr_first_insert.proofs.asked.best_in_lists.Goals as goal
+use Rattle.vr_first_insert.proofs.best_in_lists.best_in_lists.Goals as goal
 
 pub settle-requires : goal.settle-requires
 settle-requires c =

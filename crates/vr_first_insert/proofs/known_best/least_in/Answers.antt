@@ -1,6 +1,6 @@
 use Rattle.std.proofs.Common.{◌≡◌, rules, subst, sym, to_z, of_z, w64}
 use Rattle.vr_first_insert.specs.Kept.{AddsAtLeast}
-use Rattle.vr_first_insert.proofs.known.least_in.Goals as goal
+use Rattle.vr_first_insert.proofs.known_best.least_in.Goals as goal
 
 pub returns-in-PickupAndDelivery : goal.returns-in-PickupAndDelivery
 returns-in-PickupAndDelivery c =
