@@ -12,7 +12,6 @@
 //! A function owns one large value at most, and lends it on.
 #![tactic(auto)]
 
-mod asked;
 mod crossing;
 mod input;
 mod judged;
@@ -21,6 +20,7 @@ mod report;
 mod schedules;
 mod solved;
 mod stop;
+mod verdict;
 
 use crate::crossing::{time_crossings, time_meets};
 use crate::input::work_on_input;
