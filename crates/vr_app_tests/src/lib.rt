@@ -13,4 +13,4 @@ mod judged;
 #[cfg(test)]
 mod replies;
 #[cfg(test)]
-mod rows;
+mod run_rows;

@@ -8,7 +8,7 @@ use Rattle.vr_model.proofs.moves.KeptLists.{moves_keep_lists}
 use Rattle.vr_model.proofs.routes.Lists.{are-lists}
 use Rattle.vr_routes.specs.Pieces.{changed}
 use Rattle.vr_routes.specs.Tours.{Tours}
-use Rattle.vr_search_tests.proofs.rows.stays_valid.Goals as goal
+use Rattle.vr_search_tests.proofs.questions.stays_valid.Goals as goal
 
 pub valid-requires-clause-lists : goal.valid-requires-clause-lists
 valid-requires-clause-lists c =

@@ -7,9 +7,9 @@ ghost use Rattle.vr_model.specs.tables.Tables.{visits};
 ghost use Rattle.vr_routes.specs.Changes.{IsChange, IsMadeOn};
 ghost use Rattle.vr_routes.specs.Pieces.{changed};
 
-use crate::asked::{self, By, Question};
 use crate::cuts::{self, Cuts};
 use crate::filters::{self, Filter};
+use crate::judge_questions::{self, By, Question};
 use crate::kept;
 use crate::parts::{self, Part};
 use std::alloc::Global;
