@@ -1,6 +1,6 @@
 //! Lists whose rows are known.
 
-use crate::rows::Rows;
+use crate::level_rows::Rows;
 
 /// A list of a vehicle, and its rows in a dimension. Of the rows of a list without a visit nothing is said.
 #[derive(Clone, Copy)]

@@ -1,6 +1,6 @@
 use Rattle.std.proofs.Common.{refl}
 use Rattle.vr_reach.proofs.Tables.{ends_for, has_table, table_there}
-use Rattle.vr_reach.proofs.asked.asked_of.Goals as goal
+use Rattle.vr_reach.proofs.stops_of_list.asked_of.Goals as goal
 
 pub of-visits-requires-clause-vehicle : goal.of-visits-requires-clause-vehicle
 of-visits-requires-clause-vehicle c = has_table c.requires.stops
