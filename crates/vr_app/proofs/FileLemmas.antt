@@ -12,7 +12,7 @@ use Rattle.vr_tsplib.specs.Imported.{imported, model_of_lines}
 use Rattle.vr_tsplib.specs.Rows.{demand_of}
 use Rattle.vr_tsplib.specs.Trees.{demands, distance, file_nodes, fleet, loads, matrix, plane, plane_row, sites, square, square_row, tree_of, vehicle, weight}
 use Rattle.vr_tsplib.specs.declared.files.State.{State}
-use Rattle.vr_tsplib.specs.declared.rows.SiteRow.{SiteRow}
+use Rattle.vr_tsplib.specs.declared.section_rows.SiteRow.{SiteRow}
 use Rattle.vr_tsplib.specs.declared.summaries.Distances.{Distances}
 use Rattle.vr_tsplib.specs.declared.summaries.Distances.TheVariants.{Plane, Full, Lower}
 use Rattle.vr_tsplib.specs.declared.summaries.Problem.{Problem}

@@ -16,7 +16,7 @@ use Rattle.vr_model.specs.tables.Numbers.{below}
 use Rattle.vr_model.specs.declared.records.Matrix.{Matrix}
 use Rattle.vr_read.specs.Vehicles.{matrix as matrix_of}
 use Rattle.vr_gen.proofs.ExactReadings.{All-below, ReadsAs, step, whole_reads, array_each}
-use Rattle.vr_tsplib.specs.declared.rows.SiteRow.{SiteRow}
+use Rattle.vr_tsplib.specs.declared.section_rows.SiteRow.{SiteRow}
 use Rattle.vr_tsplib.specs.declared.files.State.{State}
 use Rattle.vr_tsplib.specs.declared.summaries.Distances.{Distances}
 use Rattle.vr_tsplib.specs.declared.summaries.Distances.TheVariants.{Plane, Full, Lower}

@@ -19,7 +19,7 @@ use Rattle.vr_read.specs.declared.formats.Format.TheVariants.{One}
 use Rattle.vr_read.specs.Vehicles.{vehicle as vehicle_of, ends, schedule}
 use Rattle.vr_read.specs.Dimensions.{evaluator, capped, name, transits, bounds, rows, span_costs, dimension}
 use Rattle.vr_gen.proofs.ExactReadings.{ReadsAs, step, whole_reads, below_reads, array_each}
-use Rattle.vr_tsplib.specs.declared.rows.DemandRow.{DemandRow}
+use Rattle.vr_tsplib.specs.declared.section_rows.DemandRow.{DemandRow}
 use Rattle.vr_tsplib.specs.declared.files.State.{State}
 use Rattle.vr_tsplib.specs.Ranges.{IsFew}
 use Rattle.vr_tsplib.specs.Rows.{demand_of, demand_row_of}

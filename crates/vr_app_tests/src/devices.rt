@@ -1,7 +1,7 @@
 //! Devices that fail at each call in turn, and input that is cut at each place.
 
 use crate::replies::{FIRST, THREE_NODES};
-use crate::rows::{Row, assert_row, ended};
+use crate::run_rows::{Row, assert_row, ended};
 use std::alloc::Global;
 use std::process::Abort;
 use std::test::Fail;

@@ -7,7 +7,7 @@
 //! - The judge of filters is asked (`judged`).
 //!
 //! A function owns one large value and lends it on, and a row that fails is named. The tests have a crate of their own,
-//! so that what they test is proved once. Nothing calls them. Start at `rows`, which says what a row asks.
+//! so that what they test is proved once. Nothing calls them. Start at `run_rows`, which says what a row asks.
 #![tactic(auto)]
 
 #[cfg(test)]
@@ -17,4 +17,4 @@ mod judged;
 #[cfg(test)]
 mod replies;
 #[cfg(test)]
-mod rows;
+mod run_rows;

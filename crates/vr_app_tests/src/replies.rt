@@ -1,7 +1,7 @@
 //! A row for each reply: with ample memory it is given. Its bytes are in the contract, and those of many models in the
 //! cases of the built program. And what ends a run that is watched.
 
-use crate::rows::{Row, assert_row, assert_source};
+use crate::run_rows::{Row, assert_row, assert_source};
 use std::alloc::Global;
 use std::process::Abort;
 use std::test::Fail;

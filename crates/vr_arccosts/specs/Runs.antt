@@ -26,7 +26,7 @@ pub record IsLine (model : Model) (v : ℕ) (list : List ℕ) (along : Along) : 
   pub sums : IsAlong model v list along
 
 -- a chain of nodes of a model, and what a change may add
-pub record IsPut (model : Model) (first last : ℕ) (base : ℤ) : Type 0 where
+pub record IsPutChain (model : Model) (first last : ℕ) (base : ℤ) : Type 0 where
   pub first_known : first < model.nodes
   pub last_known : last < model.nodes
   pub range : IsAddedByChange base

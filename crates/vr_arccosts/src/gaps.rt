@@ -6,7 +6,7 @@
 ghost use Rattle.std.specs.Prelude.{◌≡◌, ℕ, ◌+◌, ◌<◌, ◌≤◌, ◌+ℤ◌, ◌≤ℤ◌, length, slice_index};
 ghost use Rattle.vr_parts.specs.Bounds.{IsAddedByChange, IsAddedByList};
 ghost use Rattle.vr_arccosts.specs.Runs.{ends_added, gap_added};
-ghost use Rattle.vr_arccosts.specs.Runs.{pair_added, swap_added, turn_added, IsPut};
+ghost use Rattle.vr_arccosts.specs.Runs.{pair_added, swap_added, turn_added, IsPutChain};
 
 use crate::lines::Line;
 use vr_model::Pair;
@@ -66,7 +66,7 @@ pub struct Put<'p, 'a, 'm> {
     pub line: &'p Line<'a, 'm>,
     pub ends: Ends,
     pub base: i64,
-    pub ghost sound: { IsPut line.now.costs.model.now ends.first ends.last base },
+    pub ghost sound: { IsPutChain line.now.costs.model.now ends.first ends.last base },
 }
 
 impl<'a, 'm> Line<'a, 'm> {

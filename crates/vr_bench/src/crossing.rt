@@ -3,8 +3,8 @@
 ghost use Rattle.std.specs.Prelude.{◌≡◌, ◌<◌, ◌≤◌, ◌≤ℤ◌, ◌*◌, [], All, IfOk, OnOk, length, pos};
 ghost use Rattle.vr_model.specs.tables.WellFormed.{IsBreak};
 ghost use Rattle.vr_steps.specs.Arcs.{IsSoundHop};
+ghost use Rattle.vr_steps.specs.CumulRuns.{IsCumulRun};
 ghost use Rattle.vr_steps.specs.Levels.{AreLevels, IsCrossing, IsCumuls};
-ghost use Rattle.vr_steps.specs.Samples.{IsCumulRun};
 
 use crate::report::{TIMES, Timed, report};
 use crate::stop::Stop;

@@ -4,12 +4,12 @@ ghost use Rattle.std.specs.Prelude.{◌≡◌, IfOk, IfSome, IsTrue};
 ghost use Rattle.vr_model.specs.routes.Rules.{is_valid};
 ghost use Rattle.vr_model.specs.tables.Tables.{visits};
 
-use crate::asked::print_verdict;
 use crate::judged::time_judge;
 use crate::listed::time_moves;
 use crate::schedules::time_schedules;
 use crate::solved::Solved;
 use crate::stop::Stop;
+use crate::verdict::print_verdict;
 use serde_json::Value;
 use std::alloc::Global;
 use vr_io::{StdSource, read_all};

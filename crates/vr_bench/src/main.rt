@@ -15,7 +15,6 @@
 //! A function owns one large value at most, and lends it on. Start at `input`, which chooses the work.
 #![tactic(auto)]
 
-mod asked;
 mod crossing;
 mod input;
 mod judged;
@@ -24,6 +23,7 @@ mod report;
 mod schedules;
 mod solved;
 mod stop;
+mod verdict;
 
 use crate::crossing::{time_crossings, time_meets};
 use crate::input::work_on_input;

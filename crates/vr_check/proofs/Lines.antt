@@ -15,7 +15,7 @@ use Rattle.vr_model.specs.deciding.Testing.{within_is, test_of_within}
 use Rattle.vr_model.specs.declared.records.Model.{Model}
 use Rattle.vr_model.specs.declared.records.StopRow.{StopRow}
 use Rattle.vr_check.specs.Asked.{arc_count, is_let, keeps_fixed_start, asked_line}
-use Rattle.vr_check.specs.declared.asked.AskedLine.{AskedLine}
+use Rattle.vr_check.specs.declared.asked_line.AskedLine.{AskedLine}
 
 ends_and_middle : {B : Type 0} (f : ℕ → B) (list : List ℕ) (first last : B) → length (first ∷ (map f list ++ last ∷ [])) ≡ length list + 2
 ends_and_middle f list first last = omega (arith, length-append (map f list) (last ∷ []), length-map list f)

@@ -6,7 +6,7 @@ use Rattle.vr_model.specs.tables.Tables.{dimension_at}
 use Rattle.vr_model.specs.routes.Routes.{stops}
 use Rattle.vr_model.specs.schedules.Lines.{Line, line, stop_rows, stop_allows}
 use Rattle.vr_model.specs.declared.records.StopRow.{StopRow}
-use Rattle.vr_check.specs.declared.asked.AskedLine.{AskedLine}
+use Rattle.vr_check.specs.declared.asked_line.AskedLine.{AskedLine}
 
 -- the line that is asked
 abbrev pub asked_line : AskedLine → Line

@@ -14,7 +14,7 @@
 //! The check calls `vr_printed`, which reads the tree.
 //!
 //! Start at `checking`, which has the order of the rules, and at `finding`, which has their names and what is answered.
-//! `printed` and `asked` are what they are asked of: routes and plans beside the model, and the line of a plan. The
+//! `printed` and `asked_line` are what they are asked of: routes and plans beside the model, and the line of a plan. The
 //! rules come in this order:
 //!
 //! - the shape, which `vr_printed` asks as it reads;
@@ -28,7 +28,7 @@
 //! if no rule is broken.
 #![tactic(auto)]
 
-mod asked;
+mod asked_line;
 mod breaks;
 mod checking;
 mod costs;

@@ -4,7 +4,7 @@ ghost use Rattle.std.proofs.Props.{props};
 ghost use Rattle.std.specs.Prelude.{◌≡◌, ◌<◌, length};
 ghost use Rattle.vr_check.specs.Kept.{FitsLine, IsRouteOf, IsSolutionOf};
 
-use crate::asked::AskedLine;
+use crate::asked_line::AskedLine;
 use vr_model::{Closed, Seq};
 use vr_printed::{Printed, PrintedPlan, PrintedRoute};
 

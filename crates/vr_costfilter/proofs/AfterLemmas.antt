@@ -13,7 +13,7 @@ use Rattle.vr_model.specs.declared.records.Model.{Model}
 use Rattle.vr_spans.specs.declared.runs.Run.{Run}
 use Rattle.vr_plan.specs.Bounds.{cumul_cost}
 use Rattle.vr_costfilter.specs.Floors.{end_step, first_step_or, first_step, nodes_in, AreAimed, IsVisitStep, WentBack}
-use Rattle.vr_costfilter.specs.Steps.{AreSteps, HasLed, HasSetOut}
+use Rattle.vr_costfilter.specs.Steps.{AreSteps, IsLeadAlong, IsOutsetOf}
 use Rattle.vr_costfilter.specs.Runs.{starting, Runs, AllowsRuns}
 use Rattle.vr_costfilter.specs.Stages.{along, paid_more, setting_out, along_to_end}
 use Rattle.vr_costfilter.specs.declared.guides.Stage.{Stage}
@@ -48,19 +48,19 @@ pub back-anew : {model : Model} {d v : ℕ} {runs : Runs} {nodes : List ℕ} {ne
 back-anew {model} {d} {v} {runs} {nodes} {next} {first} {old} {new} none back = subst (λ l. WentBack model d v runs nodes next l new first) none back
 
 -- the list that was walked along is this one
-pub led-along : {model : Model} {d v : ℕ} {runs : Runs} {kept between trail : List Step} {first : Step} {lead : Lead} {list old : List ℕ} (front : ℕ) → list ≡ old → HasLed model d v runs kept (take front list) first between trail lead
-    → HasLed model d v runs kept (take front old) first between trail lead
-led-along {model} {d} {v} {runs} {kept} {between} {trail} {first} {lead} {list} {old} front is led = subst (λ (l : List ℕ). HasLed model d v runs kept (take front l) first between trail lead) is led
+pub led-along : {model : Model} {d v : ℕ} {runs : Runs} {kept between trail : List Step} {first : Step} {lead : Lead} {list old : List ℕ} (front : ℕ) → list ≡ old → IsLeadAlong model d v runs kept (take front list) first between trail lead
+    → IsLeadAlong model d v runs kept (take front old) first between trail lead
+led-along {model} {d} {v} {runs} {kept} {between} {trail} {first} {lead} {list} {old} front is led = subst (λ (l : List ℕ). IsLeadAlong model d v runs kept (take front l) first between trail lead) is led
 
 -- what is on a trail, back along the middle of a list and then along a part of its front
-trail-is : (model : Model) (d v : ℕ) (runs : Runs) (kept : List Step) (nodes middle : List ℕ) (next first : Step) (between trail : List Step) (lead : Lead) (back : WentBack model d v runs middle next [] between first) (led : HasLed model d v runs kept nodes first between trail lead)
+trail-is : (model : Model) (d v : ℕ) (runs : Runs) (kept : List Step) (nodes middle : List ℕ) (next first : Step) (between trail : List Step) (lead : Lead) (back : WentBack model d v runs middle next [] between first) (led : IsLeadAlong model d v runs kept nodes first between trail lead)
     → reverse trail ≡ led.steps ++ back.steps
 trail-is model d v runs kept nodes middle next first between trail lead back led =
     ap reverse (led.trail ∙ ap (λ l. l ++ reverse led.steps) back.trail) ∙ reverse-append (reverse back.steps) (reverse led.steps)
     ∙ ap₂ (λ (xs ys : List Step). xs ++ ys) (reverse-reverse led.steps) (reverse-reverse back.steps)
 
 pub trail-known : {model : Model} {d v : ℕ} {runs : Runs} {kept : List Step} {nodes middle : List ℕ} {next first : Step} {between trail : List Step} {lead : Lead} → WentBack model d v runs middle next [] between first
-    → HasLed model d v runs kept nodes first between trail lead → All (IsVisitStep model) (reverse trail)
+    → IsLeadAlong model d v runs kept nodes first between trail lead → All (IsVisitStep model) (reverse trail)
 trail-known {model} {d} {v} {runs} {kept} {nodes} {middle} {next} {first} {between} {trail} {lead} back led =
     subst (All (IsVisitStep model)) (sym (trail-is model d v runs kept nodes middle next first between trail lead back led)) (All-append (IsVisitStep model) led.steps back.steps led.known back.known)
 
@@ -104,7 +104,7 @@ module _ {model : Model} {d v : ℕ} {runs : Runs} {old : List ℕ} {steps : Lis
         begin-unmet (begin-stuck model d v runs new (take front old) (middle ++ drop behind old) last first around.joins tail none)
 
   -- new steps were put on a trail back along its middle and along a part of the front
-  module _ {first : Step} {between trail : List Step} (back : WentBack model d v runs middle next [] between first) {lead : Lead} (led : HasLed model d v runs steps (take front old) first between trail lead) where
+  module _ {first : Step} {between trail : List Step} (back : WentBack model d v runs middle next [] between first) {lead : Lead} (led : IsLeadAlong model d v runs steps (take front old) first between trail lead) where
     abbrev fronts : List Step
     fronts = take lead.place steps ++ led.steps
 
@@ -156,7 +156,7 @@ module _ {model : Model} {d v : ℕ} {runs : Runs} {old : List ℕ} {steps : Lis
           ∙ whole-none model d v runs left)
 
     -- it has come along the kept ones
-    module _ {met : Outset} (out : HasSetOut model d v runs start steps lead met) where
+    module _ {met : Outset} (out : IsOutsetOf model d v runs start steps lead met) where
       from-out : along_to_end model d v runs (Some out.first) (fronts ++ left) ≡ option_map (paid_more met.more) (along_to_end model d v runs (Some met.stage) (led.steps ++ left))
       from-out =
           whole-append model d v runs (Some out.first) fronts left

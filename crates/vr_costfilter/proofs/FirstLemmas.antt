@@ -5,7 +5,7 @@ use Rattle.vr_spans.specs.declared.runs.Run.{Run}
 use Rattle.vr_model.specs.declared.records.Model.{Model}
 use Rattle.vr_costfilter.specs.Floors.{before, first_step_or, first_step, nodes_in, AreAimed, WentBack}
 use Rattle.vr_costfilter.specs.Runs.{starting, Runs}
-use Rattle.vr_costfilter.specs.Steps.{HasLed}
+use Rattle.vr_costfilter.specs.Steps.{IsLeadAlong}
 use Rattle.vr_costfilter.specs.declared.steps.Lead.{Lead}
 use Rattle.vr_costfilter.specs.declared.trails.Step.{Step}
 use Rattle.vr_costfilter.proofs.FloorLemmas.{aimed-first, aimed-rest}
@@ -38,7 +38,7 @@ module _ (model : Model) (d v : ℕ) (runs : Runs) where
   pub went-begin : (nodes : List ℕ) (next first : Step) (old new : List Step) → WentBack model d v runs nodes next old new first → first_step model d v runs nodes next ≡ Some first
   went-begin nodes next first old new w = steps-begin nodes w.steps next w.nodes_are w.aimed ∙ ap (λ (s : Step). Some s) (sym w.first_is)
 
-  pub led-begin : (kept : List Step) (nodes : List ℕ) (next : Step) (old new : List Step) (lead : Lead) (w : HasLed model d v runs kept nodes next old new lead) → first_step model d v runs nodes next ≡ Some lead.first
+  pub led-begin : (kept : List Step) (nodes : List ℕ) (next : Step) (old new : List Step) (lead : Lead) (w : IsLeadAlong model d v runs kept nodes next old new lead) → first_step model d v runs nodes next ≡ Some lead.first
   led-begin kept nodes next old new lead w = steps-begin nodes _ next w.nodes_are w.aimed ∙ ap (λ (s : Step). Some s) (sym w.first_is)
 
   -- there is none where there is none of some of the last visits

@@ -5,7 +5,7 @@ use Rattle.std.proofs.lemmas.Int.{ints}
 use Rattle.std.proofs.lemmas.List.{get_or-drop, get_or-take, get_or_default, length-take-le, map-append, take-append-drop, take-map, take_more}
 use Rattle.vr_model.specs.declared.records.Model.{Model}
 use Rattle.vr_costfilter.specs.Floors.{before, end_step, first_step_or, AreAimed, IsStep, WentBack}
-use Rattle.vr_costfilter.specs.Steps.{AreAllStages, HasLed, HasSetOut, IsKeptLead}
+use Rattle.vr_costfilter.specs.Steps.{AreAllStages, IsKeptLead, IsLeadAlong, IsOutsetOf}
 use Rattle.vr_costfilter.specs.Runs.{Runs}
 use Rattle.vr_costfilter.specs.Stages.{along, paid_more, setting_out, IsStageOf}
 use Rattle.vr_costfilter.specs.declared.guides.Stage.{Stage}
@@ -47,7 +47,7 @@ module _ (model : Model) (d v : ℕ) (runs : Runs) (list : List ℕ) (steps : Li
   pub led-kept : (front i : ℕ) (next first step lead : Step) (old new : List Step) → i < front → front ≤ length list
       → WentBack model d v runs (drop (i + 1) (take front list)) next old new first
       → before model d v runs (slice_index_or steps i (end_step model v runs)).node first ≡ Some step → step.floor ≡ (slice_index_or steps i (end_step model v runs)).floor
-      → lead ≡ slice_index_or steps 0 (end_step model v runs) → HasLed model d v runs steps (take front list) next old new (record { place = i + 1; first = lead })
+      → lead ≡ slice_index_or steps 0 (end_step model v runs) → IsLeadAlong model d v runs steps (take front list) next old new (record { place = i + 1; first = lead })
   led-kept front i next first step lead old new low le w e floor is =
       let many = many-steps model d v runs list steps are.steps_are in
       let known : i < length steps = omega (arith, low, le, many) in
@@ -68,7 +68,7 @@ module _ (model : Model) (d v : ℕ) (runs : Runs) (list : List ℕ) (steps : Li
 
   -- the stage that is kept behind the kept steps of a lead
   pub met-kept : (lead : Lead) (met : Outset) (other : Stage) → 0 < lead.place → lead.place ≤ length list → IsKeptLead steps lead → met.stage ≡ slice_index_or stages lead.place other
-      → met.start ≡ (slice_index_or stages 0 other).cumul → met.more ≡ pos 0 → IsStageOf model 1002 met.stage → HasSetOut model d v runs runs.start steps lead met
+      → met.start ≡ (slice_index_or stages 0 other).cumul → met.more ≡ pos 0 → IsStageOf model 1002 met.stage → IsOutsetOf model d v runs runs.start steps lead met
   met-kept lead met other some le kept stage start more range = record {
     first = slice_index_or stages 0 other;
     out = ap (setting_out model d v runs) (kept some end) ∙ kept-out model d v runs list steps stages are other;
@@ -94,7 +94,7 @@ module _ (model : Model) (d v : ℕ) (runs : Runs) (list : List ℕ) (steps : Li
 
 -- no floor of the front is as kept
 pub led-none : (model : Model) (d v : ℕ) (runs : Runs) (kept : List Step) (nodes : List ℕ) (next first : Step) (old new : List Step) → WentBack model d v runs nodes next old new first → IsStep model first
-    → HasLed model d v runs kept nodes next old new (record { place = 0; first = first })
+    → IsLeadAlong model d v runs kept nodes next old new (record { place = 0; first = first })
 led-none model d v runs kept nodes next first old new w range = record {
   steps = w.steps;
   place = omega arith;
@@ -109,7 +109,7 @@ led-none model d v runs kept nodes next first old new w range = record {
 
 -- the stage at the start, where no step of a lead is kept
 pub met-start : (model : Model) (d v : ℕ) (runs : Runs) (kept : List Step) (lead : Lead) (met : Outset) → lead.place ≡ 0 → setting_out model d v runs lead.first ≡ Some met.stage → met.start ≡ met.stage.cumul → met.more ≡ pos 0
-    → IsStageOf model 1002 met.stage → HasSetOut model d v runs runs.start kept lead met
+    → IsStageOf model 1002 met.stage → IsOutsetOf model d v runs runs.start kept lead met
 met-start model d v runs kept lead met none out start more range = record {
   first = met.stage;
   out = out;

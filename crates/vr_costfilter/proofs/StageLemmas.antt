@@ -13,7 +13,7 @@ use Rattle.vr_model.specs.declared.records.Model.{Model}
 use Rattle.vr_model.specs.declared.records.StopRow.{StopRow}
 use Rattle.vr_reach.specs.Early.{has_cumul_behind, IsEarliestBehind}
 use Rattle.vr_costfilter.specs.Runs.{Runs}
-use Rattle.vr_costfilter.specs.Stages.{along, go_on, is_had, next_cumul, paid_more, to_end, to_visit, visit_more, along_to_end, IsStageOf}
+use Rattle.vr_costfilter.specs.Stages.{along, go_on, can_go_on, next_cumul, paid_more, to_end, to_visit, visit_more, along_to_end, IsStageOf}
 use Rattle.vr_costfilter.specs.declared.guides.Stage.{Stage}
 use Rattle.vr_costfilter.specs.declared.trails.Step.{Step}
 
@@ -25,7 +25,7 @@ pub record IsBehind (t s : ℤ) (node : ℕ) (allowed : Run) (row : Option StopR
   pub at : next.at ≡ node
   pub soft : next.soft ≡ stage.soft +ℤ row_cost row next.cumul
 
-pub had-so : (cumul t s : ℤ) (allowed : Run) → IsTrue (is_had cumul t s allowed) → IsEarliestBehind cumul t s allowed (next_cumul cumul t allowed)
+pub had-so : (cumul t s : ℤ) (allowed : Run) → IsTrue (can_go_on cumul t s allowed) → IsEarliestBehind cumul t s allowed (next_cumul cumul t allowed)
 had-so cumul t s allowed had =
     let two = and_parts (int_le (next_cumul cumul t allowed) allowed.hi) (int_le (next_cumul cumul t allowed -ℤ (cumul +ℤ t)) s) had in
     record { least = refl; most = grind (arith, ints, two.0); slack = grind (arith, ints, two.1) }
@@ -35,9 +35,9 @@ some-same a b e = ap (λ o. unwrap_or o a) e
 
 -- what is gone on to follows
 pub gone : (t s : ℤ) (node : ℕ) (allowed : Run) (row : Option StopRow) (stage next : Stage) → go_on t s node allowed row stage ≡ Some next → IsBehind t s node allowed row stage next
-gone t s node allowed row stage next e = by (is_had stage.cumul t s allowed) refl e
+gone t s node allowed row stage next e = by (can_go_on stage.cumul t s allowed) refl e
   where
-    by : (b : Bool) → is_had stage.cumul t s allowed ≡ b
+    by : (b : Bool) → can_go_on stage.cumul t s allowed ≡ b
         → cond b (Some (record { at = node; cumul = next_cumul stage.cumul t allowed; soft = stage.soft +ℤ row_cost row (next_cumul stage.cumul t allowed) })) None ≡ Some next
         → IsBehind t s node allowed row stage next
     by true had e =
@@ -52,7 +52,7 @@ going t s node allowed row stage cumul soft is costs =
     let least = is.least in
     let a : IsTrue (int_le cumul allowed.hi) = grind (arith, ints, is.most) in
     let b : IsTrue (int_le (cumul -ℤ (stage.cumul +ℤ t)) s) = grind (arith, ints, is.slack) in
-    let had : is_had stage.cumul t s allowed ≡ true = subst (λ c. IsTrue (int_le c allowed.hi && int_le (c -ℤ (stage.cumul +ℤ t)) s)) least (and_from _ _ a b) in
+    let had : can_go_on stage.cumul t s allowed ≡ true = subst (λ c. IsTrue (int_le c allowed.hi && int_le (c -ℤ (stage.cumul +ℤ t)) s)) least (and_from _ _ a b) in
     ap (λ b. cond b (Some (record { at = node; cumul = next_cumul stage.cumul t allowed; soft = stage.soft +ℤ row_cost row (next_cumul stage.cumul t allowed) })) None) had
     ∙ ap₂ (λ (c : ℤ) (x : ℤ). Some (record { at = node; cumul = c; soft = x })) (sym least) (ap (λ c. stage.soft +ℤ row_cost row c) (sym least) ∙ sym costs)
 
@@ -71,7 +71,7 @@ pub stuck-as : (t s : ℤ) (node : ℕ) (allowed : Run) (row : Option StopRow) (
 stuck-as t s node allowed row stage from t_read s_read from_is t_is s_is none =
     let a = subst (λ x. has_cumul_behind x t_read s_read allowed ≡ false) from_is none in
     let b = subst (λ x. has_cumul_behind stage.cumul x s_read allowed ≡ false) t_is a in
-    let c : is_had stage.cumul t s allowed ≡ false = subst (λ x. has_cumul_behind stage.cumul t x allowed ≡ false) s_is b in
+    let c : can_go_on stage.cumul t s allowed ≡ false = subst (λ x. has_cumul_behind stage.cumul t x allowed ≡ false) s_is b in
     ap (λ b. cond b (Some (record { at = node; cumul = next_cumul stage.cumul t allowed; soft = stage.soft +ℤ row_cost row (next_cumul stage.cumul t allowed) })) None) c
 
 -- the numbers of a stage of fewer stops
@@ -89,7 +89,7 @@ swapped : (a b c : ℤ) → (a +ℤ b) +ℤ c ≡ (a +ℤ c) +ℤ b
 swapped a b c = omega (arith, ints)
 
 go-shift : (z t s : ℤ) (node : ℕ) (allowed : Run) (row : Option StopRow) (stage : Stage) → go_on t s node allowed row (paid_more z stage) ≡ option_map (paid_more z) (go_on t s node allowed row stage)
-go-shift z t s node allowed row stage = by (is_had stage.cumul t s allowed)
+go-shift z t s node allowed row stage = by (can_go_on stage.cumul t s allowed)
   where
     c : ℤ
     c = next_cumul stage.cumul t allowed

@@ -12,7 +12,7 @@ use Rattle.vr_model.specs.declared.records.ScheduleRule.{ScheduleRule}
 use Rattle.vr_costfilter.specs.GuideRuns.{IsGuideBy}
 use Rattle.vr_costfilter.specs.Kept.{IsKept}
 use Rattle.vr_costfilter.specs.Runs.{Runs, AllowsRuns}
-use Rattle.vr_costfilter.specs.declared.asked.Asked.{Asked}
+use Rattle.vr_costfilter.specs.declared.changed_list.Asked.{Asked}
 use Rattle.vr_costfilter.specs.declared.kept.KeptList.{KeptList}
 
 -- the list that the vehicle has

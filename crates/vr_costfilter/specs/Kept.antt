@@ -14,8 +14,8 @@ use Rattle.vr_reach.specs.VisitRuns.{have_stops_one_run}
 use Rattle.vr_costfilter.specs.KeptWays.{HasCumuls, HasWaysBy, HaveKeptWays}
 use Rattle.vr_costfilter.specs.Runs.{between_runs, Runs, AreRuns}
 use Rattle.vr_costfilter.specs.Steps.{HasStages}
-use Rattle.vr_costfilter.specs.declared.dimensions.Paid.{Paid}
-use Rattle.vr_costfilter.specs.declared.dimensions.Paid.TheVariants.{Alone, Together}
+use Rattle.vr_costfilter.specs.declared.all_cumuls.Paid.{Paid}
+use Rattle.vr_costfilter.specs.declared.all_cumuls.Paid.TheVariants.{Alone, Together}
 use Rattle.vr_costfilter.specs.KeptWays.{KeptTightWays}
 use Rattle.vr_costfilter.specs.declared.kept.KeptList.{KeptList}
 

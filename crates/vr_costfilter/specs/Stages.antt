@@ -21,13 +21,13 @@ abbrev pub next_cumul : ℤ → ℤ → Run → ℤ
 next_cumul cumul t allowed = int_max (cumul +ℤ t) allowed.lo
 
 -- the stop allows it, and the slack is at most s
-abbrev pub is_had : ℤ → ℤ → ℤ → Run → Bool
-is_had cumul t s allowed =
+abbrev pub can_go_on : ℤ → ℤ → ℤ → Run → Bool
+can_go_on cumul t s allowed =
     int_le (next_cumul cumul t allowed) allowed.hi && int_le (next_cumul cumul t allowed -ℤ (cumul +ℤ t)) s
 
 -- a vehicle goes on to a node, over an arc that takes t and at most s more; none if it cannot reach it so
 abbrev pub go_on : ℤ → ℤ → ℕ → Run → Option StopRow → Stage → Option Stage
-go_on t s node allowed row stage = cond (is_had stage.cumul t s allowed)
+go_on t s node allowed row stage = cond (can_go_on stage.cumul t s allowed)
     (Some (record {
       at = node;
       cumul = next_cumul stage.cumul t allowed;

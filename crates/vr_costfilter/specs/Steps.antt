@@ -81,7 +81,7 @@ abbrev pub first_led : Lead → Step
 first_led lead = lead.first
 
 -- of the steps to these nodes, before the next step, the first ones are kept, and the others were put on a trail
-pub record HasLed (model : Model) (d v : ℕ) (runs : Runs) (kept : List Step) (nodes : List ℕ) (next : Step)
+pub record IsLeadAlong (model : Model) (d v : ℕ) (runs : Runs) (kept : List Step) (nodes : List ℕ) (next : Step)
     (old new : List Step) (lead : Lead) : Type 0 where
   pub steps : List Step
   pub place : lead.place ≤ length nodes
@@ -99,14 +99,14 @@ reached met = paid_more met.more met.stage
 
 -- a vehicle comes to a kept stage, and the end is kept too. What was paid is in range: up to the end, up to the kept
 -- stage, and on the way of the vehicle. The cumul of the end is in range too.
-pub record AreMet (end kept gone : Stage) : Type 0 where
+pub record AreStagesInRange (end kept gone : Stage) : Type 0 where
   pub end_paid : IsIn (pos 0) (pos (cumul_cost * 1002)) end.soft
   pub end_cumul : IsIn (pos 0) horizon end.cumul
   pub kept_paid : IsIn (pos 0) (pos (cumul_cost * 1002)) kept.soft
   pub gone_paid : IsIn (pos 0) (pos (cumul_cost * 4000)) gone.soft
 
 -- along these steps a stage comes to another one, with this much more paid on the way (less if it is negative)
-pub record HasPaced (model : Model) (d v : ℕ) (runs : Runs) (steps : List Step) (out : Stage) (met : Outset) :
+pub record LeadsTo (model : Model) (d v : ℕ) (runs : Runs) (steps : List Step) (out : Stage) (met : Outset) :
     Type 0 where
   pub start : met.start ≡ out.cumul
   pub gone : along model d v runs (Some out) steps ≡ Some (reached met)
@@ -114,8 +114,8 @@ pub record HasPaced (model : Model) (d v : ℕ) (runs : Runs) (steps : List Step
   pub more : IsIn (neg_ℤ (pos (cumul_cost * 1002))) (pos (cumul_cost * 1002)) met.more
 
 -- the same along the kept steps of a lead, from the stage at a start that allows this run
-pub record HasSetOut (model : Model) (d v : ℕ) (runs : Runs) (start : Run) (kept : List Step) (lead : Lead)
+pub record IsOutsetOf (model : Model) (d v : ℕ) (runs : Runs) (start : Run) (kept : List Step) (lead : Lead)
     (met : Outset) : Type 0 where
   pub first : Stage
   pub out : setting_out model d v (starting runs start) lead.first ≡ Some first
-  pub paced : HasPaced model d v runs (take lead.place kept) first met
+  pub paced : LeadsTo model d v runs (take lead.place kept) first met

@@ -16,7 +16,7 @@ ghost use Rattle.vr_costfilter.specs.GlobalCosts.{AreSpansReady, AreSpansKnown, 
 ghost use Rattle.vr_parts.specs.Parts.{CostAlike};
 ghost use Rattle.vr_costfilter.specs.Spreads.{global_least};
 
-use crate::dimensions::AllCumuls;
+use crate::all_cumuls::AllCumuls;
 use crate::orders::SortedEnds;
 use crate::reaches::{ListTimings, SpanRules, vehicles_of};
 use crate::scratch::Scratch;

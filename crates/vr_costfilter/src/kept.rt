@@ -28,7 +28,7 @@ ghost use Rattle.vr_costfilter.specs.LookedUp.{IsLookedUp};
 ghost use Rattle.vr_costfilter.specs.Runs.{between_runs, AllowsRuns};
 ghost use Rattle.vr_costfilter.specs.Steps.{HasStages};
 
-use crate::asked::Asked;
+use crate::changed_list::Asked;
 use crate::guides::Guide;
 use crate::kept_ways::KeptWays;
 use crate::steps::KeptSteps;

@@ -34,14 +34,14 @@
 //! Start reading at `plan_cost` and `kept`. In names and below, a route is a `list`:
 //! - `plan_cost` asks `schedule_costs` what schedules cost. `global_span` asks `reaches`, which has the sorted ends of
 //!   `orders` (over `order`).
-//! - `kept` has all that is kept in one dimension, `dimensions` in all of them.
+//! - `kept` has all that is kept in one dimension, `all_cumuls` in all of them.
 //! - `trails` has steps, which are stops with their floors. `guides` has what is looked up of a vehicle to go along
 //!   them, and stages: how far it has come, and what it has paid.
 //! - `with_guide` finds floors back along the visits that a vehicle gets. `steps` keeps the steps and the stages of a
 //!   list, and tells what a change makes of them.
 //! - `tight` has the way of a vehicle that waits for the begins of runs alone, and the two ends of a whole way. `rests`
 //!   has what is left of a line, and `kept_ways` keeps ways and rests of a list.
-//! - `asked` has a list that comes in the place of another, with the two ends of its tight schedule and the walk along
+//! - `changed_list` has a list that comes in the place of another, with the two ends of its tight schedule and the walk along
 //!   it.
 //! - `early_change` has how early the lists after a change can end and how short their spans can be. That bounds what a
 //!   change costs at least; for global spans `spreads` does it.
@@ -49,8 +49,8 @@
 //!   lent.
 #![tactic(auto)]
 
-mod asked;
-mod dimensions;
+mod all_cumuls;
+mod changed_list;
 mod early_change;
 mod global_span;
 mod guides;
@@ -72,7 +72,7 @@ mod trails;
 mod with_guide;
 
 // `vr_judge` takes `PlanCost` and `GlobalSpan`, and the other parts from their own crates; all else is for tests alone.
-pub use dimensions::{AllCumuls, Paid};
+pub use all_cumuls::{AllCumuls, Paid};
 pub use global_span::GlobalSpan;
 pub use parts_after::PartAfter;
 pub use plan_cost::PlanCost;

@@ -13,7 +13,7 @@ ghost use Rattle.vr_costfilter.specs.Known.{IsValidChange};
 ghost use Rattle.vr_costfilter.specs.PlanCosts.{plans_least, ArePlansLike, ArePlansKnown, IsPlanChange, IsPlanCost};
 ghost use Rattle.vr_costfilter.specs.PlanCosts.{StandsPlans};
 
-use crate::dimensions::AllCumuls;
+use crate::all_cumuls::AllCumuls;
 use crate::schedule_costs::PlanRules;
 use crate::scratch::Scratch;
 use arrayvec::ArrayVec;

@@ -21,7 +21,7 @@ ghost use Rattle.vr_costfilter.specs.GlobalCosts.{is_some_spanned, IsTimedIfPaid
 ghost use Rattle.vr_costfilter.specs.Spreads.{global_least};
 ghost use Rattle.vr_costfilter.specs.PartsAfter.{list_after, vehicle_after};
 
-use crate::dimensions::{AllCumuls, Paid};
+use crate::all_cumuls::{AllCumuls, Paid};
 use crate::early_change::EarlyChange;
 use crate::orders::{SortedEnds, beside};
 use crate::parts_after::PartAfter;

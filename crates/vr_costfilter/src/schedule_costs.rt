@@ -22,7 +22,7 @@ ghost use Rattle.vr_costfilter.specs.PlanCosts.{cost_after, pays_no_plan, plans_
 ghost use Rattle.vr_costfilter.specs.PlanCosts.{IsPlanCost, IsPlanCostIn};
 ghost use Rattle.vr_costfilter.specs.PartsAfter.{list_after, vehicle_after};
 
-use crate::dimensions::{AllCumuls, Paid};
+use crate::all_cumuls::{AllCumuls, Paid};
 use crate::early_change::EarlyChange;
 use crate::parts_after::PartAfter;
 use crate::scratch::Scratch;

@@ -15,12 +15,12 @@ ghost use Rattle.vr_costfilter.specs.GuideRuns.{runs_of};
 ghost use Rattle.vr_costfilter.specs.Floors.{end_step, first_step, IsStep};
 ghost use Rattle.vr_costfilter.specs.Runs.{only as only_of, start_run, starting, AllowsRuns};
 ghost use Rattle.vr_costfilter.specs.Steps.{steps_of, AreKnownSteps, AreStepsFrom};
-ghost use Rattle.vr_costfilter.specs.Steps.{AreMet};
-ghost use Rattle.vr_costfilter.specs.Steps.{first_led, reached, HasLed, HasPaced, HasSetOut, HasStages, IsLead};
+ghost use Rattle.vr_costfilter.specs.Steps.{AreStagesInRange};
+ghost use Rattle.vr_costfilter.specs.Steps.{first_led, reached, HasStages, IsLead, IsLeadAlong, IsOutsetOf, LeadsTo};
 ghost use Rattle.vr_costfilter.specs.Stages.{along, paid_more, setting_out, stage_at_start, along_to_end, IsAtStart};
 ghost use Rattle.vr_costfilter.specs.Stages.{IsStageOf};
 
-use crate::asked::Asked;
+use crate::changed_list::Asked;
 use crate::guides::{Guide, Stage};
 use crate::tight::only;
 use crate::trails::{Step, Trail};
@@ -197,7 +197,7 @@ impl<'a, 'm> KnownSteps<'a, 'm> {
             (setting_out self.now.guide.now.model.now self.now.guide.now.d self.now.guide.now.v
             (starting (runs_of self.now.guide.now) (start_run (runs_of self.now.guide.now) start)) lead.first)
             (take lead.place (steps_of self.now.kept.now)) }
-        ensures met { IfSome result (HasSetOut self.now.guide.now.model.now self.now.guide.now.d self.now.guide.now.v
+        ensures met { IfSome result (IsOutsetOf self.now.guide.now.model.now self.now.guide.now.d self.now.guide.now.v
             (runs_of self.now.guide.now)
             (start_run (runs_of self.now.guide.now) start) (steps_of self.now.kept.now) lead) }
     {
@@ -234,7 +234,7 @@ impl<'a, 'm> KnownSteps<'a, 'm> {
             ≡ first_step self.now.guide.now.model.now self.now.guide.now.d self.now.guide.now.v
             (runs_of self.now.guide.now)
             (take front self.now.list.now) next }
-        ensures led { IfSome result (HasLed self.now.guide.now.model.now self.now.guide.now.d self.now.guide.now.v
+        ensures led { IfSome result (IsLeadAlong self.now.guide.now.model.now self.now.guide.now.d self.now.guide.now.v
             (runs_of self.now.guide.now)
             (steps_of self.now.kept.now) (take front self.now.list.now) next trail.old.steps.items
             trail.new.steps.items) }
@@ -271,7 +271,7 @@ impl<'a, 'm> KnownSteps<'a, 'm> {
             (setting_out self.now.guide.now.model.now self.now.guide.now.d self.now.guide.now.v
             (runs_of self.now.guide.now) lead.first)
             (take lead.place (steps_of self.now.kept.now)) }
-        ensures met { IfSome result (HasSetOut self.now.guide.now.model.now self.now.guide.now.d self.now.guide.now.v
+        ensures met { IfSome result (IsOutsetOf self.now.guide.now.model.now self.now.guide.now.d self.now.guide.now.v
             (runs_of self.now.guide.now)
             (runs_of self.now.guide.now).start (steps_of self.now.kept.now) lead) }
     {
@@ -331,7 +331,7 @@ impl<'a, 'm> KnownSteps<'a, 'm> {
             (setting_out self.now.guide.now.model.now self.now.guide.now.d self.now.guide.now.v (starting
             (runs_of self.now.guide.now) (only_of start))
             lead.first) (take lead.place (steps_of self.now.kept.now)) }
-        ensures met { IfSome result (HasSetOut self.now.guide.now.model.now self.now.guide.now.d self.now.guide.now.v
+        ensures met { IfSome result (IsOutsetOf self.now.guide.now.model.now self.now.guide.now.d self.now.guide.now.v
             (runs_of self.now.guide.now)
             (only_of start) (steps_of self.now.kept.now) lead) }
     {
@@ -349,7 +349,7 @@ impl<'a, 'm> KnownSteps<'a, 'm> {
             ≡ along self.now.guide.now.model.now self.now.guide.now.d self.now.guide.now.v
             (runs_of self.now.guide.now) (Some out)
             (take place (steps_of self.now.kept.now)) }
-        ensures paced { IfSome result (HasPaced self.now.guide.now.model.now self.now.guide.now.d self.now.guide.now.v
+        ensures paced { IfSome result (LeadsTo self.now.guide.now.model.now self.now.guide.now.d self.now.guide.now.v
             (runs_of self.now.guide.now)
             (take place (steps_of self.now.kept.now)) out) }
     {
@@ -411,7 +411,7 @@ impl<'a, 'm> KnownSteps<'a, 'm> {
 // The stage at the end, if a vehicle comes to a cumul that is kept and has paid another cost before.
 #[inline]
 fn resumed(end: Stage, kept: Stage, gone: Stage) -> Stage
-    requires { AreMet end kept gone }
+    requires { AreStagesInRange end kept gone }
     ensures { result ≡ paid_more (gone.soft -ℤ kept.soft) end }
 {
     Stage {

@@ -2,7 +2,7 @@
 //!
 //! What goes along them is asked with both, so that it knows that they are at most 1000 visits. Their floors are found
 //! backwards, from the next step on: the least cumul of each from which that of the next one can be met. `steps` goes
-//! back along a whole list that is committed and along what a change puts in. `asked` goes back along all pieces of a
+//! back along a whole list that is committed and along what a change puts in. `changed_list` goes back along all pieces of a
 //! changed list. `kept` hands in the lists.
 
 ghost use Rattle.std.proofs.Props.{props};

@@ -79,8 +79,8 @@ abbrev pub IsWayOf : Model → ℕ → Way → Type 0
 IsWayOf model n way = AreArcs model n way.at way.time way.transits
 
 -- a way along the front of a list, of 1000 nodes at most, and on along pieces of 8000 at most
-abbrev pub IsMiddleWay : Model → Way → Type 0
-IsMiddleWay model = IsWayOf model 9000
+abbrev pub IsWayAlongPieces : Model → Way → Type 0
+IsWayAlongPieces model = IsWayOf model 9000
 
 -- a way on from there along a piece of 1000 nodes at most
 abbrev pub IsLongWay : Model → Way → Type 0

@@ -12,7 +12,7 @@ ghost use Rattle.vr_earliest.specs.Guides.{IsGuide};
 ghost use Rattle.vr_earliest.specs.Rests.{at_end, rest_with_visit, way_through_rest as to_end_on, IsListRest, IsRestOf};
 ghost use Rattle.vr_earliest.specs.Ways.{arcs-more, way_from_start, span_by as span_by_way};
 ghost use Rattle.vr_earliest.specs.Ways.{to_node as to_node_on, on_to_visit};
-ghost use Rattle.vr_earliest.specs.Ways.{IsLongWay, IsMiddleWay, IsWayOf, IsWholeWay};
+ghost use Rattle.vr_earliest.specs.Ways.{IsLongWay, IsWayAlongPieces, IsWayOf, IsWholeWay};
 
 use crate::floors::Floors;
 use crate::walks::Walk;
@@ -92,7 +92,7 @@ impl<'m> Guide<'m> {
     /// A way goes on to the stop of a rest, and through what is left from there to the end.
     #[inline(always)]
     pub fn to_end(&self, way: Way, rest: Rest) -> Way
-        requires way { IsMiddleWay self.now.model.now way }
+        requires way { IsWayAlongPieces self.now.model.now way }
         requires rest { IsListRest self.now.model.now rest }
         ensures value { result ≡ to_end_on self.now.model.now self.now.d self.now.v way rest }
         ensures range { IsWholeWay self.now.model.now result }

@@ -18,8 +18,8 @@ use Rattle.vr_rules.specs.declared.items.Item.TheVariants.{Visit, PickupAndDeliv
 use Rattle.vr_rules.specs.declared.items.Candidate.{Candidate}
 use Rattle.vr_first_insert.specs.declared.choice.InsertionChoice.{InsertionChoice}
 use Rattle.vr_first_insert.specs.declared.choice.Placing.TheVariants.{One, Two}
-use Rattle.vr_first_insert.specs.declared.known.KnownItem.{KnownItem}
-use Rattle.vr_first_insert.specs.declared.known.KnownItem.TheVariants.{Nothing, AtLeast, Best}
+use Rattle.vr_first_insert.specs.declared.known_best.KnownItem.{KnownItem}
+use Rattle.vr_first_insert.specs.declared.known_best.KnownItem.TheVariants.{Nothing, AtLeast, Best}
 use Rattle.vr_model.proofs.tables.Tests.{clash}
 use Rattle.vr_first_insert.specs.Kept.{best_of, candidate_at, is_settled, known_row, AreCandidatesKnown, AreKnownRows, IsForgotten, IsCandidateKnown}
 use Rattle.vr_first_insert.specs.Placings.{best_in, choices_in, may_improve, pair_choice, placed, visit_choice}

@@ -4,8 +4,8 @@ use Rattle.std.specs.Prelude.{replicate}
 use Rattle.std.proofs.lemmas.Bool.{cases_lt}
 use Rattle.std.proofs.lemmas.Bool.Decides.{eqb_tells}
 use Rattle.std.proofs.lemmas.List.{get_or-set_same, get_or-set_other, get_or_past, length-map}
-use Rattle.vr_first_insert.specs.declared.known.KnownItem.{KnownItem}
-use Rattle.vr_first_insert.specs.declared.known.KnownItem.TheVariants.{Nothing}
+use Rattle.vr_first_insert.specs.declared.known_best.KnownItem.{KnownItem}
+use Rattle.vr_first_insert.specs.declared.known_best.KnownItem.TheVariants.{Nothing}
 use Rattle.vr_first_insert.specs.declared.known_items.FoundItem.{FoundItem}
 use Rattle.vr_first_insert.specs.Found.{known_after, IsFoundBy}
 

@@ -13,8 +13,8 @@ use Rattle.vr_rules.specs.declared.items.Item.TheVariants.{Visit, PickupAndDeliv
 use Rattle.vr_rules.specs.declared.items.Candidate.{Candidate}
 use Rattle.vr_rules.proofs.LazyLeast.{untested}
 use Rattle.vr_first_insert.specs.declared.choice.InsertionChoice.{InsertionChoice}
-use Rattle.vr_first_insert.specs.declared.known.KnownItem.{KnownItem}
-use Rattle.vr_first_insert.specs.declared.known.KnownItem.TheVariants.{AtLeast, Best}
+use Rattle.vr_first_insert.specs.declared.known_best.KnownItem.{KnownItem}
+use Rattle.vr_first_insert.specs.declared.known_best.KnownItem.TheVariants.{AtLeast, Best}
 use Rattle.vr_first_insert.specs.Kept.{begun_with, best_of, known_by_search, AddsAtLeast, BestAddsAtLeast, IsCandidateKnown}
 use Rattle.vr_first_insert.specs.Placings.{best_in, choices_in, key_of, may_improve, pair_choice, placed, tail_key, visit_choice, weigh}
 use Rattle.vr_first_insert.proofs.BoundLemmas.{none-improves}

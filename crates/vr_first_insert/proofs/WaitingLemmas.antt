@@ -22,7 +22,7 @@ use Rattle.vr_first_insert.specs.declared.choice.InsertionChoice.{InsertionChoic
 use Rattle.vr_first_insert.specs.declared.waiting.WaitingItem.{WaitingItem}
 use Rattle.vr_first_insert.specs.Kept.{candidate_at, BestAddsAtLeast}
 use Rattle.vr_first_insert.specs.Placings.{best_beside, best_in, best_in_lists, key_of, may_be_placed, may_improve, tail_key, MayHold}
-use Rattle.vr_first_insert.specs.Waiting.{comes_later, is_passed_over, is_unmarked, least_told, unplaced_of, unread_waiting, waiting_at, waiting_candidates, with_waiting, AreBegun, AreWaiting, IsLeastAnywhere, IsLeastElsewhere, IsWaiting, IsWaitingElsewhere}
+use Rattle.vr_first_insert.specs.Waiting.{comes_later, is_passed_over, is_unmarked, least_told, unplaced_of, unread_waiting, waiting_at, waiting_candidates, with_waiting, AreFirstWaiting, AreWaiting, IsLeastAnywhere, IsLeastElsewhere, IsWaiting, IsWaitingElsewhere}
 use Rattle.vr_first_insert.proofs.BestLemmas.{first-below}
 use Rattle.vr_first_insert.proofs.InsertLemmas.{best_in_lists-more}
 use Rattle.vr_first_insert.proofs.KeptLemmas.{no-better}
@@ -246,7 +246,7 @@ unmarked-is model lists marks candidates all are k d low =
     ap not (are.each (first_node (item_nodes candidate.item)) false (first-below model candidate.item (all.each k d low).item))
 
 pub waiting-begun : (model : Model) (lists : List (List ℕ)) (candidates : List Candidate) (marks : List Bool) (waiting : List WaitingItem) → AreCandidates model candidates → AreMarks model.nodes lists marks
-    → AreBegun candidates marks (length candidates) waiting → AreWaiting model lists candidates waiting
+    → AreFirstWaiting candidates marks (length candidates) waiting → AreWaiting model lists candidates waiting
 waiting-begun model lists candidates marks waiting all are begun = record {
   each = λ k d low.
       let read = get_or_default waiting k unread_waiting d low in
@@ -260,7 +260,7 @@ waiting-begun model lists candidates marks waiting all are begun = record {
 }
 
 -- one candidate more
-module _ (candidates : List Candidate) (marks : List Bool) (i : ℕ) (within : i < length candidates) (waiting : List WaitingItem) (begun : AreBegun candidates marks i waiting) where
+module _ (candidates : List Candidate) (marks : List Bool) (i : ℕ) (within : i < length candidates) (waiting : List WaitingItem) (begun : AreFirstWaiting candidates marks i waiting) where
   abbrev new : WaitingItem
   new = record { number = i; least = None }
 
@@ -269,8 +269,8 @@ module _ (candidates : List Candidate) (marks : List Bool) (i : ℕ) (within : i
       ap (filter (is_unmarked marks)) (take_more candidates i (candidate_at candidates i) within ∙ ap (λ c. take i candidates ++ c ∷ []) (get_or_default candidates i (candidate_at candidates i) _ within))
       ∙ filter-append (is_unmarked marks) (take i candidates) (candidate_at candidates i ∷ [])
 
-  pub begun-more : (next : List WaitingItem) → next ≡ with_waiting candidates marks i waiting → AreBegun candidates marks (i + 1) next
-  begun-more next e = subst (AreBegun candidates marks (i + 1)) (sym e) (by (is_unmarked marks (candidate_at candidates i)) refl)
+  pub begun-more : (next : List WaitingItem) → next ≡ with_waiting candidates marks i waiting → AreFirstWaiting candidates marks (i + 1) next
+  begun-more next e = subst (AreFirstWaiting candidates marks (i + 1)) (sym e) (by (is_unmarked marks (candidate_at candidates i)) refl)
     where
       read : {A : Type 0} (of : WaitingItem → A) (P : A → Type 0) → ((k : ℕ) → k < length waiting → P (of (waiting_at waiting k))) → P (of new) → (k : ℕ) → k < length (waiting ++ new ∷ []) → P (of (waiting_at (waiting ++ new ∷ []) k))
       read of P before last k low = at waiting k before low
@@ -281,7 +281,7 @@ module _ (candidates : List Candidate) (marks : List Bool) (i : ℕ) (within : i
           at (x ∷ xs) zero before low = before 0 (omega arith)
           at (x ∷ xs) (suc k) before low = at xs k (λ k low. before (suc k) (omega (arith, low))) (omega (arith, low))
 
-      by : (b : Bool) → is_unmarked marks (candidate_at candidates i) ≡ b → AreBegun candidates marks (i + 1) (cond b (waiting ++ new ∷ []) waiting)
+      by : (b : Bool) → is_unmarked marks (candidate_at candidates i) ≡ b → AreFirstWaiting candidates marks (i + 1) (cond b (waiting ++ new ∷ []) waiting)
       by true u = record {
         each = read (λ item. item.number) (λ n. n < length candidates) begun.each within;
         nothing = read (λ item. item.least) (λ least. least ≡ None) begun.nothing refl;

@@ -8,9 +8,9 @@ use Rattle.vr_rules.specs.declared.items.Candidate.{Candidate}
 use Rattle.vr_rules.specs.Placing.{fits_by, item_nodes, AreBuilt, AreCandidates, AreMarks}
 use Rattle.vr_first_insert.specs.declared.choice.InsertionChoice.{InsertionChoice}
 use Rattle.vr_first_insert.specs.declared.list_rows.ListRows.{ListRows}
-use Rattle.vr_first_insert.specs.declared.known.KnownItem.{KnownItem}
-use Rattle.vr_first_insert.specs.declared.asked.Items.{Items}
-use Rattle.vr_first_insert.specs.declared.asked.AskedLists.{AskedLists}
+use Rattle.vr_first_insert.specs.declared.known_best.KnownItem.{KnownItem}
+use Rattle.vr_first_insert.specs.declared.best_in_lists.Items.{Items}
+use Rattle.vr_first_insert.specs.declared.best_in_lists.AskedLists.{AskedLists}
 use Rattle.vr_first_insert.specs.Kept.{candidate_at, AreCandidatesKnown, AreKnownRows}
 use Rattle.vr_first_insert.specs.KeptRows.{AreKeptRows}
 use Rattle.vr_first_insert.specs.Placings.{best_in, best_in_lists, may_be_placed, MayHold}

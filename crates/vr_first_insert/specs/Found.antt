@@ -1,7 +1,7 @@
 -- What was found of an item, as long as its list does not change.
 use Rattle.std.specs.Prelude.{ℕ, ◌≤◌, ◌==◌, cond}
-use Rattle.vr_first_insert.specs.declared.known.KnownItem.{KnownItem}
-use Rattle.vr_first_insert.specs.declared.known.KnownItem.TheVariants.{Nothing}
+use Rattle.vr_first_insert.specs.declared.known_best.KnownItem.{KnownItem}
+use Rattle.vr_first_insert.specs.declared.known_best.KnownItem.TheVariants.{Nothing}
 use Rattle.vr_first_insert.specs.declared.known_items.FoundItem.{FoundItem}
 
 -- what is known after a number of changes of the list

@@ -9,9 +9,9 @@ use Rattle.vr_rules.specs.declared.items.Item.{Item}
 use Rattle.vr_rules.specs.declared.items.Item.TheVariants.{Visit, PickupAndDelivery}
 use Rattle.vr_rules.specs.declared.items.Candidate.{Candidate}
 use Rattle.vr_first_insert.specs.declared.choice.InsertionChoice.{InsertionChoice}
-use Rattle.vr_first_insert.specs.declared.known.Bound.{Bound}
-use Rattle.vr_first_insert.specs.declared.known.KnownItem.{KnownItem}
-use Rattle.vr_first_insert.specs.declared.known.KnownItem.TheVariants.{Nothing, AtLeast, Best}
+use Rattle.vr_first_insert.specs.declared.known_best.Bound.{Bound}
+use Rattle.vr_first_insert.specs.declared.known_best.KnownItem.{KnownItem}
+use Rattle.vr_first_insert.specs.declared.known_best.KnownItem.TheVariants.{Nothing, AtLeast, Best}
 use Rattle.vr_first_insert.specs.Increases.{pair_increase}
 use Rattle.vr_first_insert.specs.Placings.{key_of, best_in, may_improve, VisitAddsAtLeast}
 

@@ -4,8 +4,8 @@ use Rattle.vr_first_insert.specs.declared.choice.InsertionChoice.{InsertionChoic
 use Rattle.vr_first_insert.specs.declared.choice.Placing.TheVariants.{One, Two}
 use Rattle.vr_first_insert.specs.declared.list_rows.ListRows.{ListRows}
 use Rattle.vr_first_insert.specs.declared.probes.Probes.{Probes}
-use Rattle.vr_first_insert.specs.declared.known.Bound.{Bound}
-use Rattle.vr_first_insert.specs.declared.known.KnownItem.{KnownItem}
+use Rattle.vr_first_insert.specs.declared.known_best.Bound.{Bound}
+use Rattle.vr_first_insert.specs.declared.known_best.KnownItem.{KnownItem}
 use Rattle.vr_first_insert.specs.declared.vehicle_list.LookedUpList.{LookedUpList}
 use Rattle.vr_first_insert.specs.declared.vehicle_list.CandidateIn.{CandidateIn}
 use Rattle.vr_first_insert.specs.declared.vehicle_list.VisitIn.{VisitIn}

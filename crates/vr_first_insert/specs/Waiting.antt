@@ -75,7 +75,7 @@ abbrev pub is_unmarked : List Bool → Candidate → Bool
 is_unmarked marks candidate = not (is_marked marks (first_node (item_nodes candidate.item)))
 
 -- those of the first candidates that are not marked wait, and nothing is known of them
-pub record AreBegun (candidates : List Candidate) (marks : List Bool) (count : ℕ)
+pub record AreFirstWaiting (candidates : List Candidate) (marks : List Bool) (count : ℕ)
     (waiting : List WaitingItem) : Type 0 where
   pub each : (k : ℕ) → k < length waiting → (waiting_at waiting k).number < length candidates
   pub nothing : (k : ℕ) → k < length waiting → (waiting_at waiting k).least ≡ None

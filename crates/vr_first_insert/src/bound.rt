@@ -1,4 +1,4 @@
-//! Lower bounds of what an item adds to a list: no place does better. `known` asks the least of a visit or a pair
+//! Lower bounds of what an item adds to a list: no place does better. `known_best` asks the least of a visit or a pair
 //! before it has a list searched. `one_list` asks the others while it goes through places.
 
 ghost use Rattle.std.specs.Prelude.{◌≡◌, ℕ, ◌<◌, ◌≤◌, ◌^◌, OnOk, cond, int_lt, length, neg_ℤ, pos, ◌+ℤ◌, ◌≤ℤ◌};

@@ -11,8 +11,8 @@ ghost use Rattle.vr_first_insert.specs.KeptRows.{list_model, AreKeptRows};
 ghost use Rattle.vr_first_insert.specs.Keeping.{IsKeeper};
 ghost use Rattle.vr_first_insert.specs.Kept.{AreKnownRows};
 
-use crate::asked::Items;
-use crate::known::{forget, nothing_known};
+use crate::best_in_lists::Items;
+use crate::known_best::{forget, nothing_known};
 use crate::known_items::KnownItems;
 use crate::list_rows::{ListRows, change_list, keep_each};
 use crate::scratch::InsertScratch;

@@ -1,10 +1,10 @@
 //! What is known of items in one list, forgotten at once when the list changes.
 
 ghost use Rattle.std.specs.Prelude.{◌≡◌, ◌<◌, ◌≤◌, ℕ, All, IfOk, length, replicate, slice_index_or, slice_set};
-ghost use Rattle.vr_first_insert.specs.declared.known.KnownItem.TheVariants.{Nothing};
+ghost use Rattle.vr_first_insert.specs.declared.known_best.KnownItem.TheVariants.{Nothing};
 ghost use Rattle.vr_first_insert.specs.Found.{known_after};
 
-use crate::known::KnownItem;
+use crate::known_best::KnownItem;
 use std::alloc::Global;
 use std::marker::Model;
 use vr_model::{NoMemory, Seq};
@@ -28,7 +28,7 @@ pub(crate) struct KnownItems {
 
 impl Model for KnownItems {
     ghost use Rattle.std.specs.Prelude.{List, All, map, ◌≤◌};
-    ghost use Rattle.vr_first_insert.specs.declared.known.KnownItem.{KnownItem};
+    ghost use Rattle.vr_first_insert.specs.declared.known_best.KnownItem.{KnownItem};
     ghost use Rattle.vr_first_insert.specs.Found.{known_after, IsFoundBy};
 
     ghost Value = { List KnownItem };

@@ -11,9 +11,9 @@ ghost use Rattle.vr_first_insert.specs.Asking.{items_model, waiting_candidate, A
 ghost use Rattle.vr_first_insert.specs.Asking.{MayCount, MayInsert, MayWeigh};
 ghost use Rattle.vr_first_insert.specs.Waiting.{waiting_candidates, AreWaiting};
 
-use crate::asked::{AskedLists, Items, best_in_lists};
+use crate::best_in_lists::{AskedLists, Items, best_in_lists};
 use crate::choice::InsertionChoice;
-use crate::known::forget;
+use crate::known_best::forget;
 use crate::known_items::KnownItems;
 use crate::list_rows::ListRows;
 use crate::place::place_in;

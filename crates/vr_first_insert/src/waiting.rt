@@ -8,9 +8,9 @@ ghost use Rattle.vr_first_insert.specs.Kept.{candidate_at};
 ghost use Rattle.vr_first_insert.specs.Asking.{items_model, AreItems, MayLower, MayLowerEach};
 ghost use Rattle.vr_first_insert.specs.Waiting.{comes_later as comes_later_of, is_passed_over as is_passed_over_of};
 ghost use Rattle.vr_first_insert.specs.Waiting.{least_told as least_told_of, waiting_candidates, with_waiting};
-ghost use Rattle.vr_first_insert.specs.Waiting.{AreBegun, IsLeastAnywhere, IsWaiting};
+ghost use Rattle.vr_first_insert.specs.Waiting.{AreFirstWaiting, IsLeastAnywhere, IsWaiting};
 
-use crate::asked::{AskedLists, Items, adds_at_least};
+use crate::best_in_lists::{AskedLists, Items, adds_at_least};
 use crate::choice::{InsertionChoice, may_improve};
 use crate::list_rows::ListRows;
 use std::alloc::Global;
@@ -111,7 +111,7 @@ pub(crate) fn unmarked(
 ) -> Result<Vec<WaitingItem>, NoMemory>
     requires items_are { AreItems items.now }
     requires marks { length marks.now ≡ (items_model items.now).nodes }
-    ensures { IfOk result (λ waiting. AreBegun items.now.candidates.now marks.now
+    ensures { IfOk result (λ waiting. AreFirstWaiting items.now.candidates.now marks.now
         (length items.now.candidates.now) waiting.items) }
 {
     let mut waiting = Vec::new(alloc);

@@ -6,7 +6,7 @@ ghost use Rattle.vr_model.specs.routes.Rules.{is_open};
 ghost use Rattle.vr_model.specs.tables.Tables.{visits};
 ghost use Rattle.vr_first_insert.specs.Keeping.{IsRebuilder};
 
-use crate::rows::{PAIRED, row};
+use crate::named_rows::{PAIRED, row};
 use std::alloc::Global;
 use std::test::Fail;
 use vr_first_insert::Rebuilder;

@@ -8,6 +8,6 @@ mod firsts;
 #[cfg(test)]
 mod printing;
 #[cfg(test)]
-mod rows;
+mod named_rows;
 #[cfg(test)]
 mod rules;

@@ -3,7 +3,7 @@
 ghost use Rattle.std.specs.Prelude.{IsTrue};
 ghost use Rattle.vr_model.specs.routes.Rules.{is_valid};
 
-use crate::rows::row;
+use crate::named_rows::row;
 use std::alloc::Global;
 use std::test::Fail;
 use vr_model::{Closed, End, NoMemory, Report};

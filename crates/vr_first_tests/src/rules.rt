@@ -5,7 +5,7 @@ ghost use Rattle.vr_model.specs.routes.Routes.{are_lists};
 ghost use Rattle.vr_model.specs.routes.Rules.{is_valid};
 ghost use Rattle.vr_model.specs.tables.WellFormed.{IsWellFormed};
 
-use crate::rows::{PAIRED, row};
+use crate::named_rows::{PAIRED, row};
 use std::alloc::Global;
 use std::test::Fail;
 use vr_model::{Closed, Model, NoMemory};

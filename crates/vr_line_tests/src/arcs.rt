@@ -3,8 +3,8 @@
 ghost use Rattle.std.specs.Prelude.{◌≡◌, ◌<◌, All, IfOk, length};
 ghost use Rattle.vr_model.specs.tables.WellFormed.{IsBreak};
 ghost use Rattle.vr_steps.specs.Arcs.{IsSoundHop};
+ghost use Rattle.vr_steps.specs.CumulRuns.{IsCumulRun};
 ghost use Rattle.vr_steps.specs.Levels.{IsCumuls, AreLevels};
-ghost use Rattle.vr_steps.specs.Samples.{IsCumulRun};
 
 use crate::levels::{Extent, NOTHING, gives};
 use arrayvec::ArrayVec;

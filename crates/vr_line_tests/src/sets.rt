@@ -2,7 +2,7 @@
 
 ghost use Rattle.std.specs.Prelude.{All, IfOk, pos, ◌≤ℤ◌};
 ghost use Rattle.vr_spans.specs.Runs.{StaysWithin};
-ghost use Rattle.vr_spans.specs.Samples.{IsShort};
+ghost use Rattle.vr_spans.specs.ShortRuns.{IsShort};
 
 use std::alloc::Global;
 use std::test::Fail;

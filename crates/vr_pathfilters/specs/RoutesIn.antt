@@ -2,7 +2,7 @@
 use Rattle.std.specs.Prelude.{◌<◌, length}
 use Rattle.vr_reach.specs.Stops.{AreStops}
 use Rattle.vr_pathfilters.specs.TourLists.{AreTours}
-use Rattle.vr_pathfilters.specs.declared.rows.RoutesIn.{RoutesIn}
+use Rattle.vr_pathfilters.specs.declared.list_rows.RoutesIn.{RoutesIn}
 
 -- the dimension is one of the model, the stops are its, and the routes are tours
 pub record AreRoutesIn (at : RoutesIn) : Type 0 where

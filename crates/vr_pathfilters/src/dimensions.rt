@@ -21,9 +21,9 @@ ghost use Rattle.vr_pathfilters.specs.Known.{AreKnown, StandsAt, IsReady, AreRow
 ghost use Rattle.vr_pathfilters.specs.Known.{KnowsLoads, KnowsRows};
 ghost use Rattle.vr_pathfilters.specs.Tries.{tries_in};
 
+use crate::list_rows::{Room, RoutesIn, most_stops, rows_unless, write_part};
 use crate::loads::{all_carried, loads_of, put_list};
 use crate::parts::write_between;
-use crate::rows::{Room, RoutesIn, most_stops, rows_unless, write_part};
 use std::alloc::Global;
 use std::marker::Brand;
 use std::mem;
@@ -318,7 +318,7 @@ fn put_part(known: &mut Vec<Rows>, change: &Change, k: usize, rows: &mut Rows)
 }
 
 // What is kept of the lists of all vehicles: loads if the dimension is one, else rows. `lists` counts the lists that
-// are handed over for their rows, and nobody reads it (`rows`).
+// are handed over for their rows, and nobody reads it (`list_rows`).
 fn kept_of<L: Ledger>(
     alloc: Global,
     at: &RoutesIn,

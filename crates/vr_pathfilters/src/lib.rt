@@ -10,7 +10,7 @@
 //! are `vr_reach` (rows of lists), `vr_loads` (sums of loads) and `vr_balance` (the nodes that come and go).
 //!
 //! Start reading at `dimensions`, the filter of the lines of one dimension. Of a load it keeps what vehicles take along
-//! their lists (`loads`), of any other dimension the rows of the lists (`rows`). Then come:
+//! their lists (`loads`), of any other dimension the rows of the lists (`list_rows`). Then come:
 //!
 //! - `vehicles` and `pairs` have rules that each list keeps by itself; `lists` makes filters of these.
 //! - Pairs are asked of the list after a change (`new_lists`), which is not joined for that. Counts tell whether they
@@ -27,7 +27,7 @@ mod new_lists;
 mod pairs;
 mod parts;
 pub mod policies;
-mod rows;
+mod list_rows;
 mod vehicles;
 
 pub use dimensions::DimensionFilter;

@@ -30,7 +30,7 @@ use Rattle.vr_steps.proofs.ArcLemmas.{plainly, leads}
 use Rattle.vr_steps.proofs.ImageLemmas.{none_between}
 use Rattle.vr_reach.specs.Counts.{arc_steps, join_steps, steps_between}
 use Rattle.vr_reach.specs.Singles.{IsOnlyRun, IsReachedRun, IsReachingRun}
-use Rattle.vr_steps.specs.Samples.{IsCumulRun}
+use Rattle.vr_steps.specs.CumulRuns.{IsCumulRun}
 use Rattle.vr_reach.specs.VisitRuns.{HasCumulEnds, IsAllowedRun}
 use Rattle.vr_reach.specs.Lists.{IsUsed, node_at_stop}
 use Rattle.vr_reach.proofs.Counting.{first_arc, runs_of}

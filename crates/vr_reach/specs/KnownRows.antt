@@ -6,7 +6,7 @@ use Rattle.vr_model.specs.routes.Routes.{is_empty}
 use Rattle.vr_model.specs.schedules.Lines.{line}
 use Rattle.vr_model.specs.declared.records.Model.{Model}
 use Rattle.vr_reach.specs.Rows.{BothWays, row_at}
-use Rattle.vr_reach.specs.declared.known.KnownList.{KnownList}
+use Rattle.vr_reach.specs.declared.known_list.KnownList.{KnownList}
 use Rattle.vr_reach.specs.declared.stops.StopsFor.{StopsFor}
 use Rattle.vr_steps.specs.Levels.{AreLevels}
 use Rattle.vr_steps.specs.Reached.{AreReachingEnd}

@@ -11,7 +11,7 @@ use Rattle.vr_model.specs.declared.records.BreakRow.{BreakRow}
 use Rattle.vr_model.specs.declared.records.Model.{Model}
 use Rattle.vr_steps.specs.declared.stops.StopName.TheVariants.{End}
 use Rattle.vr_steps.specs.Levels.{level_at}
-use Rattle.vr_steps.specs.Samples.{IsCumulRun}
+use Rattle.vr_steps.specs.CumulRuns.{IsCumulRun}
 use Rattle.vr_steps.specs.Stops.{allowed_by}
 use Rattle.vr_reach.specs.VisitRuns.{is_one_run}
 

@@ -5,10 +5,10 @@ ghost use Rattle.vr_reach.specs.KnownRows.{AreRowsIfUsed};
 ghost use Rattle.vr_reach.specs.Lists.{IsTour};
 ghost use Rattle.vr_reach.specs.VehicleStops.{AreStopsFor};
 
-use crate::asked::asked_of;
-use crate::rows::Rows;
+use crate::level_rows::Rows;
 use crate::spliced::Spliced;
 use crate::stops::StopsFor;
+use crate::stops_of_list::asked_of;
 use crate::stretches::Stretch;
 use std::alloc::Global;
 use vr_model::NoMemory;

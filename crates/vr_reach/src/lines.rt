@@ -8,10 +8,10 @@ ghost use Rattle.vr_steps.specs.Lines.{hops_along, IsLineOf, IsSoundLine};
 ghost use Rattle.vr_reach.specs.Lists.{IsUsed};
 ghost use Rattle.vr_reach.specs.VehicleStops.{line_for, line_of, AreStopsFor};
 
-use crate::asked::asked_of;
 use crate::driven::Driven;
 use crate::spliced::Spliced;
 use crate::stops::{ListStops, StopsFor, hop_from, set_at};
+use crate::stops_of_list::asked_of;
 use vr_model::{NoMemory, Seq};
 use vr_spans::Spans;
 use vr_steps::{Breaks, Hop, Line};

@@ -17,7 +17,7 @@ ghost use Rattle.vr_reach.specs.Counts.{steps_between};
 ghost use Rattle.vr_reach.specs.Lists.{node_at_stop};
 ghost use Rattle.vr_reach.specs.Singles.{are_runs, is_run, IsOnlyRun, IsReachedRun};
 ghost use Rattle.vr_reach.specs.RunWalks.{line_along, AreRunsBetween};
-ghost use Rattle.vr_steps.specs.Samples.{IsCumulRun};
+ghost use Rattle.vr_steps.specs.CumulRuns.{IsCumulRun};
 ghost use Rattle.vr_reach.specs.Stops.{AreEndSets};
 ghost use Rattle.vr_reach.specs.VehicleStops.{line_of};
 ghost use Rattle.vr_reach.specs.VisitRuns.{is_one_run, HasCumulEnds, IsAllowedRun, IsFinish};

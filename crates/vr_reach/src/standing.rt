@@ -10,11 +10,11 @@ ghost use Rattle.vr_reach.specs.Standing.{is_stuck, IsReachedAt, ReachesNoEnd};
 ghost use Rattle.vr_reach.specs.Stretches.{SharesFront, SharesBack, SharesEnds};
 ghost use Rattle.vr_reach.specs.VehicleStops.{line_for, AreStopsFor};
 
-use crate::asked::asked_of;
-use crate::known::KnownList;
+use crate::known_list::KnownList;
 use crate::legs::Leg;
 use crate::spliced::Spliced;
 use crate::stops::{ListStops, StopsFor, hop_from, set_at};
+use crate::stops_of_list::asked_of;
 use crate::stretches::Stretch;
 use crate::walking::{goes_along, levels_before, levels_behind};
 use crate::walks::Walk;

@@ -13,10 +13,10 @@ ghost use Rattle.vr_routes.specs.Changes.{AreParts, IsChange, MayChange};
 
 use crate::conditions::{is_move, pair_served, pair_together};
 use crate::filling::fill;
+use crate::node_row::Row;
 use crate::pairs::{Served, Standing};
 use crate::pieces::{Part, Piece, Splice};
 use crate::routes::Routes;
-use crate::rows::Row;
 use crate::seats::Seating;
 use std::marker::Model;
 use vr_model::{Closed, Model as RoutingModel, Move};

@@ -17,7 +17,7 @@
 //!
 //! Start with `routes`, which has the look-ups and makes a change. It uses `seats`: such lists, with the place of each
 //! node beside them. Then read `changes`, which writes the change of each kind of move. The lists of a change are
-//! written by `kinds` over `pieces`; `filling` writes out their nodes, into a list in place (`rows`). `conditions` says
+//! written by `kinds` over `pieces`; `filling` writes out their nodes, into a list in place (`node_row`). `conditions` says
 //! whether the numbers of a move are those of one, and `pairs` at which places the nodes of a pair are. `judging` has
 //! the trait of judges (`Judge`) and what they answer (`Verdict`). `runs` gives a move another last number, as in the
 //! runs that a judge is asked about. `indices` has numbers for visits, starts and ends, for users of the library.
@@ -29,10 +29,10 @@ mod filling;
 mod indices;
 mod judging;
 mod kinds;
+mod node_row;
 mod pairs;
 mod pieces;
 mod routes;
-mod rows;
 mod runs;
 mod seats;
 
@@ -43,8 +43,8 @@ pub use judging::{Judge, Verdict};
 pub use pairs::{
     PairPlaces, is_elsewhere, is_pair_inactive, is_pair_together, pair_places, rest_len,
 };
+pub use node_row::Row;
 pub use pieces::{Piece, Splice};
 pub use routes::Routes;
-pub use rows::Row;
 pub use runs::with_last;
 pub use seats::Seat;

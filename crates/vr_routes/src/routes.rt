@@ -17,8 +17,8 @@ ghost use Rattle.vr_routes.specs.Tours.{inactive_of, AreSeatedTours, HaveVisits}
 
 use crate::changes::Change;
 use crate::filling::fill;
+use crate::node_row::Row;
 use crate::pieces::Piece;
-use crate::rows::Row;
 use crate::seats::{Seat, Seating};
 use std::alloc::Global;
 use std::marker::Model;

@@ -6,7 +6,7 @@ ghost use Rattle.vr_model.specs.routes.Routes.{route, is_active};
 ghost use Rattle.vr_model.specs.moves.Moves.{with_route};
 ghost use Rattle.vr_routes.specs.Seats.{IsSeat, IsOnce, IsSameOrEmpty, MayHave, MayHaveAll, MayHaveTwo};
 
-use crate::rows::Row;
+use crate::node_row::Row;
 use std::alloc::Global;
 use std::marker::Model;
 use vr_model::{NoMemory, Seq};

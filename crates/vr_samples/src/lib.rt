@@ -4,8 +4,8 @@
 
 mod models;
 mod routes;
-mod rows;
+mod test_tables;
 
 pub use models::read_model_text;
 pub use routes::{routes_of, valid_routes};
-pub use rows::all_hold;
+pub use test_tables::all_hold;

@@ -6,7 +6,7 @@ ghost use Rattle.vr_model.specs.routes.Rules.{is_valid};
 ghost use Rattle.vr_model.specs.tables.Tables.{visits};
 
 use crate::models::{ON_TIME, ONE_WAY, TWO_FARES};
-use crate::rows::{Asks, Row, assert_rows};
+use crate::questions::{Asks, Row, assert_rows};
 use crate::searches::{Wanted, ends_so};
 use std::alloc::Global;
 use vr_first_insert::rebuild;

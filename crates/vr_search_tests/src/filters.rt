@@ -5,7 +5,7 @@ ghost use Rattle.vr_model.specs.routes.Rules.{is_valid};
 ghost use Rattle.vr_model.specs.tables.Tables.{visits};
 
 use crate::models::{BREAKS, GAP, LIFO, LOAD, OPTIONAL, PAIR, THREE, TWENTY, WINDOWS};
-use crate::rows::{Asks, Row, assert_rows};
+use crate::questions::{Asks, Row, assert_rows};
 use std::alloc::Global;
 use std::marker::Brand;
 use std::sync::ledger::{Blank, Ledger};

@@ -2,9 +2,9 @@
 
 ghost use Rattle.vr_descent.specs.Refused.{CanJudge};
 
-use crate::asked::{By, Question};
+use crate::judge_questions::{By, Question};
 use crate::models::{OPTIONAL, TWO_VANS};
-use crate::rows::{Asks, Row, assert_rows};
+use crate::questions::{Asks, Row, assert_rows};
 use std::sync::ledger::Ledger;
 use vr_model::{Closed, Move, NoMemory, Steps};
 use vr_routes::{Change, Judge, Routes, Verdict};

@@ -10,7 +10,7 @@ ghost use Rattle.vr_routes.specs.Pieces.{changed};
 ghost use Rattle.vr_plan.specs.Tables.{AreTables};
 
 use crate::models::{LATE, LATE_TIGHT, LATE_TIGHT_FREE};
-use crate::rows::{Asks, Row, assert_rows, stays_valid};
+use crate::questions::{Asks, Row, assert_rows, stays_valid};
 use std::alloc::Global;
 use vr_costfilter::{AllCumuls, Paid, PartAfter, Trail};
 use vr_model::{Closed, Move, NoMemory};

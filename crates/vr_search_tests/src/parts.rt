@@ -7,7 +7,7 @@ ghost use Rattle.vr_routes.specs.Changes.{IsMadeOn};
 ghost use Rattle.vr_routes.specs.Pieces.{changed};
 
 use crate::models::PAID;
-use crate::rows::{Asks, Row, assert_rows, stays_valid};
+use crate::questions::{Asks, Row, assert_rows, stays_valid};
 use std::alloc::Global;
 use vr_costfilter::{ArcCost, CostPart, FixedCost, GlobalSpan, GroupCost, PlanCost};
 use vr_model::{Closed, Move, NoMemory};

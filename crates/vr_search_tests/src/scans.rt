@@ -3,9 +3,9 @@
 ghost use Rattle.vr_descent.specs.Refused.{CanJudge};
 ghost use Rattle.vr_descent.specs.Scanned.{takes_less};
 
-use crate::asked::{By, Question};
+use crate::judge_questions::{By, Question};
 use crate::models::SQUARE;
-use crate::rows::{Asks, Row, assert_rows};
+use crate::questions::{Asks, Row, assert_rows};
 use std::sync::ledger::Ledger;
 use vr_descent::{Accept, ScanEnd, scan};
 use vr_known::Known;

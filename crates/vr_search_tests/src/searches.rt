@@ -6,9 +6,9 @@ ghost use Rattle.std.specs.Prelude.{IfOk};
 ghost use Rattle.vr_descent.specs.Asking.{AsksFor};
 ghost use Rattle.vr_descent.specs.Refused.{CanJudge};
 
-use crate::asked::{By, Counting, Question};
+use crate::judge_questions::{By, Counting, Question};
 use crate::models::{DAY, DETOUR, PAID_SQUARE, SHORTCUT, SPAN_SQUARE, SQUARE, THREE};
-use crate::rows::{Asks, Row, assert_rows};
+use crate::questions::{Asks, Row, assert_rows};
 use std::alloc::Global;
 use std::sync::ledger::Ledger;
 use vr_descent::descend;

@@ -2,9 +2,9 @@
 
 ghost use Rattle.vr_descent.specs.Refused.{CanJudge};
 
-use crate::asked::{By, Question};
+use crate::judge_questions::{By, Question};
 use crate::models::OPTIONAL;
-use crate::rows::{Asks, Row, assert_rows};
+use crate::questions::{Asks, Row, assert_rows};
 use crate::searches::{FAR, has_list};
 use std::alloc::Global;
 use std::sync::ledger::Ledger;

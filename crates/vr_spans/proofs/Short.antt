@@ -5,7 +5,7 @@ use Rattle.std.proofs.lemmas.Int.{ints}
 use Rattle.std.proofs.lemmas.Bool.{or_cases}
 use Rattle.vr_spans.specs.declared.runs.Run.{Run}
 use Rattle.vr_spans.specs.Runs.{has, in_run}
-use Rattle.vr_spans.specs.Samples.{IsShort}
+use Rattle.vr_spans.specs.ShortRuns.{IsShort}
 
 -- the numbers of short runs lie in 0..=100
 pub short_numbers : (runs : List Run) → All IsShort runs → (x : ℤ) → has runs x ≡ true → (pos 0 ≤ℤ x) × (x ≤ℤ pos 100)

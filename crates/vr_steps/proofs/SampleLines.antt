@@ -6,7 +6,7 @@ use Rattle.std.proofs.lemmas.Bool.{or_cases}
 use Rattle.vr_spans.specs.declared.runs.Run.{Run}
 use Rattle.vr_spans.specs.Runs.{has, in_run}
 use Rattle.vr_steps.specs.Levels.{IsCumuls}
-use Rattle.vr_steps.specs.Samples.{IsCumulRun}
+use Rattle.vr_steps.specs.CumulRuns.{IsCumulRun}
 
 -- the numbers of runs of cumuls are cumuls
 pub runs_are_cumuls : (runs : List Run) → All IsCumulRun runs → IsCumuls runs

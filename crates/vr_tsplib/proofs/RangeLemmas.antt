@@ -18,8 +18,8 @@ use Rattle.vr_tsplib.specs.declared.heads.Heading.{Heading}
 use Rattle.vr_tsplib.specs.declared.heads.Heading.TheVariants as heading
 use Rattle.vr_tsplib.specs.declared.heads.LinePlace.{LinePlace}
 use Rattle.vr_tsplib.specs.declared.heads.LinePlace.TheVariants as place
-use Rattle.vr_tsplib.specs.declared.rows.SiteRow.{SiteRow}
-use Rattle.vr_tsplib.specs.declared.rows.DemandRow.{DemandRow}
+use Rattle.vr_tsplib.specs.declared.section_rows.SiteRow.{SiteRow}
+use Rattle.vr_tsplib.specs.declared.section_rows.DemandRow.{DemandRow}
 use Rattle.vr_tsplib.specs.declared.files.State.{State}
 use Rattle.vr_tsplib.specs.declared.summaries.Problem.{Problem}
 use Rattle.vr_tsplib.specs.Flaws.{at_line, refuse_if}

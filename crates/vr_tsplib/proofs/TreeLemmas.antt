@@ -5,7 +5,7 @@ use Rattle.std.specs.List.{All, range_with_len}
 use Rattle.std.proofs.lemmas.Int.{ints}
 use Rattle.std.proofs.lemmas.Nat.{mul-le}
 use Rattle.std.proofs.lemmas.List.Elements.{All-head, All-tail, All-map}
-use Rattle.vr_tsplib.specs.declared.rows.SiteRow.{SiteRow}
+use Rattle.vr_tsplib.specs.declared.section_rows.SiteRow.{SiteRow}
 use Rattle.vr_tsplib.specs.Ranges.{IsSiteInRange}
 use Rattle.vr_tsplib.specs.Rows.{site_of}
 use Rattle.vr_tsplib.specs.Trees.{file_nodes, sites}

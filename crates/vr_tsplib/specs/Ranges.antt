@@ -2,8 +2,8 @@
 use Rattle.std.specs.Prelude.{ℕ, ◌≤◌, ℤ, pos, negsuc, ◌≤ℤ◌, All}
 use Rattle.vr_model.specs.tables.WellFormed.{WherePresent}
 use Rattle.vr_tsplib.specs.declared.heads.Head.{Head}
-use Rattle.vr_tsplib.specs.declared.rows.SiteRow.{SiteRow}
-use Rattle.vr_tsplib.specs.declared.rows.DemandRow.{DemandRow}
+use Rattle.vr_tsplib.specs.declared.section_rows.SiteRow.{SiteRow}
+use Rattle.vr_tsplib.specs.declared.section_rows.DemandRow.{DemandRow}
 use Rattle.vr_tsplib.specs.declared.files.State.{State}
 use Rattle.vr_tsplib.specs.declared.summaries.Problem.{Problem}
 use Rattle.vr_tsplib.specs.Heads.{nodes_of}

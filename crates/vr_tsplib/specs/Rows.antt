@@ -9,8 +9,8 @@ use Rattle.vr_tsplib.specs.declared.flaws.Flaw.TheVariants.{FaultyLine, NodeAgai
 use Rattle.vr_tsplib.specs.declared.heads.LinePlace.{LinePlace}
 use Rattle.vr_tsplib.specs.declared.heads.LinePlace.TheVariants.{Outside, Sites, Demands, DepotEnd}
 use Rattle.vr_tsplib.specs.declared.heads.Head.{Head}
-use Rattle.vr_tsplib.specs.declared.rows.SiteRow.{SiteRow}
-use Rattle.vr_tsplib.specs.declared.rows.DemandRow.{DemandRow}
+use Rattle.vr_tsplib.specs.declared.section_rows.SiteRow.{SiteRow}
+use Rattle.vr_tsplib.specs.declared.section_rows.DemandRow.{DemandRow}
 use Rattle.vr_tsplib.specs.Flaws.{refuse_if}
 use Rattle.vr_tsplib.specs.Heads.{nodes_of}
 use Rattle.vr_tsplib.specs.Numbers.{number, is_number, one_number, two_numbers, three_numbers, whole_in, count_in}

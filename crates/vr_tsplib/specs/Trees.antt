@@ -5,8 +5,8 @@ use Rattle.std.specs.List.{range_with_len}
 use Rattle.serde_json.specs.Data.{Data, string, object, boolean, no_members, member}
 use Rattle.vr_model.specs.tables.Numbers.{below}
 use Rattle.vr_json.specs.Trees.{count, listed, one}
-use Rattle.vr_tsplib.specs.declared.rows.SiteRow.{SiteRow}
-use Rattle.vr_tsplib.specs.declared.rows.DemandRow.{DemandRow}
+use Rattle.vr_tsplib.specs.declared.section_rows.SiteRow.{SiteRow}
+use Rattle.vr_tsplib.specs.declared.section_rows.DemandRow.{DemandRow}
 use Rattle.vr_tsplib.specs.declared.files.State.{State}
 use Rattle.vr_tsplib.specs.declared.summaries.Problem.{Problem}
 use Rattle.vr_tsplib.specs.declared.summaries.Distances.{Distances}

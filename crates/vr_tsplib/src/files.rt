@@ -9,7 +9,7 @@ ghost use Rattle.vr_tsplib.specs.Texts.{lines};
 
 use crate::flaws::{LineFail, refusal};
 use crate::heads::{Head, LinePlace};
-use crate::rows::{DemandRow, SiteRow, demand_row, demands_left, site_row, sites_left};
+use crate::section_rows::{DemandRow, SiteRow, demand_row, demands_left, site_row, sites_left};
 use crate::sections::weights_left;
 use crate::texts::is_wordless;
 use crate::weights::push_row;

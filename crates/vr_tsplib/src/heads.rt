@@ -1,5 +1,5 @@
 //! Keywords with their values, and the head. The head keeps all that lines say beside the rows of sections. `sections`
-//! and `rows` have the rest of its steps.
+//! and `section_rows` have the rest of its steps.
 
 ghost use Rattle.std.specs.Prelude.{◌≡◌, ◌≤◌, IfOk};
 ghost use Rattle.vr_tsplib.specs.Heads as heads;

@@ -13,7 +13,7 @@
 //! `trees` makes the tree. The other files are these:
 //!
 //! - `sections` reads lines outside sections, by the keywords of `heads`.
-//! - `rows` and `weights` read lines inside sections.
+//! - `section_rows` and `weights` read lines inside sections.
 //! - `texts`, `words` and `numbers` read what is in a line.
 //! - `flaws` has what is refused.
 //! - `roots` has rounded square roots, which are the distances of nodes in the plane.
@@ -25,7 +25,7 @@ mod heads;
 mod imports;
 mod numbers;
 mod roots;
-mod rows;
+mod section_rows;
 mod sections;
 mod summaries;
 mod texts;
@@ -38,5 +38,5 @@ pub use flaws::Flaw;
 pub use heads::{Head, Heading, Keyword, LinePlace, WeightFormat, WeightType};
 pub use imports::import;
 pub use roots::nearest_root;
-pub use rows::{DemandRow, SiteRow};
+pub use section_rows::{DemandRow, SiteRow};
 pub use summaries::{Distances, Problem};

@@ -7,7 +7,7 @@ ghost use Rattle.vr_tsplib.specs.Rows as row_tables;
 use crate::files::State;
 use crate::flaws::{Flaw, refuse_if};
 use crate::heads::{Head, LinePlace, WeightFormat, WeightType};
-use crate::rows::DemandRow;
+use crate::section_rows::DemandRow;
 
 /// How the distances of nodes are given.
 #[derive(Clone, Copy)]

@@ -11,7 +11,7 @@ ghost use Rattle.vr_tsplib.specs.Ranges.{IsSiteInRange};
 
 use crate::files::State;
 use crate::roots::nearest_root;
-use crate::rows::SiteRow;
+use crate::section_rows::SiteRow;
 use crate::summaries::{Distances, Problem, demand_of};
 use serde_json::{Value, json};
 use std::alloc::Global;

@@ -1,6 +1,6 @@
 use Rattle.std.proofs.Common.{◌≡◌, ◌<◌, ℕ, length}
 use Rattle.std.specs.Prelude.{slice_index_or}
-use Rattle.vr_first_insert.specs.declared.known.KnownItem.TheVariants.{Nothing}
+use Rattle.vr_first_insert.specs.declared.known_best.KnownItem.TheVariants.{Nothing}
 use Rattle.vr_first_insert.proofs.known_items.clear.Given as goal
 
 -- nothing is found of the items so far

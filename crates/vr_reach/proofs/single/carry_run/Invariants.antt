@@ -7,7 +7,7 @@ use Rattle.vr_reach.specs.Lists.{node_at_stop}
 use Rattle.vr_reach.specs.RunWalks.{line_along}
 use Rattle.vr_reach.specs.Singles.{IsOnlyRun, IsReachedRun}
 use Rattle.vr_steps.specs.Levels.{level_at}
-use Rattle.vr_steps.specs.Samples.{IsCumulRun}
+use Rattle.vr_steps.specs.CumulRuns.{IsCumulRun}
 use Rattle.vr_reach.proofs.single.carry_run.Given as goal
 
 -- the run is reached at stop k; what was counted and what is left are within the whole

@@ -1,6 +1,6 @@
 use Rattle.std.proofs.Common.{List, sym, ap, subst, ◌∙◌}
 use Rattle.std.specs.List.{All}
-use Rattle.vr_tsplib.specs.declared.rows.SiteRow.{SiteRow}
+use Rattle.vr_tsplib.specs.declared.section_rows.SiteRow.{SiteRow}
 use Rattle.vr_tsplib.specs.Ranges.{IsSiteInRange}
 use Rattle.vr_tsplib.specs.Trees.{sites}
 use Rattle.vr_tsplib.proofs.TreeLemmas.{sites_near}

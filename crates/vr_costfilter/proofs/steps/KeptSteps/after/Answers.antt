@@ -12,7 +12,7 @@ use Rattle.vr_costfilter.specs.GuideRuns.{runs_of}
 use Rattle.vr_costfilter.specs.Runs.{start_run}
 use Rattle.vr_costfilter.specs.Steps.{steps_of, AreKnownSteps}
 use Rattle.vr_costfilter.specs.Stages.{along_to_end}
-use Rattle.vr_costfilter.specs.declared.asked.Asked.{Asked}
+use Rattle.vr_costfilter.specs.declared.changed_list.Asked.{Asked}
 use Rattle.vr_costfilter.specs.declared.steps.KeptSteps.{KeptSteps}
 use Rattle.vr_costfilter.specs.declared.trails.Step.{Step}
 use Rattle.vr_costfilter.proofs.FloorLemmas.{back-many}

@@ -2,7 +2,7 @@ use Rattle.std.proofs.Common.{◌≡◌, ◌∙◌, ℕ, List, Some, None, Optio
 use Rattle.std.specs.Prelude.{IfSome, pos, slice_index_or}
 use Rattle.vr_plan.proofs.BoundLemmas.{read-cumul}
 use Rattle.vr_costfilter.specs.GuideRuns.{runs_of}
-use Rattle.vr_costfilter.specs.Steps.{steps_of, HasSetOut}
+use Rattle.vr_costfilter.specs.Steps.{steps_of, IsOutsetOf}
 use Rattle.vr_costfilter.specs.Stages.{along, setting_out, IsStageOf}
 use Rattle.vr_costfilter.specs.declared.guides.Stage.{Stage}
 use Rattle.vr_costfilter.specs.declared.steps.Outset.{Outset}
@@ -20,7 +20,7 @@ returns-then-lead-eq0-clause-met c =
     let lead = c.args.lead in
     let none : lead.place ≡ 0 = omega (arith, c.if-lead-eq0.true) in
     out-met c.at_floor.result (λ met. setting_out g.model.now g.d g.v (runs_of g) lead.first ≡ Some met.stage) (λ met. met.start ≡ met.stage.cumul) (λ met. met.more ≡ pos 0) (λ met. IsStageOf g.model.now 1002 met.stage)
-    (HasSetOut g.model.now g.d g.v (runs_of g) g.start (steps_of c.args.self.now.kept.now) lead)
+    (IsOutsetOf g.model.now g.d g.v (runs_of g) g.start (steps_of c.args.self.now.kept.now) lead)
     (λ met out start more range. met-start g.model.now g.d g.v (runs_of g) (steps_of c.args.self.now.kept.now) lead met none out start more range)
     c.at_floor.ensures.out c.at_floor.ensures.start c.at_floor.ensures.more c.at_floor.ensures.range
   where

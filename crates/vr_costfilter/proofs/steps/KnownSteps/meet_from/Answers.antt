@@ -7,7 +7,7 @@ use Rattle.vr_costfilter.specs.Floors.{stop_floor}
 use Rattle.vr_costfilter.specs.GuideRuns.{runs_of}
 use Rattle.vr_costfilter.specs.Runs.{only, starting}
 use Rattle.vr_costfilter.specs.Stages.{along, setting_out, stage_at_start}
-use Rattle.vr_costfilter.specs.Steps.{reached, steps_of, HasPaced, HasSetOut}
+use Rattle.vr_costfilter.specs.Steps.{reached, steps_of, IsOutsetOf, LeadsTo}
 use Rattle.vr_costfilter.specs.declared.guides.Guide.{Guide}
 use Rattle.vr_costfilter.specs.declared.guides.Stage.{Stage}
 use Rattle.vr_costfilter.specs.declared.trails.Step.{Step}
@@ -30,7 +30,7 @@ pub returns-clause-met : goal.returns-clause-met
 returns-clause-met c =
     let g = c.args.self.now.guide.now in
     let out = set-out g c.args.lead.first c.args.start (c.only.ensures.value ∙ ap only (read-cumul c.args.start c.requires.start)) (sym c.in_ok-floor.ensures.value) (c.standing-out.ensures.value ∙ ap (stage_at_start g.model.now g.d g.v) (read-cumul c.in_ok-floor.floor c.in_ok-floor.ensures.range)) in
-    some-map (HasPaced g.model.now g.d g.v (runs_of g) (take c.args.lead.place (steps_of c.args.self.now.kept.now)) c.standing-out.result) (HasSetOut g.model.now g.d g.v (runs_of g) (only c.args.start) (steps_of c.args.self.now.kept.now) c.args.lead)
+    some-map (LeadsTo g.model.now g.d g.v (runs_of g) (take c.args.lead.place (steps_of c.args.self.now.kept.now)) c.standing-out.result) (IsOutsetOf g.model.now g.d g.v (runs_of g) (only c.args.start) (steps_of c.args.self.now.kept.now) c.args.lead)
     c.pace.result (λ met paced. record { first = c.standing-out.result; out = out; paced = paced }) c.pace.ensures.paced
 
 pub returns-clause-value : goal.returns-clause-value

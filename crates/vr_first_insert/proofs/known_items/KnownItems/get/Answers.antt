@@ -1,7 +1,7 @@
 use Rattle.std.proofs.Common.{◌∙◌, ◌<◌, ap, sym, subst, length}
 use Rattle.std.specs.Prelude.{slice_index_or}
 use Rattle.std.proofs.lemmas.List.{length-map}
-use Rattle.vr_first_insert.specs.declared.known.KnownItem.TheVariants.{Nothing}
+use Rattle.vr_first_insert.specs.declared.known_best.KnownItem.TheVariants.{Nothing}
 use Rattle.vr_first_insert.specs.Found.{known_after}
 use Rattle.vr_first_insert.proofs.RowFacts.{none, read}
 use Rattle.vr_first_insert.proofs.known_items.KnownItems.get.Goals as goal
