@@ -14,8 +14,8 @@
 //! The check calls `vr_printed`, which reads the tree.
 //!
 //! Start at `checking`, which has the order of the rules, and at `finding`, which has their names and what is answered.
-//! `printed` and `asked_line` are what they are asked of: routes and plans beside the model, and the line of a plan. The
-//! rules come in this order:
+//! `printed` and `asked_line` are what they are asked of: routes and plans beside the model, and the line of a plan.
+//! The rules come in this order:
 //!
 //! - the shape, which `vr_printed` asks as it reads;
 //! - `lists`, on the nodes of routes, and `visits`, on which of them are active (`held` finds nodes in lists);

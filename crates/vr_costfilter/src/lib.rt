@@ -41,8 +41,8 @@
 //!   list, and tells what a change makes of them.
 //! - `tight` has the way of a vehicle that waits for the begins of runs alone, and the two ends of a whole way. `rests`
 //!   has what is left of a line, and `kept_ways` keeps ways and rests of a list.
-//! - `changed_list` has a list that comes in the place of another, with the two ends of its tight schedule and the walk along
-//!   it.
+//! - `changed_list` has a list that comes in the place of another, with the two ends of its tight schedule and the walk
+//!   along it.
 //! - `early_change` has how early the lists after a change can end and how short their spans can be. That bounds what a
 //!   change costs at least; for global spans `spreads` does it.
 //! - `tours` has the list of a vehicle, `parts_after` the list that a change gives it, and `scratch` what calls are

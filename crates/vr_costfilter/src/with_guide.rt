@@ -2,8 +2,8 @@
 //!
 //! What goes along them is asked with both, so that it knows that they are at most 1000 visits. Their floors are found
 //! backwards, from the next step on: the least cumul of each from which that of the next one can be met. `steps` goes
-//! back along a whole list that is committed and along what a change puts in. `changed_list` goes back along all pieces of a
-//! changed list. `kept` hands in the lists.
+//! back along a whole list that is committed and along what a change puts in. `changed_list` goes back along all pieces
+//! of a changed list. `kept` hands in the lists.
 
 ghost use Rattle.std.proofs.Props.{props};
 ghost use Rattle.vr_routes.specs.Pieces.{joined, nodes_of};

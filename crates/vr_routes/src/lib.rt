@@ -17,10 +17,10 @@
 //!
 //! Start with `routes`, which has the look-ups and makes a change. It uses `seats`: such lists, with the place of each
 //! node beside them. Then read `changes`, which writes the change of each kind of move. The lists of a change are
-//! written by `kinds` over `pieces`; `filling` writes out their nodes, into a list in place (`node_row`). `conditions` says
-//! whether the numbers of a move are those of one, and `pairs` at which places the nodes of a pair are. `judging` has
-//! the trait of judges (`Judge`) and what they answer (`Verdict`). `runs` gives a move another last number, as in the
-//! runs that a judge is asked about. `indices` has numbers for visits, starts and ends, for users of the library.
+//! written by `kinds` over `pieces`; `filling` writes out their nodes, into a list in place (`node_row`). `conditions`
+//! says whether the numbers of a move are those of one, and `pairs` at which places the nodes of a pair are. `judging`
+//! has the trait of judges (`Judge`) and what they answer (`Verdict`). `runs` gives a move another last number, as in
+//! the runs that a judge is asked about. `indices` has numbers for visits, starts and ends, for users of the library.
 #![tactic(auto)]
 
 mod changes;
