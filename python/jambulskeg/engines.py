@@ -14,24 +14,26 @@ import shutil
 import subprocess
 import tempfile
 import time
-from concurrent.futures import ThreadPoolExecutor
+from concurrent.futures import FIRST_COMPLETED, Future, ThreadPoolExecutor, wait
 from contextlib import contextmanager
 from dataclasses import dataclass
 from threading import Event
 from typing import (
-    IO, Callable, Dict, Iterator, List, Optional, Protocol, Sequence, Set, Tuple, Union, runtime_checkable,
+    IO, Callable, Dict, Iterable, Iterator, List, Optional, Protocol, Sequence, Set, Tuple, TypeVar, Union,
+    runtime_checkable,
 )
 
 from .arguments import A_COUNT, asks
 from .errors import JambulskegError, ProgramFailed, ProgramSlow, Stopped, WrongArgument
 from .model import Model, Solution, solution_of, solve
-from .program import Program, ProgramLike, answer, outputs_of, program_of, tree_of
+from .program import TICK, Program, ProgramLike, answer, outputs_of, program_of, tree_of
 from .refine import QUESTIONS, Question, at_hand
 
 __all__ = [
     "Answer", "Engine", "EngineFailed", "GnuParallel", "OwnProcesses", "Slurm", "Task", "TellingEngine", "Told",
 ]
 
+T = TypeVar("T")
 Answer = Union[Solution, JambulskegError]
 Task = Union[Model, Question]
 """What is searched: a model, or a question of vr_refine."""
@@ -107,12 +109,23 @@ class OwnProcesses:
 
         pool = ThreadPoolExecutor(max_workers=max(1, self.jobs))
         try:
-            return list(pool.map(one, range(len(tasks))))
+            searches = [pool.submit(one, number) for number in range(len(tasks))]
+            for search in each_ended(searches):
+                search.result()
+            return [search.result() for search in searches]
         except BaseException:
             ended.set()
             raise
         finally:
             pool.shutdown(wait=True, cancel_futures=True)
+
+
+def each_ended(tasks: "Iterable[Future[T]]") -> "Iterator[Future[T]]":
+    """Tasks of threads, as they end. Waits are short: Python may see a signal only after the wait that it meets."""
+    left = set(tasks)
+    while left:
+        ended, left = wait(left, timeout=TICK, return_when=FIRST_COMPLETED)
+        yield from ended
 
 
 def look_at_jobs(engine: "Union[OwnProcesses, GnuParallel, Slurm]") -> None:

@@ -281,6 +281,7 @@ class Inner(Kind):
         return value.tree()
 
 
+@lru_cache(maxsize=None)
 def key_of(name: str) -> str:
     """The key in the file of a field of a record: `from_` is `from`, which Python keeps for itself."""
     return name.rstrip("_")

@@ -9,7 +9,7 @@ import subprocess
 import time
 from dataclasses import dataclass
 from threading import Event, Thread
-from typing import Any, Dict, List, Optional, Sequence, Tuple, Type, Union
+from typing import IO, Any, Dict, List, Optional, Sequence, Tuple, Type, Union
 
 from .errors import (
     DeviceFailed, Fault, JambulskegError, NoFirstSolution, NoMemory, NotJson, NotMet, ProgramFailed, ProgramKilled,
@@ -161,19 +161,36 @@ def outputs_of(
 
 
 def feed(process: "subprocess.Popen[Any]", data: Any) -> None:
-    """Writes the input of a process by a thread of its own: `communicate` would lose what is left of it, were it asked
-    a second time."""
+    """Writes the input of a process: what the pipe holds at once, and the rest by a thread of its own. `communicate`
+    would lose what is left of it, were it asked a second time."""
     stdin, process.stdin = process.stdin, None
+    if stdin is None:
+        return
+    rest = after_pipe(stdin.fileno(), data)
+    if rest:
+        Thread(target=written, args=(stdin, rest), daemon=True).start()
+    else:
+        stdin.close()
 
-    def write() -> None:
-        try:
-            if stdin is not None:
-                with stdin:
-                    stdin.write(data)
-        except OSError:
-            pass  # The process has ended, and did not read all of it.
 
-    Thread(target=write, daemon=True).start()
+def written(pipe: "IO[Any]", data: Any) -> None:
+    """Writes all of some bytes to a pipe, and closes it."""
+    try:
+        with pipe:
+            pipe.write(data)
+    except OSError:
+        pass  # The process has ended, and did not read all of it.
+
+
+def after_pipe(pipe: int, data: bytes) -> bytes:
+    """What is left of some bytes when a pipe has taken what it holds; it waits for nobody."""
+    os.set_blocking(pipe, False)
+    try:
+        return data[os.write(pipe, data):]
+    except OSError:
+        return data  # The pipe is full, or nobody reads it.
+    finally:
+        os.set_blocking(pipe, True)
 
 
 ProgramLike = Union[Program, str, None]

@@ -24,7 +24,7 @@ from jambulskeg.records import Refine
 from jambulskeg.refine import find, refines, solve
 from jambulskeg.replan import from_morning, replan, solve_rest
 from jambulskeg.rescue import RESCUE_STEPS, Rescue, Solved, Way, rescue, timed_solver, with_search
-from jambulskeg.rounds import FIRST_STEPS, FIRST_TRIES, On, solve_for
+from jambulskeg.rounds import FIRST_STEPS, On, solve_for
 
 from .support import AS_REAL, EXAMPLES, Fake, environment, example, solved, tree_with
 from .test_portfolio import PARALLEL, SBATCH, engine_on_path
@@ -75,7 +75,8 @@ class RefiningTests(unittest.TestCase):
 class RoundTests(unittest.TestCase):
     def test_rounds_go_on_from_the_best_so_far(self) -> None:
         for limit in (0.3, 1.5, 5.0, 15.0):  # On a busy machine few rounds are over sooner.
-            found = solve_for(DAY, limit)
+            with mock.patch("jambulskeg.rounds.FIRST_TRIES", 5000):
+                found = solve_for(DAY, limit)
             ways = [entry.on for entry in found.rounds]
             if On.OWN in ways and found.solution.cost == 1338:
                 break
@@ -84,7 +85,7 @@ class RoundTests(unittest.TestCase):
         self.assertEqual(found.solution.cost, 1338)
         seeds = [entry.refine.seed for entry in found.rounds if entry.refine is not None]
         self.assertEqual(seeds, list(range(1, len(seeds) + 1)))
-        self.assertEqual([entry.search.tries for entry in found.rounds[:4]], [*[FIRST_TRIES] * 3, FIRST_STEPS])
+        self.assertEqual([entry.search.tries for entry in found.rounds[:4]], [5000, 5000, 5000, FIRST_STEPS])
         self.assertTrue(check(found.model, found.solution).meets)
 
     def test_a_round_gives_its_answer_again(self) -> None:

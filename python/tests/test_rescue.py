@@ -192,7 +192,8 @@ class RoundTests(WithoutRefining):
         progress: Progress = lambda seconds, cost: told.append((seconds, cost))
         for limit in (0.3, 1.5, 5.0, 15.0):  # On a busy machine few rounds are over sooner.
             told.clear()
-            found = solve_for(with_search(DAY, tries=1), limit, progress=progress)
+            with mock.patch("jambulskeg.rounds.FIRST_TRIES", 5000):
+                found = solve_for(with_search(DAY, tries=1), limit, progress=progress)
             if len({tuple(entry.search.lambda_) for entry in found.rounds}) > 1:
                 break
         rounds: Sequence[Round] = found.rounds
@@ -209,7 +210,7 @@ class RoundTests(WithoutRefining):
 
     def test_the_first_rounds_are_short(self) -> None:
         rounds: Sequence[Round] = ()
-        for seconds in (0.1, 0.4, 2, 10):  # A busy machine may want more of them.
+        for seconds in (0.5, 2, 10):  # A busy machine may want more of them.
             stop = Event()
             threading.Timer(seconds, stop.set).start()
             with contextlib.suppress(Stopped):

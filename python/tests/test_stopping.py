@@ -42,6 +42,13 @@ def is_alive(pid: int) -> bool:
     return True
 
 
+def end_all(process: "subprocess.Popen[str]") -> None:
+    """Ends a process with a session of its own, and all that it began, if it did not end by itself."""
+    if process.poll() is None:
+        os.killpg(process.pid, signal.SIGKILL)
+        process.communicate()
+
+
 class StoppedCommandTests(CommandCase):
     def stopped(self, number: int, words: List[str], seen: int) -> Tuple[int, str, str]:
         """Runs a command, stops its process alone by a signal once `seen` guided searches run, and finds that none is
@@ -54,6 +61,7 @@ class StoppedCommandTests(CommandCase):
                 env=environment(VR_CLI=path, PIDS=pids), stdout=subprocess.PIPE, stderr=subprocess.PIPE, text=True,
                 start_new_session=True,
             )
+            self.addCleanup(end_all, process)
             end = time.monotonic() + 30
             while len(os.listdir(pids)) < seen and time.monotonic() < end:
                 time.sleep(0.02)

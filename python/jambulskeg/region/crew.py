@@ -8,12 +8,14 @@ from __future__ import annotations
 
 import os
 import tempfile
-from concurrent.futures import ThreadPoolExecutor, as_completed
+from concurrent.futures import ThreadPoolExecutor
 from dataclasses import dataclass, field
 from threading import Event
 from typing import IO, Callable, Generator, List, Protocol, Sequence, Tuple
 
-from ..engines import Answer, EngineFailed, GnuParallel, answer_of, last_of, results, started, stop_twice
+from ..engines import (
+    Answer, EngineFailed, GnuParallel, answer_of, each_ended, last_of, results, started, stop_twice,
+)
 from ..errors import JambulskegError, Stopped
 from ..model import solution_of
 from ..program import Program, ProgramLike, program_of
@@ -70,7 +72,7 @@ class OwnCrew:
         pool, stop = ThreadPoolExecutor(max_workers=max(1, self.jobs)), Event()
         try:
             tasks = {pool.submit(lambda at: searched(text_of(at), found, stop), at): at for at in range(count)}
-            for task in as_completed(tasks):
+            for task in each_ended(tasks):
                 yield tasks[task], task.result()
         finally:
             stop.set()
