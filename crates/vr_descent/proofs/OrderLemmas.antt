@@ -20,7 +20,7 @@ use Rattle.vr_model.proofs.moves.MoveMembers.{moves_as_tested}
 use Rattle.vr_model.specs.declared.neighbours.Owner.TheVariants as own
 use Rattle.vr_model.specs.moves.Kinds.{is_same_kind, kind_of, owner}
 use Rattle.vr_known.specs.Blocks.{first_of, is_behind, is_kind_of}
-use Rattle.vr_known.proofs.MemoryLemmas.{same_kind, same_test}
+use Rattle.vr_known.proofs.RowLemmas.{same_kind, same_test}
 
 -- ---- lists that are split at a move
 
@@ -258,15 +258,15 @@ module _ (model : Model) (lists : List (List ℕ)) where
     | inl is ↦ (
         let same : n ≡ kind_of mv = same_kind n (kind_of mv) is in
         let here : IsTrue (is_same_kind (kind_of m) (kind_of mv) && nat_lt (first_of m) (first_of mv)) =
-            sym (ap (λ b. cond b (is_same_kind (kind_of m) (kind_of mv) && nat_lt (first_of m) (first_of mv)) (is_same_kind (kind_of m) n || is_behind ns (kind_of m) (first_of m) mv)) is) ∙ h in
+        sym (ap (λ b. cond b (is_same_kind (kind_of m) (kind_of mv) && nat_lt (first_of m) (first_of mv)) (is_same_kind (kind_of m) n || is_behind ns (kind_of m) (first_of m) mv)) is) ∙ h in
         let alike : kind_of m ≡ kind_of mv = same_kind (kind_of m) (kind_of mv) (and_left (is_same_kind (kind_of m) (kind_of mv)) _ here) in
         before_kind n (moves_over model ns lists) before mv after same (sym (over_more n ns) ∙ e) m (one_of m one n (same ∙ sym alike))
         (lt_of_test (first_of m) (first_of mv) (and_right (is_same_kind (kind_of m) (kind_of mv)) _ here)))
     | inr other ↦ (
         let later : IsTrue (is_same_kind (kind_of m) n || is_behind ns (kind_of m) (first_of m) mv) =
-            sym (ap (λ b. cond b (is_same_kind (kind_of m) (kind_of mv) && nat_lt (first_of m) (first_of mv)) (is_same_kind (kind_of m) n || is_behind ns (kind_of m) (first_of m) mv)) other) ∙ h in
+        sym (ap (λ b. cond b (is_same_kind (kind_of m) (kind_of mv) && nat_lt (first_of m) (first_of mv)) (is_same_kind (kind_of m) n || is_behind ns (kind_of m) (first_of m) mv)) other) ∙ h in
         let r = begins (moves_in model lists n) (moves_over model ns lists) before mv after (sym (over_more n ns) ∙ e)
-            (λ there. clash (is_same_kind n (kind_of mv)) (same_test n (kind_of mv) (sym (of_kind n mv there))) other) in
+        (λ there. clash (is_same_kind n (kind_of mv)) (same_test n (kind_of mv) (sym (of_kind n mv there))) other) in
         subst (λ l. In l m) (sym r.before_is) (elim (or_cases (is_same_kind (kind_of m) n) _ later) [
           | inl here ↦ in_left (moves_in model lists n) r.rest m (one_of m one n (sym (same_kind (kind_of m) n here)))
           | inr behind ↦ in_right (moves_in model lists n) r.rest m (stand_before ns r.rest mv after r.left m one behind)

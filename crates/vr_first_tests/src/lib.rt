@@ -6,8 +6,8 @@
 #[cfg(test)]
 mod firsts;
 #[cfg(test)]
-mod printing;
-#[cfg(test)]
 mod named_rows;
+#[cfg(test)]
+mod printing;
 #[cfg(test)]
 mod rules;

@@ -5,6 +5,7 @@ pub mod Local
 pub mod CostLocality
 pub mod Locality
 pub mod TouchedLemmas
+pub mod RowLemmas
 pub mod MemoryLemmas
 pub mod NestLemmas
 pub mod PassingLemmas

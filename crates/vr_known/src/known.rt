@@ -10,8 +10,8 @@ ghost use Rattle.vr_model.specs.tables.WellFormed.{IsWellFormed};
 ghost use Rattle.vr_model.specs.declared.neighbours.Move.{Move as Moved};
 ghost use Rattle.vr_model.specs.declared.neighbours.Neighbourhood.{Neighbourhood as Kind};
 
-use crate::stamps::Stamps;
 use crate::Touched;
+use crate::stamps::Stamps;
 use std::marker::Model;
 use vr_model::{Closed, Model as RoutingModel, Move, Neighbourhood};
 use vr_routes::Routes;

@@ -21,13 +21,13 @@
 
 mod dimensions;
 mod groups;
+mod list_rows;
 mod lists;
 mod loads;
 mod new_lists;
 mod pairs;
 mod parts;
 pub mod policies;
-mod list_rows;
 mod vehicles;
 
 pub use dimensions::DimensionFilter;

@@ -40,10 +40,10 @@ pub use changes::Change;
 pub use conditions::pair_served;
 pub use indices::Indices;
 pub use judging::{Judge, Verdict};
+pub use node_row::Row;
 pub use pairs::{
     PairPlaces, is_elsewhere, is_pair_inactive, is_pair_together, pair_places, rest_len,
 };
-pub use node_row::Row;
 pub use pieces::{Piece, Splice};
 pub use routes::Routes;
 pub use runs::with_last;

@@ -7,11 +7,11 @@
 #![tactic(auto)]
 
 #[cfg(test)]
-mod judge_questions;
-#[cfg(test)]
 mod cuts;
 #[cfg(test)]
 mod filters;
+#[cfg(test)]
+mod judge_questions;
 #[cfg(test)]
 mod judges;
 #[cfg(test)]
