@@ -271,6 +271,9 @@ impl<'m> Asker<'m> {
         if !goes_in_each(&changed, &self.carrier.loads, &mut self.walk)? {
             return Ok(false);
         }
+        if self.carrier.free {
+            return Ok(true);
+        }
         Ok(keeps_rest(&self.lookups, list.vehicle, nodes, &mut self.pairs))
     }
 
