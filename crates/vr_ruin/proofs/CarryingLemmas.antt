@@ -1,6 +1,6 @@
 -- Lists that a vehicle may drive carry what their items take, wherever these go.
 use Rattle.std.proofs.Common.{◌≡◌, ◌∙◌, ℕ, suc, ◌+◌, ◌<◌, ◌≤◌, ◌++◌, Bool, true, false, cond, List, [], ◌∷◌, length, take, drop, refl, sym, ap, subst, inl, inr, map, arith, add-one, of_z, to_z, w64}
-use Rattle.std.specs.Prelude.{ℤ, slice_index_or, IsTrue, ◌+ℤ◌, ◌&&◌, ◌||◌, int_le, not, slice_range, None}
+use Rattle.std.specs.Prelude.{ℤ, slice_index_or, IsTrue, ◌+ℤ◌, ◌==◌, ◌&&◌, ◌||◌, int_le, not, slice_range, None}
 use Rattle.std.specs.List.{list_all}
 use Rattle.std.proofs.lemmas.Int.{ints}
 use Rattle.vr_model.specs.declared.records.Model.{Model}
@@ -29,13 +29,14 @@ use Rattle.vr_ruin.specs.declared.placing.Placing.{Placing}
 use Rattle.vr_ruin.specs.declared.placing.Placing.TheVariants.{One, Two}
 use Rattle.vr_lists.specs.Pairs.{keeps_pairs}
 use Rattle.vr_rules.specs.RoutesOpen.{is_feasible_in_each}
-use Rattle.vr_ruin.specs.Carrying.{carries, carries_all, carries_in, IsPlain}
+use Rattle.vr_ruin.specs.Carrying.{IsFree, carries, carries_all, carries_in, IsPlain}
 use Rattle.vr_ruin.specs.Known.{IsCarriedBy, IsEndWithin}
 use Rattle.vr_ruin.specs.Placings.{best_of, item_in, key_of, offer_for, placed, placings_of, AreWithin}
 use Rattle.vr_model.specs.first.Choosing.{better}
 use Rattle.vr_ruin.proofs.Placed.{split-three}
 use Rattle.vr_ruin.proofs.TimelessLemmas.{each_below, some-placed}
 use Rattle.std.proofs.lemmas.List.{take-append-drop}
+use Rattle.std.proofs.Math.Dec.{eqb-suc-zero}
 
 -- ---- what is taken
 
@@ -154,6 +155,26 @@ pub open-by_rest : (model : Model) (v : ℕ) (list : List ℕ) → is_empty list
 open-by_rest model v list some lines =
     group-and (list_all (serves_pair list) model.pairs) (keeps_policy model v list) (list_all (allows_vehicle model v) list)
     ∙ sym (λ i. some i || (sym lines i && (list_all (serves_pair list) model.pairs && (keeps_policy model v list && list_all (allows_vehicle model v) list))))
+
+-- nothing is in a list without length
+pub none-of : {A : Type 0} (xs : List A) → (length xs == 0) ≡ true → xs ≡ []
+none-of [] e = refl
+none-of (x ∷ xs) e = absurd (clash (length (x ∷ xs) == 0) e (eqb-suc-zero (length xs)))
+
+-- of a free model that is all
+pub free-rest : (model : Model) (v : ℕ) (list : List ℕ) → IsFree model → (keeps_pairs model v list && list_all (allows_vehicle model v) list) ≡ true
+free-rest model v list free =
+    let pairs : list_all (serves_pair list) model.pairs ≡ true = ap (list_all (serves_pair list)) free.pairs in
+    let policy : keeps_policy model v list ≡ true = ap (λ ps. keeps_policy (record model { pairs = ps }) v list) free.pairs in
+    let allowed : list_all (allows_vehicle model v) list ≡ true =
+    ap (λ rows. list_all (allows_vehicle (record model { allowed = rows }) v) list) free.allowed ∙ list_all-true (λ n. true) (λ n. refl) list in
+    by (list_all (serves_pair list) model.pairs) (keeps_policy model v list) (list_all (allows_vehicle model v) list) pairs policy allowed
+  where
+    by : (a b c : Bool) → a ≡ true → b ≡ true → c ≡ true → ((a && b) && c) ≡ true
+    by a b c p q r = ap (λ a. (a && b) && c) p ∙ ap (λ b. b && c) q ∙ r
+
+pub open-if_free : (model : Model) (v : ℕ) (list : List ℕ) → IsFree model → is_empty list ≡ false → true ≡ is_feasible_in_each model v list → true ≡ is_route_open model v list
+open-if_free model v list free some lines = sym (free-rest model v list free) ∙ open-by_rest model v list some lines
 
 -- ---- all places
 

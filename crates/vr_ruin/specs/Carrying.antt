@@ -28,15 +28,21 @@ pub record IsPlain (model : Model) : Type 0 where
   pub pairs : model.pairs ≡ []
   pub allowed : model.allowed ≡ []
 
+-- no visit is in a pair, and all vehicles may visit it
+pub record IsFree (model : Model) : Type 0 where
+  pub pairs : model.pairs ≡ []
+  pub allowed : model.allowed ≡ []
+
 -- for each dimension whether it is a load
 pub record AreLoads (model : Model) (loads : List Bool) : Type 0 where
   pub many : length loads ≡ length model.dimensions
   pub each : (d : ℕ) (other : Bool) → d < length loads → slice_index_or loads d other ≡ is_load model d
 
--- which dimensions are loads, and whether a model is plain
-pub record IsCarrier (model : Model) (loads : List Bool) (plain : Bool) : Type 0 where
+-- which dimensions are loads, and whether a model is plain, and free of pairs and of visits for certain vehicles
+pub record IsCarrier (model : Model) (loads : List Bool) (plain free : Bool) : Type 0 where
   pub loads_are : AreLoads model loads
   pub plain_is : IsTrue plain → IsPlain model
+  pub free_is : IsTrue free → IsFree model
 
 -- ---- what a list takes, kept beside it
 

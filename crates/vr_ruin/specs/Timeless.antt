@@ -40,6 +40,6 @@ AddsToArcs model lists offer = let list = route lists offer.vehicle in
 pub record IsAsker (model rules : Model) (carrier : Carrier) (columns : List MatrixColumns) (timeless : Bool) :
     Type 0 where
   pub rules_are : rules ≡ model
-  pub carrier_is : IsCarrier model carrier.loads.items carrier.plain
+  pub carrier_is : IsCarrier model carrier.loads.items carrier.plain carrier.free
   pub columns_are : AreColumns model columns
   pub timeless_is : timeless ≡ is_timeless model

@@ -1,11 +1,11 @@
 //! The best place of an item in one route.
 
-ghost use Rattle.std.specs.Prelude.{◌≡◌, ◌<◌, ◌≤◌, ◌≤ℤ◌, ◌<ℤ◌, ◌^◌, ℕ, IfOk, IsTrue, None, length, map, pos, suc};
+ghost use Rattle.std.specs.Prelude.{◌≡◌, ◌<◌, ◌≤◌, ◌≤ℤ◌, ◌<ℤ◌, ◌^◌, ℕ, IfOk, IsTrue, None, length, map, neg_ℤ};
+ghost use Rattle.std.specs.Prelude.{pos, suc};
 ghost use Rattle.std.specs.Prelude.{◌&&◌};
 ghost use Rattle.std.specs.List.{list_all, list_any};
 ghost use Rattle.vr_model.specs.routes.Costs.{assigned, parts_at};
 ghost use Rattle.vr_model.specs.routes.Routes.{is_distinct};
-ghost use Rattle.vr_model.specs.tables.Numbers.{from_to};
 ghost use Rattle.vr_model.specs.tables.Tables.{dimension_at, is_visit, vehicle_at};
 ghost use Rattle.vr_model.specs.tables.WellFormed.{IsWellFormed};
 ghost use Rattle.vr_rules.specs.Placing.{fits_beside, item_nodes, AreBuilt};
@@ -19,12 +19,11 @@ ghost use Rattle.vr_ruin.specs.Carrying.{carries_all, AreLoads};
 ghost use Rattle.vr_ruin.specs.Known.{IsKnownList, IsReady};
 ghost use Rattle.vr_ruin.specs.Placings.{AreWithin, MayHold};
 ghost use Rattle.vr_ruin.specs.Timeless.{costs_no_time as costs_no_time_in, is_timeless as is_timeless_of};
-ghost use Rattle.vr_ruin.specs.declared.placing.Placing.TheVariants.{Two};
 ghost use Rattle.vr_rules.specs.declared.items.Item.TheVariants.{PickupAndDelivery, Visit};
 
 use crate::carrying::Carrier;
 use crate::columns::{MatrixColumns, arcs_to, columns_of};
-use crate::increase::{Driven, increase_of};
+use crate::increase::{Driven, increase_of, visit_increase};
 use crate::known::{Changed, KnownRoute, goes_in_each, shared_with};
 use crate::places::next_place;
 use crate::placing::{Offer, Placing, bound_of, improves, within_limit, write_placed};
@@ -272,12 +271,15 @@ impl<'m> Asker<'m> {
         if !goes_in_each(&changed, &self.carrier.loads, &mut self.walk)? {
             return Ok(false);
         }
+        if self.carrier.free {
+            return Ok(true);
+        }
         Ok(keeps_rest(&self.lookups, list.vehicle, nodes, &mut self.pairs))
     }
 
-    // The better of the best so far and an item at its places, which counts only if the list stays open. That is asked
-    // only if it would be the best.
-    fn weigh(
+    /// The better of the best so far and an item at its places, which counts only if the list stays open. That is asked
+    /// only if it would be the best.
+    pub(crate) fn weigh(
         &mut self,
         list: VehicleList<'_, '_>,
         best: Option<Offer>,
@@ -325,8 +327,8 @@ impl<'m> Asker<'m> {
         next_place(&driven, known.arcs.as_slice(), costs, node, t, bound)
     }
 
-    // The same, if there may be no bound.
-    fn next(&self, list: VehicleList<'_, '_>, node: u32, t: usize, bound: Option<i64>) -> usize
+    /// The same, if there may be no bound.
+    pub(crate) fn next(&self, list: VehicleList<'_, '_>, node: u32, t: usize, bound: Option<i64>) -> usize
         requires vehicle { list.vehicle < length self.now.vehicles }
         requires may { MayHold self.now list.nodes.now (Visit node) }
         requires known { IsKnownList self.now list.vehicle list.nodes.now list.known.now }
@@ -371,52 +373,22 @@ impl<'m> Asker<'m> {
         Ok(within_limit(best, limit))
     }
 
-    // The best of the best so far and the places of a pair with the pickup at place `s`.
-    fn best_delivery(
-        &mut self,
-        list: VehicleList<'_, '_>,
-        pickup: u32,
-        delivery: u32,
-        s: usize,
-        best: Option<Offer>,
-    ) -> Result<Option<Offer>, NoMemory>
-        requires vehicle { list.vehicle < length self.old.vehicles }
-        requires place { s ≤ length list.nodes.now }
-        requires may { MayHold self.old list.nodes.now (PickupAndDelivery pickup delivery) }
-        requires ready { IsReady self.old list.vehicle list.nodes.now list.known.now
-            (PickupAndDelivery pickup delivery) }
-        ensures best { IfOk result (λ better. better ≡ best_of self.old list.entry.vehicle list.entry.nodes.now best
-            (map (Two pickup delivery s) (from_to s (suc (length list.entry.nodes.now))))) }
-        ensures model { self.new ≡ self.old }
+    /// What a visit before place `t` adds.
+    pub(crate) fn alone(&self, list: VehicleList<'_, '_>, node: u32, t: usize) -> i64
+        requires vehicle { list.vehicle < length self.now.vehicles }
+        requires may { MayHold self.now list.nodes.now (Visit node) }
+        requires place { t ≤ length list.nodes.now }
+        ensures value { result ≡ visit_increase self.now list.entry.vehicle list.entry.nodes.now node t }
+        ensures low { neg_ℤ (pos (2 ^ 40)) ≤ℤ result }
+        ensures high { result ≤ℤ pos (2 ^ 41) }
     {
-        let mut best = best;
-        for t in s..list.nodes.len() + 1 {
-            let placing = Placing::Two(pickup, delivery, s as u32, t as u32);
-            best = self.weigh(list, best, placing)?;
-        }
-        Ok(best)
-    }
-
-    // The best places of a pair.
-    fn best_pair(
-        &mut self,
-        list: VehicleList<'_, '_>,
-        pickup: u32,
-        delivery: u32,
-    ) -> Result<Option<Offer>, NoMemory>
-        requires vehicle { list.vehicle < length self.old.vehicles }
-        requires may { MayHold self.old list.nodes.now (PickupAndDelivery pickup delivery) }
-        requires ready { IsReady self.old list.vehicle list.nodes.now list.known.now
-            (PickupAndDelivery pickup delivery) }
-        ensures best { IfOk result (λ best. best ≡ best_of self.old list.entry.vehicle list.entry.nodes.now None
-            (placings_of list.entry.nodes.now (PickupAndDelivery pickup delivery))) }
-        ensures model { self.new ≡ self.old }
-    {
-        let mut best = None;
-        for s in 0..list.nodes.len() + 1 {
-            best = self.best_delivery(list, pickup, delivery, s, best)?;
-        }
-        Ok(best)
+        let closed = self.lookups.closed;
+        let driven = Driven {
+            closed,
+            vehicle: list.vehicle,
+            nodes: list.nodes,
+        };
+        visit_increase(&driven, node, t)
     }
 
     /// The best places of an item in the list of a vehicle: those at which it adds least to the arc costs. Of these the

@@ -10,7 +10,7 @@ ghost use Rattle.vr_loads.specs.Loads.{HasLoad, is_load as is_load_of, load_of, 
 ghost use Rattle.vr_rules.specs.Placing.{item_nodes};
 ghost use Rattle.vr_ruin.specs.Carrying.{carries as carries_of, carries_all as carries_all_of};
 ghost use Rattle.vr_ruin.specs.Carrying.{carries_in as carries_in_of, AreLoads, AreSums, AreSumsIfUsed};
-ghost use Rattle.vr_ruin.specs.Carrying.{IsCarrier, IsPlain, IsSumIn};
+ghost use Rattle.vr_ruin.specs.Carrying.{IsCarrier, IsFree, IsPlain, IsSumIn};
 
 use crate::increase::Driven;
 use std::alloc::Global;
@@ -25,16 +25,20 @@ pub(crate) struct Carrier {
     pub(crate) loads: Vec<bool>,
     // whether nothing but loads says which lists are open
     pub(crate) plain: bool,
+    // whether no visit is in a pair, and none asks for certain vehicles
+    pub(crate) free: bool,
 }
 
 impl Carrier {
     /// It fails only if memory runs out.
     pub(crate) fn open(alloc: Global, closed: Closed<'_>) -> Result<Carrier, NoMemory>
-        ensures { IfOk result (λ carrier. IsCarrier closed.entry.model.now carrier.loads.items carrier.plain) }
+        ensures { IfOk result (λ carrier. IsCarrier closed.entry.model.now carrier.loads.items carrier.plain
+            carrier.free) }
     {
         let loads = loads_of(alloc, closed)?;
         let plain = is_plain(closed, &loads);
-        Ok(Carrier { loads, plain })
+        let free = is_free(closed);
+        Ok(Carrier { loads, plain, free })
     }
 
     /// Whether the vehicle of a list can carry an item too, in each dimension that is a load, by what the list takes.
@@ -80,6 +84,16 @@ fn is_plain(closed: Closed<'_>, loads: &[bool]) -> bool
         return false;
     }
     are_all(loads)
+}
+
+// Whether no visit is in a pair, and none asks for certain vehicles.
+fn is_free(closed: Closed<'_>) -> bool
+    ensures { IsTrue result → IsFree closed.entry.model.now }
+{
+    if !closed.model.pairs.is_empty() {
+        return false;
+    }
+    closed.model.allowed.is_empty()
 }
 
 // Whether all marks are set.

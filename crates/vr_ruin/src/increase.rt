@@ -82,8 +82,8 @@ fn detour(list: &Driven<'_, '_>, a: u32, x: u32, b: u32, before: i64) -> i64
     model.arc_cost(list.vehicle, a, x) + model.arc_cost(list.vehicle, x, b) - before
 }
 
-// What a visit before a place adds: three arcs at most, whatever the length of the list.
-fn visit_increase(list: &Driven<'_, '_>, x: u32, t: usize) -> i64
+/// What a visit before a place adds: three arcs at most, whatever the length of the list.
+pub(crate) fn visit_increase(list: &Driven<'_, '_>, x: u32, t: usize) -> i64
     requires within { t ≤ length list.now.nodes.now }
     requires visit { x < list.now.closed.model.now.nodes }
     ensures value { result ≡ visit_increase_of list.now.closed.model.now list.now.vehicle list.now.nodes.now x t }

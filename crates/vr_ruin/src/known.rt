@@ -18,7 +18,7 @@ use crate::placing::Placing;
 use std::alloc::Global;
 use vr_model::{NoMemory, Seq};
 use vr_plan::Lookups;
-use vr_reach::{KnownList, Rows, StopsFor, Stretch, Walk, goes_between, write_rows};
+use vr_reach::{KnownList, Rows, StopsFor, Stretch, Walk, goes_between, rewrite_rows};
 use vr_routes::Row;
 
 /// A list of a vehicle, with its rows in each dimension, its arcs and what it takes. Of the empty list nothing is
@@ -72,9 +72,14 @@ impl KnownRoute {
         if is_same(self.nodes.as_slice(), list) {
             return Ok(());
         }
+        let lists = Relisted {
+            before: self.nodes.as_slice(),
+            list,
+        };
+        let written = write_each(alloc, lookups, v, &lists, loads, &mut self.rows);
         // of the empty list nothing is known, whatever the rows hold
         self.nodes.clear();
-        write_each(alloc, lookups, v, list, loads, &mut self.rows)?;
+        written?;
         let driven = Driven {
             closed: lookups.closed,
             vehicle: v,
@@ -85,6 +90,13 @@ impl KnownRoute {
         write_nodes(list, &mut self.nodes);
         Ok(())
     }
+}
+
+// A list that comes in the place of another.
+#[derive(Clone, Copy)]
+struct Relisted<'b, 'l> {
+    before: &'b [u32],
+    list: &'l [u32],
 }
 
 // Whether two lists have the same nodes in the same order.
@@ -105,24 +117,26 @@ fn write_nodes(list: &[u32], out: &mut Row)
     }
 }
 
-// Writes the rows of a list of vehicle `v` in each dimension that is no load.
+// Writes the rows of a list of vehicle `v` in each dimension that is no load over those of another. What both lists
+// share at their ends is not gone through again.
 fn write_each(
     alloc: Global,
     lookups: &Lookups<'_>,
     v: u32,
-    list: &[u32],
+    lists: &Relisted<'_, '_>,
     loads: &[bool],
     rows: &mut [Rows],
 ) -> Result<(), NoMemory>
     requires vehicle { v < length lookups.now.closed.model.now.vehicles }
-    requires tour { IsTour lookups.now.closed.model.now list.now }
+    requires tour { IsTour lookups.now.closed.model.now lists.now.list.now }
     requires loads { AreLoads lookups.now.closed.model.now loads.now }
     requires many { length rows.old ≡ length lookups.now.closed.model.now.dimensions }
+    requires rows { AreRowsIn lookups.now.closed.model.now v lists.now.before.now rows.old }
     ensures many { length rows.new ≡ length rows.old }
-    ensures rows { OnOk result (AreRowsIn lookups.now.closed.model.now v list.now rows.new) }
+    ensures rows { OnOk result (AreRowsIn lookups.now.closed.model.now v lists.now.list.now rows.new) }
 {
     for d in 0..loads.len() {
-        write_in(alloc, lookups, d as u32, v, list, loads[d], &mut rows[d])?;
+        write_in(alloc, lookups, d as u32, v, lists, loads[d], &mut rows[d])?;
     }
     Ok(())
 }
@@ -133,15 +147,16 @@ fn write_in(
     lookups: &Lookups<'_>,
     d: u32,
     v: u32,
-    list: &[u32],
+    lists: &Relisted<'_, '_>,
     is_load: bool,
     rows: &mut Rows,
 ) -> Result<(), NoMemory>
     requires vehicle { v < length lookups.now.closed.model.now.vehicles }
     requires dimension { d < length lookups.now.closed.model.now.dimensions }
-    requires tour { IsTour lookups.now.closed.model.now list.now }
+    requires tour { IsTour lookups.now.closed.model.now lists.now.list.now }
+    requires rows { is_load ≡ false → AreRowsIfUsed lookups.now.closed.model.now d v lists.now.before.now rows.old }
     ensures { OnOk result
-        (is_load ≡ false → AreRowsIfUsed lookups.now.closed.model.now d v list.now rows.new) }
+        (is_load ≡ false → AreRowsIfUsed lookups.now.closed.model.now d v lists.now.list.now rows.new) }
 {
     if is_load {
         return Ok(());
@@ -153,7 +168,7 @@ fn write_in(
         v,
         of_dimension: &table.stops,
     };
-    write_rows(alloc, &stops, list, rows)
+    rewrite_rows(alloc, &stops, lists.before, lists.list, rows)
 }
 
 /// A list of a vehicle that shares nodes at its ends with one whose rows are known.

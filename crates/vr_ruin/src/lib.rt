@@ -18,7 +18,8 @@
 //!
 //! `asking` says at which places an item goes in a list, place by place (`placing`). An item that the vehicle cannot
 //! carry goes nowhere (`carrying`). What it adds is told by the arcs at its places (`increase`). For a visit these are
-//! read along one column and one row of a matrix (`columns`). Places that add too much are passed over (`places`).
+//! read along one column and one row of a matrix (`columns`). Places that add too much are passed over (`places`). Of a
+//! pair the pickup goes to each place in turn, and its delivery to those after it (`pairs`).
 //!
 //! Only a place that would be the best is tested, by walks from the rows of the list. These rows, the arcs of the list
 //! and what it carries are kept (`known`), and are written when another list is asked. A price is arcs and a fixed cost
@@ -41,6 +42,7 @@ mod known;
 mod lacking;
 mod laws;
 mod making;
+mod pairs;
 mod paying;
 mod places;
 mod placing;

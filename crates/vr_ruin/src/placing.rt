@@ -1,11 +1,11 @@
 //! Insertions of an item into one route, and which of two comes first.
 
-ghost use Rattle.std.specs.Prelude.{◌≡◌, ◌≤◌, OnOk, length, map, pos};
+ghost use Rattle.std.specs.Prelude.{◌≡◌, ◌≤◌, ◌≤ℤ◌, ◌+ℤ◌, ◌^◌, ℤ, IsTrue, None, OnOk, length, map, neg_ℤ, pos};
 ghost use Rattle.vr_model.specs.tables.Limits.{most_nodes};
 ghost use Rattle.vr_model.specs.tables.Numbers.{is_lex_less};
 ghost use Rattle.vr_rules.specs.Placing.{improves as improves_by};
 ghost use Rattle.vr_ruin.specs.Placings.{bound_for, item_in, key_of, no_more_than, placed as placed_of, places_in};
-ghost use Rattle.vr_ruin.specs.Placings.{AreWithin};
+ghost use Rattle.vr_ruin.specs.Placings.{AreWithin, IsAbove};
 
 use vr_model::{NoMemory, Seq};
 use vr_rules::Item;
@@ -79,6 +79,27 @@ pub(crate) fn bound_of(best: Option<Offer>, limit: Option<i64>) -> Option<i64>
         Some(best) => Some(best.increase),
         None => limit,
     }
+}
+
+/// What a delivery adds at most so that a pair is no worse than the best offer so far, if its pickup adds this much
+/// alone. `None` if that is not known.
+pub(crate) fn bound_beside(best: Option<Offer>, alone: i64) -> Option<i64>
+    requires low { neg_ℤ (pos (2 ^ 40)) ≤ℤ alone }
+    requires high { alone ≤ℤ pos (2 ^ 41) }
+    ensures { (x : ℤ) → IsAbove result x → IsAbove (bound_for best None) (alone +ℤ x) }
+{
+    match best {
+        Some(best) if is_near(best.increase) => Some(best.increase - alone),
+        _ => None,
+    }
+}
+
+// Whether a number is far from the ends of 64 bits.
+fn is_near(x: i64) -> bool
+    ensures low { IsTrue result → neg_ℤ (pos (2 ^ 60)) ≤ℤ x }
+    ensures high { IsTrue result → x ≤ℤ pos (2 ^ 60) }
+{
+    x >= -(1 << 60) && x <= 1 << 60
 }
 
 /// An offer, if it adds no more than a limit.

@@ -1,12 +1,7 @@
-use Rattle.std.proofs.Common.{◌≡◌, ◌∙◌, List, [], ◌∷◌, true, arith, length, refl, sym}
-use Rattle.std.specs.Prelude.{◌==◌}
-use Rattle.std.proofs.Math.Dec.{eqb-suc-zero}
-use Rattle.vr_model.proofs.tables.Tests.{all-from_list_all, clash}
+use Rattle.std.proofs.Common.{◌∙◌, true, arith, sym}
+use Rattle.vr_model.proofs.tables.Tests.{all-from_list_all}
+use Rattle.vr_ruin.proofs.CarryingLemmas.{none-of}
 use Rattle.vr_ruin.proofs.carrying.is_plain.Goals as goal
-
-none-of : {A : Type 0} (xs : List A) → (length xs == 0) ≡ true → xs ≡ []
-none-of [] e = refl
-none-of (x ∷ xs) e = absurd (clash (length (x ∷ xs) == 0) e (eqb-suc-zero (length xs)))
 
 pub returns : goal.returns
 returns c = λ all. record {

@@ -6,11 +6,13 @@ use Rattle.vr_model.specs.routes.Rules.{is_route_open}
 use Rattle.vr_reach.specs.Lists.{IsUsed}
 use Rattle.vr_reach.specs.Stretches.{SharesEnds}
 use Rattle.vr_rules.specs.Placing.{item_nodes}
+use Rattle.vr_rules.specs.RoutesOpen.{is_feasible_in_each}
 use Rattle.vr_ruin.specs.Carrying.{carries_all}
 use Rattle.vr_ruin.specs.Known.{shared_of, IsCarriedBy, IsKnownRoute}
 use Rattle.vr_ruin.specs.Placings.{item_in, placed, MayHold}
 use Rattle.vr_ruin.proofs.AskLemmas.{distinct_after, visits_after}
-use Rattle.vr_ruin.proofs.CarryingLemmas.{loads-feasible, plain-open}
+use Rattle.vr_ruin.proofs.CarryingLemmas.{loads-feasible, open-if_free, plain-open}
+use Rattle.vr_ruin.proofs.TimelessLemmas.{some-placed}
 use Rattle.vr_ruin.proofs.InsertedLemmas.{placed-shares, placed-used}
 use Rattle.vr_ruin.proofs.asking.Asker.opens.Goals as goal
 
@@ -64,3 +66,14 @@ keeps_rest-requires-clause-distinct c =
     let model = c.self.inside.lookups.closed.model.now in
     ap is_distinct (c.as_slice-nodes.ensures ∙ c.in_ok-write_placed.ensures)
     ∙ distinct_after model c.args.list.nodes.now c.args.placing c.requires.within (subst (λ m. MayHold m c.args.list.nodes.now (item_in c.args.placing)) (sym c.self.view_is) c.requires.may)
+
+pub returns-then-self-2-clause-open : goal.returns-then-self-2-clause-open
+returns-then-self-2-clause-open c =
+    let model = c.self.inside.lookups.closed.model.now in
+    let v = c.args.list.vehicle in
+    let list = c.args.list.nodes.now in
+    let after = placed list c.args.placing in
+    let same = c.as_slice-nodes.ensures ∙ c.in_ok-write_placed.ensures in
+    open-if_free model v after (c.self.invariant.carrier_is.free_is c.if-self-2.true) (some-placed list c.args.placing)
+    (sym c.if-not-branch.false ∙ c.in_ok-goes_in_each.ensures ∙ ap (is_feasible_in_each model v) same)
+    ∙ ap (λ m. is_route_open m v after) c.self.view_is
