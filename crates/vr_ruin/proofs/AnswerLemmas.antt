@@ -1,13 +1,12 @@
 -- What every answer of the search keeps to.
-use Rattle.std.proofs.Common.{◌≡◌, ◌∙◌, ◌<◌, ◌≤◌, ◌+◌, ◌++◌, ◌⊎◌, ℕ, zero, suc, List, [], ◌∷◌, Bool, true, false, cond, Some, None, inl, inr, refl, ap, ap₂, sym, subst, arith, length, append_assoc, zero-add}
-use Rattle.std.specs.Prelude.{◌&&◌, ◌||◌, ◌==◌, filter, is_some, int_le, int_lt, nat_lt, ◌*◌, ◌/◌, ◌-◌, ◌^◌, ◌≤ℤ◌, ℤ}
+use Rattle.std.proofs.Common.{◌≡◌, ◌∙◌, ◌<◌, ◌≤◌, ◌+◌, ◌++◌, ℕ, zero, suc, List, [], ◌∷◌, Bool, true, false, cond, Some, None, refl, ap, ap₂, sym, subst, arith, length, append_assoc}
+use Rattle.std.specs.Prelude.{◌&&◌, ◌||◌, ◌==◌, filter, is_some, int_le, int_lt, nat_lt, ◌-◌, ◌≤ℤ◌, ℤ}
 use Rattle.std.specs.List.{list_any}
 use Rattle.std.proofs.lemmas.Bool.{eqb-true}
 use Rattle.std.proofs.lemmas.Int.{ints}
 use Rattle.std.proofs.lemmas.List.{append-nil, length-append}
 use Rattle.std.proofs.lemmas.List.Elements.{filter-append}
 use Rattle.std.proofs.lemmas.List.Sums.{fold-append}
-use Rattle.vr_model.specs.declared.records.End.TheVariants.{Tries, Solutions}
 use Rattle.vr_model.specs.declared.records.Model.{Model}
 use Rattle.vr_model.specs.declared.search.Limit.{Limit}
 use Rattle.vr_model.specs.tables.Numbers.{is_lex_less}
@@ -23,9 +22,9 @@ use Rattle.vr_rules.proofs.PenaltyLemmas.{valid-open}
 use Rattle.vr_strings.specs.declared.sizes.Ruin.{Ruin}
 use Rattle.vr_ruin.specs.declared.wish.Wish.{Wish}
 use Rattle.vr_ruin.specs.Lacking.{lack}
-use Rattle.vr_ruin.specs.Steps.{RefineState, RefineStep, after_step, becomes_best, cooled, step_events, step_from, with_accepted}
+use Rattle.vr_ruin.specs.Steps.{RefineState, RefineStep, after_step, becomes_best, step_events, step_from, with_accepted}
 use Rattle.vr_ruin.specs.Refining.{RefineEnd, is_satisfied, refine_begun, refined, refined_from, refined_search, ruin_of, stopped, with_events}
-use Rattle.vr_ruin.specs.Answering.{accepted_from, lists_kept, CoolingGoesOn, HeatIsBounded, IsSoundRefining, RefiningAnswers, RefiningIsSound, RefiningStops, StopsWithin, ValidFirstIsKept}
+use Rattle.vr_ruin.specs.Answering.{accepted_from, lists_kept, IsSoundRefining, RefiningAnswers, RefiningIsSound, ValidFirstIsKept}
 use Rattle.vr_ruin.proofs.LackLemmas.{valid_is}
 use Rattle.vr_ruin.proofs.Remade.{steps_stay_open}
 
@@ -443,58 +442,3 @@ valid_first_is_kept model lists limit wish answer well_formed valid e = by (lack
           where
             turned : Some whole ≡ Some answer → answer ≡ whole
             turned e = cc
-
--- ---- the end
-
-module _ (model : Model) (ruin : Ruin) (limit : Limit) where
-  stops_in : (state : RefineState) → state.search.used ≤ limit.tries → ((state.search.found == limit.solutions) ≡ true) ⊎ (state.search.used ≡ limit.tries) → StopsWithin limit (stopped limit state).outcome.report
-  stops_in state low why = by (state.search.found == limit.solutions) refl why
-    where
-      by : (b : Bool) → (state.search.found == limit.solutions) ≡ b → ((state.search.found == limit.solutions) ≡ true) ⊎ (state.search.used ≡ limit.tries)
-          → StopsWithin limit (record { tries = state.search.used; solutions = state.search.found; «end» = cond b Solutions Tries })
-      by true e why = record { few = low; why = inl (refl, eqb-true state.search.found limit.solutions e) }
-      by false e (inl satisfied) = absurd (clash (state.search.found == limit.solutions) satisfied e)
-      by false e (inr all) = record { few = low; why = inr (refl, all) }
-
-  stops_from : (left : ℕ) (state : RefineState) → state.search.used + left ≡ limit.tries → StopsWithin limit (refined_from model ruin limit left state).outcome.report
-  unfolding refined_from
-  stops_from zero state all = stops_in state (omega (arith, all)) (inr (omega (arith, all)))
-  stops_from (suc left) state all = by (is_satisfied limit state) refl (stops_from left (after_step model state step))
-    where
-      step : RefineStep
-      step = step_from model ruin limit.tries state
-
-      used_next : (b : Bool) → (let after : RefineState = elim b [
-        | true ↦ record { search = with_accepted model state.search step.lists; first = cond (lack model state.first == 0) state.first step.lists; words = step.words }
-        | false ↦ record { search = tried state.search 1; first = state.first; words = step.words }
-      ] in after.search.used ≡ suc state.search.used)
-      used_next true = refl
-      used_next false = omega arith
-
-      by : (b : Bool) → is_satisfied limit state ≡ b → ((after_step model state step).search.used + left ≡ limit.tries → StopsWithin limit (refined_from model ruin limit left (after_step model state step)).outcome.report)
-          → (let end_of : RefineEnd = elim b [ true ↦ stopped limit state | false ↦ with_events (step_events model state step) (refined_from model ruin limit left (after_step model state step)) ] in StopsWithin limit end_of.outcome.report)
-      by true e again = stops_in state (omega (arith, all)) (inl e)
-      by false e again = let used = used_next step.is_accepted in again (omega (arith, all, used))
-
-pub refining_stops : RefiningStops
-unfolding refined_search
-refining_stops model lists limit wish = stops_from model (ruin_of model lists wish) limit limit.tries (refine_begun lists wish.seed) (omega arith)
-
--- ---- heat
-
-pub less_hot : (h : ℕ) → 61 * h / 64 ≤ h
-less_hot h = grind arith
-
-cooled_down : (levels h : ℕ) → cooled levels h ≤ h
-cooled_down zero h = omega arith
-cooled_down (suc levels) h = let once = less_hot h in let rest = cooled_down levels (61 * h / 64) in omega (arith, once, rest)
-
-pub heat_is_bounded : HeatIsBounded
-heat_is_bounded heat tries used = cooled_down (64 * (used - 1) / tries) (heat * 2 ^ 16)
-
-pub cooling_goes_on : CoolingGoesOn
-cooling_goes_on zero n h = ap (λ levels. cooled levels h) (zero-add n)
-cooling_goes_on (suc m) n h = ap (λ levels. cooled levels h) (suc-add m n) ∙ cooling_goes_on m n (61 * h / 64)
-  where
-    suc-add : (m n : ℕ) → suc m + n ≡ suc (m + n)
-    suc-add m n = omega arith

@@ -4,6 +4,7 @@ pub mod Fewer
 pub mod Placed
 pub mod Remade
 pub mod AnswerLemmas
+pub mod StopLemmas
 pub mod AskLemmas
 pub mod PayLemmas
 pub mod LackCounts

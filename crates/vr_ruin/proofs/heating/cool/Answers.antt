@@ -1,6 +1,6 @@
 use Rattle.std.proofs.Common.{◌≡◌, ◌∙◌, ◌+◌, ◌-◌, suc, ap, sym, arith}
 use Rattle.vr_ruin.specs.Steps.{cooled}
-use Rattle.vr_ruin.proofs.AnswerLemmas.{less_hot}
+use Rattle.vr_ruin.proofs.StopLemmas.{less_hot}
 use Rattle.vr_ruin.proofs.heating.cool.Goals as goal
 
 pub loop-level-preserved : goal.loop-level-preserved

@@ -1,4 +1,4 @@
-use Rattle.vr_ruin.proofs.AnswerLemmas.{cooling_goes_on}
+use Rattle.vr_ruin.proofs.StopLemmas.{cooling_goes_on}
 use Rattle.vr_ruin.proofs.laws.cooling_goes_on.Goals as goal
 
 pub returns : goal.returns

@@ -1,4 +1,4 @@
-use Rattle.vr_ruin.proofs.AnswerLemmas.{heat_is_bounded}
+use Rattle.vr_ruin.proofs.StopLemmas.{heat_is_bounded}
 use Rattle.vr_ruin.proofs.laws.heat_is_bounded.Goals as goal
 
 pub returns : goal.returns
