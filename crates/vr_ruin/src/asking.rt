@@ -328,7 +328,13 @@ impl<'m> Asker<'m> {
     }
 
     /// The same, if there may be no bound.
-    pub(crate) fn next(&self, list: VehicleList<'_, '_>, node: u32, t: usize, bound: Option<i64>) -> usize
+    pub(crate) fn next(
+        &self,
+        list: VehicleList<'_, '_>,
+        node: u32,
+        t: usize,
+        bound: Option<i64>,
+    ) -> usize
         requires vehicle { list.vehicle < length self.now.vehicles }
         requires may { MayHold self.now list.nodes.now (Visit node) }
         requires known { IsKnownList self.now list.vehicle list.nodes.now list.known.now }
