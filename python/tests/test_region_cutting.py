@@ -17,20 +17,18 @@ class FullSitesTests(unittest.TestCase):
         vans = [Van(f"van {depot.name}", depot.name, depot.name, 10) for depot in depots[:-1]]
         vans += [Van(f"far {number}", "far", "far", 10) for number in range(4)]
         region = Region((*depots, *visits), tuple(vans), Roads())
-        parts = cut(region)
+        parts = cut(region, 12)
         for part in parts:
             self.assertLessEqual(len(part.visits), 10 * len(part.vans))
-        made = {part.vans[0] < NEAR_SITES: 0 for part in parts}
-        for part in parts:
-            made[part.vans[0] < NEAR_SITES] += len(part.visits)
-        self.assertEqual(sum(made.values()), 60)
-        self.assertGreaterEqual(made[True], 36)
+        near = sum(len(part.visits) for part in parts if part.vans[0] < NEAR_SITES)
+        self.assertEqual(sum(len(part.visits) for part in parts), 60)
+        self.assertGreaterEqual(near, 36)
 
     def test_without_vans_anywhere_the_nearest_site_takes_all(self) -> None:
         depots = [Place(f"depot {number}", 100 * number, 0) for number in range(2)]
         visits = [Place(f"visit {number}", number, 20, 1) for number in range(30)]
         vans = [Van(f"van {depot.name}", depot.name, depot.name, 10) for depot in depots]
-        parts = cut(Region((*depots, *visits), tuple(vans), Roads()))
+        parts = cut(Region((*depots, *visits), tuple(vans), Roads()), 15)
         self.assertEqual(sum(len(part.visits) for part in parts), 30)
 
 

@@ -4,25 +4,43 @@ from __future__ import annotations
 
 import subprocess
 import sys
-import time
 import unittest
 from unittest import mock
 
 from jambulskeg.region import Searcher, cut
 from jambulskeg.region.crew import Answers, TextOf
-from jambulskeg.region.pace import OLDEST, WRITING, Pace, age
+from jambulskeg.region.pace import WRITING, Pace, age
 
 from .region_support import made_region
 
 
-class Crowded:
-    """A crew whose first part takes a moment; several take as long as if one processor were left for all."""
+class Clock:
+    """A clock that goes on as it is told to."""
+
+    def __init__(self) -> None:
+        self.now = 0.0
+
+    def monotonic(self) -> float:
+        """The seconds."""
+        return self.now
+
+    def given(self, *_: object) -> mock.Mock:
+        """What is given out of a part, after a moment."""
+        self.now += 0.01
+        return mock.Mock(question="")
+
+
+class Crew:
+    """A crew that solves some parts at a time, in a second each."""
 
     searcher = Searcher("none", True)
 
+    def __init__(self, clock: Clock, at_a_time: int) -> None:
+        self._clock, self._at_a_time = clock, at_a_time
+
     def each(self, count: int, text_of: TextOf) -> Answers:
         """Answers nothing."""
-        time.sleep(0.02 * count)
+        self._clock.now += -(-count // self._at_a_time)
         return
         yield
 
@@ -30,36 +48,30 @@ class Crowded:
         """Nothing is left to end."""
 
 
-class Roomy(Crowded):
-    """A crew that has a processor for each part."""
-
-    def each(self, count: int, text_of: TextOf) -> Answers:
-        """Answers nothing."""
-        time.sleep(0.02)
-        return
-        yield
-
-
 class FinishTests(unittest.TestCase):
+    def finish(self, at_a_time: int) -> float:
+        """What is kept for the end of 300 visits, if a crew of four solves this many parts at a time."""
+        region, clock = made_region(300), Clock()
+        with mock.patch("os.cpu_count", return_value=4), mock.patch("jambulskeg.region.pace.time", clock), \
+                mock.patch("jambulskeg.region.pace.given_of", clock.given):
+            pace = Pace(100.0, 4, lambda: 0.0)
+            pace.measure(region, cut(region), Crew(clock, at_a_time))
+        return pace.finish - WRITING
+
     def test_more_is_kept_for_the_end_beside_other_work(self) -> None:
-        region = made_region(300)
-        parts, kept = cut(region), []
-        with mock.patch("os.cpu_count", return_value=4), mock.patch("jambulskeg.region.pace.given_of") as given:
-            given.side_effect = lambda *_: time.sleep(0.01) or mock.Mock(question="")
-            for crew in (Roomy(), Crowded()):
-                pace = Pace(100.0, 4, lambda: 0.0)
-                pace.measure(region, parts, crew)
-                kept.append(pace.finish - WRITING)
-        self.assertGreater(kept[1], 2 * kept[0])
-        self.assertGreater(kept[0], 0.01)
+        free, busy = self.finish(4), self.finish(1)
+        self.assertGreater(free, 0.01)
+        self.assertAlmostEqual(self.finish(2), 2 * free)
+        self.assertAlmostEqual(busy, 4 * free)
 
 
 class AgeTests(unittest.TestCase):
     def test_a_process_knows_how_long_it_has_run(self) -> None:
-        code = "import time; time.sleep(0.3); from jambulskeg.region.pace import age; print(age())"
+        code = (
+            "import time; time.sleep(0.3); from jambulskeg.region import pace; pace.OLDEST = 1e9; print(pace.age())"
+        )
         ran = subprocess.run([sys.executable, "-c", code], stdout=subprocess.PIPE, text=True, check=True)
         self.assertGreater(float(ran.stdout), 0.25 if sys.platform == "linux" else -1)
-        self.assertLess(float(ran.stdout), OLDEST)
 
     def test_without_linux_nothing_is_known(self) -> None:
         with mock.patch("builtins.open", side_effect=FileNotFoundError):
