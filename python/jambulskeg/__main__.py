@@ -11,6 +11,7 @@ import datetime
 import os
 import signal
 import sys
+import time
 from typing import Iterator, List, Optional, Sequence, Tuple
 
 from .batch import Found, batch, read_folder
@@ -36,6 +37,7 @@ from .refine import at_hand
 from .solution import Solution
 from .stopping import stopping
 from .region.command import add_region
+from .region.pace import age
 from .view import Day, compare_page, drawing, page
 from .view.day import time_dimension
 
@@ -51,8 +53,10 @@ BELONGS = {
 
 
 def main(words: Optional[Sequence[str]] = None) -> int:
-    """Runs a command; its exit status."""
+    """Runs a command; its exit status. Without `words` they are those of the process, whose seconds count from its
+    start."""
     asked = parser().parse_args(words)
+    asked.began = time.monotonic() - (age() if words is None else 0.0)
     try:
         status: int = asked.run(asked)
         return status

@@ -2,8 +2,9 @@
 
 Each visit gets 240,000 tries, about as many as four processors of a slow machine manage in 60 seconds for 10,000. With
 the word `alone` the parts get all tries and no seams; with `anew` vr_cli searches all parts, also if vr_refine is at
-hand; with `once`, up to 999 visits are also one run of vr_refine with all tries, and one of vr_cli with as many tries
-as a model may ask for. README.md has what it printed; `picture` reads such rows and writes their drawing.
+hand; with `once`, up to 999 visits are also one run of vr_refine with as many seconds of a processor as the region took
+of all, and one of vr_cli with as many tries as a model may ask for. README.md has what it printed; `picture` reads such
+rows and writes their drawing.
 """
 
 from __future__ import annotations
@@ -26,12 +27,17 @@ from jambulskeg.program import find
 from jambulskeg.records import MOST_TRIES, First, Improve, Refine, Search
 from jambulskeg.refine import solve as refined
 from jambulskeg.region import Asked, OwnCrew, RegionTables, Searcher, Store, check_plan, plan, region_page
-from jambulskeg.region.mending import MOVES_OF_A_STEP
 from tests.region_support import made_region
 
 JOBS = 4
 OF_A_VISIT = 240_000
 """The tries for each visit."""
+PROBED = 20_000
+"""The steps of the first run of vr_refine, which tells how long a step takes."""
+MOST_FASTER = 10.0
+"""A run has this many times the steps of the one before at most."""
+ENOUGH = 0.95
+"""A run that takes this share of the seconds is long enough."""
 
 
 def used() -> float:
@@ -40,8 +46,8 @@ def used() -> float:
     return sum(entry.ru_utime + entry.ru_stime for entry in found)
 
 
-def measured(visits: int, seams: bool, searcher: Searcher) -> None:
-    """Plans a region and prints what it took."""
+def measured(visits: int, seams: bool, searcher: Searcher) -> float:
+    """Plans a region and prints what it took; the processor seconds."""
     region, began, before = made_region(visits), time.monotonic(), used()
     tables = RegionTables.of(region)
     with tempfile.TemporaryDirectory() as folder, contextlib.closing(Store(folder)) as store:
@@ -58,18 +64,23 @@ def measured(visits: int, seams: bool, searcher: Searcher) -> None:
         f"{100 - 100 * whole.cost / first.cost:.1f} % | {len(whole.days())} | {len(whole.missing)} | "
         f"{len(page.encode()) // 1024} KB | {os.getloadavg()[0]:.0f} |", flush=True
     )
+    return seconds
 
 
-def once(visits: int) -> None:
-    """One run of each program on the whole region."""
+def once(visits: int, seconds: float) -> None:
+    """One run of each program on the whole region: vr_cli with all tries of a model, vr_refine with these seconds."""
     region, before = made_region(visits), used()
     search = Search(First.PARALLEL_CHEAPEST_INSERTION, Improve.GUIDED_LOCAL_SEARCH, MOST_TRIES)
     model = model_of(region.places, region.vans, region.roads, search)
     found = solve(model)
     print(f"one run of {visits} visits: {used() - before:.0f} processor seconds, cost {found.cost:,}", flush=True)
-    before, steps = used(), OF_A_VISIT * visits // MOVES_OF_A_STEP
-    found = refined(replace(model, search=replace(search, tries=steps)), refine=Refine())
-    print(f"one run of vr_refine: {used() - before:.0f} processor seconds, cost {found.cost:,}", flush=True)
+    steps, needed = PROBED, 0.0
+    while needed < ENOUGH * seconds:
+        steps = int(steps * min(MOST_FASTER, seconds / needed)) if needed else steps
+        before = used()
+        found = refined(replace(model, search=replace(search, tries=steps)), refine=Refine())
+        needed = used() - before
+    print(f"one run of vr_refine: {steps:,} steps, {needed:.0f} processor seconds, cost {found.cost:,}", flush=True)
 
 
 def picture(rows: Sequence[Tuple[int, float, float]]) -> str:
@@ -117,9 +128,9 @@ def main() -> None:
     words = sys.argv[1:]
     searcher = Searcher(os.path.abspath(find())) if "anew" in words else Searcher.found()
     for visits in [int(word) for word in words if word.isdigit()] or [1000, 2000, 5000]:
-        measured(visits, "alone" not in words, searcher)
+        seconds = measured(visits, "alone" not in words, searcher)
         if "once" in words:
-            once(visits)
+            once(visits, seconds)
 
 
 if __name__ == "__main__":

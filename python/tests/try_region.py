@@ -1,9 +1,10 @@
 """python3 tests/try_region.py [VISITS [TRIES]], by hand and as root: one plan by own processes, GNU parallel and Slurm.
 
 It needs what try_engines.py needs but for ssh; Slurm is started for this machine alone, in a folder that goes at the
-end. `60s` in place of TRIES plans with `--seconds 60` first, and then with four fifths of the tries that these came to;
-last comes the plan of parts without seams. Up to 1000 visits the run is killed at ten moments (the parent, a worker, a
-worker's job, a full disk), and goes on each time. README.md has what it printed.
+end. `60s` in place of TRIES plans with `--seconds 60` by each engine first, and then with half of the fewest tries that
+these came to; last comes the plan of parts without seams, with the same seconds or tries. Up to 1000 visits the run is
+killed at ten moments (the parent, a worker, a worker's job, a full disk), and goes on each time. Memory is that of the
+whole machine, beyond what was in use before. README.md has what it printed.
 """
 
 from __future__ import annotations
@@ -20,17 +21,47 @@ import subprocess
 import sys
 import tempfile
 import time
+from threading import Event, Thread
 from typing import List, Optional, Sequence
 
 TOP = os.path.dirname(os.path.dirname(os.path.abspath(__file__)))
 sys.path.insert(0, TOP)
 
+from jambulskeg.commands.plan import LEFT_OUT
 from jambulskeg.program import find
 from tests.region_support import ROAD_WORDS, made_region, write_tables
 from tests.try_engines import STOPS, run, start_slurm, write
 
 JOBS = "4"
 ENGINES = (["--with", "own"], ["--with", "parallel"], ["--with", "slurm", "--option=--partition=all"])
+LOOK = 0.2
+"""How many seconds pass between two looks at the memory in use."""
+
+
+class Memory:
+    """How much memory of the machine is in use at most, beyond what was in use before."""
+
+    def __init__(self) -> None:
+        self._over, self._before, self.most = Event(), available(), 0
+        self._looks = Thread(target=self._look, daemon=True)
+
+    def _look(self) -> None:
+        while not self._over.wait(LOOK):
+            self.most = max(self.most, self._before - available())
+
+    def __enter__(self) -> "Memory":
+        self._looks.start()
+        return self
+
+    def __exit__(self, *_: object) -> None:
+        self._over.set()
+        self._looks.join()
+
+
+def available() -> int:
+    """The megabytes of memory that Linux could still give out."""
+    with open("/proc/meminfo", encoding="ascii") as file:
+        return next(int(line.split()[1]) // 1024 for line in file if line.startswith("MemAvailable:"))
 
 
 def words_of(folder: str, name: str, tries: int, *more: str) -> List[str]:
@@ -58,26 +89,30 @@ def compare_engines(folder: str, tries: int) -> str:
 def planned(folder: str, name: str, tries: int, *more: str) -> str:
     """Plans the region of the folder, and tells what it took; the mark of the plan, or what was wrong."""
     before, began, load = resource.getrusage(resource.RUSAGE_CHILDREN), time.monotonic(), os.getloadavg()[0]
-    ran = subprocess.run(words_of(folder, name, tries, *more), stdout=subprocess.PIPE, stderr=subprocess.PIPE,
-                         text=True, check=False)
+    with Memory() as memory:
+        ran = subprocess.run(words_of(folder, name, tries, *more), stdout=subprocess.PIPE, stderr=subprocess.PIPE,
+                             text=True, check=False)
     seconds, after = time.monotonic() - began, resource.getrusage(resource.RUSAGE_CHILDREN)
-    found = mark(os.path.join(folder, f"{name}.csv")) if not ran.returncode else ran.stderr[-300:]
+    found = mark(os.path.join(folder, f"{name}.csv")) if ran.returncode in (0, LEFT_OUT) else ran.stderr[-300:]
     used = after.ru_utime + after.ru_stime - before.ru_utime - before.ru_stime
     print(
         f"{' '.join(more)}: status {ran.returncode}, {seconds:.1f} s, {used:.1f} s of processors (without those of "
-        f"Slurm's workers), {after.ru_maxrss // 1024} MB at most, at work before: {load:.0f}; {found}; "
-        f"{ran.stdout.strip()}", flush=True
+        f"Slurm's workers), {memory.most} MB, of one process {after.ru_maxrss // 1024} MB, at work before: {load:.0f}; "
+        f"{found}; {ran.stdout.strip()}", flush=True
     )
     return found
 
 
 def tries_of(folder: str, seconds: str) -> int:
-    """Four fifths of the tries that a plan of these seconds came to, since other engines begin more slowly."""
-    planned(folder, "timed", 0, "--with", "own", "--seconds", seconds)
-    with open(os.path.join(folder, "timed.csv.region", "state.json"), encoding="utf-8") as file:
-        tried: int = json.load(file)["tried"]
-    print(f"tries of {seconds} seconds: {tried:,}", flush=True)
-    return tried * 4 // 5
+    """Half of the fewest tries that plans of these seconds came to, one by each engine, since other machines and other
+    days are slower."""
+    tried = []
+    for number, engine in enumerate(ENGINES):
+        planned(folder, f"timed{number}", 0, *engine, "--seconds", seconds)
+        with open(os.path.join(folder, f"timed{number}.csv.region", "state.json"), encoding="utf-8") as file:
+            tried.append(int(json.load(file)["tried"]))
+    print(f"tries of {seconds} seconds: {', '.join(f'{tries:,}' for tries in tried)}", flush=True)
+    return min(tried) // 2
 
 
 def killed(folder: str, tries: int, known: str) -> None:
@@ -157,9 +192,11 @@ def main(words: Sequence[str]) -> None:
         write_tables(made_region(visits), os.path.join(folder, "places.csv"), os.path.join(folder, "vans.csv"))
         try:
             start_slurm(folder)
-            tries = tries_of(folder, amount[:-1]) if amount.endswith("s") else int(float(amount))
+            seconds = amount[:-1] if amount.endswith("s") else ""
+            tries = tries_of(folder, seconds) if seconds else int(float(amount))
             known = compare_engines(folder, tries)
-            planned(folder, "alone", tries, "--with", "own", "--no-seams")
+            same = ["--seconds", seconds] if seconds else []
+            planned(folder, "alone", 0 if seconds else tries, *ENGINES[0], "--no-seams", *same)
             if visits <= 1000:
                 killed(folder, tries, known)
             write(os.path.join(folder, "end"), "")

@@ -4,7 +4,6 @@ from __future__ import annotations
 
 import argparse
 import os
-import time
 from dataclasses import replace
 from typing import Tuple
 
@@ -83,14 +82,13 @@ def add_crew(command: argparse.ArgumentParser) -> None:
 
 def run_region(asked: argparse.Namespace) -> int:
     """Plans a region, and writes what was asked for; `LEFT_OUT` if visits that must be made have no van."""
-    began = time.monotonic()
     tables = read_region(asked.places, asked.vans, costs=asked.costs, times=asked.times)
     tables = replace(tables, region=replace(tables.region, roads=roads_of(asked, tables.tables)))
     for doubt in tables.tables.doubts:
         tell(f"look at: {doubt}")
     files = [path for path in (asked.output, asked.page) if path]
     with ending(), Outputs(files) as outputs:
-        planned, checked = run_of(asked, tables, began)
+        planned, checked = run_of(asked, tables)
         title = asked.title or os.path.splitext(os.path.basename(asked.output))[0]
         outputs.write(asked.output, plan_table(tables, checked))
         if asked.page:
@@ -103,15 +101,15 @@ def run_region(asked: argparse.Namespace) -> int:
     return told(asked, tables, planned, checked)
 
 
-def run_of(asked: argparse.Namespace, tables: RegionTables, began: float) -> Tuple[Planned, Checked]:
-    """The plan, checked, by the crew that was asked for, in its folder; its seconds began at `began`."""
+def run_of(asked: argparse.Namespace, tables: RegionTables) -> Tuple[Planned, Checked]:
+    """The plan, checked, by the crew that was asked for, in its folder; its seconds began with the command."""
     store = Store(asked.folder or asked.output + ".region")
     try:
         crew = crew_of(asked, store)
         try:
             planned = plan(
                 tables.region, amounts_of(asked), crew, store, progress=None if asked.quiet else tell_entry,
-                resume=asked.resume, began=began,
+                resume=asked.resume, began=asked.began,
             )
         finally:
             crew.close()

@@ -23,6 +23,8 @@ since each has fewer routes to choose among; parts of 250, 340 and 500 cost 1, 2
 searched to an end."""
 FULL = 0.95
 """A site is full when this share of its loads or hours is used."""
+NEAR_SITES = 4
+"""A visit goes to one of as many nearest sites, unless none of them has vans left for it."""
 VANS_OF_A_PART = 80
 """A part is cut small enough for about this many vans; a model takes 100."""
 LOCAL = 0.6
@@ -146,17 +148,24 @@ def shared_among(region: Region, sites: Sequence[Site]) -> List[Units]:
 
     def ways(unit: Unit) -> List[Tuple[float, int]]:
         x, y = points[unit[0]]
-        return sorted((math.hypot(x - site.at[0], y - site.at[1]), at) for at, site in enumerate(sites))[:4]
+        return sorted((math.hypot(x - site.at[0], y - site.at[1]), at) for at, site in enumerate(sites))
 
-    def with_unit(unit: Unit, at: int) -> Need:
-        return used[at] + need_of_unit(region, sites[at], unit)
+    def fits(unit: Unit, at: int, share: float) -> bool:
+        return (used[at] + need_of_unit(region, sites[at], unit)).of(sites[at].supply) <= share
 
-    near = {unit: ways(unit) for unit in units_of(region)}
+    def site_for(unit: Unit) -> int:
+        able = [at for _, at in near[unit] if can_site(region, sites[at], unit)] or [near[unit][0][1]]
+        found = next((at for at in able if fits(unit, at, FULL)), able[0])
+        if fits(unit, found, 1.0):
+            return found
+        others = (at for _, at in ways(unit) if fits(unit, at, FULL) and can_site(region, sites[at], unit))
+        return next(others, found)
+
+    near = {unit: ways(unit)[:NEAR_SITES] for unit in units_of(region)}
     ordered = sorted(near, key=lambda unit: (near[unit][0][0] - near[unit][-1 if len(near[unit]) < 2 else 1][0], unit))
     for unit in ordered:
-        able = [at for _, at in near[unit] if can_site(region, sites[at], unit)] or [near[unit][0][1]]
-        at = next((at for at in able if with_unit(unit, at).of(sites[at].supply) <= FULL), able[0])
-        used[at] = with_unit(unit, at)
+        at = site_for(unit)
+        used[at] += need_of_unit(region, sites[at], unit)
         out[at].append(unit)
     return out
 

@@ -17,7 +17,7 @@ from .day import Part, Region
 from .given import given_of
 from .mending import effort_of
 
-__all__ = ["USUAL_SPEED", "Pace"]
+__all__ = ["USUAL_SPEED", "Pace", "age"]
 
 USUAL_SPEED = 20_000_000
 """About how many moves a processor tries in a second, in parts of about 100 visits, with all that is done for it."""
@@ -29,18 +29,21 @@ FINISH = 5
 """How many times as long as the models of all visits the check of the whole plan and its pages take."""
 WRITING = 0.6
 """How many seconds are kept for the beginning and the end of a process."""
+OLDEST = 10.0
+"""A process that seems older than this when it begins to work has another clock, and its age is not known."""
 
 
 class Pace:
-    """The seconds of a plan, of which `spent` are over, and the speed of those who search `jobs` parts at a time."""
+    """The seconds of a plan, of which `spent` are over and `finish` are kept for its end, and the speed of those who
+    search `jobs` parts at a time."""
 
     def __init__(self, seconds: float, jobs: int, spent: Callable[[], float]) -> None:
         self._seconds, self.jobs, self._spent = seconds, max(1, jobs), spent
-        self._speed, self._finish, self._noted = float(USUAL_SPEED * self.jobs), WRITING, spent()
+        self._speed, self.finish, self._noted = float(USUAL_SPEED * self.jobs), WRITING, spent()
 
     def tries(self) -> int:
         """The moves that can be tried in the seconds that are left for searches."""
-        return int(self._speed * max(0.0, self._seconds - self._finish - self._spent()))
+        return int(self._speed * max(0.0, self._seconds - self.finish - self._spent()))
 
     def note(self, tries: int, parts: int) -> None:
         """Notes the tries of a round that has ended now."""
@@ -56,20 +59,33 @@ class Pace:
         began, effort = time.monotonic(), effort_of(0, tries, crew.searcher.refines)
         texts = [given_of(region, part, effort).question for part in some]
         for_each = (time.monotonic() - began) / max(1, sum(len(part.visits) for part in some))
-        self._finish += FINISH * for_each * len(region.visits) / min(self.jobs, os.cpu_count() or 1)
+        processors = float(min(self.jobs, os.cpu_count() or 1))
         try:
-            searched(crew, texts[:1])
-            began = time.monotonic()
-            searched(crew, texts)
-            self._speed = max(1, len(texts)) * tries / (time.monotonic() - began)
+            alone, together = searched(crew, texts[:1]), searched(crew, texts)
+            self._speed = max(1, len(texts)) * tries / together
+            processors = max(1.0, min(processors, len(texts) * alone / together))  # Others may use the rest.
         except EngineFailed:
             pass  # It is told where answers are taken.
+        self.finish += FINISH * for_each * len(region.visits) / processors
         self._noted = self._spent()
 
 
-def searched(crew: Crew, texts: List[str]) -> None:
-    """Waits for the answers to some texts."""
+def searched(crew: Crew, texts: List[str]) -> float:
+    """Waits for the answers to some texts; the seconds that it took."""
+    began = time.monotonic()
     if texts:
         with closing(crew.each(len(texts), lambda at: texts[at])) as answers:
             for _ in answers:
                 pass
+    return time.monotonic() - began
+
+
+def age() -> float:
+    """The seconds since this process began, as Linux tells them; 0 where they are not known."""
+    try:
+        with open("/proc/self/stat", "rb") as file:
+            ticks = int(file.read().rpartition(b")")[2].split()[19])
+        found = time.clock_gettime(time.CLOCK_BOOTTIME) - ticks / os.sysconf("SC_CLK_TCK")
+    except (AttributeError, IndexError, OSError, ValueError):
+        return 0.0
+    return found if 0.0 <= found <= OLDEST else 0.0
